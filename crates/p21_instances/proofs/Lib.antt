@@ -1,0 +1,7 @@
+pub mod Order
+pub mod Twice
+pub mod Names
+pub mod Sets
+pub mod Faults
+pub mod References
+pub mod Keywords
