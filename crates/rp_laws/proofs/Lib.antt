@@ -1,0 +1,7 @@
+pub mod Parts
+pub mod Outside
+pub mod AllRuns
+pub mod Validity
+pub mod Counts
+pub mod KeptValid
+pub mod NamedRows

@@ -1,0 +1,45 @@
+//! What holds of the plain repository for each partner, whatever the others do.
+//!
+//! Each function has a law as its contract, over the definitions that the repository's own calls cite.
+#![tactic(auto)]
+
+ghost use Rattle.rp_laws.specs.Laws.{KeepsOrder, KeepsValid, OpensValid, ChangesOnlyNamed, OwnTurnReply, OwnTurnPart, OutsideTurnPart, OutsideTurnReach, OneRunReplies, OneRunPart, TwoRuns};
+
+/// A step keeps the models in order.
+pub fn step_keeps_order()
+    ensures { KeepsOrder }
+{}
+
+/// A partner's step keeps the repository valid, and it is valid when it is opened.
+pub fn step_keeps_validity()
+    ensures step { KeepsValid }
+    ensures opening { OpensValid }
+{}
+
+/// A step changes at most the rows of the names that its change has.
+pub fn step_changes_named_rows()
+    ensures { ChangesOnlyNamed }
+{}
+
+/// A partner's reply, and what he sees after his turn, come from what he sees alone.
+pub fn own_turn()
+    ensures reply { OwnTurnReply }
+    ensures part { OwnTurnPart }
+{}
+
+/// A turn of another that avoids what a partner reaches leaves what he sees and what he reaches.
+pub fn outside_turn()
+    ensures part { OutsideTurnPart }
+    ensures reach { OutsideTurnReach }
+{}
+
+/// In a run where the others' turns are outside, a partner's replies are those that he gets alone.
+pub fn one_run()
+    ensures replies { OneRunReplies }
+    ensures part { OneRunPart }
+{}
+
+/// Two runs that begin with the same for a partner give him equal replies to equal requests.
+pub fn two_runs()
+    ensures { TwoRuns }
+{}

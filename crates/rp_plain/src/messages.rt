@@ -1,0 +1,157 @@
+//! Requests, their replies and what they change.
+
+use crate::rows::{Grant, Item, Level, Link, ModelRow, NamedType};
+use p21_tree::{FileFault, Header, Instance, InstanceFault};
+use plain_data::{Rows, Text};
+use std::alloc::{AllocError, AllocFailed};
+
+/// What a partner asks.
+#[derive(Drop)]
+pub enum Request {
+    /// An empty model of the caller's.
+    CreateModel {
+        name: Text,
+        /// In either case.
+        schema: Text,
+    },
+    /// Without a model of the caller's.
+    DeleteModel {
+        name: Text,
+    },
+    /// The content of a model is replaced by that of a file.
+    Put {
+        owner: Text,
+        model: Text,
+        file: Text,
+    },
+    /// The names of a model's instances, with their types.
+    Names {
+        owner: Text,
+        model: Text,
+    },
+    /// The models that the caller sees.
+    ListItems,
+    /// A partner's level on a model of the caller's.
+    GrantModel {
+        name: Text,
+        to: Text,
+        level: Level,
+    },
+    /// No level of a partner on a model of the caller's.
+    RevokeModel {
+        name: Text,
+        to: Text,
+    },
+}
+
+/// Why a request is refused.
+#[derive(Clone, Copy, Debug, PartialEq, Eq)]
+pub enum Refusal {
+    BadRequest,
+    TooLarge,
+    BadName,
+    UnknownPartner,
+    UnknownSchema,
+    Exists,
+    NoSuchItem,
+    NoRight,
+    WrongSchema,
+    FileFault(FileFault),
+    InstanceFault(InstanceFault),
+    TooMany,
+    NoMemory,
+}
+
+impl From<AllocError> for Refusal {
+    ghost use Rattle.std.specs.Prelude.{◌≡◌};
+    ghost use Rattle.rp_plain.specs.declared.messages.Refusal.TheVariants.{NoMemory};
+
+    ghost from_gives = { λ _ e. e ≡ NoMemory };
+
+    fn from(_error: AllocError) -> Refusal {
+        Refusal::NoMemory
+    }
+}
+
+impl<T: Drop> From<AllocFailed<T>> for Refusal {
+    ghost use Rattle.std.specs.Prelude.{◌≡◌};
+    ghost use Rattle.rp_plain.specs.declared.messages.Refusal.TheVariants.{NoMemory};
+
+    ghost from_gives = { λ _ e. e ≡ NoMemory };
+
+    fn from(_error: AllocFailed<T>) -> Refusal {
+        Refusal::NoMemory
+    }
+}
+
+/// What a partner is answered.
+#[derive(Drop)]
+pub enum Reply {
+    /// The request is done, and there is nothing to tell.
+    Done,
+    /// So many instances were put.
+    Stored(usize),
+    Names(Rows<NamedType>),
+    Listed(Rows<Item>),
+    Refused(Refusal),
+}
+
+/// What a request changes.
+#[derive(Drop)]
+pub enum Change {
+    Nothing,
+    Create(ModelRow),
+    Remove {
+        owner: Text,
+        name: Text,
+    },
+    /// The content of a model.
+    Fill {
+        owner: Text,
+        name: Text,
+        header: Header,
+        greatest: u64,
+        instances: Rows<Instance>,
+        links: Rows<Link>,
+    },
+    /// The grants of a model.
+    Regrant {
+        owner: Text,
+        name: Text,
+        grants: Rows<Grant>,
+    },
+}
+
+/// Why there is no repository of these schemas and partners.
+#[derive(Clone, Copy, Debug, PartialEq, Eq)]
+pub enum NewFault {
+    /// Two schemas have one name, case aside.
+    TwoSchemas,
+    TwoPartners,
+    BadName,
+    /// More than 100 schemas, or more than 1,000 partners.
+    TooMany,
+    NoMemory,
+}
+
+impl From<AllocError> for NewFault {
+    ghost use Rattle.std.specs.Prelude.{◌≡◌};
+    ghost use Rattle.rp_plain.specs.declared.messages.NewFault.TheVariants.{NoMemory};
+
+    ghost from_gives = { λ _ e. e ≡ NoMemory };
+
+    fn from(_error: AllocError) -> NewFault {
+        NewFault::NoMemory
+    }
+}
+
+impl<T: Drop> From<AllocFailed<T>> for NewFault {
+    ghost use Rattle.std.specs.Prelude.{◌≡◌};
+    ghost use Rattle.rp_plain.specs.declared.messages.NewFault.TheVariants.{NoMemory};
+
+    ghost from_gives = { λ _ e. e ≡ NoMemory };
+
+    fn from(_error: AllocFailed<T>) -> NewFault {
+        NewFault::NoMemory
+    }
+}
