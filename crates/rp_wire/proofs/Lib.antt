@@ -1,0 +1,2 @@
+mod MemberLemmas
+mod ListLemmas

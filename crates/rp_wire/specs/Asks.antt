@@ -1,0 +1,86 @@
+-- Which bytes are which requests.
+use Rattle.std.specs.Prelude.{ℕ, ◌&&◌, List, [], ◌∷◌, Bool, true, false, codes, unwrap_or, if◌then◌else◌, Option, Some, None, option_map, option_and_then}
+use Rattle.std.specs.List.{list_any}
+use Rattle.std.specs.Str.{bytes_eq, is_utf8}
+use Rattle.serde_json.specs.Data.{Members, no_members, member}
+use Rattle.serde_json.specs.Find.{get_member, as_str, as_object}
+use Rattle.serde_json.specs.Read.{read}
+use Rattle.rp_plain.specs.declared.messages.Request.{Request}
+use Rattle.rp_plain.specs.declared.messages.Request.TheVariants.{CreateModel, DeleteModel, Put, Names, ListItems, GrantModel, RevokeModel}
+use Rattle.rp_plain.specs.declared.rows.Level.{Level}
+use Rattle.rp_plain.specs.declared.rows.Level.TheVariants.{Read, Write}
+use Rattle.rp_wire.specs.declared.asks.Asked.{Asked}
+
+-- ---- the members of an object
+
+-- each key is one of these
+abbrev pub has_only : List (List ℕ) → Members → Bool
+has_only keys no_members = true
+has_only keys (member k d ms) = list_any (λ key. bytes_eq key k) keys && has_only keys ms
+
+-- the members but for the one at this key
+abbrev pub without : List ℕ → Members → Members
+without key no_members = no_members
+without key (member k d ms) = if bytes_eq key k then ms else member k d (without key ms)
+
+-- the string at this key
+abbrev pub text_in : List ℕ → Members → Option (List ℕ)
+text_in key ms = option_and_then as_str (get_member key ms)
+
+-- what is made of the string at this key, and nothing where no string stands there
+abbrev pub with_text : {A : Type 0} → List ℕ → Members → (List ℕ → Option A) → Option A
+with_text key ms make = option_and_then make (text_in key ms)
+
+-- ---- the requests: each has its own keys, all of them and no others
+
+abbrev pub create_model_of : Members → Option Request
+create_model_of ms = if has_only (codes "name" ∷ codes "schema" ∷ []) ms then with_text (codes "name") ms (λ name. with_text (codes "schema") ms (λ schema. Some (CreateModel name schema))) else None
+
+abbrev pub put_of : Members → Option Request
+put_of ms = if has_only (codes "file" ∷ codes "model" ∷ codes "owner" ∷ []) ms then with_text (codes "owner") ms (λ owner. with_text (codes "model") ms (λ model. with_text (codes "file") ms (λ file. Some (Put owner model file)))) else None
+
+abbrev pub names_of : Members → Option Request
+names_of ms = if has_only (codes "model" ∷ codes "owner" ∷ []) ms then with_text (codes "owner") ms (λ owner. with_text (codes "model") ms (λ model. Some (Names owner model))) else None
+
+abbrev pub delete_model_of : Members → Option Request
+delete_model_of ms = if has_only (codes "name" ∷ []) ms then with_text (codes "name") ms (λ name. Some (DeleteModel name)) else None
+
+abbrev pub list_of : Members → Option Request
+list_of ms = if has_only [] ms then Some ListItems else None
+
+-- a level that may be granted on a model
+abbrev pub level_of : List ℕ → Option Level
+level_of word = if bytes_eq word (codes "read") then Some Read else (if bytes_eq word (codes "write") then Some Write else None)
+
+-- whether the kind of items is `model`, the only one there is
+abbrev pub is_model_kind : Members → Bool
+is_model_kind ms = unwrap_or (option_map (bytes_eq (codes "model")) (text_in (codes "kind") ms)) false
+
+abbrev pub grant_of : Members → Option Request
+grant_of ms = if has_only (codes "kind" ∷ codes "level" ∷ codes "name" ∷ codes "to" ∷ []) ms && is_model_kind ms then with_text (codes "name") ms (λ name. with_text (codes "to") ms (λ to. with_text (codes "level") ms (λ level. option_map (GrantModel name to) (level_of level)))) else None
+
+abbrev pub revoke_of : Members → Option Request
+revoke_of ms = if has_only (codes "kind" ∷ codes "name" ∷ codes "to" ∷ []) ms && is_model_kind ms then with_text (codes "name") ms (λ name. with_text (codes "to") ms (λ to. Some (RevokeModel name to))) else None
+
+-- the request that is called by this word, of its own keys
+abbrev pub request_for : List ℕ → Members → Option Request
+request_for word ms =
+    if bytes_eq word (codes "create_model") then create_model_of ms
+    else (if bytes_eq word (codes "put") then put_of ms
+    else (if bytes_eq word (codes "names") then names_of ms
+    else (if bytes_eq word (codes "delete_model") then delete_model_of ms
+    else (if bytes_eq word (codes "list") then list_of ms
+    else (if bytes_eq word (codes "grant") then grant_of ms
+    else (if bytes_eq word (codes "revoke") then revoke_of ms else None))))))
+
+-- `do` has the word
+abbrev pub request_in : Members → Option Request
+request_in ms = with_text (codes "do") ms (λ word. request_for word (without (codes "do") ms))
+
+-- `as` has the caller
+abbrev pub asked_in : Members → Option Asked
+asked_in ms = with_text (codes "as") ms (λ caller. option_map (λ request. record { caller = caller; request = request }) (request_in (without (codes "as") ms)))
+
+-- The request of a line: an object in UTF-8. Of equal keys the last one stands.
+abbrev pub asked_of : List ℕ → Option Asked
+asked_of line = if is_utf8 line then option_and_then asked_in (option_and_then as_object (read line)) else None

@@ -1,0 +1,107 @@
+-- The bytes of a reply.
+use Rattle.std.specs.Prelude.{ℕ, List, [], ◌∷◌, ◌++◌, map, codes}
+use Rattle.serde_json.specs.Data.{Data, number, unsigned, string, array, object, no_items, Members, no_members, member}
+use Rattle.serde_json.specs.View.{items_of}
+use Rattle.serde_json.specs.Written.{compact_text}
+use Rattle.p21_tree.specs.declared.fault.FaultKind.{FaultKind}
+use Rattle.p21_tree.specs.declared.fault.FaultKind.TheVariants.{Token, Open, Escape, Page, Code, Utf8, Number, Syntax, Sections, Deep}
+use Rattle.p21_tree.specs.declared.fault.InstanceFaultKind.{InstanceFaultKind}
+use Rattle.p21_tree.specs.declared.fault.InstanceFaultKind.TheVariants.{Twice, UnknownEntity, IllegalCombination, WrongCount, NotDerived, WrongKind, Undefined}
+use Rattle.rp_plain.specs.declared.rows.Level.TheVariants.{Read, Group, Write}
+use Rattle.rp_plain.specs.declared.rows.Right.{Right}
+use Rattle.rp_plain.specs.declared.rows.Right.TheVariants.{Owner, Granted}
+use Rattle.rp_plain.specs.declared.rows.Item.{Item}
+use Rattle.rp_plain.specs.declared.rows.NamedType.{NamedType}
+use Rattle.rp_plain.specs.declared.messages.Refusal.{Refusal}
+use Rattle.rp_plain.specs.declared.messages.Refusal.TheVariants.{BadRequest, TooLarge, BadName, UnknownPartner, UnknownSchema, Exists, NoSuchItem, NoRight, WrongSchema, FileFault, InstanceFault, TooMany, NoMemory}
+use Rattle.rp_plain.specs.declared.messages.Reply.{Reply}
+use Rattle.rp_plain.specs.declared.messages.Reply.TheVariants.{Done, Stored, Names, Listed, Refused}
+
+-- ---- members, whose keys are to be in byte order
+
+abbrev pub with_number : List ℕ → ℕ → Members → Members
+with_number key n ms = member key (number (unsigned n)) ms
+
+abbrev pub with_string : List ℕ → List ℕ → Members → Members
+with_string key text ms = member key (string text) ms
+
+-- an object of one member
+abbrev pub only : List ℕ → Data → Data
+only key d = object (member key d no_members)
+
+-- a list of the objects that are made of these
+abbrev pub list_of : {A : Type 0} → (A → Data) → List A → Data
+list_of make xs = array (items_of (map make xs))
+
+-- ---- refusals
+
+abbrev pub file_kind : FaultKind → List ℕ
+file_kind Token = codes "Token"
+file_kind Open = codes "Open"
+file_kind Escape = codes "Escape"
+file_kind Page = codes "Page"
+file_kind Code = codes "Code"
+file_kind Utf8 = codes "Utf8"
+file_kind Number = codes "Number"
+file_kind Syntax = codes "Syntax"
+file_kind Sections = codes "Sections"
+file_kind Deep = codes "Deep"
+
+abbrev pub instance_kind : InstanceFaultKind → List ℕ
+instance_kind Twice = codes "Twice"
+instance_kind UnknownEntity = codes "UnknownEntity"
+instance_kind IllegalCombination = codes "IllegalCombination"
+instance_kind WrongCount = codes "WrongCount"
+instance_kind NotDerived = codes "NotDerived"
+instance_kind WrongKind = codes "WrongKind"
+instance_kind Undefined = codes "Undefined"
+
+-- a refusal that has a code and a name alone
+abbrev pub coded : ℕ → List ℕ → Members
+coded code name = with_number (codes "code") code (with_string (codes "name") name no_members)
+
+abbrev pub refusal_members : Refusal → Members
+refusal_members BadRequest = coded 1 (codes "BadRequest")
+refusal_members TooLarge = coded 2 (codes "TooLarge")
+refusal_members BadName = coded 3 (codes "BadName")
+refusal_members UnknownPartner = coded 4 (codes "UnknownPartner")
+refusal_members UnknownSchema = coded 5 (codes "UnknownSchema")
+refusal_members Exists = coded 6 (codes "Exists")
+refusal_members NoSuchItem = coded 7 (codes "NoSuchItem")
+refusal_members NoRight = coded 8 (codes "NoRight")
+refusal_members WrongSchema = coded 9 (codes "WrongSchema")
+refusal_members (FileFault fault) = with_number (codes "at") fault.at (with_number (codes "code") 11 (with_string (codes "kind") (file_kind fault.kind) (with_string (codes "name") (codes "FileFault") no_members)))
+refusal_members (InstanceFault fault) = with_number (codes "code") 12 (with_number (codes "instance") fault.instance (with_string (codes "kind") (instance_kind fault.kind) (with_string (codes "name") (codes "InstanceFault") no_members)))
+refusal_members TooMany = coded 16 (codes "TooMany")
+refusal_members NoMemory = coded 18 (codes "NoMemory")
+
+-- ---- lists
+
+abbrev pub named_type_data : NamedType → Data
+named_type_data t = object (with_number (codes "name") t.name (with_string (codes "type") t.type_name no_members))
+
+abbrev pub level_word : Right → List ℕ
+level_word Owner = codes "owner"
+level_word (Granted Read) = codes "read"
+level_word (Granted Group) = codes "group"
+level_word (Granted Write) = codes "write"
+
+abbrev pub item_data : Item → Data
+item_data i = object (with_string (codes "level") (level_word i.right) (with_string (codes "name") i.name (with_string (codes "owner") i.owner (with_string (codes "schema") i.schema no_members))))
+
+-- ---- replies
+
+-- a reply as JSON
+abbrev pub reply_data : Reply → Data
+reply_data Done = only (codes "ok") (object no_members)
+reply_data (Stored n) = only (codes "ok") (only (codes "instances") (number (unsigned n)))
+reply_data (Names names) = only (codes "ok") (only (codes "names") (list_of named_type_data names))
+reply_data (Listed items) = only (codes "ok") (object (member (codes "groups") (array no_items) (member (codes "models") (list_of item_data items) no_members)))
+reply_data (Refused refusal) = only (codes "refused") (object (refusal_members refusal))
+
+-- as JSON without blanks
+abbrev pub reply_text : Reply → List ℕ
+reply_text reply = compact_text (reply_data reply)
+
+abbrev pub line_of_reply : Reply → List ℕ
+line_of_reply reply = reply_text reply ++ 10 ∷ []

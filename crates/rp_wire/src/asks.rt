@@ -1,0 +1,190 @@
+//! From bytes to a request.
+
+ghost use Rattle.std.specs.Prelude.{◌≡◌, ℕ, List, false, codes, IfOk, IsErrOf, None, Some, option_and_then};
+ghost use Rattle.std.specs.Str.{bytes_eq};
+ghost use Rattle.serde_json.specs.View.{view, members_view};
+ghost use Rattle.serde_json.specs.Find.{as_object};
+ghost use Rattle.rp_wire.specs.Asks.{create_model_of, put_of, names_of, delete_model_of, list_of, level_of, is_model_kind, grant_of, revoke_of, text_in, request_for, request_in, asked_in, asked_of};
+
+use crate::members::{Members, has_only_keys, take_text};
+use plain_data::Text;
+use rp_plain::messages::Request;
+use rp_plain::rows::Level;
+use serde_json::Value;
+use std::alloc::{AllocError, Global};
+
+/// A request, and who asks.
+#[derive(Drop)]
+pub struct Asked {
+    /// What the line says; whether there is such a partner isn't known here.
+    pub caller: Text,
+    pub request: Request,
+}
+
+/// Why a line gives no request.
+#[derive(Clone, Copy, Debug, PartialEq, Eq)]
+pub enum Unread {
+    /// The line is no request.
+    BadRequest,
+    NoMemory,
+}
+
+/// The request of a line, which stands without its line feed. A string of the line is copied once,
+/// out of the line.
+pub fn request_of(alloc: Global, line: &[u8]) -> Result<Asked, Unread>
+    ensures ok { IfOk result (λ asked. asked_of line.now ≡ Some asked) }
+    ensures bad { IsErrOf result Unread.BadRequest → asked_of line.now ≡ None }
+{
+    match Value::from_slice(alloc, line) {
+        Ok(value) => asked_from(value).ok_or(Unread::BadRequest),
+        Err(error) => {
+            if error.is_memory() {
+                Err(Unread::NoMemory)
+            } else {
+                Err(Unread::BadRequest)
+            }
+        }
+    }
+}
+
+fn asked_from(value: Value) -> Option<Asked>
+    ensures { result ≡ option_and_then asked_in (as_object (view value)) }
+{
+    match value {
+        Value::Object(members) => asked_in(members),
+        _ => None,
+    }
+}
+
+fn asked_in(mut members: Members) -> Option<Asked>
+    ensures { result ≡ asked_in (members_view members.entries) }
+{
+    let caller = take_text(&mut members, "as")?;
+    let request = request_in(members)?;
+    Some(Asked { caller, request })
+}
+
+fn request_in(mut members: Members) -> Option<Request>
+    ensures { result ≡ request_in (members_view members.entries) }
+{
+    let word = take_text(&mut members, "do")?;
+    request_for(word.as_str(), members)
+}
+
+fn request_for(word: &str, members: Members) -> Option<Request>
+    ensures { result ≡ request_for word.now (members_view members.entries) }
+{
+    match word {
+        "create_model" => create_model(members),
+        "put" => put(members),
+        "names" => names(members),
+        "delete_model" => delete_model(members),
+        "list" => list(members),
+        "grant" => grant(members),
+        "revoke" => revoke(members),
+        _ => None,
+    }
+}
+
+fn create_model(mut members: Members) -> Option<Request>
+    ensures { result ≡ create_model_of (members_view members.entries) }
+{
+    if !has_only_keys(&members, &["name", "schema"]) {
+        return None;
+    }
+    let name = take_text(&mut members, "name")?;
+    let schema = take_text(&mut members, "schema")?;
+    Some(Request::CreateModel { name, schema })
+}
+
+fn put(mut members: Members) -> Option<Request>
+    ensures { result ≡ put_of (members_view members.entries) }
+{
+    if !has_only_keys(&members, &["file", "model", "owner"]) {
+        return None;
+    }
+    let owner = take_text(&mut members, "owner")?;
+    let model = take_text(&mut members, "model")?;
+    let file = take_text(&mut members, "file")?;
+    Some(Request::Put { owner, model, file })
+}
+
+fn names(mut members: Members) -> Option<Request>
+    ensures { result ≡ names_of (members_view members.entries) }
+{
+    if !has_only_keys(&members, &["model", "owner"]) {
+        return None;
+    }
+    let owner = take_text(&mut members, "owner")?;
+    let model = take_text(&mut members, "model")?;
+    Some(Request::Names { owner, model })
+}
+
+fn delete_model(mut members: Members) -> Option<Request>
+    ensures { result ≡ delete_model_of (members_view members.entries) }
+{
+    if !has_only_keys(&members, &["name"]) {
+        return None;
+    }
+    let name = take_text(&mut members, "name")?;
+    Some(Request::DeleteModel { name })
+}
+
+fn list(members: Members) -> Option<Request>
+    ensures { result ≡ list_of (members_view members.entries) }
+{
+    if !has_only_keys(&members, &[]) {
+        return None;
+    }
+    Some(Request::ListItems)
+}
+
+/// A level that may be granted on a model.
+fn level(word: &str) -> Option<Level>
+    ensures { result ≡ level_of word.now }
+{
+    match word {
+        "read" => Some(Level::Read),
+        "write" => Some(Level::Write),
+        _ => None,
+    }
+}
+
+/// Whether the kind of items is `model`; it is taken out.
+fn takes_model_kind(members: &mut Members) -> bool
+    ensures kind { result ≡ is_model_kind (members_view members.old.entries) }
+    ensures others { (other : List ℕ) → bytes_eq (codes "kind") other ≡ false
+        → text_in other (members_view members.new.entries)
+        ≡ text_in other (members_view members.old.entries) }
+{
+    match take_text(members, "kind") {
+        Some(kind) => kind.as_str() == "model",
+        None => false,
+    }
+}
+
+fn grant(mut members: Members) -> Option<Request>
+    ensures { result ≡ grant_of (members_view members.entries) }
+{
+    if !has_only_keys(&members, &["kind", "level", "name", "to"])
+        || !takes_model_kind(&mut members)
+    {
+        return None;
+    }
+    let name = take_text(&mut members, "name")?;
+    let to = take_text(&mut members, "to")?;
+    let word = take_text(&mut members, "level")?;
+    let level = level(word.as_str())?;
+    Some(Request::GrantModel { name, to, level })
+}
+
+fn revoke(mut members: Members) -> Option<Request>
+    ensures { result ≡ revoke_of (members_view members.entries) }
+{
+    if !has_only_keys(&members, &["kind", "name", "to"]) || !takes_model_kind(&mut members) {
+        return None;
+    }
+    let name = take_text(&mut members, "name")?;
+    let to = take_text(&mut members, "to")?;
+    Some(Request::RevokeModel { name, to })
+}

@@ -1,0 +1,15 @@
+//! Requests and replies as lines of JSON: from bytes to a request, and from a reply to bytes.
+#![tactic(auto)]
+
+mod asks;
+mod lists;
+mod members;
+mod refusals;
+mod replies;
+mod writing;
+
+pub use asks::{Asked, Unread, request_of};
+pub use replies::{no_memory_line, reply_bytes, reply_line};
+
+#[cfg(test)]
+mod tests;

@@ -1,0 +1,65 @@
+//! The lists of replies.
+
+ghost use Rattle.std.specs.Prelude.{◌≡◌, ◌++◌, OnOk};
+ghost use Rattle.rp_wire.specs.Replies.{named_type_data, level_word, item_data, list_of};
+ghost use Rattle.rp_wire.specs.Tokens.{tokens_of};
+
+use crate::writing::{number_at, string_at};
+use json::Writer;
+use rp_plain::rows::{Item, Level, NamedType, Right};
+use std::alloc::AllocError;
+
+pub(crate) fn write_named_types(out: &mut Writer, names: &[NamedType]) -> Result<(), AllocError>
+    ensures ok { OnOk result (out.new.tokens ≡ out.old.tokens ++ tokens_of (list_of named_type_data names.now)) }
+    ensures before { out.new.before ≡ out.old.before }
+{
+    out.begin_array()?;
+    for named in names {
+        write_named_type(out, named)?;
+    }
+    out.end_array()
+}
+
+fn write_named_type(out: &mut Writer, named: &NamedType) -> Result<(), AllocError>
+    ensures ok { OnOk result (out.new.tokens ≡ out.old.tokens ++ tokens_of (named_type_data named.now)) }
+    ensures before { out.new.before ≡ out.old.before }
+{
+    out.begin_object()?;
+    number_at(out, "name", named.name)?;
+    string_at(out, "type", named.type_name.as_str())?;
+    out.end_object()
+}
+
+pub(crate) fn write_items(out: &mut Writer, items: &[Item]) -> Result<(), AllocError>
+    ensures ok { OnOk result (out.new.tokens ≡ out.old.tokens ++ tokens_of (list_of item_data items.now)) }
+    ensures before { out.new.before ≡ out.old.before }
+{
+    out.begin_array()?;
+    for item in items {
+        write_item(out, item)?;
+    }
+    out.end_array()
+}
+
+fn write_item(out: &mut Writer, item: &Item) -> Result<(), AllocError>
+    ensures ok { OnOk result (out.new.tokens ≡ out.old.tokens ++ tokens_of (item_data item.now)) }
+    ensures before { out.new.before ≡ out.old.before }
+{
+    out.begin_object()?;
+    string_at(out, "level", word_of(item.right))?;
+    string_at(out, "name", item.name.as_str())?;
+    string_at(out, "owner", item.owner.as_str())?;
+    string_at(out, "schema", item.schema.as_str())?;
+    out.end_object()
+}
+
+fn word_of(right: Right) -> &'static str
+    ensures { result.now ≡ level_word right }
+{
+    match right {
+        Right::Owner => "owner",
+        Right::Granted(Level::Read) => "read",
+        Right::Granted(Level::Group) => "group",
+        Right::Granted(Level::Write) => "write",
+    }
+}

@@ -1,0 +1,54 @@
+//! The members of a JSON object, taken out one after another.
+
+ghost use Rattle.std.specs.Prelude.{◌≡◌, false, map, List, ℕ, string_bytes};
+ghost use Rattle.std.specs.List.{list_all, list_any};
+ghost use Rattle.std.specs.Str.{bytes_eq};
+ghost use Rattle.std.specs.BTreeMap.{keys as map_keys};
+ghost use Rattle.serde_json.specs.View.{view, members_view};
+ghost use Rattle.serde_json.specs.Find.{as_str};
+ghost use Rattle.rp_wire.specs.Asks.{has_only, without, text_in};
+
+use plain_data::Text;
+use serde_json::{Map, Value};
+
+pub(crate) type Members = Map<String, Value>;
+
+/// Takes out the string at this key. A member that is no string goes too.
+pub(crate) fn take_text(members: &mut Members, key: &str) -> Option<Text>
+    ensures text { result ≡ text_in key.now (members_view members.old.entries) }
+    ensures rest { members_view members.new.entries
+        ≡ without key.now (members_view members.old.entries) }
+    ensures others { (other : List ℕ) → bytes_eq key.now other ≡ false
+        → text_in other (members_view members.new.entries)
+        ≡ text_in other (members_view members.old.entries) }
+{
+    members.remove(key).and_then(text_of)
+}
+
+fn text_of(value: Value) -> Option<Text>
+    ensures { result ≡ as_str (view value) }
+{
+    match value {
+        Value::String(text) => Some(Text::new(text)),
+        _ => None,
+    }
+}
+
+/// Whether each key is one of these.
+pub(crate) fn has_only_keys(members: &Members, keys: &[&str]) -> bool
+    ensures { result ≡ has_only (map (λ key. key.now) keys.now) (members_view members.now.entries) }
+{
+    each_is_among(members, keys)
+}
+
+fn each_is_among(members: &Members, keys: &[&str]) -> bool
+    ensures { result ≡ list_all (λ k. list_any (λ key. bytes_eq key.now (string_bytes k)) keys.now) (map_keys members.now) }
+{
+    members.keys().all(|name| is_among(name.as_str(), keys))
+}
+
+fn is_among(name: &str, keys: &[&str]) -> bool
+    ensures { result ≡ list_any (λ key. bytes_eq key.now name.now) keys.now }
+{
+    keys.iter().any(|key| *key == name)
+}

@@ -1,0 +1,101 @@
+//! From a reply to bytes.
+
+ghost use Rattle.std.specs.Prelude.{◌≡◌, ◌++◌, IfOk, OnOk};
+ghost use Rattle.rp_wire.specs.Replies.{reply_data, reply_text, line_of_reply};
+ghost use Rattle.rp_wire.specs.Tokens.{tokens_of};
+
+use crate::lists::{write_items, write_named_types};
+use crate::refusals::write_refusal;
+use crate::writing::{close, number_at, open};
+use json::Writer;
+use rp_plain::messages::{Refusal, Reply};
+use rp_plain::rows::{Item, NamedType};
+use std::alloc::{AllocError, Global};
+
+/// The bytes of a reply: JSON without blanks, its keys in byte order.
+pub fn reply_bytes(alloc: Global, reply: &Reply) -> Result<Vec<u8>, AllocError>
+    ensures { IfOk result (λ bytes. bytes.items ≡ reply_text reply.now) }
+{
+    let mut out = Writer::new(Vec::with_capacity(alloc, 128)?);
+    write_reply(&mut out, reply)?;
+    Ok(out.into_inner())
+}
+
+/// The bytes of a reply, and a line feed.
+pub fn reply_line(alloc: Global, reply: &Reply) -> Result<Vec<u8>, AllocError>
+    ensures { IfOk result (λ bytes. bytes.items ≡ line_of_reply reply.now) }
+{
+    let mut bytes = reply_bytes(alloc, reply)?;
+    bytes.push(b'\n')?;
+    Ok(bytes)
+}
+
+/// The line that says that memory ran out. It needs none.
+pub fn no_memory_line() -> &'static [u8]
+    ensures { result.now ≡ line_of_reply (Reply.Refused Refusal.NoMemory) }
+{
+    b"{\"refused\":{\"code\":18,\"name\":\"NoMemory\"}}\n"
+}
+
+fn write_reply(out: &mut Writer, reply: &Reply) -> Result<(), AllocError>
+    ensures ok { OnOk result (out.new.tokens ≡ out.old.tokens ++ tokens_of (reply_data reply.now)) }
+    ensures before { out.new.before ≡ out.old.before }
+{
+    match reply {
+        Reply::Done => write_done(out),
+        Reply::Stored(count) => write_stored(out, *count),
+        Reply::Names(names) => write_names(out, names.as_slice()),
+        Reply::Listed(items) => write_listed(out, items.as_slice()),
+        Reply::Refused(refusal) => write_refused(out, *refusal),
+    }
+}
+
+fn write_done(out: &mut Writer) -> Result<(), AllocError>
+    ensures ok { OnOk result (out.new.tokens ≡ out.old.tokens ++ tokens_of (reply_data Reply.Done)) }
+    ensures before { out.new.before ≡ out.old.before }
+{
+    open(out, "ok")?;
+    close(out)
+}
+
+fn write_stored(out: &mut Writer, count: usize) -> Result<(), AllocError>
+    ensures ok { OnOk result (out.new.tokens ≡ out.old.tokens ++ tokens_of (reply_data (Reply.Stored count))) }
+    ensures before { out.new.before ≡ out.old.before }
+{
+    open(out, "ok")?;
+    number_at(out, "instances", count as u64)?;
+    close(out)
+}
+
+fn write_names(out: &mut Writer, names: &[NamedType]) -> Result<(), AllocError>
+    ensures ok { OnOk result (out.new.tokens ≡ out.old.tokens ++ tokens_of (reply_data (Reply.Names names.now))) }
+    ensures before { out.new.before ≡ out.old.before }
+{
+    open(out, "ok")?;
+    out.key("names")?;
+    write_named_types(out, names)?;
+    close(out)
+}
+
+fn write_listed(out: &mut Writer, items: &[Item]) -> Result<(), AllocError>
+    ensures ok { OnOk result (out.new.tokens ≡ out.old.tokens ++ tokens_of (reply_data (Reply.Listed items.now))) }
+    ensures before { out.new.before ≡ out.old.before }
+{
+    open(out, "ok")?;
+    out.key("groups")?;
+    out.begin_array()?;
+    out.end_array()?;
+    out.key("models")?;
+    write_items(out, items)?;
+    close(out)
+}
+
+fn write_refused(out: &mut Writer, refusal: Refusal) -> Result<(), AllocError>
+    ensures ok { OnOk result (out.new.tokens ≡ out.old.tokens ++ tokens_of (reply_data (Reply.Refused refusal))) }
+    ensures before { out.new.before ≡ out.old.before }
+{
+    out.begin_object()?;
+    out.key("refused")?;
+    write_refusal(out, refusal)?;
+    out.end_object()
+}
