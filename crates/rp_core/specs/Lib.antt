@@ -1,0 +1,4 @@
+pub mod Held
+pub mod Lent
+pub mod Calls
+pub mod Files
