@@ -1,0 +1,2 @@
+pub mod LineRuns
+pub mod LineLaws

@@ -1,0 +1,114 @@
+-- What lines mean to a repository, and runs over the lines of an input.
+use Rattle.std.specs.Prelude.{◌≡◌, ℕ, Bool, true, false, List, [], ◌∷◌, ◌++◌, length, nat_lt, if◌then◌else◌, Option, Some, None, flat_map, ⊤}
+use Rattle.std.specs.Io.KnownBytes.{Appends}
+use Rattle.rp_io.specs.Front.{AppendsFront}
+use Rattle.rp_io.specs.Lines.{lines_of}
+use Rattle.rp_plain.specs.Plain.{Plain, Outcome, has_text, step}
+use Rattle.rp_plain.specs.Runs.{is_no_memory}
+use Rattle.rp_plain.specs.declared.messages.Reply.{Reply}
+use Rattle.rp_plain.specs.declared.messages.Reply.TheVariants.{Refused}
+use Rattle.rp_plain.specs.declared.messages.Refusal.{Refusal}
+use Rattle.rp_plain.specs.declared.messages.Refusal.TheVariants.{BadRequest, TooLarge}
+use Rattle.rp_wire.specs.declared.asks.Asked.{Asked}
+use Rattle.rp_wire.specs.Asks.{asked_of}
+use Rattle.rp_wire.specs.Replies.{line_of_reply}
+
+-- ---- one line
+
+-- a refusal changes nothing
+abbrev pub refusal_of : Plain → Refusal → Outcome
+refusal_of r refusal = record { reply = Refused refusal; next = r }
+
+-- what a request that was read means, if its partner is one
+abbrev pub meant_for : Plain → Option Asked → Outcome
+meant_for r None = refusal_of r BadRequest
+meant_for r (Some asked) = if has_text r.partners asked.caller then step r asked.caller asked.request else refusal_of r BadRequest
+
+-- the bytes of a line: 16 MiB
+abbrev pub max_line : ℕ
+max_line = 16777216
+
+-- the reply to a line, memory aside, and the repository after it
+abbrev pub meant : Plain → List ℕ → Outcome
+meant r line = if nat_lt max_line (length line) then refusal_of r TooLarge else meant_for r (asked_of line)
+
+-- the reply is that one, or that memory is wanting
+abbrev pub MayReply : Outcome → Reply → Type 0
+MayReply meaning reply = is_no_memory reply ≡ false → reply ≡ meaning.reply
+
+-- the repository after a line with this reply: where memory was wanting, as it was
+abbrev pub left_by : Plain → Outcome → Reply → Plain
+left_by r meaning reply = if is_no_memory reply then r else meaning.next
+
+-- ---- runs
+
+-- the lines may have these replies, one after the other, and lead from r to end
+abbrev pub LineRun : Plain → List (List ℕ) → List Reply → Plain → Type 0
+LineRun r [] [] end = end ≡ r
+LineRun r (line ∷ lines) (reply ∷ replies) end = MayReply (meant r line) reply × LineRun (left_by r (meant r line) reply) lines replies end
+LineRun r [] (reply ∷ replies) end = ⊥
+LineRun r (line ∷ lines) [] end = ⊥
+
+-- what is written for replies
+abbrev pub text_of : List Reply → List ℕ
+text_of replies = flat_map line_of_reply replies
+
+-- a run over these lines, whose replies were written whole
+pub record Replies (old new : Plain) (before after : Option (List ℕ)) (lines : List (List ℕ)) : Type 0 where
+  pub replies : List Reply
+  pub run : LineRun old lines replies new
+  pub written : Appends before after (text_of replies)
+
+-- a run over these lines, whose replies were written whole but for the last, of which a front was written
+pub record RepliesInPart (old new : Plain) (before after : Option (List ℕ)) (lines : List (List ℕ)) : Type 0 where
+  pub done : List Reply
+  pub last : Reply
+  pub run : LineRun old lines (done ++ last ∷ []) new
+  pub front : List ℕ
+  pub back : List ℕ
+  pub cut : line_of_reply last ≡ front ++ back
+  pub written : Appends before after (text_of done ++ front)
+
+-- these are the first lines of the known bytes, and others may follow
+abbrev pub AreFirstLines : Option (List ℕ) → List (List ℕ) → Type 0
+AreFirstLines None lines = ⊤
+AreFirstLines (Some bytes) lines = (others : List (List ℕ)) × (lines_of bytes ≡ lines ++ others)
+
+abbrev pub AreAllLines : Option (List ℕ) → List (List ℕ) → Type 0
+AreAllLines None lines = ⊤
+AreAllLines (Some bytes) lines = lines_of bytes ≡ lines
+
+-- ---- what the calls promise
+
+-- the bytes are a reply line of what is meant, and the repository is what that reply leaves
+pub record Answers (old new : Plain) (meaning : Outcome) (bytes : List ℕ) : Type 0 where
+  pub reply : Reply
+  pub may : MayReply meaning reply
+  pub content : new ≡ left_by old meaning reply
+  pub is : bytes ≡ line_of_reply reply
+
+-- one line, one turn, and its reply line or a front of it
+pub record Serves (old new : Plain) (before after : Option (List ℕ)) (line : List ℕ) (whole : Bool) : Type 0 where
+  pub reply : Reply
+  pub may : MayReply (meant old line) reply
+  pub content : new ≡ left_by old (meant old line) reply
+  pub front : AppendsFront before after (line_of_reply reply)
+  pub all : whole ≡ true → Appends before after (line_of_reply reply)
+
+-- these lines were taken from the known bytes
+abbrev pub TakesLines : Option (List ℕ) → Option (List ℕ) → List (List ℕ) → Type 0
+TakesLines None after lines = ⊤
+TakesLines (Some xs) None lines = ⊥
+TakesLines (Some xs) (Some ys) lines = lines_of xs ≡ lines ++ lines_of ys
+
+-- all lines were answered
+abbrev pub IsWholeRun : Plain → Plain → Option (List ℕ) → Option (List ℕ) → Option (List ℕ) → ℕ → Type 0
+IsWholeRun old new input before after n = (lines : List (List ℕ)) × AreAllLines input lines × Replies old new before after lines × (n ≡ length lines)
+
+-- the first lines were answered
+abbrev pub IsFirstRun : Plain → Plain → Option (List ℕ) → Option (List ℕ) → Option (List ℕ) → Type 0
+IsFirstRun old new input before after = (lines : List (List ℕ)) × AreFirstLines input lines × Replies old new before after lines
+
+-- the first lines were answered, and of the last reply a front was written
+abbrev pub IsCutRun : Plain → Plain → Option (List ℕ) → Option (List ℕ) → Option (List ℕ) → Type 0
+IsCutRun old new input before after = (lines : List (List ℕ)) × AreFirstLines input lines × RepliesInPart old new before after lines

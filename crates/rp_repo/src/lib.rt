@@ -1,0 +1,16 @@
+//! The repository of STEP models, for programs: its calls over values, and its run over the lines
+//! of any reader.
+#![tactic(auto)]
+
+pub mod answer;
+pub mod laws;
+pub mod run;
+#[cfg(test)]
+mod tests;
+
+pub use plain_data::{Rows, Text};
+pub use rp_core::{Call, Caller, Pending, Repository};
+pub use rp_io::{DeviceFault, FromReader, Sink, Source, ToWriter};
+pub use rp_plain::messages::{NewFault, Refusal, Reply, Request};
+pub use rp_wire::{Asked, Unread, reply_bytes, request_of};
+pub use run::{RunFault, run_lines};
