@@ -1,0 +1,92 @@
+//! The command line.
+use crate::fault::Fault;
+use clap::error::ErrorKind;
+use clap::{Arg, ArgAction, Command, Error};
+use std::alloc::{AllocError, Global};
+
+/// What the command line asks for.
+#[derive(Drop)]
+pub enum Asked<'a> {
+    /// A text of help, which clap has as an error.
+    Help(Error),
+    /// To answer the lines of standard input, by the configuration in the file of this path.
+    Batch(&'a str),
+}
+
+const ABOUT: &str = "A repository of STEP product models that several partners share.";
+
+const BATCH_ABOUT: &str =
+    "Answers requests: one JSON object a line on standard input, one line of JSON for each on standard output.";
+
+const BATCH_AFTER: &str = "\
+The configuration is a JSON object of the partners and of the schemas' files, whose paths start
+at the working directory:
+
+  {\"partners\":[{\"name\":\"ann\",\"token\":\"ta\"}],\"schemas\":[\"t.exp\"]}
+
+A request names its partner in \"as\" and what to do in \"do\":
+
+  {\"as\":\"ann\",\"do\":\"create_model\",\"name\":\"m\",\"schema\":\"T\"}
+  {\"as\":\"ann\",\"do\":\"put\",\"owner\":\"ann\",\"model\":\"m\",\"file\":\"ISO-10303-21; ..\"}
+  {\"as\":\"ann\",\"do\":\"names\",\"owner\":\"ann\",\"model\":\"m\"}
+  {\"as\":\"ann\",\"do\":\"grant\",\"kind\":\"model\",\"name\":\"m\",\"to\":\"bob\",\"level\":\"read\"}
+  {\"as\":\"ann\",\"do\":\"revoke\",\"kind\":\"model\",\"name\":\"m\",\"to\":\"bob\"}
+  {\"as\":\"bob\",\"do\":\"list\"}
+  {\"as\":\"ann\",\"do\":\"delete_model\",\"name\":\"m\"}
+
+The status is 0 at the end of the input. It is 2, with one line on standard error, where the command
+line or a file is wrong or where the input or the output fails.";
+
+fn command<'a>(alloc: Global) -> Result<Command<'a>, AllocError> {
+    let config = Arg::new(alloc, "config")
+        .long("config")
+        .value_name("FILE")
+        .help("The configuration, as shown below")
+        .required(true)
+        .action(ArgAction::Set);
+    let batch = Command::new(alloc, "batch")
+        .about(BATCH_ABOUT)
+        .after_help(BATCH_AFTER)
+        .arg(config)?;
+    Command::new(alloc, "rp_server")
+        .about(ABOUT)
+        .after_help("Type rp_server batch --help for the configuration and the requests.")
+        .subcommand_required(true)
+        .subcommand(batch)
+}
+
+/// What these words ask for, the program's own name first.
+pub fn asked_of<'a>(alloc: Global, words: &'a [String]) -> Result<Asked<'a>, Fault> {
+    let matches = match command(alloc)?.try_get_matches_from(words) {
+        Ok(matches) => matches,
+        Err(error) if error.kind() == ErrorKind::OutOfMemory => return Err(Fault::NoMemory),
+        Err(error) if error.use_stderr() => return Err(Fault::CommandLine(line_of(alloc, &error)?)),
+        Err(error) => return Ok(Asked::Help(error)),
+    };
+    if let Some(("batch", found)) = matches.subcommand()
+        && let Some(config) = found.get_str("config")
+    {
+        return Ok(Asked::Batch(config));
+    }
+    let why = String::from_str(alloc, "batch wants --config FILE")?;
+    Err(Fault::CommandLine(why))
+}
+
+/// What an error says, in one line: the lines of its text up to an empty one, without its first word.
+fn line_of(alloc: Global, error: &Error) -> Result<String, AllocError> {
+    let text = format!(in alloc; "{error}")?;
+    let text = text.as_str();
+    let text = text.strip_prefix("error: ").unwrap_or(text);
+    let mut line = String::new(alloc);
+    for part in text.lines() {
+        let part = part.trim();
+        if part.is_empty() {
+            break;
+        }
+        if !line.is_empty() {
+            line.push(' ')?;
+        }
+        line.push_str(part)?;
+    }
+    Ok(line)
+}

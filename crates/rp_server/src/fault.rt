@@ -1,0 +1,84 @@
+//! Why the program ends with status 2, and the line that it then writes on standard error.
+use plain_data::Text;
+use rp_repo::NewFault;
+use std::alloc::{AllocError, AllocFailed};
+use std::fmt;
+
+/// Why the program ends with status 2.
+#[derive(Debug, Drop)]
+pub enum Fault {
+    /// The command line is wrong; why, in one line.
+    CommandLine(String),
+    /// The command line has a word that isn't UTF-8.
+    Words,
+    /// The file of this path can't be read.
+    Unreadable(Text),
+    /// The file of this path is over 8 MiB.
+    TooLarge(Text),
+    /// The file of this path is no configuration.
+    Config(Text),
+    /// The file of this path doesn't begin as a schema does.
+    Schema(Text),
+    /// There is no repository of these schemas and partners.
+    New(NewFault),
+    /// Memory is wanting before the first line is read.
+    NoMemory,
+    /// A read of standard input failed.
+    Read,
+    /// A write to standard output failed.
+    Write,
+}
+
+impl fmt::Display for Fault {
+    fn fmt<W: fmt::Write>(&self, f: &mut fmt::Formatter<W>) -> fmt::Result {
+        match self {
+            Fault::CommandLine(why) => { write!(f, "{why} (rp_server --help tells what to type)") }
+            Fault::Words => write!(f, "the command line isn't UTF-8"),
+            Fault::Unreadable(path) => write!(f, "{:?} can't be read", path.as_str()),
+            Fault::TooLarge(path) => write!(f, "{:?} is over 8 MiB", path.as_str()),
+            Fault::Config(path) => write!(
+                f,
+                "{:?} is no configuration (rp_server batch --help shows one)",
+                path.as_str()
+            ),
+            Fault::Schema(path) => write!(
+                f,
+                "{:?} doesn't begin with SCHEMA, a name and a semicolon",
+                path.as_str()
+            ),
+            Fault::New(fault) => f.write_str(why_none(*fault)),
+            Fault::NoMemory => write!(f, "out of memory"),
+            Fault::Read => write!(f, "standard input can't be read"),
+            Fault::Write => write!(f, "standard output can't be written"),
+        }
+    }
+}
+
+/// Why there is no repository.
+fn why_none(fault: NewFault) -> &'static str {
+    match fault {
+        NewFault::TwoSchemas => "two schemas have one name",
+        NewFault::TwoPartners => "two partners have one name",
+        NewFault::BadName => "a partner's name isn't 1 to 64 of A-Z a-z 0-9 _ . -",
+        NewFault::TooMany => "more than 100 schemas or more than 1,000 partners",
+        NewFault::NoMemory => "out of memory",
+    }
+}
+
+impl From<NewFault> for Fault {
+    fn from(fault: NewFault) -> Fault {
+        Fault::New(fault)
+    }
+}
+
+impl From<AllocError> for Fault {
+    fn from(_error: AllocError) -> Fault {
+        Fault::NoMemory
+    }
+}
+
+impl<T: Drop> From<AllocFailed<T>> for Fault {
+    fn from(_error: AllocFailed<T>) -> Fault {
+        Fault::NoMemory
+    }
+}
