@@ -1,0 +1,635 @@
+#!/usr/bin/env python3
+"""Runs the built program on whole inputs and compares all that it writes, byte for byte.
+
+    tests/end_to_end.py [PROGRAM]
+
+Each function `test_*` is one test; its document string says what has to hold. The last line is
+'end to end: N passed, M failed', and the status is 0 only if none failed.
+"""
+import json
+import os
+import subprocess
+import sys
+import tempfile
+
+TOP = os.path.dirname(os.path.dirname(os.path.abspath(__file__)))
+PROGRAM = os.path.join(TOP, "crates/rp_server/out/rp_server")
+REAL_EXPORT = os.path.join(os.path.dirname(TOP), "shared/data/real-export.step")
+sys.path.insert(0, os.path.join(TOP, "bench"))
+
+from make_part21 import part21  # noqa: E402
+
+MIB = 1024 * 1024
+FILE_LIMIT = 8 * MIB
+LINE_LIMIT = 16 * MIB
+
+T = """SCHEMA T;
+ENTITY p; x : REAL; n : OPTIONAL STRING;
+INVERSE u : SET [0:?] OF q FOR a;
+WHERE w1 : SIZEOF(u) <= 2; END_ENTITY;
+ENTITY q; a : p; END_ENTITY;
+END_SCHEMA;
+"""
+L = """SCHEMA L; ENTITY e; END_ENTITY;
+RULE r1 FOR (e); WHERE SIZEOF(QUERY(p <* e | TRUE)) >= 0; END_RULE;
+RULE r2 FOR (e); WHERE NOT (SIZEOF(QUERY(p <* e | TRUE)) < 0); END_RULE;
+END_SCHEMA;
+"""
+
+
+class Wrong(Exception):
+    """What was seen isn't what has to be."""
+
+
+# ---- requests and replies
+
+HEAD = ("ISO-10303-21;HEADER;FILE_DESCRIPTION((''),'2;1');FILE_NAME('','',(''),(''),'','','');"
+        "FILE_SCHEMA(('{}'));ENDSEC;")
+FOOT = "ENDSEC;END-ISO-10303-21;"
+
+
+def file_of(instances, schema="T", section="DATA;"):
+    """A Part 21 file without a line feed."""
+    return HEAD.format(schema) + section + instances + FOOT
+
+
+def line(who, do, **keys):
+    """A request as one line, without its line feed."""
+    return json.dumps({"as": who, "do": do, **keys}, separators=(",", ":"), ensure_ascii=False).encode()
+
+
+def create(who, name, schema="T"):
+    return line(who, "create_model", name=name, schema=schema)
+
+
+def put(who, owner, model, file):
+    return line(who, "put", owner=owner, model=model, file=file)
+
+
+def names(who, owner, model):
+    return line(who, "names", owner=owner, model=model)
+
+
+OK = b'{"ok":{}}'
+
+
+def instances(count):
+    return b'{"ok":{"instances":%d}}' % count
+
+
+def named(*rows):
+    """The reply to `names` for instances of these names and types."""
+    shown = ",".join('{"name":%d,"type":"%s"}' % row for row in rows)
+    return ('{"ok":{"names":[' + shown + "]}}").encode()
+
+
+def refused(code, name):
+    return b'{"refused":{"code":%d,"name":"%s"}}' % (code, name.encode())
+
+
+def file_fault(kind, at):
+    return b'{"refused":{"at":%d,"code":11,"kind":"%s","name":"FileFault"}}' % (at, kind.encode())
+
+
+def instance_fault(kind, instance):
+    return b'{"refused":{"code":12,"instance":%d,"kind":"%s","name":"InstanceFault"}}' % (instance, kind.encode())
+
+
+BAD_REQUEST = refused(1, "BadRequest")
+TOO_LARGE = refused(2, "TooLarge")
+BAD_NAME = refused(3, "BadName")
+UNKNOWN_PARTNER = refused(4, "UnknownPartner")
+UNKNOWN_SCHEMA = refused(5, "UnknownSchema")
+EXISTS = refused(6, "Exists")
+NO_SUCH_ITEM = refused(7, "NoSuchItem")
+WRONG_SCHEMA = refused(9, "WrongSchema")
+TOO_MANY = refused(16, "TooMany")
+
+FIRST_LINES = [create("ann", "m"), put("ann", "ann", "m", file_of("#2=Q(#1);#1=P(0.10,'a');"))]
+FIRST_REPLIES = [OK, instances(2)]
+FIRST_NAMES = named((1, "P"), (2, "Q"))
+
+
+# ---- running the program
+
+CONFIG = {"partners": [{"name": "ann", "token": "ta"}, {"name": "bob", "token": "tb"}],
+          "schemas": ["t.exp", "l.exp"]}
+
+
+class Folder:
+    """A folder with a configuration and schemas, in which the program is run."""
+
+    program = PROGRAM
+
+    def __init__(self, config=None, **files):
+        self.folder = tempfile.TemporaryDirectory()
+        self.write("config.json", json.dumps(CONFIG if config is None else config))
+        self.write("t.exp", T)
+        self.write("l.exp", L)
+        for name, text in files.items():
+            self.write(name + ".exp", text)
+
+    def __enter__(self):
+        return self
+
+    def __exit__(self, *_):
+        self.folder.cleanup()
+
+    def path(self, name):
+        return os.path.join(self.folder.name, name)
+
+    def write(self, name, text):
+        os.makedirs(os.path.dirname(self.path(name)), exist_ok=True)
+        with open(self.path(name), "wb") as it:
+            it.write(text if isinstance(text, bytes) else text.encode())
+
+    def run(self, *words, text=b"", **devices):
+        """The status, and what was written on standard output and standard error."""
+        given = {} if "stdin" in devices else {"input": text}
+        done = subprocess.run([Folder.program, *words], cwd=self.folder.name, timeout=300, check=False,
+                              **{"stdout": subprocess.PIPE, "stderr": subprocess.PIPE, **given, **devices})
+        return done.returncode, done.stdout, done.stderr
+
+    def batch(self, text):
+        return self.run("batch", "--config", "config.json", text=text)
+
+
+def shortened(text):
+    return text if len(text) <= 600 else text[:400] + b" .. " + text[-150:]
+
+
+def expect_replies(text, replies, config=None):
+    """The program answers the bytes of an input by these lines, and ends with status 0."""
+    with Folder(config) as folder:
+        status, output, errors = folder.batch(text)
+    if (status, errors) != (0, b""):
+        raise Wrong(f"status {status}, standard error {errors!r}")
+    written = output.split(b"\n")
+    for place, (reply, wanted) in enumerate(zip(written, replies), 1):
+        if reply != wanted:
+            raise Wrong(f"reply {place} is {shortened(reply)!r} in place of {shortened(wanted)!r}")
+    if output != b"".join(reply + b"\n" for reply in replies):
+        raise Wrong(f"{len(written) - 1} replies in place of {len(replies)}")
+
+
+def expect(turns, config=None):
+    """The program answers each line by the reply beside it."""
+    expect_replies(b"".join(it + b"\n" for it, _ in turns), [reply for _, reply in turns], config)
+
+
+def expect_fault(seen, *mentioned):
+    """The program ended with status 2, one line on standard error and nothing on standard output."""
+    status, output, errors = seen
+    if status != 2 or output or errors.count(b"\n") != 1 or not errors.endswith(b"\n") or len(errors) < 2:
+        raise Wrong(f"status {status}, standard output {output!r}, standard error {errors!r}")
+    for word in mentioned:
+        if word.encode() not in errors:
+            raise Wrong(f"standard error {errors!r} doesn't speak of {word!r}")
+
+
+def expect_config_fault(config, *mentioned, **files):
+    with Folder(config, **files) as folder:
+        expect_fault(folder.batch(names("ann", "ann", "m")), *mentioned)
+
+
+# ---- requests
+
+def test_three_lines_in_three_lines_out():
+    """A model is created, a file is put into it, and its names are listed."""
+    expect([*zip(FIRST_LINES, FIRST_REPLIES), (names("ann", "ann", "m"), FIRST_NAMES)])
+
+
+def test_empty_file():
+    """A file without instances leaves a model without names."""
+    expect([(create("ann", "m"), OK), (put("ann", "ann", "m", file_of("")), instances(0)),
+            (names("ann", "ann", "m"), named())])
+
+
+def test_an_unseen_model_is_answered_as_an_absent_one():
+    """bob learns nothing of ann's model, and may have one of the same name."""
+    expect([*zip(FIRST_LINES, FIRST_REPLIES),
+            (names("bob", "ann", "m"), NO_SUCH_ITEM),
+            (names("bob", "ann", "z"), NO_SUCH_ITEM),
+            (put("bob", "ann", "m", file_of("")), NO_SUCH_ITEM),
+            (create("bob", "m"), OK),
+            (names("bob", "bob", "m"), named()),
+            (names("ann", "ann", "m"), FIRST_NAMES),
+            (names("bob", "carl", "m"), UNKNOWN_PARTNER),
+            (names("bob", "ann", "a b"), BAD_NAME),
+            (names("bob", "carl", "a b"), BAD_NAME),
+            (put("bob", "carl", "a b", "ISO"), BAD_NAME)])
+
+
+def test_files_that_are_cut_off():
+    """The fault lies where the file is cut, and the model is as before."""
+    expect([*zip(FIRST_LINES, FIRST_REPLIES),
+            (put("ann", "ann", "m", "ISO-10303-2"), file_fault("Token", 0)),
+            (put("ann", "ann", "m", "ISO-10303-21;HEADER;FILE_DESC"), file_fault("Syntax", 20)),
+            (put("ann", "ann", "m", "ISO-10303-21;HEADER;FILE_DESCRIPTION"), file_fault("Syntax", 36)),
+            (put("ann", "ann", "m", ""), file_fault("Syntax", 0)),
+            (names("ann", "ann", "m"), FIRST_NAMES)])
+
+
+def test_models_of_one_owner():
+    """An owner has at most 100 models; another's don't count."""
+    turns = [(create("ann", f"m{k}"), OK) for k in range(100)]
+    expect([(b"{", BAD_REQUEST), (create("bob", "m0"), OK), *turns, (create("ann", "m100"), TOO_MANY),
+            (create("ann", "m99"), EXISTS), (create("bob", "m100"), OK)])
+
+
+def test_refusals_in_their_order():
+    """Where several refusals hold, the first in the order of their codes is given."""
+    large = file_of("") + " " * (FILE_LIMIT + 1)
+    undefined, twice = "#2=Q(#9);", "#3=P(1.,$);#3=P(1.,$);"
+    many = "".join(f"#{k}=P();" for k in range(1, 200_001))
+    before = [(create("ann", f"m{k}"), OK) for k in range(100)]
+    at = len(HEAD.format("L") + "DATA;")
+    expect(before + [
+        (put("carl", "carl", "a b", large), BAD_REQUEST),
+        (line("ann", "put", owner="carl", model="a b", file=large, x=1), BAD_REQUEST),
+        (put("ann", "carl", "a b", large), TOO_LARGE),
+        (put("ann", "carl", "a b", "ISO"), BAD_NAME),
+        (put("ann", "a b", "m0", "ISO"), BAD_NAME),
+        (create("ann", "a b", "Z"), BAD_NAME),
+        (put("ann", "carl", "z", "ISO"), UNKNOWN_PARTNER),
+        (create("ann", "m0", "Z"), UNKNOWN_SCHEMA),
+        (create("ann", "m0"), EXISTS),
+        (put("ann", "ann", "z", "ISO"), NO_SUCH_ITEM),
+        (put("ann", "ann", "z", file_of(undefined, "L")), NO_SUCH_ITEM),
+        (put("ann", "ann", "m0", file_of(undefined, "L")), WRONG_SCHEMA),
+        (put("ann", "ann", "m0", file_of(many + "#200001=P();", "L")), WRONG_SCHEMA),
+        (put("ann", "ann", "m0", file_of("#1=P(=);", "L")), file_fault("Syntax", at + 5)),
+        (put("ann", "ann", "m0", file_of(undefined + "#3=P(=);")), file_fault("Syntax", at + 14)),
+        (put("ann", "ann", "m0", file_of(many + twice)), instance_fault("Twice", 3)),
+        (put("ann", "ann", "m0", file_of(many + "#200001=P(#200002);")), instance_fault("Undefined", 200_001)),
+        (put("ann", "ann", "m0", file_of(many + "#200001=P();")), TOO_MANY),
+        (create("ann", "m100"), TOO_MANY),
+        (names("ann", "ann", "m0"), named()),
+        (put("ann", "ann", "m0", file_of(many)), instances(200_000)),
+    ])
+
+
+def test_instance_faults():
+    """The first faulty instance in the order of the file is told, with its first fault."""
+    expect([*zip(FIRST_LINES, FIRST_REPLIES),
+            (put("ann", "ann", "m", file_of("#2=Q(#9);#2=P(1.,$);")), instance_fault("Undefined", 2)),
+            (put("ann", "ann", "m", file_of("#2=P(1.,$);#2=Q(#9);")), instance_fault("Twice", 2)),
+            (put("ann", "ann", "m", file_of("#5=(P(1.)Q(#9)P(2.));")), instance_fault("Twice", 5)),
+            (put("ann", "ann", "m", file_of("#5=Q(((#5,#6)));")), instance_fault("Undefined", 5)),
+            (put("ann", "ann", "m", file_of("#007=Q(#7);")), instances(1)),
+            (names("ann", "ann", "m"), named((7, "Q")))])
+
+
+def test_both_mappings_and_any_case():
+    """An instance of several types is listed by all of them in byte order, in upper case."""
+    text = "#2=(q(#1) P_2(1.)\nA(.t.));#1=p(0.10,'a''b');"
+    expect([(create("ann", "m", "t"), OK),
+            (put("ann", "ann", "m", file_of(text, "t { 1 0 10303 }")), instances(2)),
+            (names("ann", "ann", "m"), named((1, "P"), (2, "A+P_2+Q")))])
+
+
+def test_schemas_of_a_file():
+    """A file is of the schema that its header names, and its section names the same one."""
+    expect([(create("ann", "m"), OK),
+            (put("ann", "ann", "m", file_of("", section="DATA('s',('T'));")), instances(0)),
+            (put("ann", "ann", "m", file_of("", section="DATA('s',('L'));")), WRONG_SCHEMA),
+            (put("ann", "ann", "m", file_of("", "L")), WRONG_SCHEMA),
+            (put("ann", "ann", "m", file_of("", "UNHEARD_OF")), WRONG_SCHEMA),
+            (create("ann", "k", "L"), OK),
+            (put("ann", "ann", "k", file_of("#1=E();", "L")), instances(1))])
+
+
+def test_names_of_items():
+    """Names have 1 to 64 characters of A-Z a-z 0-9 _ . -, and case matters."""
+    expect([(create("ann", "M"), OK), (create("ann", "m"), OK), (create("ann", "A-z.0_9"), OK),
+            (create("ann", "n" * 64), OK), (create("ann", "n" * 65), BAD_NAME), (create("ann", ""), BAD_NAME),
+            (create("ann", "ä"), BAD_NAME), (create("ann", "a/b"), BAD_NAME), (create("ann", "a\u0000"), BAD_NAME),
+            (names("ann", "ANN", "m"), UNKNOWN_PARTNER)])
+
+
+def test_lines_that_are_no_request():
+    """A request has exactly its keys, each of its kind, and its caller is a partner."""
+    lines = [
+        b"", b" ", b"null", b"[]", b'"names"', b"{}", b"{} {}", b"\xef\xbb\xbf{}",
+        names("carl", "ann", "m"), names("ANN", "ann", "m"), names("", "ann", "m"),
+        b'{"do":"names","model":"m","owner":"ann"}',
+        b'{"as":"ann","model":"m","owner":"ann"}',
+        b'{"as":1,"do":"names","model":"m","owner":"ann"}',
+        line("ann", "Names", owner="ann", model="m"),
+        line("ann", "names", owner="ann"),
+        line("ann", "names", owner="ann", model="m", schema="T"),
+        line("ann", "names", owner=None, model="m"),
+        line("ann", "names", owner=["ann"], model="m"),
+        line("ann", "create_model", name=7, schema="T"),
+        line("ann", "create_model", name="m"),
+        line("ann", "create_model", name="m", schema="T", owner="ann"),
+        line("ann", "put", owner="ann", model="m"),
+        line("ann", "put", owner="ann", model="m", file=1),
+        names("ann", "ann", "m") + b",",
+        names("ann", "ann", "m")[:-1],
+        names("ann", "ann", "m").replace(b'"m"', b'"\\ud800"'),
+        b"\xff", names("ann", "ann", "m").replace(b'"m"', b'"\xff"'), names("ann", "ann", "m") + b"\xc3",
+    ]
+    expect([(it, BAD_REQUEST) for it in lines])
+
+
+def test_requests_that_come_later():
+    """What a later version of the program brings is no request yet."""
+    group = {"owner": "ann", "group": "g"}
+    model = {"owner": "ann", "model": "m"}
+    lines = [
+        line("ann", "schemas"), line("ann", "check_schema", text=T),
+        line("ann", "create_group", name="g", schema="T"), line("ann", "delete_group", name="g"),
+        line("ann", "put", **model, file=file_of(""), links=[]), line("ann", "export", **model),
+        line("ann", "get", **model, instance=1), line("ann", "add", **model, text="P(1.,$)"),
+        line("ann", "set", **model, instance=1, text="P(1.,$)"), line("ann", "drop", **model, instance=1),
+        line("ann", "members", **group), line("ann", "extent", **group, type="P"), line("ann", "validate", **group),
+        line("ann", "grant", kind="model", name="m", to="bob", level="group"),
+        line("ann", "grant", kind="group", name="g", to="bob", level="read"),
+        line("ann", "revoke", kind="group", name="g", to="bob"),
+    ]
+    expect([*zip(FIRST_LINES, FIRST_REPLIES), *[(it, BAD_REQUEST) for it in lines]])
+
+
+def test_json_as_it_may_be_written():
+    """Blanks, escapes and the order of the keys don't matter; of equal keys the last one stands."""
+    expect([(create("ann", "m"), OK),
+            (b' \t{ "schema" : "T" , "name":"k",\r"do":"create_model","as":"ann" } \r', OK),
+            (b'{"as":"ann","do":"create_model","name":"\\u006B","schema":"T"}', EXISTS),
+            (b'{"as":"carl","do":"names","as":"ann","owner":"bob","owner":"ann","model":"k"}', named()),
+            (b'{"as":"ann","do":"names","as":"carl","owner":"ann","model":"k"}', BAD_REQUEST)])
+
+
+# ---- lines
+
+def test_last_line_without_its_feed():
+    """A last line counts without its line feed; an empty input has no line."""
+    text = b"\n".join([*FIRST_LINES, names("ann", "ann", "m")])
+    expect_replies(text, [*FIRST_REPLIES, FIRST_NAMES])
+    expect_replies(text + b"\n", [*FIRST_REPLIES, FIRST_NAMES])
+    expect_replies(text + b"\n\n", [*FIRST_REPLIES, FIRST_NAMES, BAD_REQUEST])
+    expect_replies(b"", [])
+    expect_replies(b"\n", [BAD_REQUEST])
+
+
+def test_lines_in_pieces():
+    """Several lines in one read and one line in many reads give the same replies, and a reply comes
+    before the next line is sent."""
+    lines = [create("ann", "m"), names("ann", "ann", "m"), b"{"]
+    replies = [OK, named(), BAD_REQUEST]
+    expect_replies(b"\n".join(lines) + b"\n", replies)
+    with Folder() as folder:
+        words = [Folder.program, "batch", "--config", "config.json"]
+        with subprocess.Popen(words, cwd=folder.folder.name, stdin=subprocess.PIPE, stdout=subprocess.PIPE,
+                              bufsize=0) as process:
+            for it, reply in zip(lines, replies):
+                for byte in it + b"\n":
+                    process.stdin.write(bytes([byte]))
+                written = process.stdout.readline()
+                if written != reply + b"\n":
+                    raise Wrong(f"{written!r} in place of {reply!r}")
+            process.stdin.close()
+        if process.returncode != 0:
+            raise Wrong(f"status {process.returncode}")
+
+
+def padded(text, size):
+    """The line with blanks behind it, of so many bytes."""
+    return text + b" " * (size - len(text))
+
+
+def test_long_lines():
+    """A line may have 16 MiB, its line feed not counted. The rest of a longer one is skipped."""
+    first = create("ann", "m")
+    expect([(padded(first, LINE_LIMIT + 1), TOO_LARGE), (b"x" * (LINE_LIMIT + 1), TOO_LARGE),
+            (b"\xff" * (2 * LINE_LIMIT + 5), TOO_LARGE), (padded(first, LINE_LIMIT), OK),
+            (b"x" * LINE_LIMIT, BAD_REQUEST), (first, EXISTS)])
+    expect_replies(padded(first, LINE_LIMIT + 1), [TOO_LARGE])
+    expect_replies(padded(first, LINE_LIMIT), [OK])
+
+
+def test_large_files():
+    """A file may have 8 MiB, counted in bytes of its text."""
+    file = file_of("#1=P(1.,$);")
+    def filled(size):
+        return file + " " * (size - len(file))
+    def remarked(size):
+        return file + "/*" + "é" * ((size - len(file) - 4) // 2) + " " * ((size - len(file)) % 2) + "*/"
+    expect([(create("ann", "m"), OK),
+            (put("ann", "ann", "m", filled(FILE_LIMIT + 1)), TOO_LARGE),
+            (put("ann", "ann", "m", remarked(FILE_LIMIT + 1)), TOO_LARGE),
+            (put("ann", "ann", "m", "x" * (FILE_LIMIT + 1)), TOO_LARGE),
+            (names("ann", "ann", "m"), named()),
+            (put("ann", "ann", "m", filled(FILE_LIMIT)), instances(1)),
+            (put("ann", "ann", "m", remarked(FILE_LIMIT)), instances(1)),
+            (put("ann", "ann", "m", "x" * FILE_LIMIT), file_fault("Syntax", 0))])
+
+
+def test_files_as_exporters_write_them():
+    """Blanks, lines broken inside strings and several types of one instance are read."""
+    config = {**CONFIG, "schemas": ["ap214.exp"]}
+    with Folder(config, ap214="\n SCHEMA automotive_design;\nEND_SCHEMA;") as folder:
+        create_line, put_line = create("ann", "m", "AUTOMOTIVE_DESIGN"), put("ann", "ann", "m", part21(3000))
+        seen = folder.batch(create_line + b"\n" + put_line + b"\n")
+        if seen != (0, OK + b"\n" + instances(3000) + b"\n", b""):
+            raise Wrong(f"status {seen[0]}, {shortened(seen[1])!r}, {seen[2]!r}")
+        if not os.path.exists(REAL_EXPORT):
+            return
+        with open(REAL_EXPORT, encoding="utf-8") as it:
+            put_line = put("ann", "ann", "m", it.read())
+        status, output, _ = folder.batch(b"\n".join([create_line, put_line, names("ann", "ann", "m")]))
+        replies = output.split(b"\n")
+        if status != 0 or replies[:2] != [OK, instances(464)]:
+            raise Wrong(f"status {status}, {shortened(output)!r}")
+        types = [row["type"] for row in json.loads(replies[2])["ok"]["names"]]
+        if len(types) != 464 or sum("+" in it for it in types) != 4:
+            raise Wrong(f"{len(types)} names, of which {sum('+' in it for it in types)} have several types")
+
+
+# ---- the program
+
+def test_command_line_faults():
+    """A wrong command line ends the program with status 2 and one line."""
+    given = ["batch", "--config", "config.json"]
+    wrong = [
+        [], [""], ["batch"], ["--config", "config.json"], ["config.json"], ["Batch", *given[1:]],
+        ["batch", "config.json"], ["batch", "--config"], ["batch", "--config", "--config"], ["batch", "--config", "-x"],
+        [*given, "--config", "config.json"], [*given, "more"], [*given, "--load", "x"], [*given, "--save", "x"],
+        [*given, "--listen", "127.0.0.1:0"], ["check", "t.exp"], ["serve", *given[1:]],
+        ["serve", *given[1:], "--listen", "127.0.0.1:0", "--connections", "1"], ["batch", "-c", "config.json"],
+        ["batch", "--conf", "config.json"], ["--version"], ["batch", "--config", "config.json", "--", "x"],
+        ["two", "batch", "--config", "config.json"],
+    ]
+    with Folder() as folder:
+        for words in wrong:
+            try:
+                expect_fault(folder.run(*words, text=names("ann", "ann", "m")))
+            except Wrong as fault:
+                raise Wrong(f"{words}: {fault}") from fault
+        seen = folder.run("batch", "--config=config.json", text=names("ann", "ann", "m"))
+        if seen != (0, NO_SUCH_ITEM + b"\n", b""):
+            raise Wrong(f"--config=FILE: {seen!r}")
+
+
+def test_help():
+    """The help is printed on standard output with status 0, and names what there is to type."""
+    with Folder() as folder:
+        for words, mentioned in ([["--help"], ["batch", "--help"]], [["batch", "--help"], ["--config", "FILE"]],
+                                 [["help"], ["batch"]], [["help", "batch"], ["--config"]], [["-h"], ["batch"]]):
+            status, output, errors = folder.run(*words)
+            if status != 0 or errors or any(it.encode() not in output for it in mentioned):
+                raise Wrong(f"{words}: status {status}, {output!r}, {errors!r}")
+
+
+def test_wrong_configurations():
+    """A configuration has exactly its keys, each of its kind."""
+    ann = {"name": "ann", "token": "ta"}
+    wrong = [
+        [], "x", 1, {}, {"partners": []}, {"schemas": []}, {"partners": [], "schemas": [], "x": 1},
+        {"partners": {}, "schemas": []}, {"partners": [], "schemas": {}}, {"partners": None, "schemas": []},
+        {"partners": ["ann"], "schemas": []}, {"partners": [{}], "schemas": []},
+        {"partners": [{"name": "ann"}], "schemas": []}, {"partners": [{"token": "ta"}], "schemas": []},
+        {"partners": [{**ann, "x": 1}], "schemas": []}, {"partners": [{"name": 1, "token": "ta"}], "schemas": []},
+        {"partners": [{"name": "ann", "token": None}], "schemas": []}, {"partners": [ann], "schemas": [1]},
+        {"partners": [ann], "schemas": "t.exp"}, {"Partners": [ann], "schemas": []},
+    ]
+    for config in wrong:
+        try:
+            expect_config_fault(config, "config.json")
+        except Wrong as fault:
+            raise Wrong(f"{config}: {fault}") from fault
+    good = json.dumps({"partners": [ann], "schemas": ["t.exp"]})
+    with Folder() as folder:
+        for text in ("", good[:-1], good + "x", b"\xff" + good.encode(), good.replace("ann", "\\ud800"),
+                     good + " " * (FILE_LIMIT + 1 - len(good))):
+            folder.write("config.json", text)
+            expect_fault(folder.batch(b""), "config.json")
+        for text in (good, "\n" + good + "\n", good + " " * (FILE_LIMIT - len(good))):
+            folder.write("config.json", text)
+            if folder.batch(names("ann", "ann", "m")) != (0, NO_SUCH_ITEM + b"\n", b""):
+                raise Wrong(f"the configuration {text[:200]!r} isn't taken")
+        expect_fault(folder.run("batch", "--config", "absent.json"), "absent.json")
+        expect_fault(folder.run("batch", "--config", "."))
+        expect_fault(folder.run("batch", "--config", ""))
+
+
+def test_beginnings_of_schemas():
+    """Of a schema's file the beginning has to be blanks, SCHEMA, a name and a semicolon."""
+    wrong = [
+        "", "SCHEMA", "SCHEMA T", "SCHEMA ;", "SCHEMA T END_SCHEMA;", "SCHEMA T.;", "SCHEMA 1T;", "SCHEMA _T;",
+        "SCHEMAT;", "SCHEMA T_é;", "SCHEMA 'T';", "(* T *) SCHEMA T;", "SCHEMA (* T *) T;", "SCHEMA T -- T\n;",
+        "-- T\nSCHEMA T;", "ENTITY T;", "SCHEMA T U;", "\ufeffSCHEMA T;", b"SCHEMA\xa0T;", "SCHEMA T,;", "x SCHEMA T;",
+    ]
+    for text in wrong:
+        try:
+            expect_config_fault({**CONFIG, "schemas": ["other.exp"]}, "other.exp", other=text)
+        except Wrong as fault:
+            raise Wrong(f"{text!r}: {fault}") from fault
+    right = ["SCHEMA T;", "\0\t\r\n schema\n\tt \x01;", "SchemA t; anything at all", b"SCHEMA t;\xff\x00", "SCHEMA T;;"]
+    for text in right:
+        with Folder({**CONFIG, "schemas": ["other.exp"]}, other=text) as folder:
+            if folder.batch(create("ann", "m")) != (0, OK + b"\n", b""):
+                raise Wrong(f"a schema that begins {text!r} isn't taken")
+    for name, text in (("a_1b", "SCHEMA A_1b;"), ("a" * 300, "SCHEMA " + "A" * 300 + ";")):
+        with Folder({**CONFIG, "schemas": ["other.exp"]}, other=text) as folder:
+            if folder.batch(create("ann", "m", name)) != (0, OK + b"\n", b""):
+                raise Wrong(f"the schema of {text!r} has another name")
+
+
+def test_large_schemas():
+    """A schema's file has at most 8 MiB."""
+    config = {**CONFIG, "schemas": ["other.exp"]}
+    expect_config_fault(config, "other.exp", other=T + " " * (FILE_LIMIT + 1 - len(T)))
+    with Folder(config, other=T + " " * (FILE_LIMIT - len(T))) as folder:
+        if folder.batch(create("ann", "m")) != (0, OK + b"\n", b""):
+            raise Wrong("a schema of 8 MiB isn't taken")
+
+
+def partners(*given):
+    return [{"name": name, "token": f"t{place}"} for place, name in enumerate(given)]
+
+
+def test_what_no_repository_can_have():
+    """Two schemas or partners of one name, a partner's name that is none, and too many of either."""
+    expect_config_fault({**CONFIG, "partners": partners("ann", "ann")})
+    expect_config_fault({**CONFIG, "partners": partners("a b")})
+    expect_config_fault({**CONFIG, "partners": partners("")})
+    expect_config_fault({**CONFIG, "partners": partners("n" * 65)})
+    expect_config_fault({**CONFIG, "partners": partners(*(f"p{k}" for k in range(1001)))})
+    expect_config_fault({**CONFIG, "schemas": ["t.exp", "t.exp"]})
+    expect_config_fault({**CONFIG, "schemas": ["t.exp", "other.exp"]}, other="SCHEMA t;")
+    expect([(names("p999", "p0", "m"), NO_SUCH_ITEM), (names("p1000", "p0", "m"), BAD_REQUEST)],
+           {**CONFIG, "partners": partners(*(f"p{k}" for k in range(1000)))})
+    with Folder({**CONFIG, "schemas": [f"s{k}.exp" for k in range(101)]},
+                **{f"s{k}": f"SCHEMA s{k};" for k in range(101)}) as folder:
+        expect_fault(folder.batch(b""))
+        folder.write("config.json", json.dumps({**CONFIG, "schemas": [f"s{k}.exp" for k in range(100)]}))
+        if folder.batch(create("ann", "m", "S99")) != (0, OK + b"\n", b""):
+            raise Wrong("100 schemas aren't taken")
+    expect([(names("ann", "ann", "m"), BAD_REQUEST)], {"partners": [], "schemas": []})
+
+
+def test_faults_in_their_order():
+    """The configuration comes first, then the schemas in their order, then what they make together."""
+    twice = partners("ann", "ann")
+    expect_config_fault({"partners": twice, "schemas": ["other.exp"], "x": 1}, "config.json", other="")
+    expect_config_fault({"partners": twice, "schemas": ["t.exp", "t.exp", "other.exp"]}, "other.exp", other="")
+    expect_config_fault({"partners": [], "schemas": ["other.exp", "absent.exp"]}, "other.exp", other="")
+    expect_config_fault({"partners": [], "schemas": ["absent.exp", "other.exp"]}, "absent.exp", other="")
+    expect_config_fault({"partners": [], "schemas": ["."]})
+
+
+def test_paths_start_at_the_working_directory():
+    """A schema's path doesn't start where the configuration lies."""
+    with Folder() as folder:
+        folder.write("sub/config.json", json.dumps({**CONFIG, "schemas": ["other.exp"]}))
+        folder.write("sub/other.exp", T)
+        expect_fault(folder.run("batch", "--config", "sub/config.json"), "other.exp")
+        folder.write("other.exp", T)
+        seen = folder.run("batch", "--config", "sub/config.json", text=create("ann", "m"))
+        if seen != (0, OK + b"\n", b""):
+            raise Wrong(f"{seen!r}")
+
+
+def test_devices_that_fail():
+    """An input or output that fails ends the program with status 2 and one line."""
+    given = ("batch", "--config", "config.json")
+    with Folder() as folder:
+        with open("/dev/full", "wb") as full:
+            status, _, errors = folder.run(*given, text=names("ann", "ann", "m"), stdout=full)
+        expect_fault((status, b"", errors))
+        directory = os.open(folder.folder.name, os.O_RDONLY)
+        try:
+            expect_fault(folder.run(*given, stdin=directory))
+        finally:
+            os.close(directory)
+        begin, end = os.pipe()
+        os.close(begin)
+        try:
+            status, _, errors = folder.run(*given, text=names("ann", "ann", "m"), stdout=end)
+        finally:
+            os.close(end)
+        expect_fault((status, b"", errors))
+
+
+def run_tests(label, given, words):
+    """Runs each function `test_*` of these on the program that the words name, and ends this one."""
+    Folder.program = os.path.abspath(words[0] if words else PROGRAM)
+    if not os.access(Folder.program, os.X_OK):
+        sys.exit(f"{label}: there is no program {Folder.program}: run rt ci first, or name it")
+    passed = failed = 0
+    for name, test in list(given.items()):
+        if not name.startswith("test_"):
+            continue
+        try:
+            test()
+            passed += 1
+        except (Wrong, subprocess.TimeoutExpired) as fault:
+            print(f"{name}: FAILED: {fault}")
+            failed += 1
+    print(f"{label}: {passed} passed, {failed} failed")
+    sys.exit(1 if failed else 0)
+
+
+if __name__ == "__main__":
+    run_tests("end to end", globals(), sys.argv[1:])
