@@ -10,10 +10,10 @@ use Rattle.p21_tree.specs.declared.instance.Instance.{Instance}
 use Rattle.p21_instances.specs.Instances.{is_among, has_twice, names, references_of, fault, or_else, first_fault_after, first_fault}
 use Rattle.p21_instances.proofs.Sets.{is_among-push, map-take_more, drop_one, list_all-same}
 
--- a fault turns on nothing but which names stand before and which the file has
-pub fault-same : (defined defined2 before before2 : List ℕ) → ((n : ℕ) → is_among defined n ≡ is_among defined2 n) → ((n : ℕ) → is_among before n ≡ is_among before2 n) → (i : Instance) → fault defined before i ≡ fault defined2 before2 i
+-- a fault turns on nothing but whether the name stands before and which the file has
+pub fault-same : (defined defined2 before before2 : List ℕ) → ((n : ℕ) → is_among defined n ≡ is_among defined2 n) → (i : Instance) → is_among before i.name ≡ is_among before2 i.name → fault defined before i ≡ fault defined2 before2 i
 unfolding fault
-fault-same d d2 b b2 all ahead i = rw (ahead i.name, list_all-same (is_among d) (is_among d2) all (references_of i.mapping)) refl
+fault-same d d2 b b2 all i ahead = rw (ahead, list_all-same (is_among d) (is_among d2) all (references_of i.mapping)) refl
 
 -- one instance after the other
 first_fault-step : (defined : List ℕ) (xs : List Instance) (k : ℕ) (x : Instance) → k < length xs → x ≡ get_or xs k x

@@ -3,6 +3,7 @@
 
 mod fault;
 mod name;
+mod sorted_names;
 mod types;
 
 pub use fault::first_fault;

@@ -8,16 +8,22 @@ use plain_data::{Rows, Text};
 use rp_plain::rows::{Grant, Level};
 use std::alloc::{AllocError, Global};
 
+fn copy_grant(alloc: Global, grant: &Grant) -> Result<Grant, AllocError>
+    ensures { IfOk result (λ copy. copy ≡ grant.now) }
+{
+    let partner = grant.partner.copy(alloc)?;
+    Ok(Grant {
+        partner,
+        level: grant.level,
+    })
+}
+
 fn copy_grants(alloc: Global, grants: &[Grant]) -> Result<Vec<Grant>, AllocError>
     ensures { IfOk result (λ copy. copy.items ≡ grants.now) }
 {
     let mut copy = Vec::with_capacity(alloc, grants.len())?;
     for grant in grants {
-        let partner = grant.partner.copy(alloc)?;
-        copy.push(Grant {
-            partner,
-            level: grant.level,
-        })?;
+        copy.push(copy_grant(alloc, grant)?)?;
     }
     Ok(copy)
 }
@@ -33,11 +39,7 @@ fn push_before(
 {
     for grant in grants {
         if grant.partner.order(to).is_lt() {
-            let partner = grant.partner.copy(alloc)?;
-            out.push(Grant {
-                partner,
-                level: grant.level,
-            })?;
+            out.push(copy_grant(alloc, grant)?)?;
         }
     }
     Ok(())
@@ -54,11 +56,7 @@ fn push_after(
 {
     for grant in grants {
         if grant.partner.order(to).is_gt() {
-            let partner = grant.partner.copy(alloc)?;
-            out.push(Grant {
-                partner,
-                level: grant.level,
-            })?;
+            out.push(copy_grant(alloc, grant)?)?;
         }
     }
     Ok(())

@@ -6,7 +6,7 @@ use Rattle.p21_instances.proofs.fault.all_defined.Goals as goal
 
 pub returns-in-External : goal.returns-in-External
 returns-in-External c =
-    let defined = spec.is_among c.args.defined.now.keys in
+    let defined = spec.is_among c.args.defined.now in
     c.parts_are_defined.ensures
     ∙ ap (λ l. list_all (λ part. list_all defined (flat_map spec.references part.values)) l) c.as_slice-in-External.ensures
     ∙ sym (list_all_flat_map defined (λ part. flat_map spec.references part.values) c.in-External.parts)
