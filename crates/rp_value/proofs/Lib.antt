@@ -1,0 +1,4 @@
+pub mod Digits
+pub mod Exponents
+pub mod Ranks
+pub mod Zeros

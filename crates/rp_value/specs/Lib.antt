@@ -1,0 +1,3 @@
+pub mod Decimals
+pub mod Spelling
+pub mod Whole

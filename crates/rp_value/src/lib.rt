@@ -1,0 +1,21 @@
+//! Plain values of EXPRESS: whole numbers, decimals and logical values.
+#![tactic(auto)]
+
+mod decimal;
+mod order;
+mod spelling;
+mod whole;
+
+pub use decimal::{Decimal, DecimalFault};
+pub use whole::whole_number;
+
+/// A value of LOGICAL, in the order of the standard.
+#[derive(Clone, Copy, Debug, PartialEq, Eq)]
+pub enum Logical {
+    False,
+    Unknown,
+    True,
+}
+
+#[cfg(test)]
+mod tests;
