@@ -1,0 +1,4 @@
+pub mod Lexemes
+pub mod Rows
+pub mod Slices
+pub mod Text

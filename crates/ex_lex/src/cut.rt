@@ -1,0 +1,41 @@
+//! The cut of a text into its tokens.
+
+ghost use Rattle.std.specs.Prelude.{IfOk};
+ghost use Rattle.text_forms.specs.Gives.{Gives};
+ghost use Rattle.ex_lex.specs.Spelling as spec;
+
+use crate::front::{Start, front};
+use crate::lexed::Tokens;
+use ex_tree::{LexFault, Token};
+use std::alloc::Global;
+use text_forms::Failure;
+
+/// The tokens of a text, with places in bytes from 0.
+///
+/// # Errors
+///
+/// The first lexical fault, at the first byte of its token or remark; or want of memory.
+pub fn tokens(alloc: Global, text: &[u8]) -> Result<Tokens<'_>, Failure<LexFault>>
+    ensures value { Gives (λ t. t) result (spec.tokens text.now) }
+    ensures slices { IfOk result (λ t. spec.AreSlices text.now 0 t.lexemes) }
+{
+    let mut found = Vec::new(alloc);
+    let mut left = text;
+    let mut at = 0;
+    'tokens: while !left.is_empty() {
+        match front(left) {
+            Start::Blank(len) => {
+                left = &left[len..];
+                at += len;
+            }
+            Start::Token(kind, len) => {
+                let (text, rest) = left.split_at(len);
+                found.push(Token { kind, at, text })?;
+                left = rest;
+                at += len;
+            }
+            Start::Fault(kind) => return Err(Failure::Fault(LexFault { kind, at })),
+        }
+    }
+    Ok(Tokens::new(found, text.len()))
+}

@@ -1,0 +1,130 @@
+//! Symbols.
+
+ghost use Rattle.std.specs.Prelude.{◌≡◌, ◌<◌, ℕ, [], ◌∷◌, length, slice_index};
+ghost use Rattle.ex_lex.specs.Lexical.{Fits};
+ghost use Rattle.ex_lex.specs.Symbols as spec;
+
+use crate::front::Start;
+use ex_tree::{Kind, LexFaultKind};
+
+#[tactic(auto, unfolding(crate::specs::Symbols::symbol))]
+fn colon(z: &[u8]) -> Start
+    requires { slice_index z.now 0 ≡ 58 }
+    ensures value { result ≡ spec.symbol z.now }
+    ensures within { Fits result (length z.now) }
+{
+    if z.starts_with(b":<>:") {
+        Start::Token(Kind::InstanceNotEqual, 4)
+    } else if z.starts_with(b":=:") {
+        Start::Token(Kind::InstanceEqual, 3)
+    } else if z.starts_with(b":=") {
+        Start::Token(Kind::Becomes, 2)
+    } else {
+        single(b':')
+    }
+}
+
+#[tactic(auto, unfolding(crate::specs::Symbols::symbol))]
+fn less(z: &[u8]) -> Start
+    requires { slice_index z.now 0 ≡ 60 }
+    ensures value { result ≡ spec.symbol z.now }
+    ensures within { Fits result (length z.now) }
+{
+    if z.starts_with(b"<=") {
+        Start::Token(Kind::LessEqual, 2)
+    } else if z.starts_with(b"<>") {
+        Start::Token(Kind::NotEqual, 2)
+    } else if z.starts_with(b"<*") {
+        Start::Token(Kind::QuerySource, 2)
+    } else {
+        single(b'<')
+    }
+}
+
+#[tactic(auto, unfolding(crate::specs::Symbols::symbol))]
+fn greater(z: &[u8]) -> Start
+    requires { slice_index z.now 0 ≡ 62 }
+    ensures value { result ≡ spec.symbol z.now }
+    ensures within { Fits result (length z.now) }
+{
+    if z.starts_with(b">=") {
+        Start::Token(Kind::GreaterEqual, 2)
+    } else {
+        single(b'>')
+    }
+}
+
+#[tactic(auto, unfolding(crate::specs::Symbols::symbol))]
+fn star(z: &[u8]) -> Start
+    requires { slice_index z.now 0 ≡ 42 }
+    ensures value { result ≡ spec.symbol z.now }
+    ensures within { Fits result (length z.now) }
+{
+    if z.starts_with(b"**") {
+        Start::Token(Kind::Power, 2)
+    } else {
+        single(b'*')
+    }
+}
+
+#[tactic(auto, unfolding(crate::specs::Symbols::symbol))]
+fn bar(z: &[u8]) -> Start
+    requires { slice_index z.now 0 ≡ 124 }
+    ensures value { result ≡ spec.symbol z.now }
+    ensures within { Fits result (length z.now) }
+{
+    if z.starts_with(b"||") {
+        Start::Token(Kind::Concatenate, 2)
+    } else {
+        single(b'|')
+    }
+}
+
+#[tactic(auto, unfolding(crate::specs::Symbols::symbol))]
+/// The symbol of this one byte.
+fn single(b: u8) -> Start
+    ensures value { result ≡ spec.symbol (b ∷ []) }
+    ensures within { (len : ℕ) → 0 < len → Fits result len }
+{
+    let kind = match b {
+        b'.' => Kind::Point,
+        b',' => Kind::Comma,
+        b';' => Kind::Semicolon,
+        b':' => Kind::Colon,
+        b'*' => Kind::Star,
+        b'+' => Kind::Plus,
+        b'-' => Kind::Minus,
+        b'=' => Kind::Equals,
+        b'\\' => Kind::Backslash,
+        b'/' => Kind::Slash,
+        b'<' => Kind::Less,
+        b'>' => Kind::Greater,
+        b'[' => Kind::OpenBracket,
+        b']' => Kind::CloseBracket,
+        b'{' => Kind::OpenBrace,
+        b'}' => Kind::CloseBrace,
+        b'|' => Kind::Bar,
+        b'(' => Kind::OpenParenthesis,
+        b')' => Kind::CloseParenthesis,
+        b'?' => Kind::QuestionMark,
+        _ => return Start::Fault(LexFaultKind::Token),
+    };
+    Start::Token(kind, 1)
+}
+
+/// The longest symbol at the front.
+#[tactic(auto, unfolding(crate::specs::Symbols::symbol))]
+pub fn symbol(z: &[u8]) -> Start
+    requires { 0 < length z.now }
+    ensures value { result ≡ spec.symbol z.now }
+    ensures within { Fits result (length z.now) }
+{
+    match z[0] {
+        b':' => colon(z),
+        b'<' => less(z),
+        b'>' => greater(z),
+        b'*' => star(z),
+        b'|' => bar(z),
+        b => single(b),
+    }
+}

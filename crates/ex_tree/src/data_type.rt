@@ -1,0 +1,67 @@
+//! Types (clause 8).
+
+use crate::expression::Name;
+use sqlite_items::Boxed;
+
+/// `(length)` or `(length) FIXED`
+#[derive(Clone, Copy, Debug, PartialEq, Eq)]
+pub struct Width {
+    pub length: u64,
+    pub fixed: bool,
+}
+
+/// `[low:high]`; without a high bound where it is `?`.
+#[derive(Clone, Copy, Debug, PartialEq, Eq)]
+pub struct Bounds {
+    pub low: u64,
+    pub high: Option<u64>,
+}
+
+#[derive(Clone, Copy, Debug, PartialEq, Eq)]
+pub struct ArrayBounds {
+    pub low: u64,
+    pub high: u64,
+}
+
+#[derive(Clone, Copy, Debug, PartialEq, Eq)]
+pub enum SimpleType {
+    Binary(Option<Width>),
+    Boolean,
+    Integer,
+    Logical,
+    Number,
+    Real,
+    String(Option<Width>),
+}
+
+/// A type of an attribute, a constant, a variable, a parameter or a result. Bounds that are not there are `[0:?]`;
+/// the labels of AGGREGATE and GENERIC are dropped.
+#[derive(Debug, Drop)]
+pub enum DataType {
+    Simple(SimpleType),
+    /// An entity or a defined type.
+    Named(Name),
+    Array {
+        bounds: ArrayBounds,
+        optional: bool,
+        unique: bool,
+        element: Boxed<DataType>,
+    },
+    List {
+        bounds: Bounds,
+        unique: bool,
+        element: Boxed<DataType>,
+    },
+    Bag {
+        bounds: Bounds,
+        element: Boxed<DataType>,
+    },
+    Set {
+        bounds: Bounds,
+        element: Boxed<DataType>,
+    },
+    /// Of parameters and results alone.
+    Aggregate(Boxed<DataType>),
+    /// Of parameters and results alone.
+    Generic,
+}

@@ -1,0 +1,147 @@
+//! Expressions (clause 12). An offset stands wherever a fault of names or types may lie.
+
+use plain_data::Text;
+use rp_value::{Decimal, Logical};
+use sqlite_items::{Boxed, Items};
+
+/// An identifier in upper case, and its first byte.
+#[derive(Debug, Drop)]
+pub struct Name {
+    pub text: Text,
+    pub at: usize,
+}
+
+#[derive(Debug, Drop)]
+pub enum Literal {
+    Integer(u64),
+    /// With its sign, if one stands directly before it.
+    Real(Decimal),
+    /// Its value in UTF-8, and its first byte.
+    String(Text, usize),
+    /// Its bits, as `0` and `1`.
+    Binary(Text),
+    Logical(Logical),
+}
+
+#[derive(Clone, Copy, Debug, PartialEq, Eq)]
+pub enum UnaryOperator {
+    Plus,
+    Minus,
+    Not,
+}
+
+#[derive(Clone, Copy, Debug, PartialEq, Eq)]
+pub enum BinaryOperator {
+    Power,
+    Multiply,
+    /// `/`
+    Divide,
+    Div,
+    Mod,
+    And,
+    Add,
+    Subtract,
+    Or,
+    Xor,
+    Less,
+    Greater,
+    LessEqual,
+    GreaterEqual,
+    NotEqual,
+    Equal,
+    /// `:<>:`
+    InstanceNotEqual,
+    /// `:=:`
+    InstanceEqual,
+    In,
+}
+
+#[derive(Clone, Copy, Debug, PartialEq, Eq)]
+pub enum IntervalOperator {
+    Less,
+    LessEqual,
+}
+
+#[derive(Clone, Copy, Debug, PartialEq, Eq)]
+pub enum BuiltInFunction {
+    Abs,
+    BLength,
+    Exists,
+    HiIndex,
+    Length,
+    LoIndex,
+    Nvl,
+    Odd,
+    SizeOf,
+    TypeOf,
+    UsedIn,
+    ValueIn,
+}
+
+/// An operator, its first byte, and the operand on its right.
+#[derive(Debug, Drop)]
+#[cycle(expression)]
+pub struct Operation {
+    pub operator: BinaryOperator,
+    pub at: usize,
+    pub right: Expression,
+}
+
+/// What is taken of a value. The number is the first byte of `.`, `\` or `[`.
+#[derive(Debug, Drop)]
+#[cycle(expression)]
+pub enum Qualifier {
+    Attribute(usize, Name),
+    Group(usize, Name),
+    Index(usize, Expression),
+    /// From the first index to the second.
+    Range(usize, Expression, Expression),
+}
+
+/// `{ low < item <= high }`, each operator with its first byte.
+#[derive(Debug, Drop)]
+#[cycle(expression)]
+pub struct Interval {
+    pub low: Expression,
+    pub low_operator: IntervalOperator,
+    pub low_at: usize,
+    pub item: Expression,
+    pub high_operator: IntervalOperator,
+    pub high_at: usize,
+    pub high: Expression,
+}
+
+/// `QUERY(variable <* source | condition)`, and the first byte of its word.
+#[derive(Debug, Drop)]
+#[cycle(expression)]
+pub struct Query {
+    pub at: usize,
+    pub variable: Name,
+    pub source: Expression,
+    pub condition: Expression,
+}
+
+/// Parentheses leave no node.
+#[derive(Debug, Drop)]
+#[cycle(expression)]
+pub enum Expression {
+    Literal(Literal),
+    /// An attribute, constant, parameter, variable, item, population, or a function without arguments.
+    Name(Name),
+    /// `SELF`, and its first byte.
+    Itself(usize),
+    /// `?`
+    Indeterminate,
+    Call(Name, Items<Expression>),
+    /// With the first byte of its word; without arguments where no list stands.
+    BuiltIn(BuiltInFunction, usize, Items<Expression>),
+    Qualified(Boxed<Expression>, Items<Qualifier>),
+    /// With the operator's first byte.
+    Unary(UnaryOperator, usize, Boxed<Expression>),
+    /// Operators of one level, from left to right; of `**` and the relations one alone.
+    Chain(Boxed<Expression>, Items<Operation>),
+    Interval(Boxed<Interval>),
+    Query(Boxed<Query>),
+    /// `[ .. ]`
+    Initializer(Items<Expression>),
+}

@@ -1,0 +1,54 @@
+//! Statements (clause 13).
+
+use crate::expression::{Expression, Name};
+use sqlite_items::{Boxed, Items};
+
+/// `variable := first TO last BY step`
+#[derive(Debug, Drop)]
+pub struct Increment {
+    pub variable: Name,
+    pub first: Expression,
+    pub last: Expression,
+    pub step: Option<Expression>,
+}
+
+/// What governs the turns of a REPEAT.
+#[derive(Debug, Drop)]
+pub struct RepeatControl {
+    pub increment: Option<Increment>,
+    pub while_condition: Option<Expression>,
+    pub until_condition: Option<Expression>,
+}
+
+#[derive(Debug, Drop)]
+#[cycle(statement)]
+pub struct CaseAction {
+    pub labels: Items<Expression>,
+    pub statement: Statement,
+}
+
+/// A CASE, and the first byte of its word.
+#[derive(Debug, Drop)]
+#[cycle(statement)]
+pub struct Case {
+    pub at: usize,
+    pub selector: Expression,
+    pub actions: Items<CaseAction>,
+    pub otherwise: Option<Boxed<Statement>>,
+}
+
+#[derive(Debug, Drop)]
+#[cycle(statement)]
+pub enum Statement {
+    Null,
+    Assignment(Name, Expression),
+    Case(Case),
+    Compound(Items<Statement>),
+    Escape,
+    /// The condition, what follows THEN, and what follows ELSE: nothing where it is not there.
+    If(Expression, Items<Statement>, Items<Statement>),
+    Repeat(RepeatControl, Items<Statement>),
+    /// With the first byte of its word.
+    Return(usize, Expression),
+    Skip,
+}

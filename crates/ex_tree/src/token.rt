@@ -1,0 +1,9 @@
+use crate::kind::Kind;
+
+/// A slice of the text, and the place where it begins, in bytes from 0.
+#[derive(Clone, Copy, Debug)]
+pub struct Token<'a> {
+    pub kind: Kind,
+    pub at: usize,
+    pub text: &'a [u8],
+}
