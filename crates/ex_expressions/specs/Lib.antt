@@ -1,0 +1,5 @@
+pub mod Operators
+pub mod Literals
+pub mod Levels
+pub mod Expressions
+pub mod Nests

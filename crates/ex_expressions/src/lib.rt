@@ -1,0 +1,11 @@
+//! The expressions of EXPRESS (ISO 10303-11:1994, clause 12).
+#![tactic(auto)]
+
+mod expressions;
+mod factors;
+mod grammar;
+mod literals;
+mod operators;
+mod qualifiers;
+
+pub use expressions::{ExpressionForm, begins_expression, expression, simple_expression};

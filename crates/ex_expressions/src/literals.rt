@@ -1,0 +1,194 @@
+//! Literals and their values.
+
+ghost use Rattle.std.specs.Prelude.{◌≡◌, IfOk, false, option_map};
+ghost use Rattle.std.specs.Str.{encode_utf8_all};
+ghost use Rattle.text_forms.specs.Gives.{Reads, Takes};
+ghost use Rattle.ex_lex.specs.Strings.{characters};
+ghost use Rattle.ex_forms.specs.Input as input;
+ghost use Rattle.ex_expressions.specs.Literals as spec;
+
+use ex_forms::{Cursor, Read, whole};
+use ex_lex::character;
+use ex_tree::{Kind, Literal};
+use plain_data::Text;
+use rp_value::{Decimal, Logical};
+use std::alloc::{AllocError, Global};
+use text_forms::Failure;
+
+/// What stands between the first byte of a token and its last.
+fn inner(token: &[u8]) -> &[u8]
+    ensures { result.now ≡ spec.inner token.now }
+{
+    match token {
+        [_, inner @ .., _] => inner,
+        _ => &[],
+    }
+}
+
+/// The bytes as a text, where they are one.
+fn text_of(bytes: Vec<u8>) -> Option<Text>
+    ensures { result ≡ input.utf8 bytes.items }
+{
+    match String::from_utf8(bytes) {
+        Ok(text) => Some(Text::new(text)),
+        Err(_) => None,
+    }
+}
+
+/// The bytes without the second of each two apostrophes.
+fn undoubled(alloc: Global, bytes: &[u8]) -> Result<Vec<u8>, AllocError>
+    ensures { IfOk result (λ found. found.items ≡ spec.undoubled false bytes.now) }
+{
+    let mut found = Vec::new(alloc);
+    let mut is_second = false;
+    'bytes: for byte in bytes {
+        if is_second {
+            is_second = false;
+        } else {
+            found.push(*byte)?;
+            is_second = *byte == b'\'';
+        }
+    }
+    Ok(found)
+}
+
+fn copied(alloc: Global, bytes: &[u8]) -> Result<Vec<u8>, AllocError>
+    ensures { IfOk result (λ found. found.items ≡ bytes.now) }
+{
+    let mut found = Vec::new(alloc);
+    found.extend_from_slice(bytes)?;
+    Ok(found)
+}
+
+#[tactic(auto, unfolding(crate::specs::Literals::real, ex_forms::specs::Input::expect))]
+fn real(cursor: &mut Cursor<'_>) -> Read<Decimal>
+    ensures reads { Reads (spec.real cursor.old) result cursor.new }
+    ensures takes { Takes result cursor.old cursor.new }
+{
+    let refusal = cursor.refusal();
+    let token = cursor.expect(Kind::RealLiteral)?;
+    match Decimal::parse(token.text) {
+        Ok(value) => Ok(value),
+        Err(_) => Err(Failure::Fault(refusal)),
+    }
+}
+
+/// A real with its sign, which comes next.
+#[tactic(auto, unfolding(crate::specs::Literals::signed_real))]
+pub fn signed_real(cursor: &mut Cursor<'_>) -> Read<Literal>
+    ensures reads { Reads (spec.signed_real cursor.old) result cursor.new }
+    ensures takes { Takes result cursor.old cursor.new }
+{
+    if cursor.eat(Kind::Minus) {
+        return Ok(Literal::Real(real(cursor)?.negate()));
+    }
+    cursor.expect(Kind::Plus)?;
+    Ok(Literal::Real(real(cursor)?))
+}
+
+#[tactic(auto, unfolding(crate::specs::Literals::simple_string, ex_forms::specs::Input::expect))]
+fn simple_string(alloc: Global, cursor: &mut Cursor<'_>) -> Read<Literal>
+    ensures reads { Reads (spec.simple_string cursor.old) result cursor.new }
+    ensures takes { Takes result cursor.old cursor.new }
+{
+    let refusal = cursor.refusal();
+    let token = cursor.expect(Kind::SimpleStringLiteral)?;
+    let bytes = undoubled(alloc, inner(token.text))?;
+    let Some(text) = text_of(bytes) else {
+        return Err(Failure::Fault(refusal));
+    };
+    Ok(Literal::String(text, token.at))
+}
+
+/// The characters of which groups of eight hexadecimal digits write the codes.
+fn decoded(alloc: Global, digits: &[u8]) -> Result<Option<Text>, AllocError>
+    ensures { IfOk result (λ text. text ≡ option_map encode_utf8_all (characters digits.now)) }
+{
+    let mut found = String::new(alloc);
+    let mut left = digits;
+    'groups: while !left.is_empty() {
+        if left.len() < 8 {
+            return Ok(None);
+        }
+        let (group, rest) = left.split_at(8);
+        let Some(next) = character(group) else {
+            return Ok(None);
+        };
+        found.push(next)?;
+        left = rest;
+    }
+    Ok(Some(Text::new(found)))
+}
+
+#[tactic(auto, unfolding(crate::specs::Literals::encoded_string, ex_forms::specs::Input::expect))]
+fn encoded_string(alloc: Global, cursor: &mut Cursor<'_>) -> Read<Literal>
+    ensures reads { Reads (spec.encoded_string cursor.old) result cursor.new }
+    ensures takes { Takes result cursor.old cursor.new }
+{
+    let refusal = cursor.refusal();
+    let token = cursor.expect(Kind::EncodedStringLiteral)?;
+    let Some(text) = decoded(alloc, inner(token.text))? else {
+        return Err(Failure::Fault(refusal));
+    };
+    Ok(Literal::String(text, token.at))
+}
+
+#[tactic(auto, unfolding(crate::specs::Literals::binary, ex_forms::specs::Input::expect))]
+fn binary(alloc: Global, cursor: &mut Cursor<'_>) -> Read<Literal>
+    ensures reads { Reads (spec.binary cursor.old) result cursor.new }
+    ensures takes { Takes result cursor.old cursor.new }
+{
+    let refusal = cursor.refusal();
+    let token = cursor.expect(Kind::BinaryLiteral)?;
+    let bits = match token.text {
+        [_, bits @ ..] => bits,
+        [] => &[],
+    };
+    let Some(text) = text_of(copied(alloc, bits)?) else {
+        return Err(Failure::Fault(refusal));
+    };
+    Ok(Literal::Binary(text))
+}
+
+/// Whether the next token is a literal.
+pub fn begins_literal(cursor: &Cursor<'_>) -> bool
+    ensures { result ≡ spec.begins_literal cursor.now }
+{
+    const LITERAL_TOKENS: [Kind; 8] = [
+        Kind::IntegerLiteral,
+        Kind::RealLiteral,
+        Kind::SimpleStringLiteral,
+        Kind::EncodedStringLiteral,
+        Kind::BinaryLiteral,
+        Kind::True,
+        Kind::False,
+        Kind::Unknown,
+    ];
+    LITERAL_TOKENS.iter().any(|literal| cursor.sees(*literal))
+}
+
+fn logical(cursor: &mut Cursor<'_>, word: Kind, value: Logical) -> Read<Literal>
+    ensures reads { Reads (spec.logical word value cursor.old) result cursor.new }
+    ensures takes { Takes result cursor.old cursor.new }
+{
+    cursor.expect(word)?;
+    Ok(Literal::Logical(value))
+}
+
+#[tactic(auto, unfolding(crate::specs::Literals::literal))]
+pub fn literal(alloc: Global, cursor: &mut Cursor<'_>) -> Read<Literal>
+    ensures reads { Reads (spec.literal cursor.old) result cursor.new }
+    ensures takes { Takes result cursor.old cursor.new }
+{
+    match cursor.kind() {
+        Kind::IntegerLiteral => Ok(Literal::Integer(whole(cursor)?)),
+        Kind::RealLiteral => Ok(Literal::Real(real(cursor)?)),
+        Kind::SimpleStringLiteral => simple_string(alloc, cursor),
+        Kind::EncodedStringLiteral => encoded_string(alloc, cursor),
+        Kind::BinaryLiteral => binary(alloc, cursor),
+        Kind::False => logical(cursor, Kind::False, Logical::False),
+        Kind::Unknown => logical(cursor, Kind::Unknown, Logical::Unknown),
+        Kind::True => logical(cursor, Kind::True, Logical::True),
+        _ => Err(Failure::Fault(cursor.refusal())),
+    }
+}

@@ -1,0 +1,96 @@
+//! What governs the turns of a REPEAT.
+
+ghost use Rattle.std.specs.Prelude.{◌≡◌};
+ghost use Rattle.text_forms.specs.Gives.{Reads, Takes, Keeps};
+ghost use Rattle.ex_tree.specs.declared.kind.Kind.TheVariants as k;
+ghost use Rattle.ex_forms.specs.Input.{optional, sees};
+ghost use Rattle.ex_statements.specs.Statements as spec;
+
+use ex_expressions::{expression, simple_expression};
+use ex_forms::{Cursor, Kind, Read, name};
+use ex_tree::{Expression, Increment, RepeatControl};
+use std::alloc::Global;
+
+/// What follows BY, if it stands next.
+#[tactic(auto, unfolding(crate::specs::Statements::increment))]
+fn increment(alloc: Global, cursor: &mut Cursor<'_>, levels: u8) -> Read<Option<Expression>>
+    ensures reads { Reads (optional (sees k.By) (spec.increment levels) cursor.old) result cursor.new }
+    ensures keeps { Keeps result cursor.old cursor.new }
+{
+    if !cursor.sees(Kind::By) {
+        return Ok(None);
+    }
+    cursor.expect(Kind::By)?;
+    Ok(Some(simple_expression(alloc, cursor, levels)?))
+}
+
+#[tactic(auto, unfolding(crate::specs::Statements::increment_control))]
+fn increment_control(alloc: Global, cursor: &mut Cursor<'_>, levels: u8) -> Read<Increment>
+    ensures reads { Reads (spec.increment_control levels cursor.old) result cursor.new }
+    ensures takes { Takes result cursor.old cursor.new }
+{
+    let variable = name(alloc, cursor)?;
+    cursor.expect(Kind::Becomes)?;
+    let first = simple_expression(alloc, cursor, levels)?;
+    cursor.expect(Kind::To)?;
+    let last = simple_expression(alloc, cursor, levels)?;
+    let step = increment(alloc, cursor, levels)?;
+    Ok(Increment {
+        variable,
+        first,
+        last,
+        step,
+    })
+}
+
+/// An increment control, if one begins here.
+fn increment_option(alloc: Global, cursor: &mut Cursor<'_>, levels: u8) -> Read<Option<Increment>>
+    ensures reads { Reads (optional (sees k.Identifier) (spec.increment_control levels) cursor.old) result cursor.new }
+    ensures keeps { Keeps result cursor.old cursor.new }
+{
+    if !cursor.sees(Kind::Identifier) {
+        return Ok(None);
+    }
+    Ok(Some(increment_control(alloc, cursor, levels)?))
+}
+
+/// The condition after WHILE, if it stands next.
+#[tactic(auto, unfolding(crate::specs::Statements::while_control))]
+fn while_control(alloc: Global, cursor: &mut Cursor<'_>, levels: u8) -> Read<Option<Expression>>
+    ensures reads { Reads (optional (sees k.While) (spec.while_control levels) cursor.old) result cursor.new }
+    ensures keeps { Keeps result cursor.old cursor.new }
+{
+    if !cursor.sees(Kind::While) {
+        return Ok(None);
+    }
+    cursor.expect(Kind::While)?;
+    Ok(Some(expression(alloc, cursor, levels)?))
+}
+
+/// The condition after UNTIL, if it stands next.
+#[tactic(auto, unfolding(crate::specs::Statements::until_control))]
+fn until_control(alloc: Global, cursor: &mut Cursor<'_>, levels: u8) -> Read<Option<Expression>>
+    ensures reads { Reads (optional (sees k.Until) (spec.until_control levels) cursor.old) result cursor.new }
+    ensures keeps { Keeps result cursor.old cursor.new }
+{
+    if !cursor.sees(Kind::Until) {
+        return Ok(None);
+    }
+    cursor.expect(Kind::Until)?;
+    Ok(Some(expression(alloc, cursor, levels)?))
+}
+
+#[tactic(auto, unfolding(crate::specs::Statements::repeat_control))]
+pub fn repeat_control(alloc: Global, cursor: &mut Cursor<'_>, levels: u8) -> Read<RepeatControl>
+    ensures reads { Reads (spec.repeat_control levels cursor.old) result cursor.new }
+    ensures keeps { Keeps result cursor.old cursor.new }
+{
+    let increment = increment_option(alloc, cursor, levels)?;
+    let while_condition = while_control(alloc, cursor, levels)?;
+    let until_condition = until_control(alloc, cursor, levels)?;
+    Ok(RepeatControl {
+        increment,
+        while_condition,
+        until_condition,
+    })
+}

@@ -1,0 +1,2 @@
+pub mod TypeLevels
+pub mod SupertypeLevels

@@ -1,0 +1,6 @@
+pub mod DataTypes
+pub mod Supertypes
+pub mod Declarations
+pub mod Entities
+pub mod Algorithms
+pub mod Schemas

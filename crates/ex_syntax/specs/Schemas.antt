@@ -1,0 +1,53 @@
+-- Schemas (ISO 10303-11:1994, 9.3), and what the tokens of a text spell.
+use Rattle.std.specs.Prelude.{ℕ, Bool, ◌||◌, List, Result, Ok, Err}
+use Rattle.text_forms.specs.Forms.{◌>>=◌, ◌>>◌, ◌<$>◌, pure}
+use Rattle.ex_lex.specs.Lexeme.{Lexed}
+use Rattle.ex_tree.specs.declared.kind.Kind.{Kind}
+use Rattle.ex_tree.specs.declared.kind.Kind.TheVariants as k
+use Rattle.ex_tree.specs.declared.fault.ParseFault.{ParseFault}
+use Rattle.ex_tree.specs.declared.declaration.Declaration.{Declaration}
+use Rattle.ex_tree.specs.declared.declaration.Declaration.TheVariants as tree
+use Rattle.ex_tree.specs.declared.declaration.Schema.{Schema}
+use Rattle.ex_forms.specs.Input.{Parser, Lexemes, sees, peek, expect, refuse, finish, name, many, stream}
+use Rattle.ex_syntax.specs.Declarations.{type_decl, constants}
+use Rattle.ex_syntax.specs.Entities.{entity_decl}
+use Rattle.ex_syntax.specs.Algorithms.{function_decl, rule_decl}
+
+abbrev pub begins_declaration : Lexemes → Bool
+begins_declaration s = sees k.Entity s || sees k.Function s || sees k.Rule s || sees k.Type s
+
+abbrev pub declaration_by : Kind → Parser Declaration
+declaration_by k.Entity = tree.Entity <$> entity_decl
+declaration_by k.Function = tree.Function <$> function_decl
+declaration_by k.Rule = tree.Rule <$> rule_decl
+declaration_by k.Type = tree.Type <$> type_decl
+declaration_by _ = refuse
+
+unfoldable pub declaration : Parser Declaration
+declaration = peek >>= declaration_by
+
+unfoldable pub schema_decl : Parser Schema
+schema_decl = do
+  expect k.Schema
+  name' ← name
+  expect k.Semicolon
+  constants' ← constants
+  declarations ← many begins_declaration declaration
+  expect k.EndSchema
+  expect k.Semicolon
+  pure (record { name = name'; constants = constants'; declarations = declarations })
+
+-- one schema, and no token after it
+unfoldable pub syntax : Parser Schema
+syntax = do
+  found ← schema_decl
+  finish
+  pure found
+
+abbrev pub tree_of : {A : Type 0} → Result (A × Lexemes) ParseFault → Result A ParseFault
+tree_of (Ok p) = Ok p.0
+tree_of (Err fault) = Err fault
+
+-- The tree that the tokens of a text spell; else the first token that can't be taken, or the end.
+unfoldable pub parsed : Lexed → Result Schema ParseFault
+parsed text = tree_of (syntax (stream text))

@@ -1,0 +1,255 @@
+//! Functions and rules.
+
+ghost use Rattle.std.specs.Prelude.{◌≡◌};
+ghost use Rattle.text_forms.specs.Gives.{Reads, Takes, Keeps};
+ghost use Rattle.ex_forms.specs.Input as input;
+ghost use Rattle.ex_syntax.specs.Algorithms as spec;
+ghost use Rattle.ex_tree.specs.declared.kind.Kind.TheVariants as k;
+
+use crate::data_types::{base_type, parameter_type};
+use crate::declarations::{MAX_LEVELS, NameForm, name_list, where_clause};
+use ex_expressions::expression;
+use ex_forms::{Begins, Cursor, Form, Read, name, optional, separated, some};
+use ex_statements::{Place, begins_statement, statements};
+use ex_tree::{
+    Expression, Function, FunctionHead, Kind, LocalVariable, Parameter, Rule, RuleHead, Statement,
+};
+use sqlite_items::Items;
+use std::alloc::Global;
+
+const IN_FUNCTIONS: Place = Place {
+    in_function: true,
+    in_repeat: false,
+};
+
+const IN_RULES: Place = Place {
+    in_function: false,
+    in_repeat: false,
+};
+
+#[tactic(auto, unfolding(crate::specs::Algorithms::formal_parameter))]
+fn formal_parameter(alloc: Global, cursor: &mut Cursor<'_>) -> Read<Parameter>
+    ensures reads { Reads (spec.formal_parameter cursor.old) result cursor.new }
+    ensures takes { Takes result cursor.old cursor.new }
+{
+    let names = separated(alloc, cursor, Kind::Comma, &NameForm)?;
+    cursor.expect(Kind::Colon)?;
+    let data_type = parameter_type(alloc, cursor, MAX_LEVELS - 1)?;
+    Ok(Parameter { names, data_type })
+}
+
+#[derive(Drop)]
+struct ParameterForm;
+
+impl Form for ParameterForm {
+    type Tree = Parameter;
+
+    ghost form = { λ _. spec.formal_parameter };
+
+    ghost can_read = { λ _. Unit {0} };
+
+    fn read(&self, alloc: Global, cursor: &mut Cursor<'_>) -> Read<Parameter> {
+        formal_parameter(alloc, cursor)
+    }
+}
+
+#[tactic(auto, unfolding(crate::specs::Algorithms::parameter_list))]
+fn parameter_list(alloc: Global, cursor: &mut Cursor<'_>) -> Read<Items<Parameter>>
+    ensures reads { Reads (spec.parameter_list cursor.old) result cursor.new }
+    ensures takes { Takes result cursor.old cursor.new }
+{
+    cursor.enter(MAX_LEVELS, Kind::OpenParenthesis)?;
+    let found = separated(alloc, cursor, Kind::Semicolon, &ParameterForm)?;
+    cursor.expect(Kind::CloseParenthesis)?;
+    Ok(found)
+}
+
+/// The parameters, if a list stands here.
+#[tactic(auto, unfolding(crate::specs::Algorithms::parameters))]
+fn parameters(alloc: Global, cursor: &mut Cursor<'_>) -> Read<Items<Parameter>>
+    ensures reads { Reads (spec.parameters cursor.old) result cursor.new }
+    ensures keeps { Keeps result cursor.old cursor.new }
+{
+    if cursor.sees(Kind::OpenParenthesis) {
+        parameter_list(alloc, cursor)
+    } else {
+        Ok(Items::new(alloc))
+    }
+}
+
+#[tactic(auto, unfolding(crate::specs::Algorithms::initial_value))]
+fn initial_value(alloc: Global, cursor: &mut Cursor<'_>) -> Read<Expression>
+    ensures reads { Reads (spec.initial_value cursor.old) result cursor.new }
+    ensures takes { Takes result cursor.old cursor.new }
+{
+    cursor.expect(Kind::Becomes)?;
+    expression(alloc, cursor, MAX_LEVELS)
+}
+
+#[derive(Drop)]
+struct InitialValueForm;
+
+impl Form for InitialValueForm {
+    type Tree = Expression;
+
+    ghost form = { λ _. spec.initial_value };
+
+    ghost can_read = { λ _. Unit {0} };
+
+    fn read(&self, alloc: Global, cursor: &mut Cursor<'_>) -> Read<Expression> {
+        initial_value(alloc, cursor)
+    }
+}
+
+impl Begins for InitialValueForm {
+    ghost begins = { λ _. input.sees k.Becomes };
+
+    fn begins(&self, cursor: &Cursor<'_>) -> bool {
+        cursor.sees(Kind::Becomes)
+    }
+}
+
+#[tactic(auto, unfolding(crate::specs::Algorithms::local_variable))]
+fn local_variable(alloc: Global, cursor: &mut Cursor<'_>) -> Read<LocalVariable>
+    ensures reads { Reads (spec.local_variable cursor.old) result cursor.new }
+    ensures takes { Takes result cursor.old cursor.new }
+{
+    let names = separated(alloc, cursor, Kind::Comma, &NameForm)?;
+    cursor.expect(Kind::Colon)?;
+    let data_type = base_type(alloc, cursor, MAX_LEVELS)?;
+    let value = optional(alloc, cursor, &InitialValueForm)?;
+    cursor.expect(Kind::Semicolon)?;
+    Ok(LocalVariable {
+        names,
+        data_type,
+        value,
+    })
+}
+
+#[derive(Drop)]
+struct LocalVariableForm;
+
+impl Form for LocalVariableForm {
+    type Tree = LocalVariable;
+
+    ghost form = { λ _. spec.local_variable };
+
+    ghost can_read = { λ _. Unit {0} };
+
+    fn read(&self, alloc: Global, cursor: &mut Cursor<'_>) -> Read<LocalVariable> {
+        local_variable(alloc, cursor)
+    }
+}
+
+impl Begins for LocalVariableForm {
+    ghost begins = { λ _. input.sees k.Identifier };
+
+    fn begins(&self, cursor: &Cursor<'_>) -> bool {
+        cursor.sees(Kind::Identifier)
+    }
+}
+
+#[tactic(auto, unfolding(crate::specs::Algorithms::local_decl))]
+fn local_decl(alloc: Global, cursor: &mut Cursor<'_>) -> Read<Items<LocalVariable>>
+    ensures reads { Reads (spec.local_decl cursor.old) result cursor.new }
+    ensures takes { Takes result cursor.old cursor.new }
+{
+    cursor.expect(Kind::Local)?;
+    let found = some(alloc, cursor, &LocalVariableForm)?;
+    cursor.expect(Kind::EndLocal)?;
+    cursor.expect(Kind::Semicolon)?;
+    Ok(found)
+}
+
+/// What LOCAL declares, if it stands here.
+#[tactic(auto, unfolding(crate::specs::Algorithms::algorithm_head))]
+fn algorithm_head(alloc: Global, cursor: &mut Cursor<'_>) -> Read<Items<LocalVariable>>
+    ensures reads { Reads (spec.algorithm_head cursor.old) result cursor.new }
+    ensures keeps { Keeps result cursor.old cursor.new }
+{
+    if cursor.sees(Kind::Local) {
+        local_decl(alloc, cursor)
+    } else {
+        Ok(Items::new(alloc))
+    }
+}
+
+#[tactic(auto, unfolding(crate::specs::Algorithms::function_head))]
+fn function_head(alloc: Global, cursor: &mut Cursor<'_>) -> Read<FunctionHead>
+    ensures reads { Reads (spec.function_head cursor.old) result cursor.new }
+    ensures takes { Takes result cursor.old cursor.new }
+{
+    cursor.expect(Kind::Function)?;
+    let name = name(alloc, cursor)?;
+    let parameters = parameters(alloc, cursor)?;
+    cursor.expect(Kind::Colon)?;
+    let result = parameter_type(alloc, cursor, MAX_LEVELS)?;
+    cursor.expect(Kind::Semicolon)?;
+    Ok(FunctionHead {
+        name,
+        parameters,
+        result,
+    })
+}
+
+#[tactic(auto, unfolding(crate::specs::Algorithms::function_decl))]
+pub(crate) fn function_decl(alloc: Global, cursor: &mut Cursor<'_>) -> Read<Function>
+    ensures reads { Reads (spec.function_decl cursor.old) result cursor.new }
+    ensures takes { Takes result cursor.old cursor.new }
+{
+    let head = function_head(alloc, cursor)?;
+    let locals = algorithm_head(alloc, cursor)?;
+    let statements = statements(alloc, cursor, MAX_LEVELS, IN_FUNCTIONS)?;
+    cursor.expect(Kind::EndFunction)?;
+    cursor.expect(Kind::Semicolon)?;
+    Ok(Function {
+        head,
+        locals,
+        statements,
+    })
+}
+
+#[tactic(auto, unfolding(crate::specs::Algorithms::rule_head))]
+fn rule_head(alloc: Global, cursor: &mut Cursor<'_>) -> Read<RuleHead>
+    ensures reads { Reads (spec.rule_head cursor.old) result cursor.new }
+    ensures takes { Takes result cursor.old cursor.new }
+{
+    cursor.expect(Kind::Rule)?;
+    let name = name(alloc, cursor)?;
+    cursor.expect(Kind::For)?;
+    let entities = name_list(alloc, cursor)?;
+    cursor.expect(Kind::Semicolon)?;
+    Ok(RuleHead { name, entities })
+}
+
+/// The statements of a rule, which may have none.
+#[tactic(auto, unfolding(crate::specs::Algorithms::rule_statements))]
+fn rule_statements(alloc: Global, cursor: &mut Cursor<'_>) -> Read<Items<Statement>>
+    ensures reads { Reads (spec.rule_statements cursor.old) result cursor.new }
+    ensures keeps { Keeps result cursor.old cursor.new }
+{
+    if begins_statement(cursor, IN_RULES) {
+        statements(alloc, cursor, MAX_LEVELS, IN_RULES)
+    } else {
+        Ok(Items::new(alloc))
+    }
+}
+
+#[tactic(auto, unfolding(crate::specs::Algorithms::rule_decl))]
+pub(crate) fn rule_decl(alloc: Global, cursor: &mut Cursor<'_>) -> Read<Rule>
+    ensures reads { Reads (spec.rule_decl cursor.old) result cursor.new }
+    ensures takes { Takes result cursor.old cursor.new }
+{
+    let head = rule_head(alloc, cursor)?;
+    let locals = algorithm_head(alloc, cursor)?;
+    let statements = rule_statements(alloc, cursor)?;
+    let domain_rules = where_clause(alloc, cursor)?;
+    cursor.expect(Kind::EndRule)?;
+    cursor.expect(Kind::Semicolon)?;
+    Ok(Rule {
+        head,
+        locals,
+        statements,
+        domain_rules,
+    })
+}

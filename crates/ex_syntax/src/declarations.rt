@@ -1,0 +1,303 @@
+//! Rules with their labels, names of attributes, constants and types.
+
+ghost use Rattle.std.specs.Prelude.{◌≡◌};
+ghost use Rattle.text_forms.specs.Gives.{Reads, Takes, Keeps};
+ghost use Rattle.ex_forms.specs.Input as input;
+ghost use Rattle.ex_syntax.specs.Declarations as spec;
+ghost use Rattle.ex_tree.specs.declared.kind.Kind.TheVariants as k;
+ghost use Rattle.ex_expressions.specs.Expressions.{begins_expression};
+
+use crate::data_types::base_type;
+use ex_expressions::{begins_expression, expression};
+use ex_forms::{Begins, Cursor, Form, Read, name, optional, separated, some};
+use ex_tree::{
+    AttributeDeclaration, Constant, DomainRule, Kind, Name, QualifiedAttribute, TypeDeclaration,
+    UnderlyingType,
+};
+use sqlite_items::Items;
+use std::alloc::Global;
+use text_forms::Failure;
+
+/// So many parentheses, statements and types may be open at once.
+pub(crate) const MAX_LEVELS: u8 = 64;
+
+#[derive(Drop)]
+pub(crate) struct NameForm;
+
+impl Form for NameForm {
+    type Tree = Name;
+
+    ghost form = { λ _. input.name };
+
+    ghost can_read = { λ _. Unit {0} };
+
+    fn read(&self, alloc: Global, cursor: &mut Cursor<'_>) -> Read<Name> {
+        name(alloc, cursor)
+    }
+}
+
+/// Names between parentheses.
+#[tactic(auto, unfolding(crate::specs::Declarations::name_list))]
+pub(crate) fn name_list(alloc: Global, cursor: &mut Cursor<'_>) -> Read<Items<Name>>
+    ensures reads { Reads (spec.name_list cursor.old) result cursor.new }
+    ensures takes { Takes result cursor.old cursor.new }
+{
+    cursor.enter(MAX_LEVELS, Kind::OpenParenthesis)?;
+    let names = separated(alloc, cursor, Kind::Comma, &NameForm)?;
+    cursor.expect(Kind::CloseParenthesis)?;
+    Ok(names)
+}
+
+#[tactic(auto, unfolding(crate::specs::Declarations::label))]
+fn label(alloc: Global, cursor: &mut Cursor<'_>) -> Read<Name>
+    ensures reads { Reads (spec.label cursor.old) result cursor.new }
+    ensures takes { Takes result cursor.old cursor.new }
+{
+    let found = name(alloc, cursor)?;
+    cursor.expect(Kind::Colon)?;
+    Ok(found)
+}
+
+#[derive(Drop)]
+pub(crate) struct LabelForm;
+
+impl Form for LabelForm {
+    type Tree = Name;
+
+    ghost form = { λ _. spec.label };
+
+    ghost can_read = { λ _. Unit {0} };
+
+    fn read(&self, alloc: Global, cursor: &mut Cursor<'_>) -> Read<Name> {
+        label(alloc, cursor)
+    }
+}
+
+impl Begins for LabelForm {
+    ghost begins = { λ _. spec.begins_label };
+
+    fn begins(&self, cursor: &Cursor<'_>) -> bool {
+        cursor.sees(Kind::Identifier) && cursor.sees_second(Kind::Colon)
+    }
+}
+
+#[tactic(auto, unfolding(crate::specs::Declarations::domain_rule))]
+fn domain_rule(alloc: Global, cursor: &mut Cursor<'_>) -> Read<DomainRule>
+    ensures reads { Reads (spec.domain_rule cursor.old) result cursor.new }
+    ensures takes { Takes result cursor.old cursor.new }
+{
+    let label = optional(alloc, cursor, &LabelForm)?;
+    let condition = expression(alloc, cursor, MAX_LEVELS)?;
+    cursor.expect(Kind::Semicolon)?;
+    Ok(DomainRule { label, condition })
+}
+
+#[derive(Drop)]
+struct DomainRuleForm;
+
+impl Form for DomainRuleForm {
+    type Tree = DomainRule;
+
+    ghost form = { λ _. spec.domain_rule };
+
+    ghost can_read = { λ _. Unit {0} };
+
+    fn read(&self, alloc: Global, cursor: &mut Cursor<'_>) -> Read<DomainRule> {
+        domain_rule(alloc, cursor)
+    }
+}
+
+impl Begins for DomainRuleForm {
+    ghost begins = { λ _. begins_expression };
+
+    fn begins(&self, cursor: &Cursor<'_>) -> bool {
+        begins_expression(cursor)
+    }
+}
+
+#[tactic(auto, unfolding(crate::specs::Declarations::where_clause))]
+pub(crate) fn where_clause(alloc: Global, cursor: &mut Cursor<'_>) -> Read<Items<DomainRule>>
+    ensures reads { Reads (spec.where_clause cursor.old) result cursor.new }
+    ensures takes { Takes result cursor.old cursor.new }
+{
+    cursor.expect(Kind::Where)?;
+    some(alloc, cursor, &DomainRuleForm)
+}
+
+/// The rules of a WHERE clause, if it stands here.
+#[tactic(auto, unfolding(crate::specs::Declarations::where_rules))]
+pub(crate) fn where_rules(alloc: Global, cursor: &mut Cursor<'_>) -> Read<Items<DomainRule>>
+    ensures reads { Reads (spec.where_rules cursor.old) result cursor.new }
+    ensures keeps { Keeps result cursor.old cursor.new }
+{
+    if cursor.sees(Kind::Where) {
+        where_clause(alloc, cursor)
+    } else {
+        Ok(Items::new(alloc))
+    }
+}
+
+#[tactic(auto, unfolding(crate::specs::Declarations::qualified_attribute))]
+fn qualified_attribute(alloc: Global, cursor: &mut Cursor<'_>) -> Read<QualifiedAttribute>
+    ensures reads { Reads (spec.qualified_attribute cursor.old) result cursor.new }
+    ensures takes { Takes result cursor.old cursor.new }
+{
+    cursor.expect(Kind::Itself)?;
+    cursor.expect(Kind::Backslash)?;
+    let entity = name(alloc, cursor)?;
+    cursor.expect(Kind::Point)?;
+    let attribute = name(alloc, cursor)?;
+    Ok(QualifiedAttribute { entity, attribute })
+}
+
+/// A name, or one behind `SELF\entity.`.
+#[tactic(auto, unfolding(crate::specs::Declarations::attribute_decl))]
+pub(crate) fn attribute_decl(alloc: Global, cursor: &mut Cursor<'_>) -> Read<AttributeDeclaration>
+    ensures reads { Reads (spec.attribute_decl cursor.old) result cursor.new }
+    ensures takes { Takes result cursor.old cursor.new }
+{
+    match cursor.kind() {
+        Kind::Identifier => Ok(AttributeDeclaration::Own(name(alloc, cursor)?)),
+        Kind::Itself => Ok(AttributeDeclaration::Qualified(qualified_attribute(alloc, cursor)?)),
+        _ => Err(Failure::Fault(cursor.refusal())),
+    }
+}
+
+/// Whether the name of an attribute begins here.
+pub(crate) fn begins_attribute(cursor: &Cursor<'_>) -> bool
+    ensures { result ≡ spec.begins_attribute cursor.now }
+{
+    cursor.sees(Kind::Identifier) || cursor.sees(Kind::Itself)
+}
+
+#[derive(Drop)]
+pub(crate) struct AttributeForm;
+
+impl Form for AttributeForm {
+    type Tree = AttributeDeclaration;
+
+    ghost form = { λ _. spec.attribute_decl };
+
+    ghost can_read = { λ _. Unit {0} };
+
+    fn read(&self, alloc: Global, cursor: &mut Cursor<'_>) -> Read<AttributeDeclaration> {
+        attribute_decl(alloc, cursor)
+    }
+}
+
+#[tactic(auto, unfolding(crate::specs::Declarations::constant_body))]
+fn constant_body(alloc: Global, cursor: &mut Cursor<'_>) -> Read<Constant>
+    ensures reads { Reads (spec.constant_body cursor.old) result cursor.new }
+    ensures takes { Takes result cursor.old cursor.new }
+{
+    let name = name(alloc, cursor)?;
+    cursor.expect(Kind::Colon)?;
+    let data_type = base_type(alloc, cursor, MAX_LEVELS)?;
+    cursor.expect(Kind::Becomes)?;
+    let value = expression(alloc, cursor, MAX_LEVELS)?;
+    cursor.expect(Kind::Semicolon)?;
+    Ok(Constant {
+        name,
+        data_type,
+        value,
+    })
+}
+
+#[derive(Drop)]
+struct ConstantForm;
+
+impl Form for ConstantForm {
+    type Tree = Constant;
+
+    ghost form = { λ _. spec.constant_body };
+
+    ghost can_read = { λ _. Unit {0} };
+
+    fn read(&self, alloc: Global, cursor: &mut Cursor<'_>) -> Read<Constant> {
+        constant_body(alloc, cursor)
+    }
+}
+
+impl Begins for ConstantForm {
+    ghost begins = { λ _. input.sees k.Identifier };
+
+    fn begins(&self, cursor: &Cursor<'_>) -> bool {
+        cursor.sees(Kind::Identifier)
+    }
+}
+
+#[tactic(auto, unfolding(crate::specs::Declarations::constant_decl))]
+fn constant_decl(alloc: Global, cursor: &mut Cursor<'_>) -> Read<Items<Constant>>
+    ensures reads { Reads (spec.constant_decl cursor.old) result cursor.new }
+    ensures takes { Takes result cursor.old cursor.new }
+{
+    cursor.expect(Kind::Constant)?;
+    let constants = some(alloc, cursor, &ConstantForm)?;
+    cursor.expect(Kind::EndConstant)?;
+    cursor.expect(Kind::Semicolon)?;
+    Ok(constants)
+}
+
+/// What CONSTANT declares, if it stands here.
+#[tactic(auto, unfolding(crate::specs::Declarations::constants))]
+pub(crate) fn constants(alloc: Global, cursor: &mut Cursor<'_>) -> Read<Items<Constant>>
+    ensures reads { Reads (spec.constants cursor.old) result cursor.new }
+    ensures keeps { Keeps result cursor.old cursor.new }
+{
+    if cursor.sees(Kind::Constant) {
+        constant_decl(alloc, cursor)
+    } else {
+        Ok(Items::new(alloc))
+    }
+}
+
+#[tactic(auto, unfolding(crate::specs::Declarations::enumeration_type))]
+fn enumeration_type(alloc: Global, cursor: &mut Cursor<'_>) -> Read<UnderlyingType>
+    ensures reads { Reads (spec.enumeration_type cursor.old) result cursor.new }
+    ensures takes { Takes result cursor.old cursor.new }
+{
+    cursor.expect(Kind::Enumeration)?;
+    cursor.expect(Kind::Of)?;
+    Ok(UnderlyingType::Enumeration(name_list(alloc, cursor)?))
+}
+
+#[tactic(auto, unfolding(crate::specs::Declarations::select_type))]
+fn select_type(alloc: Global, cursor: &mut Cursor<'_>) -> Read<UnderlyingType>
+    ensures reads { Reads (spec.select_type cursor.old) result cursor.new }
+    ensures takes { Takes result cursor.old cursor.new }
+{
+    cursor.expect(Kind::Select)?;
+    Ok(UnderlyingType::Select(name_list(alloc, cursor)?))
+}
+
+#[tactic(auto, unfolding(crate::specs::Declarations::underlying_type))]
+fn underlying_type(alloc: Global, cursor: &mut Cursor<'_>) -> Read<UnderlyingType>
+    ensures reads { Reads (spec.underlying_type cursor.old) result cursor.new }
+    ensures takes { Takes result cursor.old cursor.new }
+{
+    match cursor.kind() {
+        Kind::Enumeration => enumeration_type(alloc, cursor),
+        Kind::Select => select_type(alloc, cursor),
+        _ => Ok(UnderlyingType::Data(base_type(alloc, cursor, MAX_LEVELS)?)),
+    }
+}
+
+#[tactic(auto, unfolding(crate::specs::Declarations::type_decl))]
+pub(crate) fn type_decl(alloc: Global, cursor: &mut Cursor<'_>) -> Read<TypeDeclaration>
+    ensures reads { Reads (spec.type_decl cursor.old) result cursor.new }
+    ensures takes { Takes result cursor.old cursor.new }
+{
+    cursor.expect(Kind::Type)?;
+    let name = name(alloc, cursor)?;
+    cursor.expect(Kind::Equals)?;
+    let underlying = underlying_type(alloc, cursor)?;
+    cursor.expect(Kind::Semicolon)?;
+    let domain_rules = where_rules(alloc, cursor)?;
+    cursor.expect(Kind::EndType)?;
+    cursor.expect(Kind::Semicolon)?;
+    Ok(TypeDeclaration {
+        name,
+        underlying,
+        domain_rules,
+    })
+}
