@@ -11,6 +11,8 @@ pub enum Asked<'a> {
     Help(Error),
     /// To answer the lines of standard input, by the configuration in the file of this path.
     Batch(&'a str),
+    /// To tell whether the file of this path is a schema.
+    Check(&'a str),
 }
 
 const ABOUT: &str = "A repository of STEP product models that several partners share.";
@@ -37,6 +39,26 @@ A request names its partner in \"as\" and what to do in \"do\":
 The status is 0 at the end of the input. It is 2, with one line on standard error, where the command
 line or a file is wrong or where the input or the output fails.";
 
+const CHECK_ABOUT: &str = "Reads an EXPRESS schema, and tells its name or its first fault.";
+
+const CHECK_AFTER: &str = "\
+It writes one line on standard output: the name of a schema that is read,
+
+  T: ok
+
+and status 0; or the kind of the first fault with its line and its column, which is counted in bytes,
+
+  Syntax line 3 column 14
+
+and status 1. The kinds are
+
+  Token, OpenString, OpenRemark, BadEncoded, TooBig   of a token that is none
+  Syntax                                              of a token that cannot stand where it does
+  OutOfProfile                                        of EXPRESS that this program leaves out
+  TooDeep                                             of more than 64 levels of nesting
+
+The status is 2, with one line on standard error, where the file can't be read or is over 8 MiB.";
+
 fn command<'a>(alloc: Global) -> Result<Command<'a>, AllocError> {
     let config = Arg::new(alloc, "config")
         .long("config")
@@ -48,11 +70,21 @@ fn command<'a>(alloc: Global) -> Result<Command<'a>, AllocError> {
         .about(BATCH_ABOUT)
         .after_help(BATCH_AFTER)
         .arg(config)?;
+    let file = Arg::new(alloc, "file")
+        .value_name("FILE")
+        .help("The schema's file")
+        .required(true)
+        .action(ArgAction::Set);
+    let check = Command::new(alloc, "check")
+        .about(CHECK_ABOUT)
+        .after_help(CHECK_AFTER)
+        .arg(file)?;
     Command::new(alloc, "rp_server")
         .about(ABOUT)
         .after_help("Type rp_server batch --help for the configuration and the requests.")
         .subcommand_required(true)
-        .subcommand(batch)
+        .subcommand(batch)?
+        .subcommand(check)
 }
 
 /// What these words ask for, the program's own name first.
@@ -68,7 +100,12 @@ pub fn asked_of<'a>(alloc: Global, words: &'a [String]) -> Result<Asked<'a>, Fau
     {
         return Ok(Asked::Batch(config));
     }
-    let why = String::from_str(alloc, "batch wants --config FILE")?;
+    if let Some(("check", found)) = matches.subcommand()
+        && let Some(file) = found.get_str("file")
+    {
+        return Ok(Asked::Check(file));
+    }
+    let why = String::from_str(alloc, "batch wants --config FILE, and check wants FILE")?;
     Err(Fault::CommandLine(why))
 }
 

@@ -1,5 +1,13 @@
 //! The configuration: `{"partners":[{"name":"ann","token":"ta"}],"schemas":["t.exp"]}`.
-use plain_data::Text;
+ghost use Rattle.std.specs.Prelude.{◌≡◌, map, string_bytes, Some, None, IfOk, IsErrOf, option_map, option_and_then};
+ghost use Rattle.std.specs.List.{list_all, list_any};
+ghost use Rattle.std.specs.Str.{bytes_eq};
+ghost use Rattle.std.specs.BTreeMap.{keys as map_keys};
+ghost use Rattle.serde_json.specs.Find.{as_str, as_object};
+ghost use Rattle.serde_json.specs.View.{view, items_view, members_view};
+ghost use Rattle.rp_server.specs.Configuration as spec;
+
+use plain_data::{Rows, Text};
 use serde_json::{Map, Value};
 use std::alloc::{AllocError, AllocFailed, Global};
 
@@ -7,9 +15,9 @@ use std::alloc::{AllocError, AllocFailed, Global};
 #[derive(Drop)]
 pub struct Config {
     /// The names of the partners, in their order.
-    pub partners: Vec<Text>,
+    pub partners: Rows<Text>,
     /// The paths of the schemas' files, in their order.
-    pub schemas: Vec<Text>,
+    pub schemas: Rows<Text>,
 }
 
 /// Why bytes give no configuration.
@@ -22,12 +30,22 @@ pub enum ConfigFault {
 }
 
 impl From<AllocError> for ConfigFault {
+    ghost use Rattle.std.specs.Prelude.{◌≡◌};
+    ghost use Rattle.rp_server.specs.declared.config.ConfigFault.TheVariants.{NoMemory};
+
+    ghost from_gives = { λ _ e. e ≡ NoMemory };
+
     fn from(_error: AllocError) -> ConfigFault {
         ConfigFault::NoMemory
     }
 }
 
 impl<T: Drop> From<AllocFailed<T>> for ConfigFault {
+    ghost use Rattle.std.specs.Prelude.{◌≡◌};
+    ghost use Rattle.rp_server.specs.declared.config.ConfigFault.TheVariants.{NoMemory};
+
+    ghost from_gives = { λ _ e. e ≡ NoMemory };
+
     fn from(_error: AllocFailed<T>) -> ConfigFault {
         ConfigFault::NoMemory
     }
@@ -35,7 +53,10 @@ impl<T: Drop> From<AllocFailed<T>> for ConfigFault {
 
 /// The configuration of a file's bytes. An object has exactly the keys shown above, and the strings
 /// may be any.
-pub fn config_of(alloc: Global, bytes: &[u8]) -> Result<Config, ConfigFault> {
+pub fn config_of(alloc: Global, bytes: &[u8]) -> Result<Config, ConfigFault>
+    ensures ok { IfOk result (λ config. spec.config_of bytes.now ≡ Some config) }
+    ensures wrong { IsErrOf result ConfigFault.Wrong → spec.config_of bytes.now ≡ None }
+{
     match Value::from_slice(alloc, bytes) {
         Ok(value) => config_in(alloc, &value),
         Err(error) if error.is_memory() => Err(ConfigFault::NoMemory),
@@ -43,7 +64,10 @@ pub fn config_of(alloc: Global, bytes: &[u8]) -> Result<Config, ConfigFault> {
     }
 }
 
-fn config_in(alloc: Global, value: &Value) -> Result<Config, ConfigFault> {
+fn config_in(alloc: Global, value: &Value) -> Result<Config, ConfigFault>
+    ensures ok { IfOk result (λ config. option_and_then spec.config_in (as_object (view value.now)) ≡ Some config) }
+    ensures wrong { IsErrOf result ConfigFault.Wrong → option_and_then spec.config_in (as_object (view value.now)) ≡ None }
+{
     let Some(members) = value.as_object() else {
         return Err(ConfigFault::Wrong);
     };
@@ -62,8 +86,11 @@ fn config_in(alloc: Global, value: &Value) -> Result<Config, ConfigFault> {
     })
 }
 
-fn names_in(alloc: Global, partners: &[Value]) -> Result<Vec<Text>, ConfigFault> {
-    let mut names = Vec::new(alloc);
+fn names_in(alloc: Global, partners: &[Value]) -> Result<Rows<Text>, ConfigFault>
+    ensures ok { IfOk result (λ names. spec.each spec.name_of (items_view partners.now) ≡ Some names) }
+    ensures wrong { IsErrOf result ConfigFault.Wrong → spec.each spec.name_of (items_view partners.now) ≡ None }
+{
+    let mut names = Rows::new(alloc);
     for partner in partners {
         let Some(name) = name_in(partner) else {
             return Err(ConfigFault::Wrong);
@@ -74,7 +101,9 @@ fn names_in(alloc: Global, partners: &[Value]) -> Result<Vec<Text>, ConfigFault>
 }
 
 /// The name of a partner, who has a token too.
-fn name_in(partner: &Value) -> Option<&str> {
+fn name_in(partner: &Value) -> Option<&str>
+    ensures { option_map (λ name. name.now) result ≡ spec.name_of (view partner.now) }
+{
     if !has_only_keys(partner.as_object()?, &["name", "token"]) {
         return None;
     }
@@ -82,8 +111,11 @@ fn name_in(partner: &Value) -> Option<&str> {
     partner.get("name").and_then(Value::as_str)
 }
 
-fn paths_in(alloc: Global, schemas: &[Value]) -> Result<Vec<Text>, ConfigFault> {
-    let mut paths = Vec::new(alloc);
+fn paths_in(alloc: Global, schemas: &[Value]) -> Result<Rows<Text>, ConfigFault>
+    ensures ok { IfOk result (λ paths. spec.each as_str (items_view schemas.now) ≡ Some paths) }
+    ensures wrong { IsErrOf result ConfigFault.Wrong → spec.each as_str (items_view schemas.now) ≡ None }
+{
+    let mut paths = Rows::new(alloc);
     for schema in schemas {
         let Some(path) = schema.as_str() else {
             return Err(ConfigFault::Wrong);
@@ -93,10 +125,20 @@ fn paths_in(alloc: Global, schemas: &[Value]) -> Result<Vec<Text>, ConfigFault> 
     Ok(paths)
 }
 
-fn has_only_keys(members: &Map<String, Value>, keys: &[&str]) -> bool {
+fn has_only_keys(members: &Map<String, Value>, keys: &[&str]) -> bool
+    ensures { result ≡ spec.has_only (map (λ key. key.now) keys.now) (members_view members.now.entries) }
+{
+    each_is_among(members, keys)
+}
+
+fn each_is_among(members: &Map<String, Value>, keys: &[&str]) -> bool
+    ensures { result ≡ list_all (λ k. list_any (λ key. bytes_eq key.now (string_bytes k)) keys.now) (map_keys members.now) }
+{
     members.keys().all(|name| is_among(name.as_str(), keys))
 }
 
-fn is_among(name: &str, keys: &[&str]) -> bool {
+fn is_among(name: &str, keys: &[&str]) -> bool
+    ensures { result ≡ list_any (λ key. bytes_eq key.now name.now) keys.now }
+{
     keys.iter().any(|key| *key == name)
 }

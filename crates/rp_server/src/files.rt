@@ -31,7 +31,9 @@ impl From<io::Error> for FileFault {
 }
 
 /// All bytes of the file of this path.
-pub fn file_bytes<R: AllocGlobal + Files>(rt: &R, path: &str) -> Result<Vec<u8>, FileFault> {
+pub fn file_bytes<R: AllocGlobal + Files>(rt: &R, path: &str) -> Result<Vec<u8>, FileFault>
+    ensures { IfOk result (λ bytes. length bytes.items ≤ FILE_LIMIT) }
+{
     let file = File::open(rt, path)?;
     all_bytes(rt.alloc(), file)
 }

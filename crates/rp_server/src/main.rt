@@ -9,6 +9,7 @@ mod schema;
 
 use command::{Asked, asked_of};
 use config::{Config, ConfigFault, config_of};
+use ex_check::{CheckFault, Verdict, check_text};
 use fault::Fault;
 use files::{FileFault, file_bytes};
 use plain_data::Text;
@@ -20,7 +21,7 @@ use std::{env, io};
 
 fn main(rt: HostRuntime) -> ExitCode {
     match run(&rt) {
-        Ok(()) => ExitCode::SUCCESS,
+        Ok(status) => status,
         Err(fault) => {
             let _ = eprintln!(rt; "rp_server: {fault}");
             ExitCode::from(2)
@@ -29,7 +30,7 @@ fn main(rt: HostRuntime) -> ExitCode {
 }
 
 /// Does what the command line asks for.
-fn run<R: AllocGlobal + Files + Env + Print + Eprint + Input>(rt: &R) -> Result<(), Fault> {
+fn run<R: AllocGlobal + Files + Env + Print + Eprint + Input>(rt: &R) -> Result<ExitCode, Fault> {
     let alloc = rt.alloc();
     let Ok(args) = env::args(rt) else {
         return Err(Fault::Words);
@@ -37,26 +38,44 @@ fn run<R: AllocGlobal + Files + Env + Print + Eprint + Input>(rt: &R) -> Result<
     let words: Vec<String> = args.collect(alloc)?;
     match asked_of(alloc, words.as_slice())? {
         Asked::Help(text) => match text.print(rt) {
-            Ok(()) => Ok(()),
+            Ok(()) => Ok(ExitCode::SUCCESS),
             Err(_) => Err(Fault::Write),
         },
         Asked::Batch(path) => batch(rt, path),
+        Asked::Check(path) => check(rt, path),
+    }
+}
+
+/// Tells whether the file of this path is a schema.
+fn check<R: AllocGlobal + Files + Print>(rt: &R, path: &str) -> Result<ExitCode, Fault> {
+    let alloc = rt.alloc();
+    let path = Text::from_str(alloc, path)?;
+    let text = match file_bytes(rt, path.as_str()) {
+        Ok(text) => text,
+        Err(fault) => return Err(unread(path, fault)),
+    };
+    let mut writer = ToWriter::new(io::writer(rt));
+    match check_text(alloc, &text, &mut writer) {
+        Ok(Verdict::Accepted) => Ok(ExitCode::SUCCESS),
+        Ok(Verdict::Refused) => Ok(ExitCode::FAILURE),
+        Err(CheckFault::NoMemory) => Err(Fault::NoMemory),
+        Err(CheckFault::WriteFault) => Err(Fault::Write),
     }
 }
 
 /// Answers the lines of standard input.
-fn batch<R: AllocGlobal + Files + Print + Input>(rt: &R, path: &str) -> Result<(), Fault> {
+fn batch<R: AllocGlobal + Files + Print + Input>(rt: &R, path: &str) -> Result<ExitCode, Fault> {
     let alloc = rt.alloc();
     let Config { partners, schemas } = config_at(rt, path)?;
     let mut names = Vec::new(alloc);
-    for schema in schemas {
+    for schema in schemas.into_vec() {
         names.push(name_at(rt, schema)?)?;
     }
-    let mut repository = Repository::new(alloc, names, partners)?;
+    let mut repository = Repository::new(alloc, names, partners.into_vec())?;
     let mut reader = FromReader::new(rt.reader());
     let mut writer = ToWriter::new(io::writer(rt));
     match run_lines(alloc, &mut repository, &mut reader, &mut writer) {
-        Ok(_) => Ok(()),
+        Ok(_) => Ok(ExitCode::SUCCESS),
         Err(RunFault::ReadFault) => Err(Fault::Read),
         Err(RunFault::WriteFault) => Err(Fault::Write),
     }

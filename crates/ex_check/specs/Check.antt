@@ -1,0 +1,93 @@
+-- What is said of an EXPRESS text: the name of its schema, or its first fault with its line and column.
+use Rattle.std.specs.Prelude.{ℕ, ◌+◌, Bool, true, false, not, ◌==◌, List, [], ◌∷◌, ◌++◌, length, take, codes, Result, Ok, Err}
+use Rattle.std.specs.List.{count_by, suffix_len}
+use Rattle.std.specs.Fmt.{decimal}
+use Rattle.ex_lex.specs.Lexeme.{Lexed}
+use Rattle.ex_lex.specs.Spelling.{tokens}
+use Rattle.ex_syntax.specs.Schemas.{parsed}
+use Rattle.ex_tree.specs.declared.declaration.Schema.{Schema}
+use Rattle.ex_tree.specs.declared.fault.LexFault.{LexFault}
+use Rattle.ex_tree.specs.declared.fault.LexFaultKind.{LexFaultKind}
+use Rattle.ex_tree.specs.declared.fault.LexFaultKind.TheVariants as lex
+use Rattle.ex_tree.specs.declared.fault.ParseFault.{ParseFault}
+use Rattle.ex_tree.specs.declared.fault.ParseFaultKind.{ParseFaultKind}
+use Rattle.ex_tree.specs.declared.fault.ParseFaultKind.TheVariants as parse
+use Rattle.ex_check.specs.declared.fault.SchemaFault.{SchemaFault}
+use Rattle.ex_check.specs.declared.fault.SchemaFault.TheVariants.{Lexical, Syntactic}
+use Rattle.ex_check.specs.declared.report.Verdict.{Verdict}
+use Rattle.ex_check.specs.declared.report.Verdict.TheVariants.{Accepted, Refused}
+
+-- ---- the phases, one after the other
+
+abbrev pub tree : Result Schema ParseFault → Result Schema SchemaFault
+tree (Ok schema) = Ok schema
+tree (Err fault) = Err (Syntactic fault)
+
+abbrev pub spelled : Result Lexed LexFault → Result Schema SchemaFault
+spelled (Ok lexed) = tree (parsed lexed)
+spelled (Err fault) = Err (Lexical fault)
+
+-- The schema that a text spells, or the fault of the first phase that has one.
+unfoldable pub schema : List ℕ → Result Schema SchemaFault
+schema text = spelled (tokens text)
+
+-- ---- where a fault lies
+
+abbrev pub is_line_feed : ℕ → Bool
+is_line_feed b = b == 10
+
+-- lines and columns count from 1, columns in bytes
+abbrev pub line : List ℕ → ℕ → ℕ
+line text at = count_by is_line_feed (take at text) + 1
+
+abbrev pub column : List ℕ → ℕ → ℕ
+column text at = suffix_len (λ b. not (is_line_feed b)) (take at text) + 1
+
+-- ---- the report
+
+abbrev pub lexical_name : LexFaultKind → List ℕ
+lexical_name lex.Token = codes "Token"
+lexical_name lex.OpenString = codes "OpenString"
+lexical_name lex.OpenRemark = codes "OpenRemark"
+lexical_name lex.BadEncoded = codes "BadEncoded"
+lexical_name lex.TooBig = codes "TooBig"
+
+abbrev pub syntactic_name : ParseFaultKind → List ℕ
+syntactic_name parse.Syntax = codes "Syntax"
+syntactic_name parse.TooDeep = codes "TooDeep"
+syntactic_name (parse.OutOfProfile word) = codes "OutOfProfile"
+
+abbrev pub name : SchemaFault → List ℕ
+name (Lexical fault) = lexical_name fault.kind
+name (Syntactic fault) = syntactic_name fault.kind
+
+abbrev pub place : SchemaFault → ℕ
+place (Lexical fault) = fault.at
+place (Syntactic fault) = fault.at
+
+-- `NAME: ok`
+abbrev pub told_of_schema : Schema → List ℕ
+told_of_schema schema = schema.name.text ++ codes ": ok\n"
+
+-- `KIND line L column C`
+abbrev pub told_at : List ℕ → ℕ → ℕ → List ℕ
+told_at kind line column = kind ++ codes " line " ++ decimal line ++ codes " column " ++ decimal column ++ codes "\n"
+
+abbrev pub told_of_fault : List ℕ → SchemaFault → List ℕ
+told_of_fault text fault = told_at (name fault) (line text (place fault)) (column text (place fault))
+
+abbrev pub told : List ℕ → Result Schema SchemaFault → List ℕ
+told text (Ok schema) = told_of_schema schema
+told text (Err fault) = told_of_fault text fault
+
+abbrev pub judged : Result Schema SchemaFault → Verdict
+judged (Ok schema) = Accepted
+judged (Err fault) = Refused
+
+-- what `check` writes of a text
+abbrev pub report : List ℕ → List ℕ
+report text = told text (schema text)
+
+-- whether it is a schema
+abbrev pub verdict : List ℕ → Verdict
+verdict text = judged (schema text)

@@ -1,0 +1,29 @@
+//! The phases, one after the other.
+
+ghost use Rattle.std.specs.Prelude.{◌≡◌};
+ghost use Rattle.text_forms.specs.Gives.{Gives};
+ghost use Rattle.ex_check.specs.Check as spec;
+
+use crate::fault::SchemaFault;
+use ex_lex::tokens;
+use ex_syntax::parse;
+use ex_tree::Schema;
+use std::alloc::Global;
+use text_forms::Failure;
+
+/// The schema that a text spells; else the first fault of its tokens, or else of its syntax.
+#[tactic(auto, unfolding(crate::specs::Check::schema))]
+pub fn schema_of(alloc: Global, text: &[u8]) -> Result<Schema, Failure<SchemaFault>>
+    ensures { Gives (λ schema. schema) result (spec.schema text.now) }
+{
+    let tokens = match tokens(alloc, text) {
+        Ok(tokens) => tokens,
+        Err(Failure::Fault(fault)) => return Err(Failure::Fault(SchemaFault::Lexical(fault))),
+        Err(Failure::NoMemory) => return Err(Failure::NoMemory),
+    };
+    match parse(alloc, &tokens) {
+        Ok(schema) => Ok(schema),
+        Err(Failure::Fault(fault)) => Err(Failure::Fault(SchemaFault::Syntactic(fault))),
+        Err(Failure::NoMemory) => Err(Failure::NoMemory),
+    }
+}

@@ -1,0 +1,394 @@
+#!/usr/bin/env python3
+"""Runs `rp_server check` of the built program on EXPRESS schemas and compares what it prints, byte for byte.
+
+    tests/schemas.py [PROGRAM]
+
+Each production of the grammar (ISO 10303-11:1994, Annex A, as far as the profile takes it) has a line in
+PRODUCTIONS: a text that is spelled, and one that is refused at the token behind the mark. Then come the
+faults of tokens, the bounds of nesting and of size, and the command line. The last line is
+'schemas: N passed, M failed', and the status is 0 only if none failed.
+"""
+import os
+import subprocess
+import sys
+import tempfile
+import time
+
+TOP = os.path.dirname(os.path.dirname(os.path.abspath(__file__)))
+PROGRAM = os.path.join(TOP, "crates/rp_server/out/rp_server")
+
+# Where a piece of a schema stands.
+SCHEMA = "SCHEMA A; {} END_SCHEMA;"
+CONSTANTS = "SCHEMA A; CONSTANT {} END_CONSTANT; END_SCHEMA;"
+HEAD = "SCHEMA A; ENTITY e {}; END_ENTITY; END_SCHEMA;"
+BODY = "SCHEMA A; ENTITY e; {} END_ENTITY; END_SCHEMA;"
+TYPE = "SCHEMA A; TYPE t = {}; END_TYPE; END_SCHEMA;"
+PARAMETER = "SCHEMA A; FUNCTION f (a : {}) : INTEGER; ; END_FUNCTION; END_SCHEMA;"
+RULE = "SCHEMA A; RULE r FOR (e); {} END_RULE; END_SCHEMA;"
+STATEMENTS = "SCHEMA A; FUNCTION f : INTEGER; {} END_FUNCTION; END_SCHEMA;"
+EXPRESSION = "SCHEMA A; ENTITY e; WHERE {}; END_ENTITY; END_SCHEMA;"
+WHOLE = "{}"
+
+# The mark before the token of the fault: Syntax, OutOfProfile, TooDeep.
+MARKS = {"¿": "Syntax", "¡": "OutOfProfile", "¶": "TooDeep"}
+
+# production, where the piece stands, a piece that is spelled, a piece that is not
+PRODUCTIONS = [
+    ("abstract_supertype_declaration", HEAD, "ABSTRACT SUPERTYPE", "ABSTRACT ¿SUBTYPE OF (b)"),
+    ("abstract_supertype_declaration with OF", HEAD, "ABSTRACT SUPERTYPE OF (b)", "ABSTRACT SUPERTYPE ¿(b)"),
+    ("actual_parameter_list", EXPRESSION, "f(1, 2)", "f(¿)"),
+    ("add_like_op", EXPRESSION, "a + b - c OR d XOR g", "a + b ¡|| c"),
+    ("aggregate_initializer", EXPRESSION, "[] = [1, 2 + 3]", "[1,¿]"),
+    ("aggregate_source", EXPRESSION, "QUERY(x <* a + b | TRUE)", "QUERY(x <* a ¿= b | TRUE)"),
+    ("aggregate_type", PARAMETER, "AGGREGATE : x OF GENERIC : y", "AGGREGATE ¿[1:2] OF GENERIC"),
+    ("aggregate_type in a defined type", TYPE, "LIST OF b", "LIST OF ¡AGGREGATE OF b"),
+    ("aggregation_types", TYPE, "ARRAY [1:2] OF BAG OF LIST OF SET OF INTEGER", "SET ¿INTEGER"),
+    ("algorithm_head", STATEMENTS, "LOCAL a : INTEGER; END_LOCAL; ;", "¿CONSTANT a : INTEGER := 1; END_CONSTANT; ;"),
+    ("array_type", TYPE, "ARRAY [1:2] OF OPTIONAL UNIQUE INTEGER", "ARRAY [1:2] OF UNIQUE ¿OPTIONAL INTEGER"),
+    ("array_bound_spec", TYPE, "ARRAY [0:7] OF INTEGER", "ARRAY [0:¿?] OF INTEGER"),
+    ("array_bound_spec is due", TYPE, "ARRAY [0:7] OF INTEGER", "ARRAY ¿OF INTEGER"),
+    ("array_bound_spec without a sign", TYPE, "ARRAY [1:3] OF INTEGER", "ARRAY [¿-1:3] OF INTEGER"),
+    ("assignment_stmt", STATEMENTS, "a := 1;", "a¿.b := 1;"),
+    ("assignment_stmt without qualifiers", STATEMENTS, "a := b[1];", "a¿[1] := 1;"),
+    ("attribute_decl", BODY, "a : INTEGER; SELF\\b.c : REAL;", "SELF¿.c : REAL;"),
+    ("attribute_id", BODY, "a, b : INTEGER;", "a, ¿IN : INTEGER;"),
+    ("attribute_qualifier", EXPRESSION, "a.b", "a.¿1"),
+    ("bag_type", TYPE, "BAG [1:?] OF STRING", "BAG [1:?] ¿STRING"),
+    ("base_type", BODY, "a : LIST OF b; c : STRING; d : b;", "a : ¿SELECT (b);"),
+    ("binary_type", TYPE, "BINARY (8) FIXED", "BINARY ¿FIXED"),
+    ("boolean_type", TYPE, "BOOLEAN", "BOOLEAN ¿(1)"),
+    ("bound_spec", TYPE, "LIST [0:5] OF INTEGER", "LIST [¿?:5] OF INTEGER"),
+    ("built_in_constant", EXPRESSION, "SELF = ?", "SELF = ¡PI"),
+    ("built_in_function", EXPRESSION,
+     "ABS(1) + BLENGTH(b) + HIINDEX(a) + LENGTH(s) + LOINDEX(a) + SIZEOF(a) + NVL(a, 1) = 0", "¡COS(1) = 0"),
+    ("built_in_function with logical results", EXPRESSION, "EXISTS(a) AND ODD(1) AND (1 IN VALUE_IN) AND (TYPEOF(a) = USEDIN(a, ''))",
+     "¡VALUE(a) = 1"),
+    ("case_action", STATEMENTS, "CASE a OF 1, 2 : ; 3 : a := 1; END_CASE;", "CASE a OF 1, 2 ¿; END_CASE;"),
+    ("case_label", STATEMENTS, "CASE a OF 1 + 2 : ; END_CASE;", "CASE a OF 1,¿: ; END_CASE;"),
+    ("case_stmt", STATEMENTS, "CASE a OF END_CASE;", "CASE a ¿: END_CASE;"),
+    ("case_stmt with OTHERWISE", STATEMENTS, "CASE a OF 1 : ; OTHERWISE : ; END_CASE;", "CASE a OF OTHERWISE : ; ¿1 : ; END_CASE;"),
+    ("compound_stmt", STATEMENTS, "BEGIN ; ; END;", "BEGIN ¿END;"),
+    ("constant_body", CONSTANTS, "a : INTEGER := 1;", "a : INTEGER ¿= 1;"),
+    ("constant_decl", CONSTANTS, "a : INTEGER := 1; b : INTEGER := 2;", "¿"),
+    ("constant_decl stands first", SCHEMA, "CONSTANT a : INTEGER := 1; END_CONSTANT; ENTITY e; END_ENTITY;",
+     "ENTITY e; END_ENTITY; ¿CONSTANT a : INTEGER := 1; END_CONSTANT;"),
+    ("constant_id", CONSTANTS, "a_1 : INTEGER := 1;", "a : INTEGER := 1; ¿TO : INTEGER := 2;"),
+    ("constructed_types", TYPE, "SELECT (a, b)", "LIST OF ¿SELECT (a, b)"),
+    ("declaration", SCHEMA, "TYPE t = INTEGER; END_TYPE; ENTITY e; END_ENTITY; FUNCTION f : INTEGER; ; END_FUNCTION;",
+     "¡PROCEDURE p; END_PROCEDURE;"),
+    ("declaration of the second edition", SCHEMA, "ENTITY subtype_constraint; END_ENTITY;", "¡SUBTYPE_CONSTRAINT c FOR e; END_SUBTYPE_CONSTRAINT;"),
+    ("derived_attr", BODY, "DERIVE a : INTEGER := 1; SELF\\b.c : REAL := ?;", "DERIVE a : INTEGER¿; "),
+    ("derive_clause", BODY, "DERIVE a : INTEGER := 1; b : INTEGER := 2;", "DERIVE ¿WHERE TRUE;"),
+    ("domain_rule", BODY, "WHERE w : a :=: b; c;", "WHERE w ¿:= b;"),
+    ("element", EXPRESSION, "[a = b]", "[a ¿: 2]"),
+    ("entity_body", BODY, "a : INTEGER; DERIVE b : INTEGER := 1; INVERSE c : d FOR g; UNIQUE a; WHERE TRUE;",
+     "WHERE TRUE; ¿UNIQUE a;"),
+    ("entity_constructor", EXPRESSION, "e(1)", "e(¿)"),
+    ("entity_decl", SCHEMA, "ENTITY e; END_ENTITY;", "ENTITY e; END_ENTITY ¿ENTITY f; END_ENTITY;"),
+    ("entity_head", HEAD, "SUPERTYPE OF (b) SUBTYPE OF (c)", "SUBTYPE OF (c) ¿SUPERTYPE OF (b)"),
+    ("entity_id", SCHEMA, "ENTITY entity_1; END_ENTITY;", "ENTITY ¿ENTITY; END_ENTITY;"),
+    ("enumeration_id", TYPE, "ENUMERATION OF (a, b)", "ENUMERATION OF (a, ¿'b')"),
+    ("enumeration_reference", EXPRESSION, "-t.a = b", "t.¿.a"),
+    ("enumeration_type", TYPE, "ENUMERATION OF (a)", "ENUMERATION ¿(a)"),
+    ("escape_stmt", STATEMENTS, "REPEAT; IF a THEN ESCAPE; END_IF; END_REPEAT;", "¿ESCAPE;"),
+    ("explicit_attr", BODY, "a, SELF\\b.c : OPTIONAL INTEGER;", "a : ¿UNIQUE INTEGER;"),
+    ("expression", EXPRESSION, "a + 1 < b", "a < b ¿< c"),
+    ("factor", EXPRESSION, "a ** b * c ** d = 1", "a ** b ¿** c = 1"),
+    ("formal_parameter", SCHEMA, "FUNCTION f (a, b : INTEGER; c : REAL) : INTEGER; ; END_FUNCTION;",
+     "FUNCTION f (a, b : INTEGER¿, c : REAL) : INTEGER; ; END_FUNCTION;"),
+    ("function_call", EXPRESSION, "f(g(1), SIZEOF) = h", "f(1)¿(2)"),
+    ("function_decl", SCHEMA, "FUNCTION f : INTEGER; ; RETURN (1); END_FUNCTION;", "FUNCTION f : INTEGER; ¿END_FUNCTION;"),
+    ("function_head", SCHEMA, "FUNCTION f (a : INTEGER) : INTEGER; ; END_FUNCTION;", "FUNCTION f (¿) : INTEGER; ; END_FUNCTION;"),
+    ("function_id", SCHEMA, "FUNCTION g : INTEGER; ; END_FUNCTION;", "FUNCTION ¿SIZEOF : INTEGER; ; END_FUNCTION;"),
+    ("generalized_types", PARAMETER, "LIST OF AGGREGATE OF GENERIC", "LIST OF ¿ENUMERATION OF (a)"),
+    ("general_aggregation_types", PARAMETER, "ARRAY [1:2] OF BAG OF LIST OF SET OF GENERIC", "BAG ¿UNIQUE OF GENERIC"),
+    ("general_array_type", PARAMETER, "ARRAY [1:2] OF OPTIONAL UNIQUE GENERIC", "ARRAY ¿OF GENERIC"),
+    ("general_bag_type", PARAMETER, "BAG [0:?] OF GENERIC", "BAG OF ¿UNIQUE GENERIC"),
+    ("general_list_type", PARAMETER, "LIST [0:2] OF UNIQUE GENERIC", "LIST OF UNIQUE ¿UNIQUE GENERIC"),
+    ("general_ref", STATEMENTS, "a := 1;", "¿SELF := 1;"),
+    ("general_set_type", PARAMETER, "SET OF GENERIC", "SET [1:2¿:3] OF GENERIC"),
+    ("generic_type", PARAMETER, "GENERIC : x", "GENERIC : ¿SET"),
+    ("generic_type in an attribute", BODY, "a : b;", "a : ¡GENERIC;"),
+    ("group_qualifier", EXPRESSION, "SELF\\b.c", "SELF\\¿.c"),
+    ("if_stmt", STATEMENTS, "IF a THEN ; ELSE ; ; END_IF;", "IF a THEN ¿ELSE ; END_IF;"),
+    ("if_stmt with ELSE", STATEMENTS, "IF a THEN ; END_IF;", "IF a THEN ; ELSE ¿END_IF;"),
+    ("increment", STATEMENTS, "REPEAT i := 1 TO 9 BY 2; ; END_REPEAT;", "REPEAT i := 1 TO 9 BY ¿; ; END_REPEAT;"),
+    ("increment_control", STATEMENTS, "REPEAT i := 1 TO 9; ; END_REPEAT;", "REPEAT i := 1 ¿; ; END_REPEAT;"),
+    ("bound_1 and bound_2", STATEMENTS, "REPEAT i := a + 1 TO b * 2; ; END_REPEAT;", "REPEAT i := a ¿< b TO 2; ; END_REPEAT;"),
+    ("index", EXPRESSION, "a[i + 1]", "a[i ¿= 1]"),
+    ("index_qualifier", EXPRESSION, "a[1][2:3]", "a[1:2¿:3]"),
+    ("integer_type", TYPE, "INTEGER", "¿1"),
+    ("interface_specification", SCHEMA, "", "¡USE FROM b;"),
+    ("interface_specification of references", SCHEMA, "", "¡REFERENCE FROM b;"),
+    ("interval", EXPRESSION, "{1 <= a < 3}", "{1 <= a ¿}"),
+    ("interval_high", EXPRESSION, "{1 < a < 3 + b}", "{1 < a < ¿}"),
+    ("interval_item", EXPRESSION, "{1 < -a < 3}", "{1 < ¿< 3}"),
+    ("interval_low", EXPRESSION, "{a.b < c < d}", "{¿< c < d}"),
+    ("interval_op", EXPRESSION, "{1 < a <= 3}", "{1 ¿> a <= 3}"),
+    ("inverse_attr", BODY, "INVERSE a : SET [0:?] OF b FOR c; d : BAG OF b FOR c; g : b FOR c;", "INVERSE a : ¿LIST OF b FOR c;"),
+    ("inverse_attr is not redeclared", BODY, "INVERSE a : b FOR c;", "INVERSE ¿SELF\\b.a : b FOR c;"),
+    ("inverse_clause", BODY, "INVERSE a : b FOR c; d : b FOR c;", "INVERSE ¿UNIQUE a;"),
+    ("label", BODY, "WHERE w1 : TRUE;", "WHERE ¿FOR : TRUE;"),
+    ("list_type", TYPE, "LIST OF UNIQUE INTEGER", "LIST OF ¿OPTIONAL INTEGER"),
+    ("literal", EXPRESSION, "[%101, 12, TRUE, 1.5, 'a']", "'a'¿[1]"),
+    ("local_decl", STATEMENTS, "LOCAL a : INTEGER; b : REAL; END_LOCAL; ;", "LOCAL ¿END_LOCAL; ;"),
+    ("local_variable", STATEMENTS, "LOCAL a, b : INTEGER := 1; END_LOCAL; ;", "LOCAL a : ¡GENERIC; END_LOCAL; ;"),
+    ("logical_expression", BODY, "WHERE a AND b;", "WHERE ¿;"),
+    ("logical_literal", EXPRESSION, "[FALSE, TRUE, UNKNOWN]", "TRUE ¿FALSE"),
+    ("logical_type", TYPE, "LOGICAL", "LOGICAL ¿LOGICAL"),
+    ("multiplication_like_op", EXPRESSION, "a * b / c DIV d MOD g AND h", "a * ¿/ b"),
+    ("named_types", TYPE, "SELECT (a, b)", "SELECT (a, ¿INTEGER)"),
+    ("null_stmt", STATEMENTS, ";", "; ¿)"),
+    ("number_type", TYPE, "NUMBER", "NUMBER ¿(3)"),
+    ("numeric_expression", EXPRESSION, "a[-1]", "a[¿]"),
+    ("one_of", HEAD, "SUPERTYPE OF (ONEOF (a, b AND c))", "SUPERTYPE OF (ONEOF (a ¿b))"),
+    ("parameter", EXPRESSION, "f(a = b)", "f(a,¿)"),
+    ("parameter_id", PARAMETER, "INTEGER; b, c : REAL", "INTEGER; ¿NOT : REAL"),
+    ("parameter_type", PARAMETER, "GENERIC", "¿OPTIONAL INTEGER"),
+    ("population", RULE, "WHERE SIZEOF(e) = 0;", "WHERE SIZEOF(¿ENTITY) = 0;"),
+    ("precision_spec", TYPE, "REAL", "REAL ¿(3)"),
+    ("primary", EXPRESSION, "a.b\\c[1].d", "'1'¿.b"),
+    ("procedure_call_stmt", STATEMENTS, "a := f(b);", "f¿(b);"),
+    ("procedure_call_stmt of the language", STATEMENTS, ";", "¡INSERT (a, b, 1);"),
+    ("qualifiable_factor", EXPRESSION, "a = SELF", "¿\\a"),
+    ("qualified_attribute", BODY, "SELF\\b.c : INTEGER;", "SELF\\b¿: INTEGER;"),
+    ("qualifier", EXPRESSION, "a.b[1]\\c", "a.b.¿.c"),
+    ("query_expression", EXPRESSION, "QUERY(x <* a | x = 1)", "QUERY(x ¿< a | x = 1)"),
+    ("query_expression takes no qualifier", EXPRESSION, "QUERY(x <* a | TRUE)", "QUERY(x <* a | TRUE)¿[1]"),
+    ("real_type", TYPE, "REAL", "REAL ¿REAL"),
+    ("referenced_attribute", BODY, "UNIQUE a, SELF\\b.c;", "UNIQUE a, ¿1;"),
+    ("rel_op", EXPRESSION, "[a < b, a > b, a <= b, a >= b, a <> b, a = b, a :<>: b, a :=: b]", "a ¿:= b"),
+    ("rel_op_extended", EXPRESSION, "a IN b", "a ¡LIKE b"),
+    ("repeat_control", STATEMENTS, "REPEAT i := 1 TO 2 WHILE a UNTIL b; ; END_REPEAT;", "REPEAT UNTIL b ¿WHILE a; ; END_REPEAT;"),
+    ("repeat_stmt", STATEMENTS, "REPEAT; ; END_REPEAT;", "REPEAT; ¿END_REPEAT;"),
+    ("repetition", EXPRESSION, "[1]", "[1 ¿: 2]"),
+    ("return_stmt", STATEMENTS, "RETURN (1);", "RETURN¿;"),
+    ("return_stmt in a rule", RULE, "; WHERE TRUE;", "¿RETURN (1); WHERE TRUE;"),
+    ("rule_decl", RULE, "LOCAL a : INTEGER; END_LOCAL; a := 1; WHERE TRUE;", "a := 1; ¿"),
+    ("rule_head", SCHEMA, "RULE r FOR (a, b); WHERE TRUE; END_RULE;", "RULE r ¿(a); WHERE TRUE; END_RULE;"),
+    ("rule_id", SCHEMA, "RULE r1 FOR (a); WHERE TRUE; END_RULE;", "RULE ¿FOR (a); WHERE TRUE; END_RULE;"),
+    ("schema_body", SCHEMA, "CONSTANT a : INTEGER := 1; END_CONSTANT; RULE r FOR (a); WHERE TRUE; END_RULE;", "¿a"),
+    ("schema_decl", WHOLE, "SCHEMA a; END_SCHEMA;", "SCHEMA a; END_SCHEMA¿"),
+    ("schema_id", WHOLE, "SCHEMA a_b; END_SCHEMA;", "SCHEMA ¿SCHEMA; END_SCHEMA;"),
+    ("selector", STATEMENTS, "CASE a + b OF END_CASE;", "CASE ¿OF END_CASE;"),
+    ("select_type", TYPE, "SELECT (a)", "SELECT (¿)"),
+    ("set_type", TYPE, "SET [2:3] OF a", "SET [2¿] OF a"),
+    ("sign", EXPRESSION, "-1.5 = + 2.", "- - ¿1"),
+    ("simple_expression", EXPRESSION, "a + b - c", "a + ¿)"),
+    ("simple_factor", EXPRESSION, "[(a), {1 < 2 < 3}, [1], NOT a, - -1.5, NOT -1.5, a - -1.5]", "NOT ¿{1 < 2 < 3}"),
+    ("simple_factor with a parenthesis", EXPRESSION, "-(-1)", "(a)¿.b"),
+    ("simple_types", BODY, "a : BINARY; b : BOOLEAN; c : INTEGER; d : LOGICAL; g : NUMBER; h : REAL; i : STRING;", "a : ¿?;"),
+    ("skip_stmt", STATEMENTS, "REPEAT; BEGIN SKIP; END; END_REPEAT;", "REPEAT; ; END_REPEAT; ¿SKIP;"),
+    ("stmt", STATEMENTS, "a := 1; CASE a OF END_CASE; BEGIN ; END; IF a THEN ; END_IF; ; REPEAT; ; END_REPEAT; RETURN (1);", "; ¿THEN"),
+    ("string_literal", EXPRESSION, "'it''s' = \"0000004100000042\"", "'a' ¿'b'"),
+    ("string_type", TYPE, "STRING (5)", "STRING (5) ¿(6)"),
+    ("subtype_constraint", HEAD, "SUPERTYPE OF (a)", "SUPERTYPE OF ¿a"),
+    ("subtype_declaration", HEAD, "SUBTYPE OF (a, b)", "SUBTYPE OF (a, b¿"),
+    ("supertype_constraint", HEAD, "SUPERTYPE OF (a)", "SUPERTYPE¿"),
+    ("supertype_expression", HEAD, "SUPERTYPE OF (a ANDOR b ANDOR c)", "SUPERTYPE OF (a ¿OR b)"),
+    ("supertype_factor", HEAD, "SUPERTYPE OF (a AND b AND c)", "SUPERTYPE OF (a AND ¿)"),
+    ("supertype_rule", HEAD, "SUPERTYPE OF (a)", "SUPERTYPE ¿FOR (a)"),
+    ("supertype_term", HEAD, "SUPERTYPE OF ((a ANDOR b) AND ONEOF (c, d))", "SUPERTYPE OF (¿NOT a)"),
+    ("syntax", WHOLE, "SCHEMA a; END_SCHEMA;", "SCHEMA a; END_SCHEMA; ¿SCHEMA b; END_SCHEMA;"),
+    ("term", EXPRESSION, "a * b * c", "a * +¿"),
+    ("type_decl", SCHEMA, "TYPE t = INTEGER; WHERE SELF > 0; END_TYPE;", "TYPE t ¿: INTEGER; END_TYPE;"),
+    ("type_id", SCHEMA, "TYPE t = INTEGER; END_TYPE;", "TYPE ¿TYPE = INTEGER; END_TYPE;"),
+    ("type_label", PARAMETER, "GENERIC : a", "GENERIC : ¿1"),
+    ("unary_op", EXPRESSION, "[+a, -a, NOT a]", "NOT ¿NOT a"),
+    ("underlying_type", TYPE, "b", "¿OPTIONAL b"),
+    ("unique_clause", BODY, "UNIQUE a; b;", "UNIQUE ¿"),
+    ("unique_rule", BODY, "UNIQUE u : a, b;", "UNIQUE u : ¿;"),
+    ("until_control", STATEMENTS, "REPEAT UNTIL a = b; ; END_REPEAT;", "REPEAT UNTIL ¿; ; END_REPEAT;"),
+    ("variable_id", STATEMENTS, "REPEAT i := 1 TO 2; ; END_REPEAT;", "REPEAT ¿1 := 1 TO 2; ; END_REPEAT;"),
+    ("where_clause", BODY, "WHERE a; b;", "WHERE a ¿b;"),
+    ("while_control", STATEMENTS, "REPEAT WHILE a = b; ; END_REPEAT;", "REPEAT WHILE ¿; ; END_REPEAT;"),
+    ("width", TYPE, "STRING (10)", "STRING (¿?)"),
+    ("width_spec", TYPE, "STRING (10) FIXED", "STRING (10 ¿FIXED"),
+]
+
+# a text, what is told, and the byte at which it is told
+TOKENS = [
+    ("a byte that begins no token", "SCHEMA A; ENTITY e; ", "_a : b; END_ENTITY; END_SCHEMA;", "Token"),
+    ("a byte above 7F", "SCHEMA A; ", "é", "Token"),
+    ("a percent sign without a bit", "SCHEMA A; ENTITY e; WHERE ", "%2; END_ENTITY; END_SCHEMA;", "Token"),
+    ("a string that goes over its line", "SCHEMA A; ENTITY e; WHERE\n", "'a\n'; END_ENTITY; END_SCHEMA;", "OpenString"),
+    ("an encoded string without its end", "SCHEMA A; ENTITY e; WHERE ", '"00000041; END_ENTITY; END_SCHEMA;', "OpenString"),
+    ("an encoded string of seven digits", "SCHEMA A; ENTITY e; WHERE ", '"0000004"; END_ENTITY; END_SCHEMA;', "BadEncoded"),
+    ("an empty encoded string", "SCHEMA A; ENTITY e; WHERE ", '""; END_ENTITY; END_SCHEMA;', "BadEncoded"),
+    ("a surrogate", "SCHEMA A; ENTITY e; WHERE ", '"0000D800"; END_ENTITY; END_SCHEMA;', "BadEncoded"),
+    ("a code above 10FFFF", "SCHEMA A; ENTITY e; WHERE ", '"00110000"; END_ENTITY; END_SCHEMA;', "BadEncoded"),
+    ("an integer of 64 bits without a sign", "SCHEMA A; ENTITY e; WHERE ", "9223372036854775808; END_ENTITY; END_SCHEMA;", "TooBig"),
+    ("a real of 37 digits", "SCHEMA A; ENTITY e; WHERE ", "9" * 37 + ".; END_ENTITY; END_SCHEMA;", "TooBig"),
+    ("a real of an exponent over 1000", "SCHEMA A; ENTITY e; WHERE ", "10.E1000; END_ENTITY; END_SCHEMA;", "TooBig"),
+    ("a remark without its end", "SCHEMA A; ", "(* (* *) END_SCHEMA;", "OpenRemark"),
+    ("a fault of a token after one of syntax", "SCHEMA SCHEMA; ", "!", "Token"),
+]
+
+
+class Wrong(Exception):
+    """What was seen isn't what has to be."""
+
+
+def place_of(text, at):
+    """The line and the column of a byte, from 1."""
+    before = text[:at]
+    return before.count(b"\n") + 1, at - (before.rfind(b"\n") + 1) + 1
+
+
+def told(kind, text, at):
+    line, column = place_of(text, at)
+    return b"%s line %d column %d\n" % (kind.encode(), line, column)
+
+
+def marked(text):
+    """The text without its mark, what the mark says, and the byte where it stood."""
+    for mark, kind in MARKS.items():
+        if mark in text:
+            before, after = text.split(mark)
+            return (before + after).encode(), kind, len(before.encode())
+    raise ValueError(f"no mark in {text}")
+
+
+class Checker:
+    def __init__(self, program, folder):
+        self.program = program
+        self.folder = folder
+        self.passed = 0
+        self.failed = 0
+
+    def run(self, words):
+        done = subprocess.run([self.program, *words], cwd=self.folder, capture_output=True, check=False)
+        return done.returncode, done.stdout, done.stderr
+
+    def check(self, text):
+        with open(os.path.join(self.folder, "it.exp"), "wb") as it:
+            it.write(text)
+        return self.run(["check", "it.exp"])
+
+    def expect(self, name, seen, wanted):
+        if seen == wanted:
+            self.passed += 1
+        else:
+            self.failed += 1
+            print(f"{name}: {seen!r} in place of {wanted!r}")
+
+    def accepts(self, name, text, schema=b"A"):
+        self.expect(name, self.check(text), (0, schema + b": ok\n", b""))
+
+    def refuses(self, name, text, kind, at):
+        self.expect(name, self.check(text), (1, told(kind, text, at), b""))
+
+
+def nested(count):
+    return ("(" * count + "1" + ")" * count).encode()
+
+
+def productions(it):
+    for name, context, good, bad in PRODUCTIONS:
+        it.accepts(name, context.format(good).encode())
+        text, kind, at = marked(context.format(bad))
+        # where the mark stands before blanks, the token is the next one; at the end it is the end
+        while at < len(text) and text[at] <= 32:
+            at += 1
+        it.refuses(name, text, kind, at)
+
+
+def tokens(it):
+    for name, before, after, kind in TOKENS:
+        it.refuses(name, (before + after).encode(), kind, len(before.encode()))
+    it.refuses("a string that isn't UTF-8", b"SCHEMA A; ENTITY e; WHERE '\xff'; END_ENTITY; END_SCHEMA;", "Token", 26)
+    it.refuses("an empty text", b"", "Syntax", 0)
+    it.refuses("blanks and remarks alone", b" -- a\n(* b *)", "Syntax", 13)
+    it.accepts("remarks hold any bytes", b"(* \xff (* ' *) *) SCHEMA A; -- \xff \"\nEND_SCHEMA;")
+    it.accepts("a tail remark at the end", b"SCHEMA a; END_SCHEMA; -- x")
+    it.accepts("words in lower case", b"schema a; entity e; where not true; end_entity; end_schema;")
+    it.accepts("words that are not reserved", b"SCHEMA A; ENTITY e; as, from, var, context, model, end_alias : STRING; END_ENTITY; END_SCHEMA;")
+    it.accepts("a sign before a real with a remark between", b"SCHEMA A; ENTITY e; WHERE a = - (* x *) 1.5; END_ENTITY; END_SCHEMA;")
+    it.accepts("35 nines and a real without digits behind the point", b"SCHEMA A; ENTITY e; WHERE " + b"9" * 36 + b".; END_ENTITY; END_SCHEMA;")
+
+
+def nesting(it):
+    def where(expression):
+        return b"SCHEMA A; ENTITY e; WHERE " + expression + b"; END_ENTITY; END_SCHEMA;"
+
+    begin = len(b"SCHEMA A; ENTITY e; WHERE ")
+    it.accepts("64 parentheses", where(nested(64)))
+    it.refuses("65 parentheses", where(nested(65)), "TooDeep", begin + 64)
+    it.accepts("64 brackets", where(b"[" * 64 + b"]" * 64))
+    it.refuses("65 brackets", where(b"[" * 65 + b"]" * 65), "TooDeep", begin + 64)
+    aggregates = b"SCHEMA A; TYPE t = " + b"SET OF " * 64 + b"INTEGER; END_TYPE; END_SCHEMA;"
+    it.accepts("64 aggregates", aggregates)
+    it.refuses("bounds within 64 aggregates", b"SCHEMA A; TYPE t = " + b"SET OF " * 63 + b"SET [0:1] OF INTEGER; END_TYPE; END_SCHEMA;",
+               "TooDeep", len(b"SCHEMA A; TYPE t = ") + 63 * 7 + 4)
+    it.refuses("65 aggregates", b"SCHEMA A; TYPE t = " + b"SET OF " * 65 + b"INTEGER; END_TYPE; END_SCHEMA;",
+               "TooDeep", len(b"SCHEMA A; TYPE t = ") + 64 * 7)
+    head = b"SCHEMA A; FUNCTION f : INTEGER; "
+    tail = b" END_FUNCTION; END_SCHEMA;"
+    it.accepts("64 blocks", head + b"BEGIN " * 64 + b";" + b" END;" * 64 + tail)
+    it.refuses("65 blocks", head + b"BEGIN " * 65 + b";" + b" END;" * 65 + tail, "TooDeep", len(head) + 64 * 6)
+    mixed = b"IF (a) THEN " * 63 + b"a := (1);" + b" END_IF;" * 63
+    it.accepts("statements and parentheses", head + mixed + tail)
+    deep = b"IF (a) THEN " * 64
+    it.refuses("a parenthesis within 64 statements", head + deep + b"a := 1;" + b" END_IF;" * 64 + tail,
+               "TooDeep", len(head) + 63 * 12 + 3)
+    it.refuses("a token that can't be taken opens nothing", where(b"(" * 64 + b"1 ("), "Syntax", begin + 64 + 2)
+    it.accepts("operators and qualifiers of one level", where(b"a" + b".b" * 10000 + b" + 1" * 100000))
+
+
+def sizes(it):
+    limit = 8 * 1024 * 1024
+    begin = time.monotonic()
+    it.refuses("8 MiB of a remark that never closes", b"(*" + b"x" * (limit - 2), "OpenRemark", 0)
+    it.expect("in under a second", time.monotonic() - begin < 1, True)
+    it.accepts("8 MiB", b"SCHEMA A; END_SCHEMA;" + b" " * (limit - 21))
+    status, out, err = it.check(b"SCHEMA A; END_SCHEMA;" + b" " * (limit - 20))
+    it.expect("8 MiB and one byte", (status, out, err.count(b"\n")), (2, b"", 1))
+
+
+def commands(it):
+    for name, words in (("no file", ["check"]), ("a file that isn't there", ["check", "none.exp"]),
+                        ("a folder", ["check", "."]), ("two files", ["check", "it.exp", "it.exp"])):
+        status, out, err = it.run(words)
+        it.expect(name, (status, out, err.count(b"\n")), (2, b"", 1))
+    status, out, err = it.run(["check", "--help"])
+    it.expect("help", (status, err, b"FILE" in out), (0, b"", True))
+
+
+ROWS = [
+    ("a procedure", "SCHEMA A; ENTITY e; a : REAL; END_ENTITY; PROCEDURE p; END_PROCEDURE; END_SCHEMA;",
+     1, b"OutOfProfile line 1 column 43\n"),
+    ("the example of the README", """SCHEMA T;
+ENTITY p; x : REAL; n : OPTIONAL STRING;
+INVERSE u : SET [0:?] OF q FOR a;
+WHERE w1 : SIZEOF(u) <= 2; END_ENTITY;
+ENTITY q; a : p; END_ENTITY;
+END_SCHEMA;
+""", 0, b"T: ok\n"),
+    ("rules", """SCHEMA L; ENTITY e; END_ENTITY;
+RULE r1 FOR (e); WHERE SIZEOF(QUERY(p <* e | TRUE)) >= 0; END_RULE;
+RULE r2 FOR (e); WHERE NOT (SIZEOF(QUERY(p <* e | TRUE)) < 0); END_RULE;
+END_SCHEMA;
+""", 0, b"L: ok\n"),
+    ("the second line", "SCHEMA A;\nENTITY e; a : ;\nEND_ENTITY; END_SCHEMA;", 1, b"Syntax line 2 column 15\n"),
+]
+
+
+def rows(it):
+    for name, text, status, out in ROWS:
+        it.expect(name, it.check(text.encode()), (status, out, b""))
+
+
+def main(words):
+    program = os.path.abspath(words[0] if words else PROGRAM)
+    if not os.access(program, os.X_OK):
+        sys.exit(f"schemas: there is no program {program}: run rt ci first, or name it")
+    with tempfile.TemporaryDirectory() as folder:
+        it = Checker(program, folder)
+        for part in (productions, tokens, nesting, sizes, rows, commands):
+            part(it)
+    print(f"schemas: {it.passed} passed, {it.failed} failed")
+    return 1 if it.failed else 0
+
+
+if __name__ == "__main__":
+    sys.exit(main(sys.argv[1:]))
