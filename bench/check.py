@@ -4,10 +4,12 @@
     bench/check.py [PROGRAM]
 
 For schemas of about 64 KiB, 1 MiB and 8 MiB, the greatest that it takes, it prints the megabytes a second from the
-program's start to its end, the most memory that the process held, and that memory as a multiple of the text.
+program's start to its end (the best of five), the most memory that the process held, and that memory as a multiple
+of the text.
 What the program prints is compared with what it must be.
 """
 import os
+import re
 import subprocess
 import sys
 import tempfile
@@ -21,15 +23,40 @@ PROGRAM = os.path.join(TOP, "crates/rp_server/out/rp_server")
 
 
 def run(program, path):
-    """What the program writes, its seconds, and the most bytes that it held."""
+    """What the program writes, and its seconds."""
     begin = time.monotonic()
-    process = subprocess.Popen([program, "check", path], stdout=subprocess.PIPE)
-    written = process.stdout.read()
-    _, status, usage = os.wait4(process.pid, 0)
-    seconds = time.monotonic() - begin
-    process.stdout.close()
-    process.returncode = os.waitstatus_to_exitcode(status)
-    return written, seconds, usage.ru_maxrss * 1024
+    done = subprocess.run([program, "check", path], capture_output=True, check=False)
+    return done.stdout, time.monotonic() - begin
+
+
+def most_memory(program, path):
+    """The most bytes that the program holds. Its standard output is a pipe that is full, so that it can be looked at when
+    all its work is done and it waits to write."""
+    reader, writer = os.pipe()
+    os.set_blocking(writer, False)
+    filled = 0
+    try:
+        while True:
+            filled += os.write(writer, bytes(4096))
+    except BlockingIOError:
+        os.set_blocking(writer, True)
+    with subprocess.Popen([program, "check", path], stdout=writer) as process:
+        os.close(writer)
+        while not waits_to_write(process):
+            time.sleep(0.005)
+        with open(f"/proc/{process.pid}/status", encoding="ascii") as it:
+            found = re.search(r"^VmHWM:\s*(\d+) kB$", it.read(), re.MULTILINE)
+        with open(reader, "rb") as it:
+            it.read()
+    return int(found[1]) * 1024
+
+
+def waits_to_write(process):
+    with open(f"/proc/{process.pid}/wchan", encoding="ascii") as it:
+        if "pipe" in it.read():
+            return True
+    with open(f"/proc/{process.pid}/syscall", encoding="ascii") as it:
+        return it.read().startswith("1 ")
 
 
 def main(words):
@@ -43,11 +70,12 @@ def main(words):
             text = express(count_within(limit)).encode()
             with open(path, "wb") as it:
                 it.write(text)
-            tries = [run(program, path) for _ in range(3)]
-            for written, _, _ in tries:
+            tries = [run(program, path) for _ in range(5)]
+            for written, _ in tries:
                 if written != b"MEASURED: ok\n":
                     sys.exit(f"bench: the program writes {written[:300]!r}")
-            _, seconds, memory = min(tries, key=lambda it: it[1])
+            seconds = min(seconds for _, seconds in tries)
+            memory = most_memory(program, path)
             size = len(text)
             print(f"{size:>12,} {seconds:>8.3f} {size / 1e6 / seconds:>7.2f} {memory:>12,} {memory / size:>11.1f}")
 

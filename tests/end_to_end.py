@@ -455,7 +455,7 @@ def test_command_line_faults():
         [], [""], ["batch"], ["--config", "config.json"], ["config.json"], ["Batch", *given[1:]],
         ["batch", "config.json"], ["batch", "--config"], ["batch", "--config", "--config"], ["batch", "--config", "-x"],
         [*given, "--config", "config.json"], [*given, "more"], [*given, "--load", "x"], [*given, "--save", "x"],
-        [*given, "--listen", "127.0.0.1:0"], ["check", "t.exp"], ["serve", *given[1:]],
+        [*given, "--listen", "127.0.0.1:0"], ["check"], ["check", "t.exp", "t.exp"], ["serve", *given[1:]],
         ["serve", *given[1:], "--listen", "127.0.0.1:0", "--connections", "1"], ["batch", "-c", "config.json"],
         ["batch", "--conf", "config.json"], ["--version"], ["batch", "--config", "config.json", "--", "x"],
         ["two", "batch", "--config", "config.json"],

@@ -169,7 +169,7 @@ PRODUCTIONS = [
     ("rule_id", SCHEMA, "RULE r1 FOR (a); WHERE TRUE; END_RULE;", "RULE ¿FOR (a); WHERE TRUE; END_RULE;"),
     ("schema_body", SCHEMA, "CONSTANT a : INTEGER := 1; END_CONSTANT; RULE r FOR (a); WHERE TRUE; END_RULE;", "¿a"),
     ("schema_decl", WHOLE, "SCHEMA a; END_SCHEMA;", "SCHEMA a; END_SCHEMA¿"),
-    ("schema_id", WHOLE, "SCHEMA a_b; END_SCHEMA;", "SCHEMA ¿SCHEMA; END_SCHEMA;"),
+    ("schema_id", WHOLE, "SCHEMA a; END_SCHEMA;", "SCHEMA ¿SCHEMA; END_SCHEMA;"),
     ("selector", STATEMENTS, "CASE a + b OF END_CASE;", "CASE ¿OF END_CASE;"),
     ("select_type", TYPE, "SELECT (a)", "SELECT (¿)"),
     ("set_type", TYPE, "SET [2:3] OF a", "SET [2¿] OF a"),
@@ -302,9 +302,10 @@ def tokens(it):
     it.accepts("remarks hold any bytes", b"(* \xff (* ' *) *) SCHEMA A; -- \xff \"\nEND_SCHEMA;")
     it.accepts("a tail remark at the end", b"SCHEMA a; END_SCHEMA; -- x")
     it.accepts("words in lower case", b"schema a; entity e; where not true; end_entity; end_schema;")
+    it.accepts("a name with digits and underscores", b"SCHEMA a_1b; END_SCHEMA;", b"A_1B")
     it.accepts("words that are not reserved", b"SCHEMA A; ENTITY e; as, from, var, context, model, end_alias : STRING; END_ENTITY; END_SCHEMA;")
     it.accepts("a sign before a real with a remark between", b"SCHEMA A; ENTITY e; WHERE a = - (* x *) 1.5; END_ENTITY; END_SCHEMA;")
-    it.accepts("35 nines and a real without digits behind the point", b"SCHEMA A; ENTITY e; WHERE " + b"9" * 36 + b".; END_ENTITY; END_SCHEMA;")
+    it.accepts("36 nines and a real without digits behind the point", b"SCHEMA A; ENTITY e; WHERE " + b"9" * 36 + b".; END_ENTITY; END_SCHEMA;")
 
 
 def nesting(it):
