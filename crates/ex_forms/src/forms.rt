@@ -1,6 +1,6 @@
 //! Identifiers, whole numbers, and forms of several items.
 
-ghost use Rattle.std.specs.Prelude.{◌≡◌, option_map};
+ghost use Rattle.std.specs.Prelude.{◌≡◌, [], option_map, IfOk};
 ghost use Rattle.text_forms.specs.Forms.{repeat};
 ghost use Rattle.text_forms.specs.Gives.{Reads, Takes, Keeps};
 ghost use Rattle.ex_forms.specs.Input as spec;
@@ -11,7 +11,7 @@ use ex_tree::{Kind, Name};
 use plain_data::Text;
 use rp_value::whole_number;
 use sqlite_items::Items;
-use std::alloc::Global;
+use std::alloc::{AllocError, Global};
 use text_forms::Failure;
 
 /// The bytes as a text, where they are one.
@@ -49,6 +49,13 @@ pub fn whole(cursor: &mut Cursor<'_>) -> Read<u64>
     whole_number(token.text).ok_or(Failure::Fault(refused(&token)))
 }
 
+/// No item, with room for one: most lists of a schema have no more.
+fn room_for_one<T>(alloc: Global) -> Result<Items<T>, AllocError>
+    ensures { IfOk result (λ found. found ≡ []) }
+{
+    Ok(Items::from_vec(Vec::with_capacity(alloc, 1)?))
+}
+
 /// Items as long as one begins, after those that were found.
 fn more<F: Form + Begins>(
     alloc: Global,
@@ -76,7 +83,12 @@ pub fn many<F: Form + Begins>(
     ensures reads { Reads (spec.many (F.begins item.now) (F.form item.now) cursor.old) result cursor.new }
     ensures keeps { Keeps result cursor.old cursor.new }
 {
-    more(alloc, cursor, item, Items::new(alloc))
+    let none = if item.begins(cursor) {
+        room_for_one(alloc)?
+    } else {
+        Items::new(alloc)
+    };
+    more(alloc, cursor, item, none)
 }
 
 /// One item or more, as long as one begins.
@@ -89,7 +101,7 @@ pub fn some<F: Form + Begins>(
     ensures reads { Reads (spec.some (F.begins item.now) (F.form item.now) cursor.old) result cursor.new }
     ensures takes { Takes result cursor.old cursor.new }
 {
-    let mut found = Items::new(alloc);
+    let mut found = room_for_one(alloc)?;
     found.push(item.read(alloc, cursor)?)?;
     more(alloc, cursor, item, found)
 }
@@ -105,7 +117,7 @@ pub fn separated<F: Form>(
     ensures reads { Reads (spec.separated separator (F.form item.now) cursor.old) result cursor.new }
     ensures takes { Takes result cursor.old cursor.new }
 {
-    let mut found = Items::new(alloc);
+    let mut found = room_for_one(alloc)?;
     found.push(item.read(alloc, cursor)?)?;
     'more: while cursor.sees(separator) {
         cursor.expect(separator)?;
