@@ -1,5 +1,5 @@
 #!/usr/bin/env python3
-"""Refuses each allocation of a batch run in turn, and compares every reply with what it must be.
+"""Refuses each allocation of a run in turn, and compares what the program writes with what it must be.
 
     tools/each_refusal.py [PROGRAM [LINES ..]]
 
@@ -10,6 +10,9 @@ script gives. A request that was answered NoMemory has changed nothing, so what 
 accordingly. The program may end with status 2 and no output only where the allocation was one of those
 that it makes before it first reads its input. It is a failure too if a run that refuses nothing has a
 NoMemory, if a run has more of them than refusals, or if nothing was refused.
+
+Of a check of a schema's file the program writes what it writes with ample memory, or ends with status 2, one line on
+standard error and no output.
 """
 import collections
 import concurrent.futures
@@ -28,6 +31,24 @@ LINES = os.path.join(TOOLS, "lines")
 PARTNERS = ["ann", "bob"]
 SCHEMAS = {"t.exp": "T", "l.exp": "L"}
 NO_MEMORY = b'{"refused":{"code":18,"name":"NoMemory"}}'
+
+# A schema's text, and the status and the line of a check of it.
+SCHEMA = """SCHEMA c;
+CONSTANT k : INTEGER := -1; END_CONSTANT;
+TYPE s = SELECT (e, f); END_TYPE;
+ENTITY e SUPERTYPE OF (ONEOF (f, g) ANDOR h); a, b : LIST [0:?] OF UNIQUE STRING (5) FIXED;
+DERIVE d : REAL := -1.5; INVERSE i : SET OF f FOR x; UNIQUE u : a, b;
+WHERE w : SIZEOF(QUERY(q <* a | {1 < q.x[1] <= "00000041"})) = NVL([1, 'it''s'], ?); END_ENTITY;
+FUNCTION n (p, q : GENERIC) : INTEGER; LOCAL l : INTEGER := %01; END_LOCAL;
+REPEAT i := 1 TO 2 BY 3 WHILE TRUE UNTIL FALSE; CASE p OF 1, 2 : SKIP; OTHERWISE : BEGIN ; END; END_CASE; END_REPEAT;
+IF NOT p THEN l := n(p, q); ELSE RETURN (l); END_IF; END_FUNCTION;
+RULE r FOR (e); WHERE TRUE; END_RULE;
+"""
+CHECKS = {
+    "schema.exp": (SCHEMA + "END_SCHEMA;\n", 0, b"C: ok\n"),
+    "broken.exp": (SCHEMA + "END;\n", 1, b"Syntax line 11 column 1\n"),
+    "token.exp": (SCHEMA + "!\n", 1, b"Token line 11 column 1\n"),
+}
 
 
 class Failure(Exception):
@@ -193,13 +214,16 @@ def shim_in(folder):
     return shim
 
 
-def run(program, folder, lines, **refusal):
+BATCH = ("batch", "--config", "config.json")
+
+
+def run(program, folder, lines, command=BATCH, **refusal):
     """One run of the program, in which these allocations are refused."""
     begin, end = os.pipe()
     words = {"LD_PRELOAD": os.path.join(folder, "refuse.so"), "REFUSE_REPORT": str(end), **refusal}
     try:
-        done = subprocess.run([program, "batch", "--config", "config.json"], input=b"\n".join(lines) + b"\n",
-                              capture_output=True, cwd=folder, env=words, pass_fds=[end], timeout=120, check=False)
+        done = subprocess.run([program, *command], input=b"\n".join(lines) + b"\n", capture_output=True,
+                              cwd=folder, env=words, pass_fds=[end], timeout=120, check=False)
     finally:
         os.close(end)
     with os.fdopen(begin, "rb") as it:
@@ -251,6 +275,37 @@ def refuse_each(program, folder, lines):
     return whole, seen
 
 
+def refuse_check(program, folder, name):
+    """Refuses each allocation of a check in turn. Answers how often each outcome was seen."""
+    _, status, line = CHECKS[name]
+    command = ("check", name)
+    whole = run(program, folder, [], command)
+    if (whole.status, whole.output, whole.errors) != (status, line, b""):
+        raise Failure(f"with no refusal: status {whole.status}, {whole.output!r} and {whole.errors!r}")
+
+    def one(key, place):
+        result = run(program, folder, [], command, **{key: str(place)})
+        if result.refusals == 0:
+            raise Failure(f"{key}={place} of {whole.allocations}: nothing was refused")
+        if (result.status, result.output, result.errors) == (status, line, b""):
+            return "the same line"
+        if result.status == 2 and not result.output and result.errors.count(b"\n") == 1:
+            return "status 2"
+        raise Failure(f"{key}={place} of {whole.allocations}: status {result.status}, {result.output!r}, {result.errors!r}")
+
+    turns = [(key, place) for key in ("REFUSE_NTH", "REFUSE_FROM") for place in range(1, whole.allocations + 1)]
+    with concurrent.futures.ThreadPoolExecutor(os.cpu_count()) as pool:
+        outcomes = list(pool.map(lambda turn: one(*turn), turns))
+    return whole, collections.Counter(zip((key for key, _ in turns), outcomes))
+
+
+def tell(name, whole, seen):
+    early = f", {whole.before_input} of them before the input is read" if whole.before_input >= 0 else ""
+    print(f"each_refusal: {name}: {whole.allocations} allocations{early}")
+    for (key, outcome), count in sorted(seen.items()):
+        print(f"    {key}: {outcome}: {count} runs")
+
+
 def main(words):
     program = os.path.abspath(words[0] if words else PROGRAM)
     files = words[1:] or [os.path.join(LINES, name) for name in sorted(os.listdir(LINES))]
@@ -275,10 +330,15 @@ def main(words):
                 print(f"each_refusal: {os.path.basename(file)}: FAILED: {fault}")
                 failed += 1
                 continue
-            print(f"each_refusal: {os.path.basename(file)}: {whole.allocations} allocations, "
-                  f"{whole.before_input} of them before the input is read")
-            for (key, outcome), count in sorted(seen.items()):
-                print(f"    {key}: {outcome}: {count} runs")
+            tell(os.path.basename(file), whole, seen)
+        for name, (text, _, _) in CHECKS.items():
+            with open(os.path.join(folder, name), "w", encoding="ascii") as it:
+                it.write(text)
+            try:
+                tell(name, *refuse_check(program, folder, name))
+            except Failure as fault:
+                print(f"each_refusal: {name}: FAILED: {fault}")
+                failed += 1
     sys.exit(1 if failed else 0)
 
 
