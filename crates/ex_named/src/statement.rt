@@ -1,0 +1,55 @@
+//! Statements.
+
+use crate::expression::NamedExpression;
+use sqlite_items::{Boxed, Items};
+
+/// `variable := first TO last BY step`, and the variable's first byte. It has the next slot.
+#[derive(Drop)]
+pub struct NamedIncrement {
+    pub at: usize,
+    pub first: NamedExpression,
+    pub last: NamedExpression,
+    pub step: Option<NamedExpression>,
+}
+
+/// What governs the turns of a REPEAT. Its variable stands in the conditions, and in the statements.
+#[derive(Drop)]
+pub struct NamedRepeatControl {
+    pub increment: Option<NamedIncrement>,
+    pub while_condition: Option<NamedExpression>,
+    pub until_condition: Option<NamedExpression>,
+}
+
+#[derive(Drop)]
+#[cycle(named_statement)]
+pub struct NamedCaseAction {
+    pub labels: Items<NamedExpression>,
+    pub statement: NamedStatement,
+}
+
+/// A CASE, and the first byte of its word.
+#[derive(Drop)]
+#[cycle(named_statement)]
+pub struct NamedCase {
+    pub at: usize,
+    pub selector: NamedExpression,
+    pub actions: Items<NamedCaseAction>,
+    pub otherwise: Option<Boxed<NamedStatement>>,
+}
+
+#[derive(Drop)]
+#[cycle(named_statement)]
+pub enum NamedStatement {
+    Null,
+    /// The slot, the first byte of the variable, and the value.
+    Assignment(usize, usize, NamedExpression),
+    Case(NamedCase),
+    Compound(Items<NamedStatement>),
+    Escape,
+    /// The condition, what follows THEN, and what follows ELSE: nothing where it is not there.
+    If(NamedExpression, Items<NamedStatement>, Items<NamedStatement>),
+    Repeat(NamedRepeatControl, Items<NamedStatement>),
+    /// With the first byte of its word.
+    Return(usize, NamedExpression),
+    Skip,
+}
