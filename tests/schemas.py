@@ -4,8 +4,10 @@
     tests/schemas.py [PROGRAM]
 
 Each production of the grammar (ISO 10303-11:1994, Annex A, as far as the profile takes it) has a line in
-PRODUCTIONS: a text that is spelled, and one that is refused at the token behind the mark. Then come the
-faults of tokens, the bounds of nesting and of size, and the command line. The last line is
+PRODUCTIONS: a text that is spelled, and one that is refused at the token behind the mark. What surrounds a
+piece declares the names that it uses, so that a text that is spelled is a schema; one whose names can't be
+declared has a mark too, before the name at which it is refused. Then come the faults of tokens, the bounds of
+nesting and of size, and the command line. What names mean is looked at by tests/names.py. The last line is
 'schemas: N passed, M failed', and the status is 0 only if none failed.
 """
 import os
@@ -17,22 +19,28 @@ import time
 TOP = os.path.dirname(os.path.dirname(os.path.abspath(__file__)))
 PROGRAM = os.path.join(TOP, "crates/rp_server/out/rp_server")
 
-# Where a piece of a schema stands.
+# Where a piece of a schema stands, and the names that it uses there.
 SCHEMA = "SCHEMA A; {} END_SCHEMA;"
 CONSTANTS = "SCHEMA A; CONSTANT {} END_CONSTANT; END_SCHEMA;"
-HEAD = "SCHEMA A; ENTITY e {}; END_ENTITY; END_SCHEMA;"
-BODY = "SCHEMA A; ENTITY e; {} END_ENTITY; END_SCHEMA;"
-TYPE = "SCHEMA A; TYPE t = {}; END_TYPE; END_SCHEMA;"
+HEAD = ("SCHEMA A; ENTITY a; END_ENTITY; ENTITY b; END_ENTITY; ENTITY c; END_ENTITY; ENTITY d; END_ENTITY; "
+        "ENTITY e {}; END_ENTITY; END_SCHEMA;")
+BODY = ("SCHEMA A; ENTITY b; a, b, c : LOGICAL; END_ENTITY; ENTITY d; g : INTEGER; END_ENTITY; "
+        "ENTITY e SUBTYPE OF (b); {} END_ENTITY; END_SCHEMA;")
+TYPE = "SCHEMA A; ENTITY a; END_ENTITY; TYPE b = INTEGER; END_TYPE; TYPE t = {}; END_TYPE; END_SCHEMA;"
 PARAMETER = "SCHEMA A; FUNCTION f (a : {}) : INTEGER; ; END_FUNCTION; END_SCHEMA;"
-RULE = "SCHEMA A; RULE r FOR (e); {} END_RULE; END_SCHEMA;"
-STATEMENTS = "SCHEMA A; FUNCTION f : INTEGER; {} END_FUNCTION; END_SCHEMA;"
-EXPRESSION = "SCHEMA A; ENTITY e; WHERE {}; END_ENTITY; END_SCHEMA;"
+RULE = "SCHEMA A; ENTITY e; END_ENTITY; RULE r FOR (e); {} END_RULE; END_SCHEMA;"
+RULES = "SCHEMA A; ENTITY a; END_ENTITY; ENTITY b; END_ENTITY; {} END_SCHEMA;"
+LOCALS = "SCHEMA A; FUNCTION f : INTEGER; {} END_FUNCTION; END_SCHEMA;"
+STATEMENTS = "SCHEMA A; FUNCTION f (a, b : GENERIC) : GENERIC; {} END_FUNCTION; END_SCHEMA;"
+EXPRESSION = ("SCHEMA A; TYPE t = ENUMERATION OF (a, k); END_TYPE; FUNCTION f (x, y : GENERIC) : GENERIC; ; END_FUNCTION; "
+              "ENTITY b; c : INTEGER; END_ENTITY; ENTITY c; b, d : b; END_ENTITY; "
+              "ENTITY e SUBTYPE OF (b); a, b, d, g, h, i, s : LIST OF c; WHERE {}; END_ENTITY; END_SCHEMA;")
 WHOLE = "{}"
 
-# The mark before the token of the fault: Syntax, OutOfProfile, TooDeep.
-MARKS = {"¿": "Syntax", "¡": "OutOfProfile", "¶": "TooDeep"}
+# The mark before the token of the fault: Syntax, OutOfProfile, TooDeep; or before a name that isn't declared.
+MARKS = {"¿": "Syntax", "¡": "OutOfProfile", "¶": "TooDeep", "¬": "Undeclared"}
 
-# production, where the piece stands, a piece that is spelled, a piece that is not
+# production, where the piece stands, a piece that is spelled, a piece that is not; `¬` in the first is a fault of names
 PRODUCTIONS = [
     ("abstract_supertype_declaration", HEAD, "ABSTRACT SUPERTYPE", "ABSTRACT ¿SUBTYPE OF (b)"),
     ("abstract_supertype_declaration with OF", HEAD, "ABSTRACT SUPERTYPE OF (b)", "ABSTRACT SUPERTYPE ¿(b)"),
@@ -43,7 +51,7 @@ PRODUCTIONS = [
     ("aggregate_type", PARAMETER, "AGGREGATE : x OF GENERIC : y", "AGGREGATE ¿[1:2] OF GENERIC"),
     ("aggregate_type in a defined type", TYPE, "LIST OF b", "LIST OF ¡AGGREGATE OF b"),
     ("aggregation_types", TYPE, "ARRAY [1:2] OF BAG OF LIST OF SET OF INTEGER", "SET ¿INTEGER"),
-    ("algorithm_head", STATEMENTS, "LOCAL a : INTEGER; END_LOCAL; ;", "¿CONSTANT a : INTEGER := 1; END_CONSTANT; ;"),
+    ("algorithm_head", LOCALS, "LOCAL a : INTEGER; END_LOCAL; ;", "¿CONSTANT a : INTEGER := 1; END_CONSTANT; ;"),
     ("array_type", TYPE, "ARRAY [1:2] OF OPTIONAL UNIQUE INTEGER", "ARRAY [1:2] OF UNIQUE ¿OPTIONAL INTEGER"),
     ("array_bound_spec", TYPE, "ARRAY [0:7] OF INTEGER", "ARRAY [0:¿?] OF INTEGER"),
     ("array_bound_spec is due", TYPE, "ARRAY [0:7] OF INTEGER", "ARRAY ¿OF INTEGER"),
@@ -83,7 +91,7 @@ PRODUCTIONS = [
     ("element", EXPRESSION, "[a = b]", "[a ¿: 2]"),
     ("entity_body", BODY, "a : INTEGER; DERIVE b : INTEGER := 1; INVERSE c : d FOR g; UNIQUE a; WHERE TRUE;",
      "WHERE TRUE; ¿UNIQUE a;"),
-    ("entity_constructor", EXPRESSION, "e(1)", "e(¿)"),
+    ("entity_constructor", EXPRESSION, "¬e(1)", "e(¿)"),
     ("entity_decl", SCHEMA, "ENTITY e; END_ENTITY;", "ENTITY e; END_ENTITY ¿ENTITY f; END_ENTITY;"),
     ("entity_head", HEAD, "SUPERTYPE OF (b) SUBTYPE OF (c)", "SUBTYPE OF (c) ¿SUPERTYPE OF (b)"),
     ("entity_id", SCHEMA, "ENTITY entity_1; END_ENTITY;", "ENTITY ¿ENTITY; END_ENTITY;"),
@@ -96,7 +104,7 @@ PRODUCTIONS = [
     ("factor", EXPRESSION, "a ** b * c ** d = 1", "a ** b ¿** c = 1"),
     ("formal_parameter", SCHEMA, "FUNCTION f (a, b : INTEGER; c : REAL) : INTEGER; ; END_FUNCTION;",
      "FUNCTION f (a, b : INTEGER¿, c : REAL) : INTEGER; ; END_FUNCTION;"),
-    ("function_call", EXPRESSION, "f(g(1), SIZEOF) = h", "f(1)¿(2)"),
+    ("function_call", EXPRESSION, "f(f(1), SIZEOF) = h", "f(1)¿(2)"),
     ("function_decl", SCHEMA, "FUNCTION f : INTEGER; ; RETURN (1); END_FUNCTION;", "FUNCTION f : INTEGER; ¿END_FUNCTION;"),
     ("function_head", SCHEMA, "FUNCTION f (a : INTEGER) : INTEGER; ; END_FUNCTION;", "FUNCTION f (¿) : INTEGER; ; END_FUNCTION;"),
     ("function_id", SCHEMA, "FUNCTION g : INTEGER; ; END_FUNCTION;", "FUNCTION ¿SIZEOF : INTEGER; ; END_FUNCTION;"),
@@ -131,8 +139,8 @@ PRODUCTIONS = [
     ("label", BODY, "WHERE w1 : TRUE;", "WHERE ¿FOR : TRUE;"),
     ("list_type", TYPE, "LIST OF UNIQUE INTEGER", "LIST OF ¿OPTIONAL INTEGER"),
     ("literal", EXPRESSION, "[%101, 12, TRUE, 1.5, 'a']", "'a'¿[1]"),
-    ("local_decl", STATEMENTS, "LOCAL a : INTEGER; b : REAL; END_LOCAL; ;", "LOCAL ¿END_LOCAL; ;"),
-    ("local_variable", STATEMENTS, "LOCAL a, b : INTEGER := 1; END_LOCAL; ;", "LOCAL a : ¡GENERIC; END_LOCAL; ;"),
+    ("local_decl", LOCALS, "LOCAL a : INTEGER; b : REAL; END_LOCAL; ;", "LOCAL ¿END_LOCAL; ;"),
+    ("local_variable", LOCALS, "LOCAL a, b : INTEGER := 1; END_LOCAL; ;", "LOCAL a : ¡GENERIC; END_LOCAL; ;"),
     ("logical_expression", BODY, "WHERE a AND b;", "WHERE ¿;"),
     ("logical_literal", EXPRESSION, "[FALSE, TRUE, UNKNOWN]", "TRUE ¿FALSE"),
     ("logical_type", TYPE, "LOGICAL", "LOGICAL ¿LOGICAL"),
@@ -165,9 +173,10 @@ PRODUCTIONS = [
     ("return_stmt", STATEMENTS, "RETURN (1);", "RETURN¿;"),
     ("return_stmt in a rule", RULE, "; WHERE TRUE;", "¿RETURN (1); WHERE TRUE;"),
     ("rule_decl", RULE, "LOCAL a : INTEGER; END_LOCAL; a := 1; WHERE TRUE;", "a := 1; ¿"),
-    ("rule_head", SCHEMA, "RULE r FOR (a, b); WHERE TRUE; END_RULE;", "RULE r ¿(a); WHERE TRUE; END_RULE;"),
-    ("rule_id", SCHEMA, "RULE r1 FOR (a); WHERE TRUE; END_RULE;", "RULE ¿FOR (a); WHERE TRUE; END_RULE;"),
-    ("schema_body", SCHEMA, "CONSTANT a : INTEGER := 1; END_CONSTANT; RULE r FOR (a); WHERE TRUE; END_RULE;", "¿a"),
+    ("rule_head", RULES, "RULE r FOR (a, b); WHERE TRUE; END_RULE;", "RULE r ¿(a); WHERE TRUE; END_RULE;"),
+    ("rule_id", RULES, "RULE r1 FOR (a); WHERE TRUE; END_RULE;", "RULE ¿FOR (a); WHERE TRUE; END_RULE;"),
+    ("schema_body", SCHEMA, "CONSTANT a : INTEGER := 1; END_CONSTANT; ENTITY e; END_ENTITY; RULE r FOR (e); WHERE TRUE; END_RULE;",
+     "¿a"),
     ("schema_decl", WHOLE, "SCHEMA a; END_SCHEMA;", "SCHEMA a; END_SCHEMA¿"),
     ("schema_id", WHOLE, "SCHEMA a; END_SCHEMA;", "SCHEMA ¿SCHEMA; END_SCHEMA;"),
     ("selector", STATEMENTS, "CASE a + b OF END_CASE;", "CASE ¿OF END_CASE;"),
@@ -223,10 +232,6 @@ TOKENS = [
     ("a remark without its end", "SCHEMA A; ", "(* (* *) END_SCHEMA;", "OpenRemark"),
     ("a fault of a token after one of syntax", "SCHEMA SCHEMA; ", "!", "Token"),
 ]
-
-
-class Wrong(Exception):
-    """What was seen isn't what has to be."""
 
 
 def place_of(text, at):
@@ -285,7 +290,10 @@ def nested(count):
 
 def productions(it):
     for name, context, good, bad in PRODUCTIONS:
-        it.accepts(name, context.format(good).encode())
+        if "¬" in good:
+            it.refuses(name, *marked(context.format(good)))
+        else:
+            it.accepts(name, context.format(good).encode())
         text, kind, at = marked(context.format(bad))
         # where the mark stands before blanks, the token is the next one; at the end it is the end
         while at < len(text) and text[at] <= 32:
@@ -304,15 +312,16 @@ def tokens(it):
     it.accepts("words in lower case", b"schema a; entity e; where not true; end_entity; end_schema;")
     it.accepts("a name with digits and underscores", b"SCHEMA a_1b; END_SCHEMA;", b"A_1B")
     it.accepts("words that are not reserved", b"SCHEMA A; ENTITY e; as, from, var, context, model, end_alias : STRING; END_ENTITY; END_SCHEMA;")
-    it.accepts("a sign before a real with a remark between", b"SCHEMA A; ENTITY e; WHERE a = - (* x *) 1.5; END_ENTITY; END_SCHEMA;")
+    it.accepts("a sign before a real with a remark between", b"SCHEMA A; ENTITY e; a : REAL; WHERE a = - (* x *) 1.5; END_ENTITY; END_SCHEMA;")
     it.accepts("36 nines and a real without digits behind the point", b"SCHEMA A; ENTITY e; WHERE " + b"9" * 36 + b".; END_ENTITY; END_SCHEMA;")
 
 
 def nesting(it):
     def where(expression):
-        return b"SCHEMA A; ENTITY e; WHERE " + expression + b"; END_ENTITY; END_SCHEMA;"
+        return front + expression + b"; END_ENTITY; END_SCHEMA;"
 
-    begin = len(b"SCHEMA A; ENTITY e; WHERE ")
+    front = b"SCHEMA A; ENTITY e; a : e; b : INTEGER; WHERE "
+    begin = len(front)
     it.accepts("64 parentheses", where(nested(64)))
     it.refuses("65 parentheses", where(nested(65)), "TooDeep", begin + 64)
     it.accepts("64 brackets", where(b"[" * 64 + b"]" * 64))
@@ -323,7 +332,7 @@ def nesting(it):
                "TooDeep", len(b"SCHEMA A; TYPE t = ") + 63 * 7 + 4)
     it.refuses("65 aggregates", b"SCHEMA A; TYPE t = " + b"SET OF " * 65 + b"INTEGER; END_TYPE; END_SCHEMA;",
                "TooDeep", len(b"SCHEMA A; TYPE t = ") + 64 * 7)
-    head = b"SCHEMA A; FUNCTION f : INTEGER; "
+    head = b"SCHEMA A; FUNCTION f (a : LOGICAL) : INTEGER; "
     tail = b" END_FUNCTION; END_SCHEMA;"
     it.accepts("64 blocks", head + b"BEGIN " * 64 + b";" + b" END;" * 64 + tail)
     it.refuses("65 blocks", head + b"BEGIN " * 65 + b";" + b" END;" * 65 + tail, "TooDeep", len(head) + 64 * 6)
@@ -379,17 +388,18 @@ def rows(it):
         it.expect(name, it.check(text.encode()), (status, out, b""))
 
 
-def main(words):
+def run_parts(title, parts, words):
+    """Runs the parts on the program that is named, or on the one that was built. Answers the status."""
     program = os.path.abspath(words[0] if words else PROGRAM)
     if not os.access(program, os.X_OK):
-        sys.exit(f"schemas: there is no program {program}: run rt ci first, or name it")
+        sys.exit(f"{title}: there is no program {program}: run rt ci first, or name it")
     with tempfile.TemporaryDirectory() as folder:
         it = Checker(program, folder)
-        for part in (productions, tokens, nesting, sizes, rows, commands):
+        for part in parts:
             part(it)
-    print(f"schemas: {it.passed} passed, {it.failed} failed")
+    print(f"{title}: {it.passed} passed, {it.failed} failed")
     return 1 if it.failed else 0
 
 
 if __name__ == "__main__":
-    sys.exit(main(sys.argv[1:]))
+    sys.exit(run_parts("schemas", (productions, tokens, nesting, sizes, rows, commands), sys.argv[1:]))

@@ -12,8 +12,13 @@ use Rattle.ex_tree.specs.declared.fault.LexFaultKind.TheVariants as lex
 use Rattle.ex_tree.specs.declared.fault.ParseFault.{ParseFault}
 use Rattle.ex_tree.specs.declared.fault.ParseFaultKind.{ParseFaultKind}
 use Rattle.ex_tree.specs.declared.fault.ParseFaultKind.TheVariants as parse
+use Rattle.ex_named.specs.declared.fault.NameFault.{NameFault}
+use Rattle.ex_named.specs.declared.fault.NameFaultKind.{NameFaultKind}
+use Rattle.ex_named.specs.declared.fault.NameFaultKind.TheVariants as names
+use Rattle.ex_named.specs.Outcomes.{Outcome}
+use Rattle.ex_resolve.specs.Schemas.{Resolved, resolved}
 use Rattle.ex_check.specs.declared.fault.SchemaFault.{SchemaFault}
-use Rattle.ex_check.specs.declared.fault.SchemaFault.TheVariants.{Lexical, Syntactic}
+use Rattle.ex_check.specs.declared.fault.SchemaFault.TheVariants.{Lexical, Syntactic, Naming}
 use Rattle.ex_check.specs.declared.report.Verdict.{Verdict}
 use Rattle.ex_check.specs.declared.report.Verdict.TheVariants.{Accepted, Refused}
 
@@ -27,9 +32,21 @@ abbrev pub spelled : Result Lexed LexFault → Result Schema SchemaFault
 spelled (Ok lexed) = tree (parsed lexed)
 spelled (Err fault) = Err (Lexical fault)
 
--- The schema that a text spells, or the fault of the first phase that has one.
-unfoldable pub schema : List ℕ → Result Schema SchemaFault
-schema text = spelled (tokens text)
+-- The tree that a text spells, or the fault of its tokens, or else of its syntax.
+unfoldable pub syntax : List ℕ → Result Schema SchemaFault
+syntax text = spelled (tokens text)
+
+abbrev pub bound : Outcome Resolved → Result Resolved SchemaFault
+bound (Ok schema) = Ok schema
+bound (Err fault) = Err (Naming fault)
+
+abbrev pub named : Result Schema SchemaFault → Result Resolved SchemaFault
+named (Ok schema) = bound (resolved schema)
+named (Err fault) = Err fault
+
+-- The schema of a text with its names bound, or the fault of the first phase that has one.
+unfoldable pub schema : List ℕ → Result Resolved SchemaFault
+schema text = named (syntax text)
 
 -- ---- where a fault lies
 
@@ -57,17 +74,26 @@ syntactic_name parse.Syntax = codes "Syntax"
 syntactic_name parse.TooDeep = codes "TooDeep"
 syntactic_name (parse.OutOfProfile word) = codes "OutOfProfile"
 
+abbrev pub naming_name : NameFaultKind → List ℕ
+naming_name names.Undeclared = codes "Undeclared"
+naming_name names.DeclaredTwice = codes "DeclaredTwice"
+naming_name names.CyclicSubtype = codes "CyclicSubtype"
+naming_name names.CyclicType = codes "CyclicType"
+naming_name names.NotAnAttribute = codes "NotAnAttribute"
+
 abbrev pub name : SchemaFault → List ℕ
 name (Lexical fault) = lexical_name fault.kind
 name (Syntactic fault) = syntactic_name fault.kind
+name (Naming fault) = naming_name fault.kind
 
 abbrev pub place : SchemaFault → ℕ
 place (Lexical fault) = fault.at
 place (Syntactic fault) = fault.at
+place (Naming fault) = fault.at
 
 -- `NAME: ok`
-abbrev pub told_of_schema : Schema → List ℕ
-told_of_schema schema = schema.name.text ++ codes ": ok\n"
+abbrev pub told_of_schema : Resolved → List ℕ
+told_of_schema found = found.schema.name.text ++ codes ": ok\n"
 
 -- `KIND line L column C`
 abbrev pub told_at : List ℕ → ℕ → ℕ → List ℕ
@@ -76,11 +102,11 @@ told_at kind line column = kind ++ codes " line " ++ decimal line ++ codes " col
 abbrev pub told_of_fault : List ℕ → SchemaFault → List ℕ
 told_of_fault text fault = told_at (name fault) (line text (place fault)) (column text (place fault))
 
-abbrev pub told : List ℕ → Result Schema SchemaFault → List ℕ
+abbrev pub told : List ℕ → Result Resolved SchemaFault → List ℕ
 told text (Ok schema) = told_of_schema schema
 told text (Err fault) = told_of_fault text fault
 
-abbrev pub judged : Result Schema SchemaFault → Verdict
+abbrev pub judged : Result Resolved SchemaFault → Verdict
 judged (Ok schema) = Accepted
 judged (Err fault) = Refused
 

@@ -3,13 +3,15 @@
 ghost use Rattle.std.specs.Prelude.{◌≡◌};
 ghost use Rattle.ex_check.specs.Check as spec;
 
+use ex_named::{NameFault, NameFaultKind};
 use ex_tree::{LexFault, LexFaultKind, ParseFault, ParseFaultKind};
 
-/// The first fault of a text that spells no schema: of its tokens, else of its syntax.
+/// The first fault of a text that is no schema: of its tokens, else of its syntax, else of its names.
 #[derive(Clone, Copy, Debug, PartialEq, Eq)]
 pub enum SchemaFault {
     Lexical(LexFault),
     Syntactic(ParseFault),
+    Naming(NameFault),
 }
 
 /// The name of the fault's kind.
@@ -19,6 +21,7 @@ pub(crate) fn name_of(fault: SchemaFault) -> &'static str
     match fault {
         SchemaFault::Lexical(fault) => lexical_name(fault.kind),
         SchemaFault::Syntactic(fault) => syntactic_name(fault.kind),
+        SchemaFault::Naming(fault) => naming_name(fault.kind),
     }
 }
 
@@ -44,6 +47,18 @@ fn syntactic_name(kind: ParseFaultKind) -> &'static str
     }
 }
 
+fn naming_name(kind: NameFaultKind) -> &'static str
+    ensures { result.now ≡ spec.naming_name kind }
+{
+    match kind {
+        NameFaultKind::Undeclared => "Undeclared",
+        NameFaultKind::DeclaredTwice => "DeclaredTwice",
+        NameFaultKind::CyclicSubtype => "CyclicSubtype",
+        NameFaultKind::CyclicType => "CyclicType",
+        NameFaultKind::NotAnAttribute => "NotAnAttribute",
+    }
+}
+
 /// The byte at which the fault lies.
 pub(crate) fn place_of(fault: SchemaFault) -> usize
     ensures { result ≡ spec.place fault }
@@ -51,5 +66,6 @@ pub(crate) fn place_of(fault: SchemaFault) -> usize
     match fault {
         SchemaFault::Lexical(fault) => fault.at,
         SchemaFault::Syntactic(fault) => fault.at,
+        SchemaFault::Naming(fault) => fault.at,
     }
 }

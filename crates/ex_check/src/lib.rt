@@ -9,3 +9,6 @@ mod schema;
 pub use fault::SchemaFault;
 pub use report::{CheckFault, Verdict, check_text};
 pub use schema::schema_of;
+
+#[cfg(test)]
+mod tests;

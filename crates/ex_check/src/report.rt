@@ -9,7 +9,7 @@ ghost use Rattle.ex_check.specs.Check as spec;
 use crate::fault::{SchemaFault, name_of, place_of};
 use crate::place::{column_of, line_of};
 use crate::schema::schema_of;
-use ex_tree::Schema;
+use ex_resolve::Named;
 use rp_io::{Sink, write_all};
 use std::alloc::{AllocError, Global};
 use text_forms::Failure;
@@ -40,10 +40,10 @@ impl From<AllocError> for CheckFault {
     }
 }
 
-fn accepted(alloc: Global, schema: &Schema) -> Result<String, AllocError>
+fn accepted(alloc: Global, schema: &Named) -> Result<String, AllocError>
     ensures { IfOk result (λ line. string_bytes line ≡ spec.told_of_schema schema.now) }
 {
-    format!(in alloc; "{}: ok\n", schema.name.text.as_str())
+    format!(in alloc; "{}: ok\n", schema.schema().name.text.as_str())
 }
 
 fn at_place(alloc: Global, kind: &str, line: u64, column: u64) -> Result<String, AllocError>

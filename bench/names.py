@@ -1,0 +1,80 @@
+#!/usr/bin/env python3
+"""Measures how the time of `rp_server check` grows with the number of entities, each run in a process of its own.
+
+    bench/names.py [PROGRAM]
+
+The schemas have 250 to 4,000 entities, each with an attribute and a rule: in one chain, where each is a subtype of the
+one before; as diamonds, where two are subtypes of one and a fourth is a subtype of both, and so on upon it; and flat,
+without supertypes. In the first two each rule uses an attribute of the first entity. For each it prints the seconds
+from the program's start to its end (the best of five), the nanoseconds for a byte of the schema, and the seconds as a
+multiple of those for half as many entities. The aim is n log n, so a multiple of little more than two.
+What the program prints is compared with what it must be.
+"""
+import os
+import sys
+import tempfile
+
+from check import PROGRAM, run
+
+COUNTS = (250, 500, 1000, 2000, 4000)
+
+
+def entity(number, supertypes, first):
+    """An entity with an attribute and a rule, which uses the attribute of the first one."""
+    below = f"\n  SUBTYPE OF ({', '.join(f'item_{k}' for k in supertypes)})" if supertypes else ""
+    return (f"ENTITY item_{number}{below};\n  length_{number} : INTEGER;\n"
+            f"WHERE\n  wr1 : length_{first} + length_{number} > 0;\nEND_ENTITY;\n\n")
+
+
+def chain(count):
+    return [entity(k, [k - 1] if k else [], 0) for k in range(count)]
+
+
+def diamonds(count):
+    """Of each three behind the first the first two are subtypes of the one before them, and the last of both."""
+    return [entity(k, [] if k == 0 else [k - 1] if k % 3 == 1 else [k - 2] if k % 3 == 2 else [k - 2, k - 1], 0)
+            for k in range(count)]
+
+
+def flat(count):
+    return [entity(k, [], k) for k in range(count)]
+
+
+def schema(entities):
+    return f"SCHEMA measured;\n\n{''.join(entities)}END_SCHEMA;\n".encode()
+
+
+def seconds_of(program, path):
+    """The least seconds of five runs."""
+    tries = [run(program, path) for _ in range(5)]
+    for written, _ in tries:
+        if written != b"MEASURED: ok\n":
+            sys.exit(f"bench: the program writes {written[:300]!r}")
+    return min(seconds for _, seconds in tries)
+
+
+def measure(program, path, name, entities_of):
+    before = None
+    for count in COUNTS:
+        text = schema(entities_of(count))
+        with open(path, "wb") as it:
+            it.write(text)
+        seconds = seconds_of(program, path)
+        multiple = f"{seconds / before:>8.2f}" if before else " " * 8
+        print(f"{name:>9} {count:>8,} {len(text):>9,} {seconds:>8.4f} {seconds / len(text) * 1e9:>8.1f} {multiple}", flush=True)
+        before = seconds
+
+
+def main(words):
+    program = os.path.abspath(words[0] if words else PROGRAM)
+    if not os.access(program, os.X_OK):
+        sys.exit(f"bench: there is no program {program}: run rt ci first, or name it")
+    print(f"{'schema':>9} {'entities':>8} {'bytes':>9} {'seconds':>8} {'ns/byte':>8} {'multiple':>8}")
+    with tempfile.TemporaryDirectory() as folder:
+        path = os.path.join(folder, "measured.exp")
+        for entities_of in (chain, diamonds, flat):
+            measure(program, path, entities_of.__name__, entities_of)
+
+
+if __name__ == "__main__":
+    main(sys.argv[1:])

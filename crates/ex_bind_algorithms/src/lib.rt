@@ -1,0 +1,15 @@
+//! Constants, functions and rules with their names bound.
+#![tactic(auto)]
+
+mod constants;
+mod functions;
+mod global_rules;
+mod names;
+mod rules;
+mod variables;
+
+pub use constants::constant;
+pub use functions::named_function;
+pub use global_rules::named_rule;
+pub use names::{copy_label, copy_name, copy_names};
+pub use rules::domain_rules;

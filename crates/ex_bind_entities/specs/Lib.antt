@@ -1,0 +1,4 @@
+pub mod Entities
+pub mod Inherited
+pub mod Sorts
+pub mod Wholes

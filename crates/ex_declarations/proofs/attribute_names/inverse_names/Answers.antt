@@ -1,0 +1,7 @@
+use Rattle.std.proofs.Common.{rules}
+use Rattle.std.proofs.lemmas.Iterator.{YieldsList-from_map_by, YieldsList-from_slice}
+use Rattle.std.proofs.lemmas.Iterator.Consumers.{map_from_collect}
+use Rattle.ex_declarations.proofs.attribute_names.inverse_names.Goals as goal
+
+pub returns : goal.returns
+returns c = map_from_collect _ c.collect.ensures.ran (YieldsList-from_map_by _ (λ n. n.now) (λ x. x.name) (YieldsList-from_slice c.args.body.now.inverse cc) c.map.ensures.closure (λ x r q k. search rules))

@@ -1,0 +1,135 @@
+//! All that a schema declares.
+
+ghost use Rattle.std.specs.Prelude.{◌≡◌, [], ◌∷◌, map, IfOk, OnOk};
+ghost use Rattle.ex_declarations.specs.Declared as spec;
+ghost use Rattle.ex_declarations.specs.Steps.{and_attributes, and_items, and_names, and_types, rows_of};
+
+use crate::attribute_names::{derived_names, explicit_names, inverse_names};
+use crate::own_names::own_names;
+use crate::sorts::{entities, types};
+use ex_named::{AttributePlace, AttributeSort, Declared, EnumerationItem};
+use ex_scopes::Declarations;
+use ex_tree::{Entity, Name, Schema, TypeDeclaration, UnderlyingType};
+use std::alloc::{AllocError, Global};
+
+/// Puts names of the schema's own scope behind the others.
+fn push_names<'a>(
+    found: &mut Declarations<'a>,
+    rows: &[(&'a Name, Declared)],
+) -> Result<(), AllocError>
+    ensures { OnOk result (found.new ≡ and_names found.old (rows_of rows.now)) }
+{
+    for (name, declared) in rows {
+        found.push_name(name.text.as_bytes(), *declared)?;
+    }
+    Ok(())
+}
+
+/// Puts the attributes that an entity declares so behind the others.
+fn push_places<'a>(
+    found: &mut Declarations<'a>,
+    entity: usize,
+    sort: AttributeSort,
+    names: &[&'a Name],
+) -> Result<(), AllocError>
+    ensures { OnOk result (found.new ≡ and_attributes found.old (spec.placed entity sort (map (λ n. n.now) names.now))) }
+{
+    for (place, name) in names.iter().enumerate() {
+        let attribute = AttributePlace {
+            entity,
+            sort,
+            place,
+        };
+        found.push_attribute(name.text.as_bytes(), attribute)?;
+    }
+    Ok(())
+}
+
+/// Puts the attributes of an entity behind the others.
+fn push_entity<'a>(
+    alloc: Global,
+    found: &mut Declarations<'a>,
+    number: usize,
+    entity: &'a Entity,
+) -> Result<(), AllocError>
+    ensures { OnOk result (found.new ≡ and_attributes found.old (spec.attributes_of_entity number entity.now)) }
+{
+    let explicit = explicit_names(alloc, &entity.body)?;
+    push_places(found, number, AttributeSort::Explicit, &explicit)?;
+    let derived = derived_names(alloc, &entity.body)?;
+    push_places(found, number, AttributeSort::Derived, &derived)?;
+    let inverse = inverse_names(alloc, &entity.body)?;
+    push_places(found, number, AttributeSort::Inverse, &inverse)?;
+    Ok(())
+}
+
+/// Puts the attributes of entities, which are all, behind the others.
+fn push_entities<'a>(
+    alloc: Global,
+    found: &mut Declarations<'a>,
+    entities: &[&'a Entity],
+) -> Result<(), AllocError>
+    ensures { OnOk result (found.new ≡ and_attributes found.old (spec.concatenated (spec.numbered spec.attributes_of_entity (map (λ e. e.now) entities.now)))) }
+{
+    for (number, entity) in entities.iter().enumerate() {
+        push_entity(alloc, found, number, entity)?;
+    }
+    Ok(())
+}
+
+/// Puts the items of an enumeration behind the others.
+fn push_items<'a>(
+    found: &mut Declarations<'a>,
+    type_number: usize,
+    names: &'a [Name],
+) -> Result<(), AllocError>
+    ensures { OnOk result (found.new ≡ and_items found.old (spec.numbered (λ place n. (n.text, record { type_number = type_number; place = place })) names.now)) }
+{
+    for (place, name) in names.iter().enumerate() {
+        found.push_item(name.text.as_bytes(), EnumerationItem { type_number, place })?;
+    }
+    Ok(())
+}
+
+/// Puts a type behind the others, with its items if it is an enumeration.
+fn push_type<'a>(
+    found: &mut Declarations<'a>,
+    number: usize,
+    declared: &'a TypeDeclaration,
+) -> Result<(), AllocError>
+    ensures { OnOk result (found.new ≡ and_types found.old (spec.items_of_type number declared.now) (spec.is_enumeration declared.now.underlying ∷ [])) }
+{
+    match &declared.underlying {
+        UnderlyingType::Enumeration(names) => {
+            push_items(found, number, names.as_slice())?;
+            found.push_enumeration(true)?;
+        },
+        UnderlyingType::Select(_) | UnderlyingType::Data(_) => found.push_enumeration(false)?,
+    }
+    Ok(())
+}
+
+/// Puts types, which are all, behind the others.
+fn push_types<'a>(
+    found: &mut Declarations<'a>,
+    types: &[&'a TypeDeclaration],
+) -> Result<(), AllocError>
+    ensures { OnOk result (found.new ≡ and_types found.old (spec.concatenated (spec.numbered spec.items_of_type (map (λ x. x.now) types.now))) (map (λ x. spec.is_enumeration x.underlying) (map (λ x. x.now) types.now))) }
+{
+    for (number, declared) in types.iter().enumerate() {
+        push_type(found, number, declared)?;
+    }
+    Ok(())
+}
+
+/// All that a schema declares.
+#[tactic(auto, unfolding(crate::specs::Declared::declarations))]
+pub fn declarations<'a>(alloc: Global, schema: &'a Schema) -> Result<Declarations<'a>, AllocError>
+    ensures { IfOk result (λ found. found ≡ spec.declarations schema.now) }
+{
+    let mut found = Declarations::new(alloc);
+    push_names(&mut found, &own_names(alloc, schema)?)?;
+    push_entities(alloc, &mut found, &entities(alloc, schema)?)?;
+    push_types(&mut found, &types(alloc, schema)?)?;
+    Ok(found)
+}

@@ -1,0 +1,16 @@
+//! What a schema declares, and what reaches what in it (ISO 10303-11:1994, clauses 9 and 10).
+#![tactic(auto)]
+
+mod attribute_names;
+mod collected;
+mod graphs;
+mod own_names;
+mod sorts;
+mod uniqueness;
+
+pub use collected::declarations;
+pub use graphs::{subtype_graph, type_graph};
+pub use own_names::declared_names;
+pub use sorts::{entities, functions, rules, types};
+pub use uniqueness::once;
+

@@ -1,0 +1,10 @@
+//! Names of an EXPRESS schema: each bound to the declaration that it means, and the attributes and ancestors of its
+//! entities (ISO 10303-11:1994, clause 10).
+#![tactic(auto)]
+
+mod named;
+mod parts;
+mod schema;
+
+pub use named::Named;
+pub use schema::resolve;

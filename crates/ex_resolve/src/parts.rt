@@ -1,0 +1,209 @@
+//! The declarations of each sort.
+
+ghost use Rattle.std.specs.Prelude.{◌≡◌, [], map, length};
+ghost use Rattle.ex_named.specs.Outcomes.{Binds, each};
+ghost use Rattle.ex_bind_algorithms.specs.Algorithms as algorithms;
+ghost use Rattle.ex_bind_entities.specs.Entities as entities_spec;
+ghost use Rattle.ex_declarations.specs.Declared as declared;
+ghost use Rattle.ex_declarations.specs.Declared.{each_numbered};
+ghost use Rattle.ex_lineage.specs.Lineage.{is_ancestor};
+ghost use Rattle.ex_resolve.specs.Schemas as spec;
+
+use ex_bind_algorithms::{constant, named_function, named_rule};
+use ex_bind_entities::{named_entity, named_type};
+use ex_declarations::type_graph;
+use ex_lineage::cyclic_marks;
+use ex_named::{
+    Binding, Gathered, NamedConstant, NamedEntity, NamedFunction, NamedRule, NamedType,
+};
+use ex_scopes::Declarations;
+use ex_tree::{Constant, Entity, Function, Rule, Schema, TypeDeclaration};
+use plain_data::Rows;
+use sqlite_items::Items;
+use std::alloc::Global;
+
+/// Constants with their names bound, in order.
+pub fn constants(
+    alloc: Global,
+    declarations: &Declarations<'_>,
+    schema: &Schema,
+) -> Binding<Items<NamedConstant>>
+    requires { declarations.now ≡ declared.declarations schema.now }
+    ensures { Binds result (each (algorithms.constant (declared.declarations schema.now)) schema.now.constants) }
+{
+    each_constant(alloc, declarations, schema.constants.as_slice())
+}
+
+fn each_constant(
+    alloc: Global,
+    declarations: &Declarations<'_>,
+    constants: &[Constant],
+) -> Binding<Items<NamedConstant>>
+    ensures { Binds result (each (algorithms.constant declarations.now) constants.now) }
+{
+    let mut found = Gathered::new(alloc);
+    for each in constants {
+        found.push(constant(alloc, declarations, each))?;
+    }
+    found.finish()
+}
+
+/// Functions with their names bound, in order.
+#[tactic(auto, unfolding(crate::specs::Schemas::named_functions))]
+pub fn functions(
+    alloc: Global,
+    declarations: &Declarations<'_>,
+    schema: &Schema,
+) -> Binding<Items<NamedFunction>>
+    requires { declarations.now ≡ declared.declarations schema.now }
+    ensures { Binds result (spec.named_functions schema.now) }
+{
+    let functions = ex_declarations::functions(alloc, schema)?;
+    each_function(alloc, declarations, &functions)
+}
+
+fn each_function(
+    alloc: Global,
+    declarations: &Declarations<'_>,
+    functions: &[&Function],
+) -> Binding<Items<NamedFunction>>
+    ensures { Binds result (each (algorithms.named_function declarations.now) (map (λ f. f.now) functions.now)) }
+{
+    let mut found = Gathered::new(alloc);
+    for function in functions {
+        found.push(named_function(alloc, declarations, function))?;
+    }
+    found.finish()
+}
+
+/// Rules with their names bound, in order.
+#[tactic(auto, unfolding(crate::specs::Schemas::named_rules))]
+pub fn rules(
+    alloc: Global,
+    declarations: &Declarations<'_>,
+    entities: &[&Entity],
+    schema: &Schema,
+) -> Binding<Items<NamedRule>>
+    requires declared { declarations.now ≡ declared.declarations schema.now }
+    requires listed { map (λ e. e.now) entities.now ≡ declared.entities schema.now }
+    ensures { Binds result (spec.named_rules schema.now) }
+{
+    let rules = ex_declarations::rules(alloc, schema)?;
+    each_rule(alloc, declarations, entities.len(), &rules)
+}
+
+fn each_rule(
+    alloc: Global,
+    declarations: &Declarations<'_>,
+    entity_count: usize,
+    rules: &[&Rule],
+) -> Binding<Items<NamedRule>>
+    ensures { Binds result (each (algorithms.named_rule declarations.now entity_count) (map (λ r. r.now) rules.now)) }
+{
+    let mut found = Gathered::new(alloc);
+    for rule in rules {
+        found.push(named_rule(alloc, declarations, entity_count, rule))?;
+    }
+    found.finish()
+}
+
+/// A type in the graph of what types hold.
+fn type_in(
+    alloc: Global,
+    declarations: &Declarations<'_>,
+    _held: &[Rows<usize>],
+    number: usize,
+    is_cyclic: bool,
+    declaration: &TypeDeclaration,
+) -> Binding<NamedType>
+    requires { is_cyclic ≡ is_ancestor _held.now number number }
+    ensures { Binds result (entities_spec.named_type declarations.now [] _held.now number declaration.now) }
+{
+    named_type(alloc, declarations, number, is_cyclic, declaration)
+}
+
+/// Types with their names bound, in order.
+#[tactic(auto, unfolding(crate::specs::Schemas::named_types), using(crate::proofs::Numbers::held_length))]
+pub fn types(
+    alloc: Global,
+    declarations: &Declarations<'_>,
+    schema: &Schema,
+) -> Binding<Items<NamedType>>
+    requires { declarations.now ≡ declared.declarations schema.now }
+    ensures { Binds result (spec.named_types schema.now) }
+{
+    let types = ex_declarations::types(alloc, schema)?;
+    let held = type_graph(alloc, declarations, &types)?;
+    each_type(alloc, declarations, held.as_slice(), &types)
+}
+
+fn each_type(
+    alloc: Global,
+    declarations: &Declarations<'_>,
+    held: &[Rows<usize>],
+    types: &[&TypeDeclaration],
+) -> Binding<Items<NamedType>>
+    requires { length held.now ≡ length types.now }
+    ensures { Binds result (each_numbered (entities_spec.named_type declarations.now [] held.now) (map (λ t. t.now) types.now)) }
+{
+    let cyclic = cyclic_marks(alloc, held)?;
+    let cyclic = cyclic.as_slice();
+    let mut found = Gathered::new(alloc);
+    for number in 0..types.len() {
+        let is_cyclic = cyclic[number];
+        let declaration = types[number];
+        found.push(type_in(
+            alloc,
+            declarations,
+            held,
+            number,
+            is_cyclic,
+            declaration,
+        ))?;
+    }
+    found.finish()
+}
+
+/// Entities with their names bound, in order.
+#[tactic(auto, unfolding(crate::specs::Schemas::named_entities), using(crate::proofs::Numbers::above_length))]
+pub fn entities(
+    alloc: Global,
+    declarations: &Declarations<'_>,
+    subtypes: &[Rows<usize>],
+    entities: &[&Entity],
+    schema: &Schema,
+) -> Binding<Items<NamedEntity>>
+    requires declared { declarations.now ≡ declared.declarations schema.now }
+    requires listed { map (λ e. e.now) entities.now ≡ declared.entities schema.now }
+    requires above { subtypes.now ≡ declared.subtype_graph declarations.now (declared.entities schema.now) }
+    ensures { Binds result (spec.named_entities schema.now) }
+{
+    each_entity(alloc, declarations, subtypes, entities)
+}
+
+fn each_entity(
+    alloc: Global,
+    declarations: &Declarations<'_>,
+    subtypes: &[Rows<usize>],
+    entities: &[&Entity],
+) -> Binding<Items<NamedEntity>>
+    requires { length subtypes.now ≡ length entities.now }
+    ensures { Binds result (each_numbered (entities_spec.named_entity declarations.now subtypes.now) (map (λ e. e.now) entities.now)) }
+{
+    let cyclic = cyclic_marks(alloc, subtypes)?;
+    let cyclic = cyclic.as_slice();
+    let mut found = Gathered::new(alloc);
+    for number in 0..entities.len() {
+        let is_cyclic = cyclic[number];
+        let entity = entities[number];
+        found.push(named_entity(
+            alloc,
+            declarations,
+            subtypes,
+            number,
+            is_cyclic,
+            entity,
+        ))?;
+    }
+    found.finish()
+}

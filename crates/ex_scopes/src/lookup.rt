@@ -1,0 +1,68 @@
+//! Marks, positions of names, and what was found or not.
+
+ghost use Rattle.std.specs.Prelude.{◌≡◌, ◌<◌, length, IfOk, IfSome, filter, ◌==◌};
+ghost use Rattle.std.specs.List.{find, list_any, position};
+ghost use Rattle.std.specs.Str.{bytes_eq};
+ghost use Rattle.ex_named.specs.Outcomes.{Binds};
+ghost use Rattle.ex_named.specs.Scopes as spec;
+
+use ex_named::{AttributePlace, Binding, EnumerationItem, NameFaultKind, refused};
+use ex_tree::Name;
+use std::alloc::{AllocError, Global};
+
+/// Whether a number is marked.
+pub(crate) fn is_marked(marks: &[bool], number: usize) -> bool
+    ensures { result ≡ spec.is_marked marks.now number }
+{
+    marks.get(number).copied().unwrap_or(false)
+}
+
+/// What was found, or that the name means nothing here.
+pub(crate) fn or_undeclared<T>(name: &Name, found: Option<T>) -> Binding<T>
+    ensures { Binds result (spec.or_undeclared name.now found) }
+{
+    match found {
+        Some(found) => Ok(found),
+        None => refused(NameFaultKind::Undeclared, name.at),
+    }
+}
+
+/// Where the name stands first.
+pub(crate) fn place_among(names: &[&[u8]], name: &[u8]) -> Option<usize>
+    ensures place { result ≡ position (λ n. bytes_eq n.now name.now) names.now }
+    ensures within { IfSome result (λ place. place < length names.now) }
+{
+    names.iter().position(|other| *other == name)
+}
+
+/// Whether one of these entities declares one of these attributes.
+pub(crate) fn declares_any(family: &[bool], places: &[AttributePlace]) -> bool
+    ensures { result ≡ list_any (λ a. spec.is_marked family.now a.entity) places.now }
+{
+    places.iter().any(|place| is_marked(family, place.entity))
+}
+
+/// Those of the attributes that one of these entities declares.
+pub(crate) fn declared_in(
+    alloc: Global,
+    family: &[bool],
+    places: &[AttributePlace],
+) -> Result<Vec<AttributePlace>, AllocError>
+    ensures { IfOk result (λ found. found.items ≡ filter (λ a. spec.is_marked family.now a.entity) places.now) }
+{
+    places
+        .iter()
+        .copied()
+        .filter(|place| is_marked(family, place.entity))
+        .collect(alloc)
+}
+
+/// The first of these items that is one of this type.
+pub(crate) fn item_of_type(items: &[EnumerationItem], number: usize) -> Option<EnumerationItem>
+    ensures { result ≡ find (λ i. i.type_number == number) items.now }
+{
+    items
+        .iter()
+        .copied()
+        .find(|item| item.type_number == number)
+}
