@@ -4,10 +4,13 @@
     bench/names.py [PROGRAM]
 
 The schemas have 250 to 4,000 entities, each with an attribute and a rule: in one chain, where each is a subtype of the
-one before; as diamonds, where two are subtypes of one and a fourth is a subtype of both, and so on upon it; and flat,
-without supertypes. In the first two each rule uses an attribute of the first entity. For each it prints the seconds
-from the program's start to its end (the best of five), the nanoseconds for a byte of the schema, and the seconds as a
-multiple of those for half as many entities. The aim is n log n, so a multiple of little more than two.
+one before; as diamonds, where two are subtypes of one and a fourth is a subtype of both, and so on upon it; flat,
+without supertypes; and as namesakes, flat with one name for all attributes. In the first two each rule uses the
+attribute of the first entity. What is answered of an entity are its ancestors and the attributes that files write:
+in a chain and in diamonds these lists grow with the square of the entities. For each schema it prints how long the
+lists of all entities are, the seconds from the program's start to its end (the best of five), the nanoseconds for a
+byte of the schema, and those for a byte or an element of the lists. The aim is that the last column grows with the
+logarithm at most.
 What the program prints is compared with what it must be.
 """
 import os
@@ -40,6 +43,24 @@ def flat(count):
     return [entity(k, [], k) for k in range(count)]
 
 
+def namesakes(count):
+    return [text.replace(f"length_{k}", "extent") for k, text in enumerate(flat(count))]
+
+
+# of the entity of each number, how many ancestors it has
+ANCESTORS = {
+    chain: lambda number: number,
+    diamonds: lambda number: number - 1 if number % 3 == 2 else number,
+    flat: lambda number: 0,
+    namesakes: lambda number: 0,
+}
+
+
+def answered(entities_of, count):
+    """How many ancestors and attributes all entities have: with its own attribute each has one of each ancestor."""
+    return sum(2 * ANCESTORS[entities_of](number) + 1 for number in range(count))
+
+
 def schema(entities):
     return f"SCHEMA measured;\n\n{''.join(entities)}END_SCHEMA;\n".encode()
 
@@ -53,27 +74,26 @@ def seconds_of(program, path):
     return min(seconds for _, seconds in tries)
 
 
-def measure(program, path, name, entities_of):
-    before = None
+def measure(program, path, entities_of):
     for count in COUNTS:
         text = schema(entities_of(count))
         with open(path, "wb") as it:
             it.write(text)
+        listed = answered(entities_of, count)
         seconds = seconds_of(program, path)
-        multiple = f"{seconds / before:>8.2f}" if before else " " * 8
-        print(f"{name:>9} {count:>8,} {len(text):>9,} {seconds:>8.4f} {seconds / len(text) * 1e9:>8.1f} {multiple}", flush=True)
-        before = seconds
+        print(f"{entities_of.__name__:>10} {count:>8,} {len(text):>9,} {listed:>11,} {seconds:>8.4f} "
+              f"{seconds / len(text) * 1e9:>8.1f} {seconds / (len(text) + listed) * 1e9:>8.1f}", flush=True)
 
 
 def main(words):
     program = os.path.abspath(words[0] if words else PROGRAM)
     if not os.access(program, os.X_OK):
         sys.exit(f"bench: there is no program {program}: run rt ci first, or name it")
-    print(f"{'schema':>9} {'entities':>8} {'bytes':>9} {'seconds':>8} {'ns/byte':>8} {'multiple':>8}")
+    print(f"{'schema':>10} {'entities':>8} {'bytes':>9} {'listed':>11} {'seconds':>8} {'ns/byte':>8} {'ns/all':>8}")
     with tempfile.TemporaryDirectory() as folder:
         path = os.path.join(folder, "measured.exp")
-        for entities_of in (chain, diamonds, flat):
-            measure(program, path, entities_of.__name__, entities_of)
+        for entities_of in (chain, diamonds, flat, namesakes):
+            measure(program, path, entities_of)
 
 
 if __name__ == "__main__":

@@ -42,12 +42,15 @@ WHERE w : SIZEOF(QUERY(q <* a | {1 < q.x[1] <= "00000041"})) = NVL([1, 'it''s'],
 FUNCTION n (p, q : GENERIC) : INTEGER; LOCAL l : INTEGER := %01; END_LOCAL;
 REPEAT i := 1 TO 2 BY 3 WHILE TRUE UNTIL FALSE; CASE p OF 1, 2 : SKIP; OTHERWISE : BEGIN ; END; END_CASE; END_REPEAT;
 IF NOT p THEN l := n(p, q); ELSE RETURN (l); END_IF; END_FUNCTION;
-RULE r FOR (e); WHERE TRUE; END_RULE;
+RULE r FOR (e); WHERE SIZEOF(e) = n(k, t.y); END_RULE; TYPE t = ENUMERATION OF (y, z); WHERE SELF <> z; END_TYPE;
+ENTITY f SUBTYPE OF (e); x : e; SELF\\e.a : LIST OF STRING; END_ENTITY; ENTITY h SUBTYPE OF (e); END_ENTITY;
+ENTITY g SUBTYPE OF (e); UNIQUE SELF\\e.b; WHERE EXISTS(SELF\\e.a); END_ENTITY;
 """
 CHECKS = {
     "schema.exp": (SCHEMA + "END_SCHEMA;\n", 0, b"C: ok\n"),
-    "broken.exp": (SCHEMA + "END;\n", 1, b"Syntax line 11 column 1\n"),
-    "token.exp": (SCHEMA + "!\n", 1, b"Token line 11 column 1\n"),
+    "twice.exp": (SCHEMA + "TYPE e = undeclared; END_TYPE; END_SCHEMA;\n", 1, b"DeclaredTwice line 13 column 6\n"),
+    "broken.exp": (SCHEMA + "END;\n", 1, b"Syntax line 13 column 1\n"),
+    "token.exp": (SCHEMA + "!\n", 1, b"Token line 13 column 1\n"),
 }
 
 

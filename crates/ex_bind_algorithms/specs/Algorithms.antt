@@ -1,6 +1,8 @@
 -- Constants, functions and rules with their names bound (ISO 10303-11:1994, 9.4 to 9.6).
-use Rattle.std.specs.Prelude.{ℕ, Bool, false, ◌==◌, List, [], ◌++◌, map}
-use Rattle.std.specs.List.{filter_map, flat_map, list_any}
+use Rattle.std.specs.Prelude.{ℕ, false, List, [], ◌∷◌, ◌++◌, map}
+use Rattle.std.specs.BTreeSet.{insert_key}
+use Rattle.std.specs.List.{filter_map, flat_map}
+use Rattle.std.specs.Ordering.{nat_cmp}
 use Rattle.ex_tree.specs.declared.expression.Name.{Name}
 use Rattle.ex_tree.specs.declared.declaration.Constant.{Constant}
 use Rattle.ex_tree.specs.declared.declaration.Function.{Function}
@@ -18,11 +20,10 @@ use Rattle.ex_named.specs.DataTypes.{data_type}
 use Rattle.ex_named.specs.Expressions.{expression}
 use Rattle.ex_named.specs.Statements.{statements}
 use Rattle.ex_declarations.specs.Declared.{once}
-use Rattle.ex_lineage.specs.Lineage.{numbers_from}
 use Rattle.ex_bind_algorithms.specs.Rules.{domain_rules, labels, scope_of}
 
 -- where a function's or rule's statements stand: these variables, and the entities that it is for
-abbrev pub body_scope : List Name → List Bool → Scope
+abbrev pub body_scope : List Name → List ℕ → Scope
 body_scope variables populations = record {
   nested = [];
   frame = map (λ n. n.text) variables;
@@ -30,6 +31,11 @@ body_scope variables populations = record {
   family = [];
   populations = populations;
 }
+
+-- each number once, in ascending order
+abbrev pub in_order : List ℕ → List ℕ
+in_order [] = []
+in_order (n ∷ others) = insert_key nat_cmp (in_order others) n
 
 abbrev pub parameter_names : List Parameter → List Name
 parameter_names parameters = flat_map (λ p. p.names) parameters
@@ -64,15 +70,18 @@ module _ (schema : Declarations) where
 
   -- ---- rules: locals and labels are one scope, and the labels hide nothing
 
-  -- of each of so many entities, whether FOR lists it
-  abbrev pub populations : ℕ → List Name → List Bool
-  populations count names = map (λ k. list_any (λ e. e == k) (filter_map (λ n. and_then (declared schema n.text) (as_entity schema)) names)) (numbers_from 0 count)
+  abbrev pub entities_of : List Name → List ℕ
+  entities_of names = filter_map (λ n. and_then (declared schema n.text) (as_entity schema)) names
+
+  -- the entities that FOR lists
+  abbrev pub populations : List Name → List ℕ
+  populations names = in_order (entities_of names)
 
   unfoldable pub rule_in : Scope → Rule → Outcome NamedRule
   rule_in s r = given
       (λ p. record { name = r.head.name; entities = p.0.0; locals = p.0.1; statements = p.1.0; domain_rules = p.1.1 })
       (both (both (each (entity schema) r.head.entities) (each (local_variable s) r.locals)) (both (statements schema s r.statements) (domain_rules schema s r.domain_rules)))
 
-  unfoldable pub named_rule : ℕ → Rule → Outcome NamedRule
-  named_rule count r = given (λ p. p.1) (both (once (local_names r.locals ++ labels (λ x. x.label) r.domain_rules))
-      (rule_in (body_scope (local_names r.locals) (populations count r.head.entities)) r))
+  unfoldable pub named_rule : Rule → Outcome NamedRule
+  named_rule r = given (λ p. p.1) (both (once (local_names r.locals ++ labels (λ x. x.label) r.domain_rules))
+      (rule_in (body_scope (local_names r.locals) (populations r.head.entities)) r))

@@ -1,5 +1,5 @@
 -- Rules of a WHERE clause with their names bound (ISO 10303-11:1994, 9.2.2.2), and where they stand.
-use Rattle.std.specs.Prelude.{Bool, List, [], Option}
+use Rattle.std.specs.Prelude.{ℕ, Bool, List, [], Option}
 use Rattle.std.specs.List.{filter_map}
 use Rattle.ex_tree.specs.declared.expression.Name.{Name}
 use Rattle.ex_tree.specs.declared.declaration.DomainRule.{DomainRule}
@@ -9,7 +9,7 @@ use Rattle.ex_named.specs.Scopes.{Declarations, Scope}
 use Rattle.ex_named.specs.Expressions.{expression}
 
 -- where expressions of an entity stand, of a type, or of neither
-abbrev pub scope_of : Bool → List Bool → Scope
+abbrev pub scope_of : Bool → List ℕ → Scope
 scope_of has_self family = record { nested = []; frame = []; has_self = has_self; family = family; populations = [] }
 
 -- the names that label rules

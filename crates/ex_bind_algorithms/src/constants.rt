@@ -12,6 +12,7 @@ use ex_names::SortedNames;
 use ex_scopes::{Declarations, Scope};
 use ex_tree::Constant;
 use std::alloc::Global;
+use std::collections::BTreeSet;
 
 /// A constant with its names bound. Its value stands in the schema's own scope.
 pub fn constant(
@@ -35,7 +36,8 @@ fn constant_over(
     requires { no_variables.now ≡ [] }
     ensures { Binds result (spec.constant declarations.now constant.now) }
 {
-    let scope = Scope::new(alloc, no_variables, false, &[], &[]);
+    let none = BTreeSet::new(alloc);
+    let scope = Scope::new(alloc, no_variables, false, &none, &none);
     let data_type = data_type(alloc, declarations, &constant.data_type);
     let value = expression(alloc, declarations, &scope, &constant.value);
     let (data_type, value) = both(data_type, value)?;

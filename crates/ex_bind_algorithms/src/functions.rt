@@ -16,6 +16,7 @@ use ex_names::SortedNames;
 use ex_scopes::{Declarations, Scope};
 use ex_tree::{Function, Name};
 use std::alloc::{AllocError, Global};
+use std::collections::BTreeSet;
 
 /// A function with its names bound. Its parameters and locals are one scope.
 #[tactic(auto, unfolding(crate::specs::Algorithms::named_function))]
@@ -52,7 +53,8 @@ fn function_over(
 ) -> Binding<NamedFunction>
     ensures { Binds result (spec.function_in declarations.now (record { nested = []; frame = frame.now; has_self = false; family = []; populations = [] }) function.now) }
 {
-    let scope = Scope::new(alloc, frame, false, &[], &[]);
+    let none = BTreeSet::new(alloc);
+    let scope = Scope::new(alloc, frame, false, &none, &none);
     function_in(alloc, declarations, &scope, function)
 }
 

@@ -1,8 +1,10 @@
 //! Rules.
 
-ghost use Rattle.std.specs.Prelude.{◌≡◌, ℕ, ◌<◌, ◌==◌, ◌||◌, [], false, length, IfOk};
+ghost use Rattle.std.specs.Prelude.{◌≡◌, ℕ, ◌==◌, ◌||◌, [], false, IfOk, OnOk};
+ghost use Rattle.std.specs.List.Sorted.{IsStrictlySortedBy};
+ghost use Rattle.std.specs.Ordering.{nat_cmp};
 ghost use Rattle.ex_named.specs.Outcomes.{Binds, each};
-ghost use Rattle.ex_named.specs.Scopes.{entity as entity_named, is_marked};
+ghost use Rattle.ex_named.specs.Scopes.{entity as entity_named, is_among};
 ghost use Rattle.ex_bind_algorithms.specs.Algorithms as spec;
 
 use crate::names::copy_name;
@@ -16,23 +18,18 @@ use ex_scopes::{Declarations, Scope};
 use ex_tree::{Name, Rule};
 use sqlite_items::Items;
 use std::alloc::{AllocError, Global};
+use std::collections::BTreeSet;
 use text_forms::Failure;
 
 /// A rule with its names bound. Its locals and labels are one scope, in which the labels hide nothing.
 #[tactic(auto, unfolding(crate::specs::Algorithms::named_rule))]
-pub fn named_rule(
-    alloc: Global,
-    declarations: &Declarations<'_>,
-    entity_count: usize,
-    rule: &Rule,
-) -> Binding<NamedRule>
-    ensures { Binds result (spec.named_rule declarations.now entity_count rule.now) }
+pub fn named_rule(alloc: Global, declarations: &Declarations<'_>, rule: &Rule) -> Binding<NamedRule>
+    ensures { Binds result (spec.named_rule declarations.now rule.now) }
 {
     let mut names = Vec::new(alloc);
     push_local_names(&mut names, rule.locals.as_slice())?;
     let frame = frame_of(alloc, &names)?;
-    let listed = rule.head.entities.as_slice();
-    let populations = populations(alloc, declarations, entity_count, listed)?;
+    let populations = populations(alloc, declarations, rule.head.entities.as_slice())?;
     push_labels(&mut names, rule.domain_rules.as_slice())?;
     let once = once(alloc, &names);
     let found = rule_over(alloc, declarations, &frame, &populations, rule);
@@ -40,17 +37,18 @@ pub fn named_rule(
     Ok(found)
 }
 
-/// A rule whose variables are these, and which is for the entities that are marked.
+/// A rule whose variables are these, and which is for these entities.
 fn rule_over(
     alloc: Global,
     declarations: &Declarations<'_>,
     frame: &SortedNames<'_>,
-    populations: &[bool],
+    populations: &BTreeSet<usize>,
     rule: &Rule,
 ) -> Binding<NamedRule>
-    ensures { Binds result (spec.rule_in declarations.now (record { nested = []; frame = frame.now; has_self = false; family = []; populations = populations.now }) rule.now) }
+    ensures { Binds result (spec.rule_in declarations.now (record { nested = []; frame = frame.now; has_self = false; family = []; populations = populations.now.keys }) rule.now) }
 {
-    let scope = Scope::new(alloc, frame, false, &[], populations);
+    let no_family = BTreeSet::new(alloc);
+    let scope = Scope::new(alloc, frame, false, &no_family, populations);
     rule_in(alloc, declarations, &scope, rule)
 }
 
@@ -90,32 +88,32 @@ fn entities(alloc: Global, declarations: &Declarations<'_>, names: &[Name]) -> B
     found.finish()
 }
 
-/// Of each entity, whether it is one of these names.
+/// The entities of these names.
 fn populations(
     alloc: Global,
     declarations: &Declarations<'_>,
-    entity_count: usize,
     names: &[Name],
-) -> Result<Vec<bool>, AllocError>
-    ensures { IfOk result (λ marks. marks.items ≡ spec.populations declarations.now entity_count names.now) }
+) -> Result<BTreeSet<usize>, AllocError>
+    ensures { IfOk result (λ found. found.keys ≡ spec.populations declarations.now names.now) }
 {
-    let mut marks = Vec::new(alloc);
-    marks.resize(entity_count, false)?;
+    let mut found = BTreeSet::new(alloc);
     for name in names {
         match declarations.entity(name) {
-            Ok(entity) => mark(&mut marks, entity),
+            Ok(entity) => put(&mut found, entity)?,
             Err(Failure::NoMemory) => return Err(AllocError),
             // Told where the entities are bound.
             Err(Failure::Fault(_)) => {},
         }
     }
-    Ok(marks)
+    Ok(found)
 }
 
-fn mark(marks: &mut [bool], number: usize)
-    ensures { (k : ℕ) → k < length marks.old → is_marked marks.new k ≡ (is_marked marks.old k || number == k) }
+/// Puts a number into the set.
+#[tactic(auto, using(crate::proofs::Populations::among_insert))]
+fn put(set: &mut BTreeSet<usize>, number: usize) -> Result<(), AllocError>
+    ensures rising { OnOk result (IsStrictlySortedBy nat_cmp set.new.keys) }
+    ensures more { OnOk result ((k : ℕ) → is_among set.new.keys k ≡ (is_among set.old.keys k || number == k)) }
 {
-    if number < marks.len() {
-        marks[number] = true;
-    }
+    set.insert(number)?;
+    Ok(())
 }

@@ -9,11 +9,10 @@ use Rattle.ex_named.specs.declared.reference.AttributeSort.{AttributeSort}
 use Rattle.ex_named.specs.declared.reference.AttributeUse.{AttributeUse}
 use Rattle.ex_named.specs.declared.declaration.NamedRedeclaration.{NamedRedeclaration}
 use Rattle.ex_named.specs.Outcomes.{refused, given}
-use Rattle.ex_named.specs.Scopes.{Declarations, is_marked, entity}
-use Rattle.ex_lineage.specs.Lineage.{is_ancestor}
-use Rattle.ex_declarations.specs.Declared.{family}
+use Rattle.ex_named.specs.Scopes.{Declarations, is_among, entity}
+use Rattle.ex_lineage.specs.Lineage.{family, is_ancestor}
 use Rattle.ex_bind_entities.specs.Entities.{next, any_sort, use_of, attribute_of, redeclaration_in, redeclaration, unique_in}
-use Rattle.ex_bind_entities.proofs.Marks.{none_declared, marked_family}
+use Rattle.ex_bind_entities.proofs.Ancestors.{none_declared, in_family}
 
 abbrev pub found_in : ℕ → AttributeUse → NamedRedeclaration
 found_in a found = record { entity = a; attribute = found }
@@ -30,8 +29,8 @@ module _ (schema : Declarations) (graph : List (List ℕ)) where
   refused-beyond can_stand e n false h = refl
 
   pub unique_by : (e : ℕ) (q : QualifiedAttribute) (f : ℕ) → unique_in schema graph e q f
-      ≡ (if is_marked (family graph e) f then attribute_of schema graph any_sort f q.attribute else refused NotAnAttribute q.attribute.at)
-  unique_by e q f = rw (marked_family graph e f) ((elim (nat_lt f (length graph)) as (λ t. nat_lt f (length graph) ≡ t
+      ≡ (if is_among (family graph e) f then attribute_of schema graph any_sort f q.attribute else refused NotAnAttribute q.attribute.at)
+  unique_by e q f = rw (in_family graph e f) ((elim (nat_lt f (length graph)) as (λ t. nat_lt f (length graph) ≡ t
       → unique_in schema graph e q f ≡ (if t && (f == e || is_ancestor graph e f) then attribute_of schema graph any_sort f q.attribute else refused NotAnAttribute q.attribute.at)) [
         | true ↦ λ is. refl
         | false ↦ λ is. let h : length graph ≤ f = grind (arith, nat_tests) in refused-beyond any_sort f q.attribute (f == e || is_ancestor graph e f) h

@@ -2,5 +2,5 @@ pub mod Again
 pub mod Constraints
 pub mod Inherited
 pub mod Lists
-pub mod Marks
+pub mod Ancestors
 pub mod Parts

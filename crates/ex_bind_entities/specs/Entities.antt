@@ -49,8 +49,8 @@ use Rattle.ex_named.specs.Scopes.{Declarations, and_then, declared, as_defined, 
 use Rattle.ex_named.specs.DataTypes.{data_type}
 use Rattle.ex_named.specs.Expressions.{expression}
 use Rattle.ex_bind_algorithms.specs.Rules.{domain_rules, labels, scope_of}
-use Rattle.ex_lineage.specs.Lineage.{is_ancestor}
-use Rattle.ex_declarations.specs.Declared.{family, once, explicit_names, derived_names, inverse_names}
+use Rattle.ex_lineage.specs.Lineage.{family, is_ancestor}
+use Rattle.ex_declarations.specs.Declared.{once, explicit_names, derived_names, inverse_names}
 
 abbrev pub next : {A B : Type 0} → Outcome A → (A → Outcome B) → Outcome B
 next (Ok a) bind = bind a

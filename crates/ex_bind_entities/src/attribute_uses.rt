@@ -7,11 +7,13 @@ ghost use Rattle.ex_named.specs.Scopes as scopes;
 ghost use Rattle.ex_bind_entities.specs.Entities as spec;
 ghost use Rattle.ex_bind_entities.specs.Sorts.{admitted};
 
-use crate::families::{EntityContext, family};
+use crate::families::EntityContext;
+use ex_lineage::family;
 use ex_named::{AttributePlace, AttributeSort, AttributeUse, Binding, NameFaultKind, refused};
 use ex_scopes::Declarations;
 use ex_tree::Name;
 use std::alloc::Global;
+use std::collections::BTreeSet;
 
 /// Of which sorts an attribute that is named can be.
 #[derive(Clone, Copy)]
@@ -44,11 +46,11 @@ impl Sorts {
 pub fn attribute_in(
     alloc: Global,
     declarations: &Declarations<'_>,
-    family: &[bool],
+    family: &BTreeSet<usize>,
     sorts: Sorts,
     name: &Name,
 ) -> Binding<AttributeUse>
-    ensures { Binds result (spec.use_of (admitted sorts) name.now.at (scopes.attributes_of declarations.now family.now name.now.text)) }
+    ensures { Binds result (spec.use_of (admitted sorts) name.now.at (scopes.attributes_of declarations.now family.now.keys name.now.text)) }
 {
     let declarations = declarations.attributes_of(alloc, family, name.text.as_bytes())?;
     if !sorts.admit_any(declarations.as_slice()) {

@@ -3,7 +3,7 @@
 ghost use Rattle.std.specs.Prelude.{◌≡◌, true};
 ghost use Rattle.ex_named.specs.Outcomes.{Binds, each};
 ghost use Rattle.ex_bind_algorithms.specs.Rules.{scope_of};
-ghost use Rattle.ex_declarations.specs.Declared.{family};
+ghost use Rattle.ex_lineage.specs.Lineage.{family};
 ghost use Rattle.ex_bind_entities.specs.Entities as spec;
 ghost use Rattle.ex_bind_entities.specs.Sorts.{admitted};
 

@@ -6,8 +6,7 @@ ghost use Rattle.ex_named.specs.Outcomes.{Binds, each, optional};
 ghost use Rattle.ex_named.specs.Outcomes as outcomes;
 ghost use Rattle.ex_named.specs.Scopes as scopes;
 ghost use Rattle.ex_bind_algorithms.specs.Rules.{scope_of};
-ghost use Rattle.ex_declarations.specs.Declared as declared;
-ghost use Rattle.ex_lineage.specs.Lineage.{is_ancestor};
+ghost use Rattle.ex_lineage.specs.Lineage.{family, is_ancestor};
 ghost use Rattle.ex_bind_entities.specs.Entities as spec;
 ghost use Rattle.ex_bind_entities.specs.Wholes as parts;
 
@@ -29,6 +28,7 @@ use ex_tree::{Entity, EntityBody, Name, SupertypeExpression};
 use plain_data::Rows;
 use sqlite_items::Items;
 use std::alloc::Global;
+use std::collections::BTreeSet;
 
 type EntityHead = (Option<NamedSupertype>, Items<usize>);
 
@@ -96,7 +96,7 @@ fn entity_rules(
     scope: &Scope<'_>,
     body: &EntityBody,
 ) -> Binding<EntityRules>
-    requires { scope.now ≡ scope_of true (declared.family context.now.subtypes.now context.now.entity) }
+    requires { scope.now ≡ scope_of true (family context.now.subtypes.now context.now.entity) }
     ensures { Binds result (spec.entity_rules context.now.declarations.now context.now.subtypes.now context.now.entity body.now) }
 {
     let unique_rules = unique_rules(alloc, context, body.unique_rules.as_slice());
@@ -133,7 +133,7 @@ fn entity_parts(
     scope: &Scope<'_>,
     entity: &Entity,
 ) -> Binding<(EntityHead, (EntityAttributes, EntityRules))>
-    requires { scope.now ≡ scope_of true (declared.family context.now.subtypes.now context.now.entity) }
+    requires { scope.now ≡ scope_of true (family context.now.subtypes.now context.now.entity) }
     ensures { Binds result (parts.entity_parts context.now.declarations.now context.now.subtypes.now context.now.entity entity.now) }
 {
     let head = entity_head(alloc, context, entity);
@@ -148,7 +148,7 @@ fn entity_in(
     scope: &Scope<'_>,
     entity: &Entity,
 ) -> Binding<NamedEntity>
-    requires { scope.now ≡ scope_of true (declared.family context.now.subtypes.now context.now.entity) }
+    requires { scope.now ≡ scope_of true (family context.now.subtypes.now context.now.entity) }
     ensures { Binds result (spec.named_entity context.now.declarations.now context.now.subtypes.now context.now.entity entity.now) }
 {
     let name = copy_name(alloc, &entity.head.name)?;
@@ -181,7 +181,8 @@ fn entity_over<'a>(
     requires { no_variables.now ≡ [] }
     ensures { Binds result (spec.named_entity context.now.declarations.now context.now.subtypes.now context.now.entity entity.now) }
 {
-    let scope = Scope::new(alloc, no_variables, true, &context.family, &[]);
+    let no_populations = BTreeSet::new(alloc);
+    let scope = Scope::new(alloc, no_variables, true, &context.family, &no_populations);
     entity_in(alloc, context, &scope, entity)
 }
 

@@ -1,37 +1,14 @@
 //! An entity together with its ancestors.
 
-ghost use Rattle.std.specs.Prelude.{◌≡◌, true, ◌&&◌, nat_lt, length, slice_set, IfOk};
-ghost use Rattle.ex_named.specs.Scopes.{is_marked};
+ghost use Rattle.std.specs.Prelude.{◌≡◌, ◌&&◌, nat_lt, length, IfOk};
+ghost use Rattle.ex_named.specs.Scopes.{is_among};
 ghost use Rattle.ex_lineage.specs.Lineage as lineage;
-ghost use Rattle.ex_declarations.specs.Declared as declared;
 
-use ex_lineage::ancestor_marks;
+use ex_lineage::family;
 use ex_scopes::Declarations;
 use plain_data::Rows;
 use std::alloc::{AllocError, Global};
-
-/// Marks a number, if there is a mark for it.
-fn mark(marks: &mut [bool], number: usize)
-    ensures { marks.new ≡ slice_set marks.old number true }
-{
-    if number < marks.len() {
-        marks[number] = true;
-    }
-}
-
-/// Of each entity, whether it is this one or an ancestor of it.
-#[tactic(auto, using(crate::proofs::Marks::family_set))]
-pub fn family(
-    alloc: Global,
-    subtypes: &[Rows<usize>],
-    entity: usize,
-) -> Result<Vec<bool>, AllocError>
-    ensures { IfOk result (λ marks. marks.items ≡ declared.family subtypes.now entity) }
-{
-    let mut marks = ancestor_marks(alloc, subtypes, entity)?;
-    mark(&mut marks, entity);
-    Ok(marks)
-}
+use std::collections::BTreeSet;
 
 /// An entity whose names are bound, and what they are looked up in.
 #[derive(Drop)]
@@ -42,10 +19,10 @@ pub struct EntityContext<'a, 'd, 's> {
     pub entity: usize,
     /// Whether the entity is an ancestor of itself.
     pub is_cyclic: bool,
-    /// Of each entity, whether it is this one or an ancestor of it.
-    pub family: Vec<bool>,
+    /// The entity and its ancestors, as far as they are the schema's.
+    pub family: BTreeSet<usize>,
     ghost told_cyclic: { is_cyclic ≡ lineage.is_ancestor subtypes.now entity entity },
-    ghost own_family: { family.items ≡ declared.family subtypes.now entity },
+    ghost own_family: { family.keys ≡ lineage.family subtypes.now entity },
 }
 
 impl<'a, 'd, 's> EntityContext<'a, 'd, 's> {
@@ -72,13 +49,13 @@ impl<'a, 'd, 's> EntityContext<'a, 'd, 's> {
 
     /// Whether this is the entity at hand or an ancestor of it, and one of the schema's.
     pub fn is_in_family(&self, other: usize) -> bool
-        ensures { result ≡ is_marked (declared.family self.now.subtypes.now self.now.entity) other }
+        ensures { result ≡ is_among (lineage.family self.now.subtypes.now self.now.entity) other }
     {
-        self.family.get(other).copied().unwrap_or(false)
+        self.family.contains(&other)
     }
 
     /// Whether this is an ancestor of the entity at hand, and one of the schema's entities.
-    #[tactic(auto, using(crate::proofs::Marks::marked_family))]
+    #[tactic(auto, using(crate::proofs::Ancestors::in_family))]
     pub fn is_ancestor(&self, other: usize) -> bool
         ensures { result ≡ (nat_lt other (length self.now.subtypes.now) && lineage.is_ancestor self.now.subtypes.now self.now.entity other) }
     {

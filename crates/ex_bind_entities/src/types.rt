@@ -21,6 +21,7 @@ use ex_scopes::{Declarations, Scope};
 use ex_tree::{DataType, Name, TypeDeclaration, UnderlyingType};
 use sqlite_items::Items;
 use std::alloc::Global;
+use std::collections::BTreeSet;
 
 /// The defined type of this name: no entity can be renamed.
 fn renamed(declarations: &Declarations<'_>, name: &Name) -> Binding<NamedDataType>
@@ -146,7 +147,8 @@ fn type_over(
     requires { no_variables.now ≡ [] }
     ensures { (held : List (List ℕ)) → is_cyclic ≡ is_ancestor held number number → Binds result (spec.named_type declarations.now [] held number type_declaration.now) }
 {
-    let scope = Scope::new(alloc, no_variables, true, &[], &[]);
+    let none = BTreeSet::new(alloc);
+    let scope = Scope::new(alloc, no_variables, true, &none, &none);
     type_in(
         alloc,
         declarations,

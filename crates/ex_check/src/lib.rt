@@ -11,4 +11,6 @@ pub use report::{CheckFault, Verdict, check_text};
 pub use schema::schema_of;
 
 #[cfg(test)]
-mod tests;
+mod names_tests;
+#[cfg(test)]
+mod parser_tests;

@@ -1,5 +1,5 @@
 -- What a schema declares (ISO 10303-11:1994, clause 9 and 10).
-use Rattle.std.specs.Prelude.{ℕ, zero, suc, Bool, true, false, ◌||◌, ◌==◌, List, [], ◌∷◌, ◌++◌, length, map, Option, Some, None, is_some, if◌then◌else◌, Ok}
+use Rattle.std.specs.Prelude.{ℕ, zero, suc, Bool, true, false, List, [], ◌∷◌, ◌++◌, map, Option, Some, None, is_some, if◌then◌else◌, Ok}
 use Rattle.std.specs.List.{filter_map, flat_map}
 use Rattle.ex_names.specs.Names.{place_of}
 use Rattle.ex_tree.specs.declared.expression.Name.{Name}
@@ -27,7 +27,6 @@ use Rattle.ex_named.specs.declared.reference.Declared.TheVariants as d
 use Rattle.ex_named.specs.declared.reference.EnumerationItem.{EnumerationItem}
 use Rattle.ex_named.specs.Outcomes.{Outcome, refused, given, both, and_one}
 use Rattle.ex_named.specs.Scopes.{Declarations, declared, as_entity, as_defined, and_then}
-use Rattle.ex_lineage.specs.Lineage.{is_ancestor, numbers_from}
 
 -- ---- the declarations of each sort, in order
 
@@ -161,10 +160,6 @@ module _ (schema : Declarations) where
 -- of each type the types that it holds other than through an entity
 unfoldable pub type_graph : Declarations → List TypeDeclaration → List (List ℕ)
 type_graph schema = map (λ x. held_types schema x.underlying)
-
--- of each entity, whether it is this one or an ancestor of it
-abbrev pub family : List (List ℕ) → ℕ → List Bool
-family graph e = map (λ k. k == e || is_ancestor graph e k) (numbers_from zero (length graph))
 
 -- ---- names that one scope declares
 

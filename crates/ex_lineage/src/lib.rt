@@ -12,7 +12,7 @@ mod steps;
 
 pub use cycles::cyclic_marks;
 pub use order::line;
-pub use reached::{ancestor_marks, ancestors};
+pub use reached::{ancestors, family};
 
 #[cfg(test)]
 mod tests;

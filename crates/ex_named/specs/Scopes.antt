@@ -1,6 +1,6 @@
 -- What a name means (ISO 10303-11:1994, clause 10).
 use Rattle.std.specs.Prelude.{ℕ, suc, ◌+◌, ◌-◌, Bool, false, ◌==◌, List, [], ◌∷◌, length, filter, Option, Some, None, option_map, unwrap_or, slice_get, if◌then◌else◌, Ok}
-use Rattle.std.specs.List.{find}
+use Rattle.std.specs.List.{find, list_any}
 use Rattle.ex_names.specs.Names.{named, place_of}
 use Rattle.ex_tree.specs.declared.expression.Name.{Name}
 use Rattle.ex_named.specs.declared.expression.NamedExpression.{NamedExpression}
@@ -33,16 +33,19 @@ pub record Scope : Type 0 where
   pub frame : List (List ℕ)
   -- whether SELF stands for something
   pub has_self : Bool
-  -- of each entity, whether its attributes are in scope: the entity at hand and its ancestors
-  pub family : List Bool
-  -- of each entity, whether it is one that a rule is for
-  pub populations : List Bool
+  -- the entities whose attributes are in scope: the entity at hand and its ancestors
+  pub family : List ℕ
+  -- the entities that a rule is for
+  pub populations : List ℕ
 
 abbrev pub first : {A : Type 0} → List A → Option A
 first [] = None
 first (a ∷ others) = Some a
 
--- whether a number is marked in such a list
+abbrev pub is_among : List ℕ → ℕ → Bool
+is_among numbers k = list_any (λ n. n == k) numbers
+
+-- whether a number is marked in a list of marks
 abbrev pub is_marked : List Bool → ℕ → Bool
 is_marked marks k = unwrap_or (slice_get marks k) false
 
@@ -114,8 +117,8 @@ module _ (schema : Declarations) where
   -- ---- names of values: variables, then attributes, then the schema's declarations
 
   -- the attributes of this name that one of these entities declares
-  abbrev pub attributes_of : List Bool → List ℕ → List AttributePlace
-  attributes_of family name = filter (λ a. is_marked family a.entity) (named name schema.attributes)
+  abbrev pub attributes_of : List ℕ → List ℕ → List AttributePlace
+  attributes_of family name = filter (λ a. is_among family a.entity) (named name schema.attributes)
 
   abbrev pub attribute_from : ℕ → List AttributePlace → Option NamedExpression
   attribute_from at [] = None
@@ -128,7 +131,7 @@ module _ (schema : Declarations) where
   abbrev pub declared_value : Scope → ℕ → Declared → Option NamedExpression
   declared_value s at (d.Constant k) = Some (e.Constant k)
   declared_value s at (d.Function k) = Some (e.Call k at [])
-  declared_value s at (d.Entity k) = if is_marked s.populations k then Some (e.Population k) else None
+  declared_value s at (d.Entity k) = if is_among s.populations k then Some (e.Population k) else None
   declared_value s at _ = None
 
   abbrev pub value : Scope → Name → Option NamedExpression

@@ -66,7 +66,7 @@ acyclic_entities schema all h =
     let graph = subtype_graph (declarations schema) (entities schema) in
     let size : length graph ≡ length (entities schema) = length-map (entities schema) _ in
     acyclic_from_marks graph (map (λ k. is_ancestor graph k k) (numbers_from 0 (length graph))) (λ b. b) refl refl
-      (ap (λ n. list_any (λ b. b) (map (λ k. is_ancestor graph k k) (numbers_from 0 n))) size ∙ none_cyclic (declarations schema) graph 0 (Ok []) (entities schema) all h)
+    (ap (λ n. list_any (λ b. b) (map (λ k. is_ancestor graph k k) (numbers_from 0 n))) size ∙ none_cyclic (declarations schema) graph 0 (Ok []) (entities schema) all h)
 
 pub no_cycle : (schema : Schema) (found : NamedSchema) → named_schema schema ≡ Ok found → IsAcyclic (subtype_graph (declarations schema) (entities schema))
 unfolding named_schema schema_parts

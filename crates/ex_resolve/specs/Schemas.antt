@@ -1,5 +1,5 @@
 -- A schema with its names bound, or the fault of least offset (ISO 10303-11:1994, clause 10).
-use Rattle.std.specs.Prelude.{ℕ, Bool, true, false, List, [], length, map, filter, Option, Some, None, option_map, slice_get}
+use Rattle.std.specs.Prelude.{ℕ, Bool, true, false, List, [], map, filter, Option, Some, None, option_map, slice_get}
 use Rattle.std.specs.List.{flat_map}
 use Rattle.ex_tree.specs.declared.declaration.ExplicitAttribute.{ExplicitAttribute}
 use Rattle.ex_tree.specs.declared.declaration.Schema.{Schema}
@@ -29,7 +29,7 @@ unfoldable pub named_functions : Schema → Outcome (List NamedFunction)
 named_functions schema = each (named_function (declarations schema)) (functions schema)
 
 unfoldable pub named_rules : Schema → Outcome (List NamedRule)
-named_rules schema = each (named_rule (declarations schema) (length (entities schema))) (rules schema)
+named_rules schema = each (named_rule (declarations schema)) (rules schema)
 
 abbrev pub SchemaParts : Type 0
 SchemaParts = List NamedConstant × ((List NamedType × List NamedEntity) × (List NamedFunction × List NamedRule))
@@ -38,7 +38,7 @@ SchemaParts = List NamedConstant × ((List NamedType × List NamedEntity) × (Li
 unfoldable pub schema_parts : Schema → Outcome (Unit {0} × SchemaParts)
 schema_parts schema = both (once (map (λ r. r.0) (declared_names schema)))
     (both (each (constant (declarations schema)) schema.constants)
-      (both (both (named_types schema) (named_entities schema)) (both (named_functions schema) (named_rules schema))))
+    (both (both (named_types schema) (named_entities schema)) (both (named_functions schema) (named_rules schema))))
 
 abbrev pub make_schema : Schema → Unit {0} × SchemaParts → NamedSchema
 make_schema schema p = record { name = schema.name; constants = p.1.0; types = p.1.1.0.0; entities = p.1.1.0.1; functions = p.1.1.1.0; rules = p.1.1.1.1 }

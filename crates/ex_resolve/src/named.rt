@@ -65,7 +65,11 @@ impl Named {
 
     /// The inherited and own explicit attributes of an entity, in the order in which files write their values:
     /// supertypes first, in the order of SUBTYPE OF, depth first, each entity's once, at its first place.
-    pub fn attributes(&self, alloc: Global, entity: usize) -> Result<Rows<AttributePlace>, AllocError>
+    pub fn attributes(
+        &self,
+        alloc: Global,
+        entity: usize,
+    ) -> Result<Rows<AttributePlace>, AllocError>
         ensures { IfOk result (λ found. spec.attributes self.now entity ≡ Some found) }
     {
         let line = line(alloc, self.subtypes.as_slice(), entity)?;

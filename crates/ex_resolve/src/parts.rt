@@ -81,28 +81,25 @@ fn each_function(
 pub fn rules(
     alloc: Global,
     declarations: &Declarations<'_>,
-    entities: &[&Entity],
     schema: &Schema,
 ) -> Binding<Items<NamedRule>>
-    requires declared { declarations.now ≡ declared.declarations schema.now }
-    requires listed { map (λ e. e.now) entities.now ≡ declared.entities schema.now }
+    requires { declarations.now ≡ declared.declarations schema.now }
     ensures { Binds result (spec.named_rules schema.now) }
 {
     let rules = ex_declarations::rules(alloc, schema)?;
-    each_rule(alloc, declarations, entities.len(), &rules)
+    each_rule(alloc, declarations, &rules)
 }
 
 fn each_rule(
     alloc: Global,
     declarations: &Declarations<'_>,
-    entity_count: usize,
     rules: &[&Rule],
 ) -> Binding<Items<NamedRule>>
-    ensures { Binds result (each (algorithms.named_rule declarations.now entity_count) (map (λ r. r.now) rules.now)) }
+    ensures { Binds result (each (algorithms.named_rule declarations.now) (map (λ r. r.now) rules.now)) }
 {
     let mut found = Gathered::new(alloc);
     for rule in rules {
-        found.push(named_rule(alloc, declarations, entity_count, rule))?;
+        found.push(named_rule(alloc, declarations, rule))?;
     }
     found.finish()
 }
@@ -152,14 +149,7 @@ fn each_type(
     for number in 0..types.len() {
         let is_cyclic = cyclic[number];
         let declaration = types[number];
-        found.push(type_in(
-            alloc,
-            declarations,
-            held,
-            number,
-            is_cyclic,
-            declaration,
-        ))?;
+        found.push(type_in(alloc, declarations, held, number, is_cyclic, declaration))?;
     }
     found.finish()
 }
@@ -196,14 +186,7 @@ fn each_entity(
     for number in 0..entities.len() {
         let is_cyclic = cyclic[number];
         let entity = entities[number];
-        found.push(named_entity(
-            alloc,
-            declarations,
-            subtypes,
-            number,
-            is_cyclic,
-            entity,
-        ))?;
+        found.push(named_entity(alloc, declarations, subtypes, number, is_cyclic, entity))?;
     }
     found.finish()
 }

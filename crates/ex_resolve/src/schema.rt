@@ -19,7 +19,9 @@ use sqlite_items::Items;
 use std::alloc::Global;
 
 type Classes = (Items<NamedType>, Items<NamedEntity>);
+
 type Algorithms = (Items<NamedFunction>, Items<NamedRule>);
+
 type SchemaParts = (Items<NamedConstant>, (Classes, Algorithms));
 
 /// The schema with its names bound. Else the fault of least offset: a name that means nothing where it stands or
@@ -66,15 +68,13 @@ fn classes(
 fn algorithms(
     alloc: Global,
     declarations: &Declarations<'_>,
-    entities: &[&Entity],
     schema: &Schema,
 ) -> Binding<Algorithms>
-    requires declared { declarations.now ≡ declared.declarations schema.now }
-    requires listed { map (λ e. e.now) entities.now ≡ declared.entities schema.now }
+    requires { declarations.now ≡ declared.declarations schema.now }
     ensures { Binds result (both_of (spec.named_functions schema.now) (spec.named_rules schema.now)) }
 {
     let functions = parts::functions(alloc, declarations, schema);
-    let rules = parts::rules(alloc, declarations, entities, schema);
+    let rules = parts::rules(alloc, declarations, schema);
     both(functions, rules)
 }
 
@@ -95,7 +95,7 @@ fn schema_parts(
     let names = names_once(alloc, schema);
     let constants = parts::constants(alloc, declarations, schema);
     let classes = classes(alloc, declarations, subtypes, entities, schema);
-    let algorithms = algorithms(alloc, declarations, entities, schema);
+    let algorithms = algorithms(alloc, declarations, schema);
     both(names, both(constants, both(classes, algorithms)))
 }
 

@@ -1,4 +1,4 @@
--- Positions of names, and lists with a mark.
+-- Positions of names, and elements that pass a test.
 use Rattle.std.proofs.Common.{◌≡◌, ℕ, Bool, List, [], ◌∷◌, filter, is_some, Bor, refl, arith}
 use Rattle.std.specs.List.{position, list_any}
 use Rattle.std.specs.Str.{bytes_eq}

@@ -4,7 +4,7 @@ ghost use Rattle.std.specs.Prelude.{◌≡◌, ◌∷◌, [], ◌++◌, IfOk, On
 ghost use Rattle.ex_named.specs.Outcomes.{Binds};
 ghost use Rattle.ex_named.specs.Scopes as spec;
 
-use crate::lookup::{declared_in, declares_any, is_marked, item_of_type, or_undeclared};
+use crate::lookup::{declared_in, declares_any, is_among, is_marked, item_of_type, or_undeclared};
 use crate::scope::Scope;
 use ex_named::{
     AttributePlace, AttributeUse, Binding, Declared, EnumerationItem, NameFaultKind,
@@ -15,6 +15,7 @@ use ex_tree::Name;
 use plain_data::Rows;
 use sqlite_items::Items;
 use std::alloc::{AllocError, Global};
+use std::collections::BTreeSet;
 use std::marker::Model;
 
 /// What a schema declares, each list in the order of the text: its names with their meanings, the attributes that entities
@@ -98,10 +99,10 @@ impl<'a> Declarations<'a> {
     pub fn attributes_of(
         &self,
         alloc: Global,
-        family: &[bool],
+        family: &BTreeSet<usize>,
         name: &[u8],
     ) -> Result<Rows<AttributePlace>, AllocError>
-        ensures { IfOk result (λ found. found ≡ spec.attributes_of self.now family.now name.now) }
+        ensures { IfOk result (λ found. found ≡ spec.attributes_of self.now family.now.keys name.now) }
     {
         let found = declared_in(alloc, family, self.attributes.get(name))?;
         Ok(Rows::from_vec(found))
@@ -211,7 +212,7 @@ impl<'a> Declarations<'a> {
                 name.at,
                 Items::new(alloc),
             )),
-            Some(Declared::Entity(number)) if is_marked(scope.populations(), number) => Some(
+            Some(Declared::Entity(number)) if is_among(scope.populations(), number) => Some(
                 NamedExpression::Population(number),
             ),
             _ => None,
@@ -228,7 +229,7 @@ impl<'a> Declarations<'a> {
         }
         match self.declares(text) {
             Some(Declared::Constant(_) | Declared::Function(_)) => true,
-            Some(Declared::Entity(number)) => is_marked(scope.populations(), number),
+            Some(Declared::Entity(number)) => is_among(scope.populations(), number),
             _ => false,
         }
     }

@@ -1,4 +1,4 @@
-//! Marks, positions of names, and what was found or not.
+//! Sets, marks, positions of names, and what was found or not.
 
 ghost use Rattle.std.specs.Prelude.{◌≡◌, ◌<◌, length, IfOk, IfSome, filter, ◌==◌};
 ghost use Rattle.std.specs.List.{find, list_any, position};
@@ -9,6 +9,14 @@ ghost use Rattle.ex_named.specs.Scopes as spec;
 use ex_named::{AttributePlace, Binding, EnumerationItem, NameFaultKind, refused};
 use ex_tree::Name;
 use std::alloc::{AllocError, Global};
+use std::collections::BTreeSet;
+
+/// Whether a number is in the set.
+pub(crate) fn is_among(set: &BTreeSet<usize>, number: usize) -> bool
+    ensures { result ≡ spec.is_among set.now.keys number }
+{
+    set.contains(&number)
+}
 
 /// Whether a number is marked.
 pub(crate) fn is_marked(marks: &[bool], number: usize) -> bool
@@ -36,24 +44,24 @@ pub(crate) fn place_among(names: &[&[u8]], name: &[u8]) -> Option<usize>
 }
 
 /// Whether one of these entities declares one of these attributes.
-pub(crate) fn declares_any(family: &[bool], places: &[AttributePlace]) -> bool
-    ensures { result ≡ list_any (λ a. spec.is_marked family.now a.entity) places.now }
+pub(crate) fn declares_any(family: &BTreeSet<usize>, places: &[AttributePlace]) -> bool
+    ensures { result ≡ list_any (λ a. spec.is_among family.now.keys a.entity) places.now }
 {
-    places.iter().any(|place| is_marked(family, place.entity))
+    places.iter().any(|place| is_among(family, place.entity))
 }
 
 /// Those of the attributes that one of these entities declares.
 pub(crate) fn declared_in(
     alloc: Global,
-    family: &[bool],
+    family: &BTreeSet<usize>,
     places: &[AttributePlace],
 ) -> Result<Vec<AttributePlace>, AllocError>
-    ensures { IfOk result (λ found. found.items ≡ filter (λ a. spec.is_marked family.now a.entity) places.now) }
+    ensures { IfOk result (λ found. found.items ≡ filter (λ a. spec.is_among family.now.keys a.entity) places.now) }
 {
     places
         .iter()
         .copied()
-        .filter(|place| is_marked(family, place.entity))
+        .filter(|place| is_among(family, place.entity))
         .collect(alloc)
 }
 

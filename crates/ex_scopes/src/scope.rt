@@ -10,19 +10,19 @@ use ex_named::{Binding, NameFaultKind, NamedExpression, refused};
 use ex_names::SortedNames;
 use ex_tree::Name;
 use std::alloc::{AllocError, Global};
+use std::collections::BTreeSet;
 use std::marker::Model;
 
 /// What an expression or a statement stands in: the open variables of QUERY and REPEAT, the parameters and locals, whether
-/// SELF stands for something, of each entity whether its attributes are in scope, and of each entity whether a rule is for
-/// it.
+/// SELF stands for something, the entities whose attributes are in scope, and the entities that a rule is for.
 #[derive(Drop)]
 pub struct Scope<'a> {
     // The innermost first.
     nested: Vec<&'a [u8]>,
     frame: &'a SortedNames<'a>,
     has_self: bool,
-    family: &'a [bool],
-    populations: &'a [bool],
+    family: &'a BTreeSet<usize>,
+    populations: &'a BTreeSet<usize>,
 }
 
 impl<'a> Model for Scope<'a> {
@@ -31,7 +31,7 @@ impl<'a> Model for Scope<'a> {
 
     ghost Value = { spec.Scope };
 
-    ghost view = { λ s. record { nested = bytes_of s.nested.items; frame = s.frame.now; has_self = s.has_self; family = s.family.now; populations = s.populations.now } };
+    ghost view = { λ s. record { nested = bytes_of s.nested.items; frame = s.frame.now; has_self = s.has_self; family = s.family.now.keys; populations = s.populations.now.keys } };
 }
 
 impl<'a> Scope<'a> {
@@ -40,10 +40,10 @@ impl<'a> Scope<'a> {
         alloc: Global,
         frame: &'a SortedNames<'a>,
         has_self: bool,
-        family: &'a [bool],
-        populations: &'a [bool],
+        family: &'a BTreeSet<usize>,
+        populations: &'a BTreeSet<usize>,
     ) -> Scope<'a>
-        ensures { result ≡ record { nested = []; frame = frame.now; has_self = has_self; family = family.now; populations = populations.now } }
+        ensures { result ≡ record { nested = []; frame = frame.now; has_self = has_self; family = family.now.keys; populations = populations.now.keys } }
     {
         Scope {
             nested: Vec::new(alloc),
@@ -98,14 +98,14 @@ impl<'a> Scope<'a> {
         }
     }
 
-    pub(crate) fn family(&self) -> &[bool]
-        ensures { result.now ≡ self.now.family }
+    pub(crate) fn family(&self) -> &BTreeSet<usize>
+        ensures { result.now.keys ≡ self.now.family }
     {
         self.family
     }
 
-    pub(crate) fn populations(&self) -> &[bool]
-        ensures { result.now ≡ self.now.populations }
+    pub(crate) fn populations(&self) -> &BTreeSet<usize>
+        ensures { result.now.keys ≡ self.now.populations }
     {
         self.populations
     }

@@ -10,5 +10,3 @@ mod supertypes;
 
 pub use schemas::parse;
 
-#[cfg(test)]
-mod tests;

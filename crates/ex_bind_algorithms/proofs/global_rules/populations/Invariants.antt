@@ -1,13 +1,13 @@
-use Rattle.std.proofs.Common.{◌≡◌, ℕ, ◌<◌, ◌==◌, ◌||◌, length, drop}
-use Rattle.std.specs.List.{filter_map, list_any}
-use Rattle.ex_named.specs.Scopes.{and_then, as_entity, declared, is_marked}
+use Rattle.std.proofs.Common.{◌≡◌, ℕ, ◌||◌, drop}
+use Rattle.std.specs.List.Sorted.{IsStrictlySortedBy}
+use Rattle.std.specs.Ordering.{nat_cmp}
+use Rattle.ex_named.specs.Scopes.{is_among}
+use Rattle.ex_bind_algorithms.specs.Algorithms.{entities_of}
 use Rattle.ex_bind_algorithms.proofs.global_rules.populations.Given as goal
 
--- what is marked, or named later, is what is named
+-- what is found, or named later, is what is named
 abbrev pub invariant-loop-name : goal.invariant-loop-name
 invariant-loop-name l = record {
-  count : length l.marks.items ≡ l.entity_count;
-  marked : (k : ℕ) → k < l.entity_count
-      → (is_marked l.marks.items k || list_any (λ e. e == k) (filter_map (λ n. and_then (declared l.declarations n.text) (as_entity l.declarations)) (drop l.name-index l.names)))
-      ≡ list_any (λ e. e == k) (filter_map (λ n. and_then (declared l.declarations n.text) (as_entity l.declarations)) l.names);
+  rising : IsStrictlySortedBy nat_cmp l.found.keys;
+  named : (k : ℕ) → (is_among l.found.keys k || is_among (entities_of l.declarations (drop l.name-index l.names)) k) ≡ is_among (entities_of l.declarations l.names) k;
 }

@@ -7,4 +7,4 @@ use Rattle.ex_resolve.proofs.named.push_explicit.Given as goal
 abbrev pub invariant-loop-explicit : goal.invariant-loop-explicit
 invariant-loop-explicit l = (l.start ≤ length l.places.items)
     × (l.places.items ++ numbered_from (spec.place_in l.number) (length l.places.items - l.start) (flat_map (λ x. filter spec.is_own x.attributes) (drop l.explicit-index l.entity.explicit))
-      ≡ l.initial.places.items ++ spec.explicit_places l.number l.entity)
+    ≡ l.initial.places.items ++ spec.explicit_places l.number l.entity)

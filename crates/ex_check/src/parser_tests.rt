@@ -1,5 +1,7 @@
-use super::*;
+//! Tests of the parser, which are proved and run here: with tests of its own its crate would be proved twice.
+
 use ex_lex::tokens;
+use ex_syntax::parse;
 use ex_tree::{
     AttributeDeclaration, Bounds, DataType, Declaration, Expression, ParseFaultKind, Schema,
     SetOrBag, SimpleType,

@@ -33,7 +33,12 @@ fn named(rt: &HostRuntime, text: &[u8]) -> Result<Named, Fail> {
 fn each_attribute_of_a_diamond_once(rt: HostRuntime) -> Result<(), Fail> {
     let schema = named(&rt, DIAMOND)?;
     let attributes = schema.attributes(rt.alloc(), 3)?;
-    let of_r_s_t_and_v = [explicit(0, 0), explicit(1, 0), explicit(2, 0), explicit(3, 0)];
+    let of_r_s_t_and_v = [
+        explicit(0, 0),
+        explicit(1, 0),
+        explicit(2, 0),
+        explicit(3, 0),
+    ];
     assert_eq!(rt; attributes.as_slice(), of_r_s_t_and_v.as_slice());
     let ancestors = schema.ancestors(rt.alloc(), 3)?;
     assert_eq!(rt; ancestors.as_slice(), [0, 1, 2].as_slice());
