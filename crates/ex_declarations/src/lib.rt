@@ -13,4 +13,3 @@ pub use graphs::{subtype_graph, type_graph};
 pub use own_names::declared_names;
 pub use sorts::{entities, functions, rules, types};
 pub use uniqueness::once;
-

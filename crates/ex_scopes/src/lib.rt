@@ -7,4 +7,3 @@ mod scope;
 
 pub use declarations::Declarations;
 pub use scope::Scope;
-

@@ -9,4 +9,3 @@ mod schemas;
 mod supertypes;
 
 pub use schemas::parse;
-
