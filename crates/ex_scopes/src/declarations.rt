@@ -4,7 +4,8 @@ ghost use Rattle.std.specs.Prelude.{◌≡◌, ◌∷◌, [], ◌++◌, IfOk, On
 ghost use Rattle.ex_named.specs.Outcomes.{Binds};
 ghost use Rattle.ex_named.specs.Scopes as spec;
 
-use crate::lookup::{declared_in, declares_any, is_among, is_marked, item_of_type, or_undeclared};
+use crate::attributes::AttributeRows;
+use crate::lookup::{is_among, is_marked, item_of_type, or_undeclared};
 use crate::scope::Scope;
 use ex_named::{
     AttributePlace, AttributeUse, Binding, Declared, EnumerationItem, NameFaultKind,
@@ -23,7 +24,7 @@ use std::marker::Model;
 #[derive(Drop)]
 pub struct Declarations<'a> {
     names: NameRows<'a, Declared>,
-    attributes: NameRows<'a, AttributePlace>,
+    attributes: AttributeRows<'a>,
     items: NameRows<'a, EnumerationItem>,
     enumerations: Vec<bool>,
 }
@@ -42,7 +43,7 @@ impl<'a> Declarations<'a> {
     {
         Declarations {
             names: NameRows::new(alloc),
-            attributes: NameRows::new(alloc),
+            attributes: AttributeRows::new(alloc),
             items: NameRows::new(alloc),
             enumerations: Vec::new(alloc),
         }
@@ -104,7 +105,7 @@ impl<'a> Declarations<'a> {
     ) -> Result<Rows<AttributePlace>, AllocError>
         ensures { IfOk result (λ found. found ≡ spec.attributes_of self.now family.now.keys name.now) }
     {
-        let found = declared_in(alloc, family, self.attributes.get(name))?;
+        let found = self.attributes.of_family(alloc, family, name)?;
         Ok(Rows::from_vec(found))
     }
 
@@ -238,7 +239,7 @@ impl<'a> Declarations<'a> {
     fn has_attribute(&self, scope: &Scope<'_>, name: &[u8]) -> bool
         ensures { result ≡ is_some (spec.first (spec.attributes_of self.now scope.now.family name.now)) }
     {
-        declares_any(scope.family(), self.attributes.get(name))
+        self.attributes.has_any(scope.family(), name)
     }
 
     /// The item of this name, where no value has it.
