@@ -1,6 +1,6 @@
--- What is said of an EXPRESS text: the name of its schema, or its first fault with its line and column.
-use Rattle.std.specs.Prelude.{ℕ, ◌+◌, Bool, true, false, not, ◌==◌, List, [], ◌∷◌, ◌++◌, length, take, codes, Result, Ok, Err}
-use Rattle.std.specs.List.{count_by, suffix_len}
+-- What is said of an EXPRESS text: the name of its schema with its warnings, or its first fault, with lines and columns.
+use Rattle.std.specs.Prelude.{ℕ, ◌+◌, Bool, not, ◌==◌, List, ◌++◌, length, take, codes, if◌then◌else◌, Result, Ok, Err}
+use Rattle.std.specs.List.{count_by, flat_map, suffix_len}
 use Rattle.std.specs.Fmt.{decimal}
 use Rattle.ex_lex.specs.Lexeme.{Lexed}
 use Rattle.ex_lex.specs.Spelling.{tokens}
@@ -12,13 +12,17 @@ use Rattle.ex_tree.specs.declared.fault.LexFaultKind.TheVariants as lex
 use Rattle.ex_tree.specs.declared.fault.ParseFault.{ParseFault}
 use Rattle.ex_tree.specs.declared.fault.ParseFaultKind.{ParseFaultKind}
 use Rattle.ex_tree.specs.declared.fault.ParseFaultKind.TheVariants as parse
-use Rattle.ex_named.specs.declared.fault.NameFault.{NameFault}
 use Rattle.ex_named.specs.declared.fault.NameFaultKind.{NameFaultKind}
 use Rattle.ex_named.specs.declared.fault.NameFaultKind.TheVariants as names
 use Rattle.ex_named.specs.Outcomes.{Outcome}
 use Rattle.ex_resolve.specs.Schemas.{Resolved, resolved}
+use Rattle.ex_kinds.specs.declared.fault.TypeFault.{TypeFault}
+use Rattle.ex_kinds.specs.declared.fault.TypeFaultKind.{TypeFaultKind}
+use Rattle.ex_kinds.specs.declared.fault.TypeFaultKind.TheVariants as types
+use Rattle.ex_types.specs.Checked.{Checked, checked}
+use Rattle.ex_check.specs.declared.place.Position.{Position}
 use Rattle.ex_check.specs.declared.fault.SchemaFault.{SchemaFault}
-use Rattle.ex_check.specs.declared.fault.SchemaFault.TheVariants.{Lexical, Syntactic, Naming}
+use Rattle.ex_check.specs.declared.fault.SchemaFault.TheVariants.{Lexical, Syntactic, Naming, Typing}
 use Rattle.ex_check.specs.declared.report.Verdict.{Verdict}
 use Rattle.ex_check.specs.declared.report.Verdict.TheVariants.{Accepted, Refused}
 
@@ -44,9 +48,21 @@ abbrev pub named : Result Schema SchemaFault → Result Resolved SchemaFault
 named (Ok schema) = bound (resolved schema)
 named (Err fault) = Err fault
 
--- The schema of a text with its names bound, or the fault of the first phase that has one.
-unfoldable pub schema : List ℕ → Result Resolved SchemaFault
-schema text = named (syntax text)
+-- The schema of a text with its names bound, or the fault of its tokens, or else of its syntax, or else of its names.
+unfoldable pub resolution : List ℕ → Result Resolved SchemaFault
+resolution text = named (syntax text)
+
+abbrev pub fitting : Result Checked TypeFault → Result Checked SchemaFault
+fitting (Ok schema) = Ok schema
+fitting (Err fault) = Err (Typing fault)
+
+abbrev pub typed : Result Resolved SchemaFault → Result Checked SchemaFault
+typed (Ok schema) = fitting (checked schema)
+typed (Err fault) = Err fault
+
+-- The schema of a text with its warnings, or the fault of the first phase that has one.
+unfoldable pub schema : List ℕ → Result Checked SchemaFault
+schema text = typed (resolution text)
 
 -- ---- where a fault lies
 
@@ -59,6 +75,15 @@ line text at = count_by is_line_feed (take at text) + 1
 
 abbrev pub column : List ℕ → ℕ → ℕ
 column text at = suffix_len (λ b. not (is_line_feed b)) (take at text) + 1
+
+abbrev pub position : List ℕ → ℕ → Position
+position text at = record { at = at; line = line text at; column = column text at }
+
+-- the column behind these bytes, of which the first stands in this one
+abbrev pub column_behind : List ℕ → ℕ → ℕ
+column_behind bytes column =
+    let last = suffix_len (λ b. not (is_line_feed b)) bytes in
+    if last == length bytes then column + length bytes else last + 1
 
 -- ---- the report
 
@@ -81,32 +106,53 @@ naming_name names.CyclicSubtype = codes "CyclicSubtype"
 naming_name names.CyclicType = codes "CyclicType"
 naming_name names.NotAnAttribute = codes "NotAnAttribute"
 
+abbrev pub typing_name : TypeFaultKind → List ℕ
+typing_name types.RealArithmetic = codes "RealArithmetic"
+typing_name types.EntityComparison = codes "EntityComparison"
+typing_name types.Operand = codes "Operand"
+typing_name types.Arguments = codes "Arguments"
+typing_name types.Assign = codes "Assign"
+typing_name types.Qualifier = codes "Qualifier"
+typing_name types.Ambiguous = codes "Ambiguous"
+
 abbrev pub name : SchemaFault → List ℕ
 name (Lexical fault) = lexical_name fault.kind
 name (Syntactic fault) = syntactic_name fault.kind
 name (Naming fault) = naming_name fault.kind
+name (Typing fault) = typing_name fault.kind
 
 abbrev pub place : SchemaFault → ℕ
 place (Lexical fault) = fault.at
 place (Syntactic fault) = fault.at
 place (Naming fault) = fault.at
-
--- `NAME: ok`
-abbrev pub told_of_schema : Resolved → List ℕ
-told_of_schema found = found.schema.name.text ++ codes ": ok\n"
+place (Typing fault) = fault.at
 
 -- `KIND line L column C`
-abbrev pub told_at : List ℕ → ℕ → ℕ → List ℕ
-told_at kind line column = kind ++ codes " line " ++ decimal line ++ codes " column " ++ decimal column ++ codes "\n"
+abbrev pub words_at : List ℕ → ℕ → ℕ → List ℕ
+words_at kind line column = kind ++ codes " line " ++ decimal line ++ codes " column " ++ decimal column
+
+abbrev pub words_of_fault : List ℕ → SchemaFault → List ℕ
+words_of_fault text fault = words_at (name fault) (line text (place fault)) (column text (place fault))
 
 abbrev pub told_of_fault : List ℕ → SchemaFault → List ℕ
-told_of_fault text fault = told_at (name fault) (line text (place fault)) (column text (place fault))
+told_of_fault text fault = words_of_fault text fault ++ codes "\n"
 
-abbrev pub told : List ℕ → Result Resolved SchemaFault → List ℕ
-told text (Ok schema) = told_of_schema schema
+abbrev pub told_of_warning : ℕ → ℕ → List ℕ
+told_of_warning line column = words_at (codes "warning SelectInTypeof") line column ++ codes "\n"
+
+-- the line of a warning at this byte
+abbrev pub warning_at : List ℕ → ℕ → List ℕ
+warning_at text at = told_of_warning (line text at) (column text at)
+
+-- `NAME: ok`, and a line for each warning
+abbrev pub told_of_schema : List ℕ → Checked → List ℕ
+told_of_schema text found = found.named.schema.name.text ++ codes ": ok\n" ++ flat_map (warning_at text) found.warnings
+
+abbrev pub told : List ℕ → Result Checked SchemaFault → List ℕ
+told text (Ok schema) = told_of_schema text schema
 told text (Err fault) = told_of_fault text fault
 
-abbrev pub judged : Result Resolved SchemaFault → Verdict
+abbrev pub judged : Result Checked SchemaFault → Verdict
 judged (Ok schema) = Accepted
 judged (Err fault) = Refused
 

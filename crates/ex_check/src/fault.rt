@@ -5,23 +5,40 @@ ghost use Rattle.ex_check.specs.Check as spec;
 
 use ex_named::{NameFault, NameFaultKind};
 use ex_tree::{LexFault, LexFaultKind, ParseFault, ParseFaultKind};
+use ex_types::{TypeFault, TypeFaultKind};
 
-/// The first fault of a text that is no schema: of its tokens, else of its syntax, else of its names.
+/// The first fault of a text that is no schema: of its tokens, else of its syntax, else of its names, else of its types.
 #[derive(Clone, Copy, Debug, PartialEq, Eq)]
 pub enum SchemaFault {
     Lexical(LexFault),
     Syntactic(ParseFault),
     Naming(NameFault),
+    Typing(TypeFault),
 }
 
-/// The name of the fault's kind.
-pub(crate) fn name_of(fault: SchemaFault) -> &'static str
-    ensures { result.now ≡ spec.name fault }
-{
-    match fault {
-        SchemaFault::Lexical(fault) => lexical_name(fault.kind),
-        SchemaFault::Syntactic(fault) => syntactic_name(fault.kind),
-        SchemaFault::Naming(fault) => naming_name(fault.kind),
+impl SchemaFault {
+    /// The name of the fault's kind.
+    pub fn name(self) -> &'static str
+        ensures { result.now ≡ spec.name self }
+    {
+        match self {
+            SchemaFault::Lexical(fault) => lexical_name(fault.kind),
+            SchemaFault::Syntactic(fault) => syntactic_name(fault.kind),
+            SchemaFault::Naming(fault) => naming_name(fault.kind),
+            SchemaFault::Typing(fault) => typing_name(fault.kind),
+        }
+    }
+
+    /// The byte at which the fault lies.
+    pub fn at(self) -> usize
+        ensures { result ≡ spec.place self }
+    {
+        match self {
+            SchemaFault::Lexical(fault) => fault.at,
+            SchemaFault::Syntactic(fault) => fault.at,
+            SchemaFault::Naming(fault) => fault.at,
+            SchemaFault::Typing(fault) => fault.at,
+        }
     }
 }
 
@@ -59,13 +76,16 @@ fn naming_name(kind: NameFaultKind) -> &'static str
     }
 }
 
-/// The byte at which the fault lies.
-pub(crate) fn place_of(fault: SchemaFault) -> usize
-    ensures { result ≡ spec.place fault }
+fn typing_name(kind: TypeFaultKind) -> &'static str
+    ensures { result.now ≡ spec.typing_name kind }
 {
-    match fault {
-        SchemaFault::Lexical(fault) => fault.at,
-        SchemaFault::Syntactic(fault) => fault.at,
-        SchemaFault::Naming(fault) => fault.at,
+    match kind {
+        TypeFaultKind::RealArithmetic => "RealArithmetic",
+        TypeFaultKind::EntityComparison => "EntityComparison",
+        TypeFaultKind::Operand => "Operand",
+        TypeFaultKind::Arguments => "Arguments",
+        TypeFaultKind::Assign => "Assign",
+        TypeFaultKind::Qualifier => "Qualifier",
+        TypeFaultKind::Ambiguous => "Ambiguous",
     }
 }

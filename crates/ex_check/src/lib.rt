@@ -1,4 +1,5 @@
-//! What is said of an EXPRESS text: the name of its schema, or its first fault with its line and column.
+//! What is said of an EXPRESS text: the name of its schema with its warnings, or its first fault, with their lines and
+//! columns.
 #![tactic(auto)]
 
 mod fault;
@@ -7,7 +8,7 @@ mod report;
 mod schema;
 
 pub use fault::SchemaFault;
-pub use report::{CheckFault, Verdict, check_text};
+pub use report::{CheckFault, Verdict, check_text, words_of_fault};
 pub use schema::schema_of;
 
 #[cfg(test)]

@@ -1,6 +1,6 @@
 use super::*;
 use ex_named::{AttributePlace, AttributeSort, NameFault, NameFaultKind};
-use ex_resolve::Named;
+use ex_types::Schema;
 use std::test::*;
 use text_forms::Failure;
 
@@ -22,17 +22,17 @@ fn explicit(entity: usize, place: usize) -> AttributePlace {
     }
 }
 
-fn named(rt: &HostRuntime, text: &[u8]) -> Result<Named, Fail> {
+fn schema(rt: &HostRuntime, text: &[u8]) -> Result<Schema, Fail> {
     match schema_of(rt.alloc(), text) {
         Ok(schema) => Ok(schema),
-        Err(_) => Err(Fail::from("a schema whose names are bound")),
+        Err(_) => Err(Fail::from("a schema")),
     }
 }
 
 #[test]
 fn each_attribute_of_a_diamond_once(rt: HostRuntime) -> Result<(), Fail> {
-    let schema = named(&rt, DIAMOND)?;
-    let attributes = schema.attributes(rt.alloc(), 3)?;
+    let schema = schema(&rt, DIAMOND)?;
+    let attributes = schema.named().attributes(rt.alloc(), 3)?;
     let of_r_s_t_and_v = [
         explicit(0, 0),
         explicit(1, 0),
@@ -40,14 +40,14 @@ fn each_attribute_of_a_diamond_once(rt: HostRuntime) -> Result<(), Fail> {
         explicit(3, 0),
     ];
     assert_eq!(rt; attributes.as_slice(), of_r_s_t_and_v.as_slice());
-    let ancestors = schema.ancestors(rt.alloc(), 3)?;
+    let ancestors = schema.named().ancestors(rt.alloc(), 3)?;
     assert_eq!(rt; ancestors.as_slice(), [0, 1, 2].as_slice());
     Ok(())
 }
 
 #[test]
 fn supertypes_in_the_order_of_their_list(rt: HostRuntime) -> Result<(), Fail> {
-    let schema = named(&rt, REDECLARED)?;
+    let schema = schema(&rt, REDECLARED)?;
     let attributes = schema.attributes(rt.alloc(), 3)?;
     let wanted = [
         explicit(0, 0),
@@ -58,6 +58,10 @@ fn supertypes_in_the_order_of_their_list(rt: HostRuntime) -> Result<(), Fail> {
         explicit(3, 2),
     ];
     assert_eq!(rt; attributes.as_slice(), wanted.as_slice());
+    let ancestors = schema.ancestors(rt.alloc(), 3)?;
+    assert_eq!(rt; ancestors.as_slice(), [0, 1, 2].as_slice());
+    let redeclared = schema.redeclarations(rt.alloc(), 3)?;
+    assert!(rt; matches!(redeclared.as_slice(), [only] if only.entity == 0));
     Ok(())
 }
 

@@ -1,15 +1,16 @@
 //! What `check` writes.
 
-ghost use Rattle.std.specs.Prelude.{◌≡◌, ◌≢◌, IfOk, IsErrOf, OnOk};
+ghost use Rattle.std.specs.Prelude.{◌≡◌, ◌≢◌, ◌++◌, IfOk, IsErrOf, OnOk};
+ghost use Rattle.std.specs.List.{flat_map};
 ghost use Rattle.std.specs.String.{string_bytes};
 ghost use Rattle.std.specs.Io.KnownBytes.{Appends};
 ghost use Rattle.rp_io.specs.Front.{AppendsFront};
 ghost use Rattle.ex_check.specs.Check as spec;
 
-use crate::fault::{SchemaFault, name_of, place_of};
-use crate::place::{column_of, line_of};
+use crate::fault::SchemaFault;
+use crate::place::Position;
 use crate::schema::schema_of;
-use ex_resolve::Named;
+use ex_types::Schema;
 use rp_io::{Sink, write_all};
 use std::alloc::{AllocError, Global};
 use text_forms::Failure;
@@ -40,53 +41,77 @@ impl From<AllocError> for CheckFault {
     }
 }
 
-fn accepted(alloc: Global, schema: &Named) -> Result<String, AllocError>
-    ensures { IfOk result (λ line. string_bytes line ≡ spec.told_of_schema schema.now) }
-{
-    format!(in alloc; "{}: ok\n", schema.schema().name.text.as_str())
-}
-
-fn at_place(alloc: Global, kind: &str, line: u64, column: u64) -> Result<String, AllocError>
-    ensures { IfOk result (λ told. string_bytes told ≡ spec.told_at kind.now line column) }
+fn words_at(alloc: Global, kind: &str, line: u64, column: u64) -> Result<String, AllocError>
+    ensures { IfOk result (λ words. string_bytes words ≡ spec.words_at kind.now line column) }
 {
     let line = line.to_string(alloc)?;
     let column = column.to_string(alloc)?;
-    [
-        kind,
-        " line ",
-        line.as_str(),
-        " column ",
-        column.as_str(),
-        "\n",
-    ]
-    .concat(alloc)
+    [kind, " line ", line.as_str(), " column ", column.as_str()].concat(alloc)
+}
+
+/// `KIND line L column C`: the kind of a text's fault, with its line and byte column, counted from 1.
+pub fn words_of_fault(alloc: Global, text: &[u8], fault: SchemaFault) -> Result<String, AllocError>
+    ensures { IfOk result (λ words. string_bytes words ≡ spec.words_of_fault text.now fault) }
+{
+    let position = Position::first().move_to(text, fault.at());
+    words_at(alloc, fault.name(), position.line, position.column)
 }
 
 fn refused(alloc: Global, text: &[u8], fault: SchemaFault) -> Result<String, AllocError>
     ensures { IfOk result (λ told. string_bytes told ≡ spec.told_of_fault text.now fault) }
 {
-    let at = place_of(fault);
-    at_place(
-        alloc,
-        name_of(fault),
-        line_of(text, at),
-        column_of(text, at),
-    )
+    let mut told = words_of_fault(alloc, text, fault)?;
+    told.push_str("\n")?;
+    Ok(told)
 }
 
-/// The line that is told of a text, and whether it is a schema.
+fn warned(alloc: Global, line: u64, column: u64) -> Result<String, AllocError>
+    ensures { IfOk result (λ told. string_bytes told ≡ spec.told_of_warning line column) }
+{
+    let mut told = words_at(alloc, "warning SelectInTypeof", line, column)?;
+    told.push_str("\n")?;
+    Ok(told)
+}
+
+/// Puts a line for each warning behind the others.
+fn push_warnings(
+    alloc: Global,
+    told: &mut String,
+    text: &[u8],
+    warnings: &[usize],
+) -> Result<(), AllocError>
+    ensures { OnOk result (string_bytes told.new ≡ string_bytes told.old ++ flat_map (spec.warning_at text.now) warnings.now) }
+{
+    let mut position = Position::first();
+    for at in warnings {
+        position = position.move_to(text, *at);
+        let line = warned(alloc, position.line, position.column)?;
+        told.push_str(line.as_str())?;
+    }
+    Ok(())
+}
+
+fn accepted(alloc: Global, text: &[u8], schema: &Schema) -> Result<String, AllocError>
+    ensures { IfOk result (λ told. string_bytes told ≡ spec.told_of_schema text.now schema.now) }
+{
+    let mut told = format!(in alloc; "{}: ok\n", schema.name().as_str())?;
+    push_warnings(alloc, &mut told, text, schema.warnings())?;
+    Ok(told)
+}
+
+/// The lines that are told of a text, and whether it is a schema.
 fn report(alloc: Global, text: &[u8]) -> Result<(String, Verdict), AllocError>
     ensures { IfOk result (λ r. (string_bytes r.0 ≡ spec.report text.now) × (r.1 ≡ spec.verdict text.now)) }
 {
     match schema_of(alloc, text) {
-        Ok(schema) => Ok((accepted(alloc, &schema)?, Verdict::Accepted)),
+        Ok(schema) => Ok((accepted(alloc, text, &schema)?, Verdict::Accepted)),
         Err(Failure::Fault(fault)) => Ok((refused(alloc, text, fault)?, Verdict::Refused)),
         Err(Failure::NoMemory) => Err(AllocError),
     }
 }
 
-/// Writes one line on an EXPRESS text: `NAME: ok` with the name of its schema, or `KIND line L column C` with the first
-/// fault, lines and byte columns counted from 1.
+/// Writes what there is to say of an EXPRESS text: `NAME: ok` with the name of its schema, and for each warning
+/// `warning KIND line L column C`; or `KIND line L column C` with the first fault. Lines and byte columns count from 1.
 pub fn check_text<W: Sink>(
     alloc: Global,
     text: &[u8],

@@ -5,3 +5,4 @@ pub mod Suiting
 pub mod Putting
 pub mod Preparing
 pub mod Running
+pub mod SchemaNames

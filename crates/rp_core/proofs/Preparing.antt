@@ -2,13 +2,17 @@
 use Rattle.std.proofs.Common.{◌≡◌, ℕ, Bool, true, false, List, Result, Ok, Err, refl, sym, ◌∙◌, ap, subst}
 use Rattle.std.proofs.lemmas.Bool.{false≢true}
 use Rattle.rp_plain.specs.declared.messages.Request.{Request}
-use Rattle.rp_plain.specs.declared.messages.Request.TheVariants.{ListItems, CreateModel, DeleteModel, Put, Names, GrantModel, RevokeModel}
+use Rattle.rp_plain.specs.declared.messages.Request.TheVariants.{ListItems, CreateModel, DeleteModel, Put, Names, GrantModel, RevokeModel, Schemas, CheckSchema}
 use Rattle.rp_plain.specs.declared.messages.Refusal.{Refusal}
 use Rattle.rp_plain.specs.declared.messages.Reply.TheVariants.{Refused}
 use Rattle.rp_plain.specs.declared.messages.Change.TheVariants.{Nothing}
+use Rattle.ex_types.specs.Checked.{Checked}
+use Rattle.ex_check.specs.declared.fault.SchemaFault.{SchemaFault}
+use Rattle.ex_check.specs.Check.{schema as schema_in}
 use Rattle.p21_tree.specs.declared.raw.Raw.{Raw}
 use Rattle.p21_tree.specs.declared.fault.FileFault.{FileFault}
 use Rattle.p21_read.specs.File.{file_of}
+use Rattle.rp_plain.specs.Plain as plain
 use Rattle.rp_plain.specs.Plain.{Plain, stored, ok_reply, changed, outcome}
 use Rattle.rp_plain.specs.Runs.{is_no_memory}
 use Rattle.rp_core.specs.Held.{Plan, IsAnswer, IsRefusal, IsPrepared}
@@ -17,12 +21,18 @@ told_stored : (file : Result Raw FileFault) → is_no_memory (stored file) ≡ f
 told_stored (Ok raw) = refl
 told_stored (Err fault) = refl
 
+told_of : (found : Result Checked SchemaFault) → is_no_memory (plain.told found) ≡ false
+told_of (Ok schema) = refl
+told_of (Err fault) = refl
+
 told : (r : Plain) (c : List ℕ) (q : Request) → is_no_memory (ok_reply r c q) ≡ false
 told r c (CreateModel name schema) = refl
 told r c (DeleteModel name) = refl
 told r c (Put owner name file) = told_stored (file_of file)
 told r c (Names owner name) = refl
 told r c ListItems = refl
+told r c Schemas = refl
+told r c (CheckSchema text) = told_of (schema_in text)
 told r c (GrantModel name to level) = refl
 told r c (RevokeModel name to) = refl
 

@@ -12,6 +12,7 @@ mod opening;
 mod places;
 mod plans;
 mod repository;
+mod schemas;
 
 pub use plans::Pending;
 pub use repository::{Call, Caller, Repository};

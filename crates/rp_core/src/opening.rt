@@ -1,18 +1,44 @@
-//! What is wrong with schemas and partners, and the schemas' names in upper case.
+//! Why there is no repository of some schemas and partners.
 
-ghost use Rattle.std.specs.Prelude.{◌≡◌, map, length, IfOk};
+ghost use Rattle.std.specs.Prelude.{◌≡◌, ◌≢◌, Some, None, IfOk, IfErr};
 ghost use Rattle.std.specs.List.{list_all};
-ghost use Rattle.std.specs.Str.{str_to_ascii_uppercase};
 ghost use Rattle.rp_plain.specs.Names.{is_name};
-ghost use Rattle.rp_plain.specs.Opening.{has_twice as IsTwice};
+ghost use Rattle.rp_plain.specs.Opening.{new_fault, has_twice as IsTwice};
 
+use crate::schemas::names_of;
+use ex_types::Schema;
 use plain_data::Text;
+use rp_plain::messages::NewFault;
 use rp_plain::names::is_valid_name;
 use std::alloc::{AllocError, Global};
 use std::collections::BTreeSet;
 
+/// Tests the schemas and partners of a repository that is to be opened.
+///
+/// # Errors
+///
+/// The first that holds of `TwoSchemas`, `TwoPartners`, `BadName` and `TooMany`; or `NoMemory`.
+pub fn may_open(alloc: Global, schemas: &[Schema], partners: &[Text]) -> Result<(), NewFault>
+    ensures ok { IfOk result (λ _. new_fault schemas.now partners.now ≡ None) }
+    ensures err { IfErr result (λ fault. fault ≢ NewFault.NoMemory → new_fault schemas.now partners.now ≡ Some fault) }
+{
+    if has_twice(alloc, &names_of(alloc, schemas)?)? {
+        return Err(NewFault::TwoSchemas);
+    }
+    if has_twice(alloc, partners)? {
+        return Err(NewFault::TwoPartners);
+    }
+    if !are_names(partners) {
+        return Err(NewFault::BadName);
+    }
+    if schemas.len() > 100 || partners.len() > 1000 {
+        return Err(NewFault::TooMany);
+    }
+    Ok(())
+}
+
 /// Whether a text stands twice among the texts.
-pub fn has_twice(alloc: Global, texts: &[Text]) -> Result<bool, AllocError>
+fn has_twice(alloc: Global, texts: &[Text]) -> Result<bool, AllocError>
     ensures { IfOk result (λ twice. twice ≡ IsTwice texts.now) }
 {
     let mut before = BTreeSet::new(alloc);
@@ -25,17 +51,8 @@ pub fn has_twice(alloc: Global, texts: &[Text]) -> Result<bool, AllocError>
 }
 
 /// Whether each text is a name.
-pub fn are_names(texts: &[Text]) -> bool
+fn are_names(texts: &[Text]) -> bool
     ensures { result ≡ list_all is_name texts.now }
 {
     texts.iter().all(|text| is_valid_name(text))
-}
-
-/// Writes each text in upper case.
-pub fn make_all_uppercase(texts: &mut [Text])
-    ensures { texts.new ≡ map str_to_ascii_uppercase texts.old }
-{
-    for text in texts.iter_mut() {
-        text.make_ascii_uppercase();
-    }
 }

@@ -11,6 +11,8 @@ use crate::asked::{has, is_writable, seen_items};
 use crate::files::{named_types, read_file};
 use crate::grants::{grants_with, grants_without};
 use crate::places::{count_owned, find_seen};
+use crate::schemas::{is_loaded, sorted_names, told_of_text};
+use ex_types::Schema;
 use p21_instances::{greatest_name, in_name_order};
 use p21_tree::Raw;
 use plain_data::{Rows, Text};
@@ -80,7 +82,7 @@ impl Pending {
 /// What a repository holds, lent.
 #[derive(Clone, Copy)]
 pub struct Content<'a> {
-    pub schemas: &'a [Text],
+    pub schemas: &'a [Schema],
     pub partners: &'a [Text],
     pub models: &'a [ModelRow],
 }
@@ -124,7 +126,7 @@ fn plan_create(
         return Err(Refusal::BadName);
     }
     schema.make_ascii_uppercase();
-    if !has(content.schemas, &schema) {
+    if !is_loaded(content.schemas, &schema) {
         return Err(Refusal::UnknownSchema);
     }
     if find_seen(caller, caller, &name, content.models).is_some() {
@@ -307,6 +309,32 @@ fn plan_revoke(
     })
 }
 
+fn plan_schemas(alloc: Global, content: &Content<'_>, caller: &Text) -> Result<Pending, Refusal>
+    ensures { Plans (lent content.now) caller.now Request.Schemas result }
+{
+    Ok(Pending {
+        reply: Reply::Schemas(sorted_names(alloc, content.schemas)?),
+        change: Change::Nothing,
+    })
+}
+
+fn plan_check_schema(
+    alloc: Global,
+    content: &Content<'_>,
+    caller: &Text,
+    text: &Text,
+) -> Result<Pending, Refusal>
+    ensures { Plans (lent content.now) caller.now (Request.CheckSchema text.now) result }
+{
+    if text.as_bytes().len() > 8_388_608 {
+        return Err(Refusal::TooLarge);
+    }
+    Ok(Pending {
+        reply: told_of_text(alloc, text)?,
+        change: Change::Nothing,
+    })
+}
+
 /// The request's reply and change, or its refusal.
 pub fn plan(
     alloc: Global,
@@ -329,5 +357,7 @@ pub fn plan(
             alloc, content, caller, name, to, level,
         ),
         Request::RevokeModel { name, to } => plan_revoke(alloc, content, caller, name, &to),
+        Request::Schemas => plan_schemas(alloc, content, caller),
+        Request::CheckSchema { text } => plan_check_schema(alloc, content, caller, &text),
     }
 }

@@ -2,8 +2,9 @@
 
 use crate::asked::place_among;
 use crate::commits::{Filling, fill_model, insert_model, regrant_model, remove_model};
-use crate::opening::{are_names, has_twice, make_all_uppercase};
+use crate::opening::may_open;
 use crate::plans::{Content, Pending, plan};
+use ex_types::Schema;
 use plain_data::Text;
 use rp_plain::messages::{Change, NewFault, Refusal, Reply, Request};
 use rp_plain::rows::ModelRow;
@@ -36,7 +37,7 @@ pub struct Call {
 /// Schemas, partners and their models.
 #[derive(Drop)]
 pub struct Repository {
-    schemas: Vec<Text>,
+    schemas: Vec<Schema>,
     partners: Vec<Text>,
     models: Vec<ModelRow>,
 }
@@ -51,9 +52,10 @@ impl Model for Repository {
     ghost Value = { Held };
 
     ghost use Rattle.std.specs.Coded.{codes};
+    ghost use Rattle.ex_types.specs.contracts.schema.Schema as schema_type;
     ghost use Rattle.rp_plain.specs.contracts.rows.ModelRow as model_type;
 
-    ghost coded = { Prim.hlevel (codes, model_type.the_row.coded) };
+    ghost coded = { Prim.hlevel (codes, schema_type.the_row.coded, model_type.the_row.coded) };
 
     ghost view = { λ r. record {
       content = record { schemas = r.schemas.items; partners = r.partners.items; models = r.models.items };
@@ -73,30 +75,17 @@ impl Repository {
     ghost use Rattle.rp_core.specs.Held.{partner_at, turn, Suits, HasRoom, IsPrepared};
     ghost use Rattle.rp_core.specs.Calls.{turns_of};
 
-    /// The empty repository of these schemas and partners. Schemas' names may be in either case,
-    /// and are kept in upper case.
+    /// The empty repository of these schemas and partners.
     ///
     /// # Errors
     ///
     /// The first that holds of `TwoSchemas`, `TwoPartners`, `BadName` and `TooMany`; or `NoMemory`.
-    pub fn new(alloc: Global, mut schemas: Vec<Text>, partners: Vec<Text>) -> Result<Self, NewFault>
+    pub fn new(alloc: Global, schemas: Vec<Schema>, partners: Vec<Text>) -> Result<Self, NewFault>
         ensures ok { IfOk result (λ _. new_fault schemas.items partners.items ≡ None) }
         ensures content { IfOk result (λ repository. repository.content ≡ opened schemas.items partners.items) }
         ensures err { IfErr result (λ fault. fault ≢ NewFault.NoMemory → new_fault schemas.items partners.items ≡ Some fault) }
     {
-        make_all_uppercase(&mut schemas);
-        if has_twice(alloc, &schemas)? {
-            return Err(NewFault::TwoSchemas);
-        }
-        if has_twice(alloc, &partners)? {
-            return Err(NewFault::TwoPartners);
-        }
-        if !are_names(&partners) {
-            return Err(NewFault::BadName);
-        }
-        if schemas.len() > 100 || partners.len() > 1000 {
-            return Err(NewFault::TooMany);
-        }
+        may_open(alloc, &schemas, &partners)?;
         Ok(Repository {
             schemas,
             partners,

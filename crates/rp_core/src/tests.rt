@@ -1,4 +1,6 @@
 use crate::{Call, Repository};
+use ex_check::schema_of;
+use ex_types::Schema;
 use plain_data::Text;
 use rp_plain::messages::{NewFault, Refusal, Reply, Request};
 use std::alloc::{AllocError, Global};
@@ -15,8 +17,19 @@ fn texts(alloc: Global, words: &[&str]) -> Result<Vec<Text>, AllocError> {
     Ok(texts)
 }
 
-fn opened(alloc: Global, schemas: &[&str], partners: &[&str]) -> Result<Repository, NewFault> {
-    let schemas = texts(alloc, schemas)?;
+fn schemas(alloc: Global, names: &[&str]) -> Result<Vec<Schema>, AllocError> {
+    let mut schemas = Vec::new(alloc);
+    for name in names {
+        let text = format!(in alloc; "SCHEMA {name}; END_SCHEMA;")?;
+        if let Ok(schema) = schema_of(alloc, text.as_bytes()) {
+            schemas.push(schema)?;
+        }
+    }
+    Ok(schemas)
+}
+
+fn opened(alloc: Global, names: &[&str], partners: &[&str]) -> Result<Repository, NewFault> {
+    let schemas = schemas(alloc, names)?;
     let partners = texts(alloc, partners)?;
     Repository::new(alloc, schemas, partners)
 }
@@ -56,33 +69,53 @@ fn tells_both(reply: &Reply) -> bool {
     }
 }
 
+/// The reply to a partner's request.
+fn asked(
+    alloc: Global,
+    repository: &mut Repository,
+    who: &str,
+    request: Request,
+) -> Result<Reply, Fail> {
+    let who = Text::from_str(alloc, who)?;
+    let caller = repository.caller(&who).ok_or("a partner")?;
+    Ok(repository.handle(alloc, caller, request))
+}
+
+fn is_created(alloc: Global, repository: &mut Repository) -> Result<bool, Fail> {
+    let reply = asked(alloc, repository, "ann", create(alloc)?)?;
+    Ok(matches!(reply, Reply::Done))
+}
+
+fn is_stored(alloc: Global, repository: &mut Repository) -> Result<bool, Fail> {
+    let reply = asked(alloc, repository, "ann", put(alloc)?)?;
+    Ok(matches!(reply, Reply::Stored(2)))
+}
+
+fn is_told(alloc: Global, repository: &mut Repository) -> Result<bool, Fail> {
+    let reply = asked(alloc, repository, "ann", names(alloc)?)?;
+    Ok(tells_both(&reply))
+}
+
+fn is_unseen(alloc: Global, repository: &mut Repository) -> Result<bool, Fail> {
+    let reply = asked(alloc, repository, "bob", names(alloc)?)?;
+    Ok(matches!(reply, Reply::Refused(Refusal::NoSuchItem)))
+}
+
 #[test]
 fn turns_are_handled(rt: HostRuntime) -> Result<(), Fail> {
     let alloc = rt.alloc();
     let mut repository = opened(alloc, &["T"], &["ann", "bob"]).map_err(|_| "opened")?;
-    let ann = repository
-        .caller(&Text::from_str(alloc, "ann")?)
-        .ok_or("ann")?;
-    let bob = repository
-        .caller(&Text::from_str(alloc, "bob")?)
-        .ok_or("bob")?;
-    let created = repository.handle(alloc, ann, create(alloc)?);
-    let stored = repository.handle(alloc, ann, put(alloc)?);
-    let told = repository.handle(alloc, ann, names(alloc)?);
-    let unseen = repository.handle(alloc, bob, names(alloc)?);
-    assert!(rt; matches!(created, Reply::Done) && matches!(stored, Reply::Stored(2)));
-    assert!(rt; tells_both(&told));
-    assert!(rt; matches!(unseen, Reply::Refused(Refusal::NoSuchItem)));
+    assert!(rt; is_created(alloc, &mut repository)?);
+    assert!(rt; is_stored(alloc, &mut repository)?);
+    assert!(rt; is_told(alloc, &mut repository)?);
+    assert!(rt; is_unseen(alloc, &mut repository)?);
     Ok(())
 }
 
-#[test]
-fn a_run_is_made(rt: HostRuntime) -> Result<(), Fail> {
-    let alloc = rt.alloc();
-    let mut repository = opened(alloc, &["T"], &["ann", "bob"]).map_err(|_| "opened")?;
-    let caller = repository
-        .caller(&Text::from_str(alloc, "ann")?)
-        .ok_or("ann")?;
+/// The replies to three requests of ann's.
+fn replies(alloc: Global, repository: &mut Repository) -> Result<Vec<Reply>, Fail> {
+    let ann = Text::from_str(alloc, "ann")?;
+    let caller = repository.caller(&ann).ok_or("ann")?;
     let calls = vec![in alloc;
         Call {
             caller,
@@ -97,7 +130,14 @@ fn a_run_is_made(rt: HostRuntime) -> Result<(), Fail> {
             request: names(alloc)?
         },
     ]?;
-    let replies = repository.run(alloc, calls)?;
+    Ok(repository.run(alloc, calls)?)
+}
+
+#[test]
+fn a_run_is_made(rt: HostRuntime) -> Result<(), Fail> {
+    let alloc = rt.alloc();
+    let mut repository = opened(alloc, &["T"], &["ann", "bob"]).map_err(|_| "opened")?;
+    let replies = replies(alloc, &mut repository)?;
     assert!(rt;
         matches!(replies.as_slice(), [Reply::Done, Reply::Stored(2), told] if tells_both(told))
     );
@@ -115,7 +155,7 @@ fn a_repository_is_refused(rt: HostRuntime) -> Result<(), Fail> {
     for i in 0..1001 {
         many.push(Text::new(format!(in alloc; "p{i}")?))?;
     }
-    let schemas = texts(alloc, &["T"])?;
+    let schemas = schemas(alloc, &["T"])?;
     assert!(rt; Repository::new(alloc, schemas, many).err() == Some(NewFault::TooMany));
     Ok(())
 }

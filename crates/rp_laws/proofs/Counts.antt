@@ -1,12 +1,11 @@
 -- How many rows pass a test after a row is put in or taken out.
-use Rattle.std.proofs.Common.{◌≡◌, ◌≤◌, ◌+◌, ℕ, suc, Bool, true, false, List, [], ◌∷◌, ◌++◌, length, length-append, Some, None, refl, sym, ◌∙◌, ap, arith}
-use Rattle.std.specs.Prelude.{filter, map, if◌then◌else◌}
+use Rattle.std.proofs.Common.{◌≡◌, ◌≤◌, ◌+◌, Bool, List, [], ◌∷◌, ◌++◌, length, length-append, Some, None, refl, ap, arith}
+use Rattle.std.specs.Prelude.{filter}
 use Rattle.std.specs.declared.cmp.Ordering.{Ordering}
 use Rattle.std.specs.declared.cmp.Ordering.TheVariants.{Less, Equal, Greater}
-use Rattle.std.specs.Ordering.{is_lt, is_eq, is_gt}
-use Rattle.std.proofs.lemmas.Grind.{common_steps}
+use Rattle.std.specs.Ordering.{is_lt, is_gt}
 use Rattle.std.proofs.lemmas.List.Elements.{filter-append}
-use Rattle.sorted_tables.specs.Table.{is_at, is_before, is_after, with_row, edited}
+use Rattle.sorted_tables.specs.Table.{is_before, is_after, with_row, edited}
 
 module _ {K X : Type 0} (cmp : K → K → Ordering) (key : X → K) (p : X → Bool) where
   split_count : (k : K) (xs : List X) → length (filter p (filter (is_before cmp key k) xs)) + length (filter p (filter (is_after cmp key k) xs)) ≤ length (filter p xs)

@@ -1,12 +1,12 @@
 -- A step keeps the repository valid.
-use Rattle.std.proofs.Common.{◌≡◌, ◌≤◌, ◌<◌, ◌+◌, ℕ, suc, Bool, true, false, not, ◌&&◌, ◌||◌, nat_le, nat_lt, List, [], ◌∷◌, length, Option, Some, None, is_some, Result, Ok, Err, refl, sym, ◌∙◌, ap, subst, arith}
+use Rattle.std.proofs.Common.{◌≡◌, ◌≤◌, ◌<◌, ◌+◌, ℕ, Bool, true, false, not, ◌&&◌, nat_le, nat_lt, List, [], ◌∷◌, length, Option, Some, None, Result, Ok, Err, refl, sym, ◌∙◌, ap, subst, arith}
 use Rattle.std.specs.Prelude.{filter, fold, max, if◌then◌else◌, option_map}
-use Rattle.std.specs.List.{find, list_any, AllByRecursion}
+use Rattle.std.specs.List.{find, AllByRecursion}
 use Rattle.std.specs.Str.{bytes_eq, str_to_ascii_uppercase}
 use Rattle.std.proofs.lemmas.Bool.Decides.{nat_tests}
-use Rattle.std.proofs.lemmas.Grind.{common_steps}
 use Rattle.std.proofs.lemmas.Slice.Eq.{bytes_eq-Decides}
 use Rattle.sorted_tables.specs.Table.{IsAscending, edited}
+use Rattle.ex_types.specs.Checked.{Checked}
 use Rattle.p21_tree.specs.declared.header.Header.{Header}
 use Rattle.p21_tree.specs.declared.raw.Raw.{Raw}
 use Rattle.p21_tree.specs.declared.fault.FileFault.{FileFault}
@@ -19,14 +19,14 @@ use Rattle.rp_plain.specs.declared.rows.Level.{Level}
 use Rattle.rp_plain.specs.declared.rows.Grant.{Grant}
 use Rattle.rp_plain.specs.declared.rows.ModelRow.{ModelRow}
 use Rattle.rp_plain.specs.declared.messages.Request.{Request}
-use Rattle.rp_plain.specs.declared.messages.Request.TheVariants.{CreateModel, DeleteModel, Put, Names, ListItems, GrantModel, RevokeModel}
+use Rattle.rp_plain.specs.declared.messages.Request.TheVariants.{CreateModel, DeleteModel, Put, Names, ListItems, GrantModel, RevokeModel, Schemas, CheckSchema}
 use Rattle.rp_plain.specs.declared.messages.Refusal.{Refusal}
 use Rattle.rp_plain.specs.declared.messages.Refusal.TheVariants as refusal
 use Rattle.rp_plain.specs.declared.messages.Change.TheVariants.{Fill, Regrant}
 use Rattle.rp_plain.specs.Names.{is_name}
-use Rattle.rp_plain.specs.Plain.{Text, Plain, key_cmp, model_key, is_model, owns, sees, owned_count, max_models, seen_model, has_text, max_instances, tests, write_fault, other_schema, file_fault, instance_fault, too_many, first_some, new_model, read, filled, change_of, changed, text_cmp, grant_key, with_grant, without_grant, absence, step, outcome}
+use Rattle.rp_plain.specs.Plain.{Text, Plain, key_cmp, model_key, is_model, owns, sees, owned_count, max_models, seen_model, has_text, has_schema, max_instances, tests, write_fault, other_schema, file_fault, instance_fault, too_many, first_some, new_model, read, filled, change_of, changed, text_cmp, grant_key, with_grant, without_grant, absence, step, outcome}
 use Rattle.rp_plain.specs.Opening.{opened}
-use Rattle.rp_laws.specs.Valid.{IsValid, IsValidModel, IsValidGrant, IsContent, IsOfFile}
+use Rattle.rp_laws.specs.Valid.{IsValid, IsValidModel, IsValidGrant, IsContent}
 use Rattle.sorted_tables.proofs.Ascending.{with_row_ascends, with_none_ascends}
 use Rattle.std.proofs.lemmas.Bool.{and_parts}
 use Rattle.std.proofs.lemmas.Cmp.{nat_list_cmp_total}
@@ -44,7 +44,7 @@ created_model r c name schema partner passes =
     record {
       owner = partner;
       name = not_false (is_name name) (passed (not (is_name name)) refusal.BadName each.0);
-      schema = not_false (has_text r.schemas (str_to_ascii_uppercase schema)) (passed (not (has_text r.schemas (str_to_ascii_uppercase schema))) refusal.UnknownSchema each.1.0);
+      schema = not_false (has_schema r.schemas (str_to_ascii_uppercase schema)) (passed (not (has_schema r.schemas (str_to_ascii_uppercase schema))) refusal.UnknownSchema each.1.0);
       grants = tt;
       grantees = tt;
       content = refl;
@@ -288,11 +288,13 @@ outcome_valid r c (Put owner name file) None partner passes valid =
     put r c owner name file (put_passes r c owner name file (seen_model r c owner name) (file_of file) refl refl each.1.1.1.0 each.1.1.1.1.0 each.1.1.1.1.1.0 each.1.1.1.1.1.1.0 each.1.1.1.1.1.1.1.0) valid
 outcome_valid r c (Names owner name) None partner passes valid = valid
 outcome_valid r c ListItems None partner passes valid = valid
+outcome_valid r c Schemas None partner passes valid = valid
+outcome_valid r c (CheckSchema text) None partner passes valid = valid
 outcome_valid r c (GrantModel name to level) None partner passes valid = grant_given r c name to level (seen_model r c c name) refl passes valid
 outcome_valid r c (RevokeModel name to) None partner passes valid = grant_taken r c name to (seen_model r c c name) refl passes valid
 
 pub step_valid : (r : Plain) (c : Text) (q : Request) → has_text r.partners c ≡ true → IsValid r → IsValid (step r c q).next
 step_valid r c q partner valid = outcome_valid r c q (first_some (tests r c q)) partner refl valid
 
-pub opening_valid : (schemas partners : List Text) → IsValid (opened schemas partners)
+pub opening_valid : (schemas : List Checked) (partners : List Text) → IsValid (opened schemas partners)
 opening_valid schemas partners = record { ordered = tt; models = tt; few = λ owner. omega arith }

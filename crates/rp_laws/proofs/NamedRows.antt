@@ -1,9 +1,9 @@
 -- A change leaves the rows of other names.
-use Rattle.std.proofs.Common.{◌≡◌, Bool, true, false, not, ◌&&◌, ◌||◌, List, [], ◌∷◌, ◌++◌, Option, Some, None, is_some, refl, sym, ◌∙◌, ap, arith, append-nil}
-use Rattle.std.specs.Prelude.{filter, if◌then◌else◌, option_to_list}
-use Rattle.std.specs.List.{find, list_any}
+use Rattle.std.proofs.Common.{◌≡◌, Bool, true, false, not, ◌&&◌, ◌||◌, List, [], ◌∷◌, ◌++◌, Option, Some, None, is_some, refl, ◌∙◌, ap, arith, append-nil}
+use Rattle.std.specs.Prelude.{filter, option_to_list}
+use Rattle.std.specs.List.{find}
 use Rattle.std.specs.declared.cmp.Ordering.{Ordering}
-use Rattle.std.specs.Ordering.{is_lt, is_eq, is_gt}
+use Rattle.std.specs.Ordering.{is_eq}
 use Rattle.std.specs.Cmp.{IsTotalOrder}
 use Rattle.std.proofs.lemmas.Cmp.{tied_itself}
 use Rattle.std.proofs.lemmas.List.Elements.{filter-append}
@@ -14,7 +14,7 @@ use Rattle.rp_plain.specs.declared.messages.Request.{Request}
 use Rattle.rp_plain.specs.declared.messages.Refusal.{Refusal}
 use Rattle.rp_plain.specs.declared.messages.Change.{Change}
 use Rattle.rp_plain.specs.declared.messages.Change.TheVariants.{Nothing, Create, Remove, Fill, Regrant}
-use Rattle.rp_plain.specs.Plain.{Text, Plain, Key, key_cmp, model_key, tests, first_some, change_of, changed_models, step, outcome}
+use Rattle.rp_plain.specs.Plain.{Text, Plain, key_cmp, model_key, tests, first_some, change_of, changed_models, step, outcome}
 use Rattle.rp_plain.specs.Seen.{names_of}
 use Rattle.rp_laws.specs.Laws.{IsOrdered, is_other}
 use Rattle.rp_laws.proofs.Parts.{key_total}

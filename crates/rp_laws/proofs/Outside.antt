@@ -13,13 +13,13 @@ use Rattle.p21_tree.specs.declared.fault.FileFault.{FileFault}
 use Rattle.std.specs.Prelude.{ℕ, Result, Ok, Err}
 use Rattle.p21_read.specs.File.{file_of}
 use Rattle.rp_plain.specs.declared.messages.Request.{Request}
-use Rattle.rp_plain.specs.declared.messages.Request.TheVariants.{CreateModel, DeleteModel, Put, Names, ListItems, GrantModel, RevokeModel}
+use Rattle.rp_plain.specs.declared.messages.Request.TheVariants.{CreateModel, DeleteModel, Put, Names, ListItems, GrantModel, RevokeModel, Schemas, CheckSchema}
 use Rattle.rp_plain.specs.declared.messages.Refusal.{Refusal}
 use Rattle.rp_plain.specs.declared.messages.Change.{Change}
 use Rattle.rp_plain.specs.declared.messages.Change.TheVariants.{Nothing, Create, Remove, Fill, Regrant}
 use Rattle.sorted_tables.specs.Table.{is_before, is_after, with_row, IsAscending}
 use Rattle.rp_plain.specs.Plain.{Text, Plain, Key, text_cmp, key_cmp, model_key, is_model, owns, is_grant_to, sees, seen_model, tests, read, first_some, change_of, changed_models, changed, step, outcome, grant_key, with_grant, without_grant, filled}
-use Rattle.rp_plain.specs.Seen.{shown, shown_models, part, reaches, names_of, is_grant_for, Avoids}
+use Rattle.rp_plain.specs.Seen.{shown, shown_models, part, reaches, names_of, Avoids}
 use Rattle.rp_laws.specs.Laws.{IsOrdered}
 use Rattle.sorted_tables.proofs.Tables.{hidden_edit, list_any-append, list_any-filter}
 use Rattle.sorted_tables.proofs.Ascending.{hidden_rows, with_row_ascends, with_none_ascends, edited_ascends}
@@ -100,6 +100,8 @@ filled_hidden r c owner name greatest (Err fault) away = tt
 
 avoids-hidden : (r : Plain) (c d : Text) (q : Request) → bytes_eq d c ≡ false → Avoids r c d q → IsHidden r c (change_of r d q)
 avoids-hidden r c d ListItems other away = tt
+avoids-hidden r c d Schemas other away = tt
+avoids-hidden r c d (CheckSchema text) other away = tt
 avoids-hidden r c d (CreateModel name schema) other away = (unreached r c d name away.names.0, ap (λ t. t || false) other)
 avoids-hidden r c d (DeleteModel name) other away = unreached r c d name away.names.0
 avoids-hidden r c d (Put owner name file) other away = filled_hidden r c owner name (read 0 (λ m. m.greatest) (seen_model r d owner name)) (file_of file) away.names

@@ -17,15 +17,15 @@ use Rattle.p21_tree.specs.declared.fault.FileFault.{FileFault}
 use Rattle.std.specs.Prelude.{Result, Ok, Err}
 use Rattle.rp_plain.specs.declared.rows.ModelRow.{ModelRow}
 use Rattle.rp_plain.specs.declared.messages.Request.{Request}
-use Rattle.rp_plain.specs.declared.messages.Request.TheVariants.{CreateModel, DeleteModel, Put, Names, ListItems, GrantModel, RevokeModel}
+use Rattle.rp_plain.specs.declared.messages.Request.TheVariants.{CreateModel, DeleteModel, Put, Names, ListItems, GrantModel, RevokeModel, Schemas, CheckSchema}
 use Rattle.rp_plain.specs.declared.rows.Grant.{Grant}
 use Rattle.rp_plain.specs.declared.rows.Right.TheVariants.{Owner, Granted}
-use Rattle.rp_plain.specs.declared.messages.Reply.TheVariants.{Listed, Names as Named}
+use Rattle.rp_plain.specs.declared.messages.Reply.TheVariants.{Listed}
 use Rattle.rp_plain.specs.declared.messages.Refusal.{Refusal}
 use Rattle.rp_plain.specs.declared.messages.Change.{Change}
 use Rattle.rp_plain.specs.declared.messages.Change.TheVariants.{Nothing, Create, Remove, Fill, Regrant}
 use Rattle.sorted_tables.specs.Table.{with_row}
-use Rattle.rp_plain.specs.Plain.{item_of, granted_level, Text, Plain, key_cmp, model_key, is_model, owns, is_grant_to, sees, may_write, is_write, seen_model, owned_count, tests, write_fault, other_schema, absence, named, filled, read, first_some, ok_reply, change_of, changed_models, changed, step, outcome}
+use Rattle.rp_plain.specs.Plain.{item_of, granted_level, Text, Plain, key_cmp, model_key, is_model, owns, is_grant_to, sees, may_write, is_write, seen_model, owned_count, tests, write_fault, other_schema, absence, filled, read, first_some, ok_reply, change_of, changed_models, changed, step, outcome}
 use Rattle.p21_read.specs.File.{file_of}
 use Rattle.rp_plain.specs.Seen.{shown, shown_models, part}
 use Rattle.sorted_tables.proofs.Tables.{find-view, view-with_seen, view-with_none, view-edited, view_of_view}
@@ -115,6 +115,8 @@ read_shown other f c same (Some m) = same m
 
 pub tests-part : (r : Plain) (c : Text) (q : Request) → tests (part r c) c q ≡ tests r c q
 tests-part r c ListItems = refl
+tests-part r c Schemas = refl
+tests-part r c (CheckSchema text) = refl
 tests-part r c (CreateModel name schema) = simp (seen_model-part, is_some_shown, owned_count-part)
 tests-part r c (DeleteModel name) = simp (seen_model-part, absence_shown)
 tests-part r c (Put owner name file) = simp (seen_model-part, write_fault_shown, other_schema_shown)
@@ -139,6 +141,8 @@ items_shown c (m ∷ ms) = grind (arith, shown-sees c m, item_shown c m, items_s
 
 pub ok_reply-part : (r : Plain) (c : Text) (q : Request) → ok_reply (part r c) c q ≡ ok_reply r c q
 ok_reply-part r c ListItems = ap Listed (items_shown c r.models)
+ok_reply-part r c Schemas = refl
+ok_reply-part r c (CheckSchema text) = refl
 ok_reply-part r c (CreateModel name schema) = refl
 ok_reply-part r c (DeleteModel name) = refl
 ok_reply-part r c (Put owner name file) = refl
@@ -148,6 +152,8 @@ ok_reply-part r c (RevokeModel name to) = refl
 
 pub change_of-part : (r : Plain) (c : Text) (q : Request) → change_of (part r c) c q ≡ change_of r c q
 change_of-part r c ListItems = refl
+change_of-part r c Schemas = refl
+change_of-part r c (CheckSchema text) = refl
 change_of-part r c (CreateModel name schema) = refl
 change_of-part r c (DeleteModel name) = refl
 change_of-part r c (Put owner name file) = simp (seen_model-part, read_shown {A = ℕ} 0 (λ m. m.greatest) c (λ m. refl))
@@ -171,6 +177,8 @@ filled_own c owner name greatest (Err fault) = tt
 
 change_of-own : (r : Plain) (c : Text) (q : Request) → IsOwn c (change_of r c q)
 change_of-own r c ListItems = tt
+change_of-own r c Schemas = tt
+change_of-own r c (CheckSchema text) = tt
 change_of-own r c (CreateModel name schema) = (bytes_eq-Decides c c).1 refl
 change_of-own r c (DeleteModel name) = tt
 change_of-own r c (Put owner name file) = filled_own c owner name (read 0 (λ m. m.greatest) (seen_model r c owner name)) (file_of file)

@@ -1,17 +1,13 @@
 -- A step keeps the repository valid.
-use Rattle.std.proofs.Common.{◌≡◌, ◌≤◌, ◌<◌, ◌+◌, ℕ, suc, Bool, true, false, not, ◌&&◌, ◌||◌, nat_le, nat_lt, List, [], ◌∷◌, ◌++◌, map, length, length-append, Option, Some, None, is_some, Result, Ok, Err, refl, sym, ◌∙◌, ap, subst, arith, true≢false}
-use Rattle.std.specs.Prelude.{filter, if◌then◌else◌, option_to_list, option_map, max, fold}
-use Rattle.std.specs.List.{find, list_any, AllByRecursion}
-use Rattle.std.specs.Str.{bytes_eq, str_to_ascii_uppercase}
+use Rattle.std.proofs.Common.{◌≡◌, Bool, true, false, not, ◌&&◌, List, [], ◌∷◌, ◌++◌, Option, Some, None, refl, sym, ◌∙◌, ap, subst}
+use Rattle.std.specs.Prelude.{filter}
+use Rattle.std.specs.List.{find, AllByRecursion}
 use Rattle.std.specs.declared.cmp.Ordering.{Ordering}
 use Rattle.std.specs.declared.cmp.Ordering.TheVariants.{Less, Equal, Greater}
 use Rattle.std.specs.Ordering.{is_lt, is_eq, is_gt}
 use Rattle.std.specs.Cmp.{IsTotalOrder}
-use Rattle.std.proofs.lemmas.Bool.Decides.{nat_tests}
-use Rattle.std.proofs.lemmas.Grind.{common_steps}
-use Rattle.std.proofs.lemmas.Slice.Eq.{bytes_eq-Decides}
 use Rattle.sorted_tables.specs.Table.{is_at, is_before, is_after, with_row, edited, IsAscending}
-use Rattle.sorted_tables.proofs.Ascending.{all-append, all-filter, follows_all, is_gt-true, with_row_ascends, with_none_ascends}
+use Rattle.sorted_tables.proofs.Ascending.{all-append, all-filter, follows_all, is_gt-true}
 use Rattle.rp_plain.specs.declared.messages.Refusal.{Refusal}
 use Rattle.rp_plain.specs.Plain.{when, first_some}
 

@@ -2,6 +2,7 @@
 use Rattle.std.specs.Prelude.{◌≡◌, ℕ, Bool, true, false, not, List, filter}
 use Rattle.std.specs.List.{list_any}
 use Rattle.std.specs.Str.{bytes_eq}
+use Rattle.ex_types.specs.Checked.{Checked}
 use Rattle.rp_plain.specs.declared.rows.ModelRow.{ModelRow}
 use Rattle.rp_plain.specs.declared.messages.Request.{Request}
 use Rattle.rp_plain.specs.declared.messages.Reply.{Reply}
@@ -26,7 +27,7 @@ KeepsValid = (r : Plain) (c : List ℕ) (q : Request) → has_text r.partners c 
 
 -- a repository as it is opened is valid
 abbrev pub OpensValid : Type 0
-OpensValid = (schemas partners : List (List ℕ)) → IsValid (opened schemas partners)
+OpensValid = (schemas : List Checked) (partners : List (List ℕ)) → IsValid (opened schemas partners)
 
 -- whether a model has none of these names
 abbrev pub is_other : List Key → ModelRow → Bool

@@ -1,7 +1,8 @@
 -- Which repositories there can be: those that steps lead to keep these facts.
-use Rattle.std.specs.Prelude.{◌≡◌, ◌≤◌, ℕ, true, false, List, [], Option, Some, None, length, nat_lt, Result, Ok}
+use Rattle.std.specs.Prelude.{◌≡◌, ◌≤◌, ℕ, true, false, List, [], Option, Some, None, length, nat_lt, Ok}
 use Rattle.std.specs.List.{AllByRecursion}
 use Rattle.std.specs.Str.{bytes_eq}
+use Rattle.ex_types.specs.Checked.{Checked}
 use Rattle.p21_tree.specs.declared.header.Header.{Header}
 use Rattle.p21_tree.specs.declared.raw.Raw.{Raw}
 use Rattle.sorted_tables.specs.Table.{IsAscending}
@@ -11,8 +12,7 @@ use Rattle.p21_instances.specs.Instances.{first_fault, by_name, greatest_name}
 use Rattle.rp_plain.specs.declared.rows.Grant.{Grant}
 use Rattle.rp_plain.specs.declared.rows.ModelRow.{ModelRow}
 use Rattle.rp_plain.specs.Names.{is_name}
-use Rattle.rp_plain.specs.Opening.{new_fault}
-use Rattle.rp_plain.specs.Plain.{Plain, text_cmp, key_cmp, model_key, owned_count, has_text, grant_key, max_models, max_instances}
+use Rattle.rp_plain.specs.Plain.{Plain, text_cmp, key_cmp, model_key, owned_count, has_text, has_schema, grant_key, max_models, max_instances}
 
 -- another partner has the grant
 pub record IsValidGrant (partners : List (List ℕ)) (owner : List ℕ) (g : Grant) : Type 0 where
@@ -35,10 +35,10 @@ abbrev pub IsContent : ModelRow → Option Header → Type 0
 IsContent m None = m.instances ≡ []
 IsContent m (Some header) = IsOfFile m header
 
-pub record IsValidModel (schemas partners : List (List ℕ)) (m : ModelRow) : Type 0 where
+pub record IsValidModel (schemas : List Checked) (partners : List (List ℕ)) (m : ModelRow) : Type 0 where
   pub owner : has_text partners m.owner ≡ true
   pub name : is_name m.name ≡ true
-  pub schema : has_text schemas m.schema ≡ true
+  pub schema : has_schema schemas m.schema ≡ true
   pub grants : IsAscending text_cmp grant_key m.grants
   pub grantees : AllByRecursion (IsValidGrant partners m.owner) m.grants
   pub content : IsContent m m.header

@@ -1,11 +1,12 @@
 -- The repository as it is opened: schemas and partners, and no model.
 use Rattle.std.specs.Prelude.{ℕ, Bool, true, false, not, ◌||◌, nat_lt, List, [], ◌∷◌, length, map, Option, Some, None}
 use Rattle.std.specs.List.{list_any, list_all}
-use Rattle.std.specs.Str.{bytes_eq, str_to_ascii_uppercase}
+use Rattle.std.specs.Str.{bytes_eq}
+use Rattle.ex_types.specs.Checked.{Checked}
 use Rattle.rp_plain.specs.declared.messages.NewFault.{NewFault}
 use Rattle.rp_plain.specs.declared.messages.NewFault.TheVariants.{TwoSchemas, TwoPartners, BadName, TooMany}
 use Rattle.rp_plain.specs.Names.{is_name}
-use Rattle.rp_plain.specs.Plain.{Plain, first_some}
+use Rattle.rp_plain.specs.Plain.{Plain, first_some, schema_name}
 
 -- a text stands among those that follow it
 abbrev pub has_twice : List (List ℕ) → Bool
@@ -17,13 +18,13 @@ when true fault = Some fault
 when false fault = None
 
 -- why there is no repository of these schemas and partners, the first that holds
-abbrev pub new_fault : List (List ℕ) → List (List ℕ) → Option NewFault
+abbrev pub new_fault : List Checked → List (List ℕ) → Option NewFault
 new_fault schemas partners = first_some (
-    when (has_twice (map str_to_ascii_uppercase schemas)) TwoSchemas
+    when (has_twice (map schema_name schemas)) TwoSchemas
     ∷ when (has_twice partners) TwoPartners
     ∷ when (not (list_all is_name partners)) BadName
     ∷ when (nat_lt 100 (length schemas) || nat_lt 1000 (length partners)) TooMany
     ∷ [])
 
-abbrev pub opened : List (List ℕ) → List (List ℕ) → Plain
-opened schemas partners = record { schemas = map str_to_ascii_uppercase schemas; partners = partners; models = [] }
+abbrev pub opened : List Checked → List (List ℕ) → Plain
+opened schemas partners = record { schemas = schemas; partners = partners; models = [] }

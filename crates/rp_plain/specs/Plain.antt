@@ -4,13 +4,16 @@ use Rattle.std.specs.List.{find, list_any}
 use Rattle.std.specs.Str.{bytes_eq, str_to_ascii_uppercase}
 use Rattle.std.specs.Cmp.Lexicographic.{slice_cmp}
 use Rattle.std.specs.declared.cmp.Ordering.{Ordering}
-use Rattle.std.specs.Ordering.{nat_cmp, ordering_then}
+use Rattle.std.specs.Ordering.{is_lt, nat_cmp, ordering_then}
+use Rattle.ex_types.specs.Checked.{Checked}
+use Rattle.ex_check.specs.declared.fault.SchemaFault.{SchemaFault}
+use Rattle.ex_check.specs.Check.{schema as schema_of}
 use Rattle.p21_tree.specs.declared.raw.Raw.{Raw}
 use Rattle.p21_tree.specs.declared.fault.FileFault.{FileFault}
 use Rattle.p21_tree.specs.declared.instance.Instance.{Instance}
 use Rattle.p21_read.specs.File.{file_of}
 use Rattle.p21_read.specs.Schemas.{is_of_schema}
-use Rattle.p21_instances.specs.Instances.{first_fault, by_name, type_of, greatest_name}
+use Rattle.p21_instances.specs.Instances.{first_fault, in_order, by_name, type_of, greatest_name}
 use Rattle.rp_plain.specs.declared.rows.Level.{Level}
 use Rattle.rp_plain.specs.declared.rows.Level.TheVariants.{Read, Group, Write}
 use Rattle.rp_plain.specs.declared.rows.Grant.{Grant}
@@ -20,7 +23,7 @@ use Rattle.rp_plain.specs.declared.rows.Right.{Right}
 use Rattle.rp_plain.specs.declared.rows.Right.TheVariants.{Owner, Granted}
 use Rattle.rp_plain.specs.declared.rows.ModelRow.{ModelRow}
 use Rattle.rp_plain.specs.declared.messages.Request.{Request}
-use Rattle.rp_plain.specs.declared.messages.Request.TheVariants.{CreateModel, DeleteModel, Put, Names, ListItems, GrantModel, RevokeModel}
+use Rattle.rp_plain.specs.declared.messages.Request.TheVariants.{CreateModel, DeleteModel, Put, Names, ListItems, GrantModel, RevokeModel, Schemas, CheckSchema}
 use Rattle.rp_plain.specs.declared.messages.Refusal.{Refusal}
 use Rattle.rp_plain.specs.declared.messages.Refusal.TheVariants as refusal
 use Rattle.rp_plain.specs.declared.messages.Reply.{Reply}
@@ -37,9 +40,9 @@ Text = List ℕ
 abbrev pub text_cmp : Text → Text → Ordering
 text_cmp = slice_cmp nat_cmp
 
--- What a repository holds. Schemas' names are in upper case; models stand in order of owner and name.
+-- What a repository holds. Models stand in order of owner and name.
 pub record Plain : Type 0 where
-  pub schemas : List (List ℕ)
+  pub schemas : List Checked
   pub partners : List (List ℕ)
   pub models : List ModelRow
 
@@ -84,7 +87,7 @@ owned_count r c = length (filter (owns c) r.models)
 
 -- ---- limits
 
--- the bytes of a file: 8 MiB
+-- the bytes of a file, and of a text that is checked: 8 MiB
 abbrev pub max_file : ℕ
 max_file = 8388608
 
@@ -98,6 +101,13 @@ max_instances = 200000
 
 abbrev pub has_text : List Text → Text → Bool
 has_text texts s = list_any (bytes_eq s) texts
+
+-- the name of a schema, in upper case
+abbrev pub schema_name : Checked → Text
+schema_name schema = schema.named.schema.name.text
+
+abbrev pub has_schema : List Checked → Text → Bool
+has_schema schemas name = list_any (λ schema. bytes_eq name (schema_name schema)) schemas
 
 abbrev pub when : Bool → Refusal → Option Refusal
 when true refusal = Some refusal
@@ -118,7 +128,7 @@ abbrev pub partner_fault : Plain → Text → Option Refusal
 partner_fault r name = when (not (has_text r.partners name)) refusal.UnknownPartner
 
 abbrev pub schema_fault : Plain → Text → Option Refusal
-schema_fault r schema = when (not (has_text r.schemas (str_to_ascii_uppercase schema))) refusal.UnknownSchema
+schema_fault r schema = when (not (has_schema r.schemas (str_to_ascii_uppercase schema))) refusal.UnknownSchema
 
 abbrev pub absence : Option ModelRow → Option Refusal
 absence found = when (not (is_some found)) refusal.NoSuchItem
@@ -158,6 +168,8 @@ tests r c (Names owner name) = names_fault owner name ∷ partner_fault r owner 
 tests r c ListItems = []
 tests r c (GrantModel name to level) = names_fault name to ∷ partner_fault r to ∷ absence (seen_model r c c name) ∷ []
 tests r c (RevokeModel name to) = names_fault name to ∷ partner_fault r to ∷ absence (seen_model r c c name) ∷ []
+tests r c Schemas = []
+tests r c (CheckSchema text) = when (nat_lt max_file (length text)) refusal.TooLarge ∷ []
 
 -- ---- what a request that is not refused answers and changes
 
@@ -195,6 +207,18 @@ right_of c m = if owns c m then Owner else Granted (granted_level (find (is_gran
 abbrev pub item_of : Text → ModelRow → Item
 item_of c m = record { owner = m.owner; name = m.name; schema = m.schema; right = right_of c m }
 
+abbrev pub is_below : Text → Text → Bool
+is_below s t = is_lt (text_cmp s t)
+
+-- the names of the schemas, in byte order
+abbrev pub schema_names : List Checked → List Text
+schema_names schemas = in_order is_below (map schema_name schemas)
+
+-- what is told of a text: its schema's name and the places of its warnings, or its first fault
+abbrev pub told : Result Checked SchemaFault → Reply
+told (Ok schema) = reply.Checked (schema_name schema) schema.warnings
+told (Err fault) = reply.Faulty fault
+
 abbrev pub ok_reply : Plain → Text → Request → Reply
 ok_reply r c (CreateModel name schema) = reply.Done
 ok_reply r c (DeleteModel name) = reply.Done
@@ -203,6 +227,8 @@ ok_reply r c (Names owner name) = reply.Names (map named (read [] (λ m. m.insta
 ok_reply r c ListItems = reply.Listed (map (item_of c) (filter (sees c) r.models))
 ok_reply r c (GrantModel name to level) = reply.Done
 ok_reply r c (RevokeModel name to) = reply.Done
+ok_reply r c Schemas = reply.Schemas (schema_names r.schemas)
+ok_reply r c (CheckSchema text) = told (schema_of text)
 
 -- a model as it is created
 abbrev pub new_model : Text → Text → Text → ModelRow
@@ -223,6 +249,8 @@ change_of r c ListItems = Nothing
 change_of r c (GrantModel name to level) =
     Regrant c name (with_grant c to level (read [] (λ m. m.grants) (seen_model r c c name)))
 change_of r c (RevokeModel name to) = Regrant c name (without_grant to (read [] (λ m. m.grants) (seen_model r c c name)))
+change_of r c Schemas = Nothing
+change_of r c (CheckSchema text) = Nothing
 
 -- the models after a change
 abbrev pub changed_models : Change → List ModelRow → List ModelRow

@@ -4,7 +4,7 @@ use Rattle.std.specs.Str.{bytes_eq}
 use Rattle.rp_plain.specs.declared.messages.Request.{Request}
 use Rattle.rp_plain.specs.declared.messages.Refusal.TheVariants.{NoMemory}
 use Rattle.rp_plain.specs.declared.messages.Reply.{Reply}
-use Rattle.rp_plain.specs.declared.messages.Reply.TheVariants.{Done, Stored, Names, Listed, Refused}
+use Rattle.rp_plain.specs.declared.messages.Reply.TheVariants.{Done, Stored, Names, Listed, Schemas, Checked, Faulty, Refused}
 use Rattle.rp_plain.specs.Plain.{Text, Plain, step}
 use Rattle.rp_plain.specs.Seen.{Avoids}
 
@@ -18,6 +18,9 @@ is_no_memory Done = false
 is_no_memory (Stored n) = false
 is_no_memory (Names names) = false
 is_no_memory (Listed items) = false
+is_no_memory (Schemas names) = false
+is_no_memory (Checked schema warnings) = false
+is_no_memory (Faulty fault) = false
 is_no_memory (Refused NoMemory) = true
 is_no_memory (Refused refusal) = false
 

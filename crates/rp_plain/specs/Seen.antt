@@ -1,11 +1,11 @@
 -- What a partner sees, and which turns of others are outside of that.
-use Rattle.std.specs.Prelude.{◌≡◌, Bool, true, false, ◌||◌, List, [], ◌∷◌, map, filter, is_some, if◌then◌else◌}
+use Rattle.std.specs.Prelude.{◌≡◌, Bool, false, ◌||◌, List, [], ◌∷◌, map, filter, is_some, if◌then◌else◌}
 use Rattle.std.specs.List.{AllByRecursion}
 use Rattle.std.specs.Str.{bytes_eq}
 use Rattle.rp_plain.specs.declared.rows.Grant.{Grant}
 use Rattle.rp_plain.specs.declared.rows.ModelRow.{ModelRow}
 use Rattle.rp_plain.specs.declared.messages.Request.{Request}
-use Rattle.rp_plain.specs.declared.messages.Request.TheVariants.{CreateModel, DeleteModel, Put, Names, ListItems, GrantModel, RevokeModel}
+use Rattle.rp_plain.specs.declared.messages.Request.TheVariants.{CreateModel, DeleteModel, Put, Names, ListItems, GrantModel, RevokeModel, Schemas, CheckSchema}
 use Rattle.rp_plain.specs.declared.messages.Change.{Change}
 use Rattle.rp_plain.specs.declared.messages.Change.TheVariants.{Nothing, Create, Remove, Fill, Regrant}
 use Rattle.rp_plain.specs.Plain.{Text, Plain, Key, owns, is_grant_to, sees, seen_model, model_key, change_of}
@@ -46,6 +46,8 @@ is_grant_for c (Put owner name file) = false
 is_grant_for c (Names owner name) = false
 is_grant_for c ListItems = false
 is_grant_for c (RevokeModel name to) = false
+is_grant_for c Schemas = false
+is_grant_for c (CheckSchema text) = false
 
 -- d's request changes no name that c reaches, and is no grant to him
 pub record Avoids (r : Plain) (c d : Text) (q : Request) : Type 0 where

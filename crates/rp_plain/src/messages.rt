@@ -1,6 +1,7 @@
 //! Requests, their replies and what they change.
 
 use crate::rows::{Grant, Item, Level, Link, ModelRow, NamedType};
+use ex_check::SchemaFault;
 use p21_tree::{FileFault, Header, Instance, InstanceFault};
 use plain_data::{Rows, Text};
 use std::alloc::{AllocError, AllocFailed};
@@ -41,6 +42,12 @@ pub enum Request {
     RevokeModel {
         name: Text,
         to: Text,
+    },
+    /// The names of the schemas.
+    Schemas,
+    /// What there is to tell of an EXPRESS text.
+    CheckSchema {
+        text: Text,
     },
 }
 
@@ -93,6 +100,12 @@ pub enum Reply {
     Stored(usize),
     Names(Rows<NamedType>),
     Listed(Rows<Item>),
+    /// The names of the schemas, in byte order.
+    Schemas(Rows<Text>),
+    /// The text is this schema, with warnings at these bytes.
+    Checked { schema: Text, warnings: Rows<usize> },
+    /// The text is no schema: this is its first fault.
+    Faulty(SchemaFault),
     Refused(Refusal),
 }
 
@@ -125,7 +138,7 @@ pub enum Change {
 /// Why there is no repository of these schemas and partners.
 #[derive(Clone, Copy, Debug, PartialEq, Eq)]
 pub enum NewFault {
-    /// Two schemas have one name, case aside.
+    /// Two schemas have one name.
     TwoSchemas,
     TwoPartners,
     BadName,

@@ -8,6 +8,8 @@ pub mod run;
 #[cfg(test)]
 mod tests;
 
+pub use ex_check::SchemaFault;
+pub use ex_types::Schema;
 pub use plain_data::{Rows, Text};
 pub use rp_core::{Call, Caller, Pending, Repository};
 pub use rp_io::{DeviceFault, FromReader, Sink, Source, ToWriter};

@@ -2,6 +2,7 @@
 ghost use Rattle.std.specs.Prelude.{None};
 
 use crate::{DeviceFault, FromReader, Repository, RunFault, Sink, Source, ToWriter, run_lines};
+use ex_check::schema_of;
 use plain_data::Text;
 use std::alloc::Global;
 use std::test::Fail;
@@ -71,7 +72,10 @@ impl Sink for Taker {
 }
 
 fn repository(alloc: Global) -> Result<Repository, Fail> {
-    let schemas = vec![in alloc; Text::from_str(alloc, "t")?]?;
+    let schema = schema_of(alloc, b"SCHEMA T; END_SCHEMA;")
+        .ok()
+        .ok_or("a schema")?;
+    let schemas = vec![in alloc; schema]?;
     let partners = vec![in alloc;
         Text::from_str(alloc, "ann")?,
         Text::from_str(alloc, "bob")?,

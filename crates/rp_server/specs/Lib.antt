@@ -1,2 +1,2 @@
-pub mod Beginning
+pub mod Loading
 pub mod Configuration

@@ -28,6 +28,8 @@ at the working directory:
 
 A request names its partner in \"as\" and what to do in \"do\":
 
+  {\"as\":\"ann\",\"do\":\"schemas\"}
+  {\"as\":\"ann\",\"do\":\"check_schema\",\"text\":\"SCHEMA T; .. END_SCHEMA;\"}
   {\"as\":\"ann\",\"do\":\"create_model\",\"name\":\"m\",\"schema\":\"T\"}
   {\"as\":\"ann\",\"do\":\"put\",\"owner\":\"ann\",\"model\":\"m\",\"file\":\"ISO-10303-21; ..\"}
   {\"as\":\"ann\",\"do\":\"names\",\"owner\":\"ann\",\"model\":\"m\"}
@@ -42,15 +44,16 @@ line or a file is wrong or where the input or the output fails.";
 const CHECK_ABOUT: &str = "Reads an EXPRESS schema, and tells its name or its first fault.";
 
 const CHECK_AFTER: &str = "\
-It writes one line on standard output: the name of a schema that is read,
+It writes on standard output the name of a schema that is read, and a line for each warning,
 
   T: ok
+  warning SelectInTypeof line 2 column 7
 
-and status 0; or the kind of the first fault with its line and its column, which is counted in bytes,
+and the status is 0; or one line, the kind of the first fault with its line and its column, which is counted in bytes,
 
   Syntax line 3 column 14
 
-and status 1. The kinds are
+and the status is 1. The kinds are
 
   Token, OpenString, OpenRemark, BadEncoded, TooBig   of a token that is none
   Syntax                                              of a token that cannot stand where it does

@@ -17,8 +17,8 @@ pub enum Fault {
     TooLarge(Text),
     /// The file of this path is no configuration.
     Config(Text),
-    /// The file of this path doesn't begin as a schema does.
-    Schema(Text),
+    /// The file of this path is no schema: the kind of its first fault, its line and its column.
+    Schema(Text, Text),
     /// There is no repository of these schemas and partners.
     New(NewFault),
     /// Memory is wanting before the first line is read.
@@ -41,11 +41,9 @@ impl fmt::Display for Fault {
                 "{:?} is no configuration (rp_server batch --help shows one)",
                 path.as_str()
             ),
-            Fault::Schema(path) => write!(
-                f,
-                "{:?} doesn't begin with SCHEMA, a name and a semicolon",
-                path.as_str()
-            ),
+            Fault::Schema(path, words) => {
+                write!(f, "{:?} is no schema: {}", path.as_str(), words.as_str())
+            }
             Fault::New(fault) => f.write_str(why_none(*fault)),
             Fault::NoMemory => write!(f, "out of memory"),
             Fault::Read => write!(f, "standard input can't be read"),

@@ -10,11 +10,12 @@ mod schema;
 use command::{Asked, asked_of};
 use config::{Config, ConfigFault, config_of};
 use ex_check::{CheckFault, Verdict, check_text};
+use ex_types::Schema;
 use fault::Fault;
 use files::{FileFault, file_bytes};
 use plain_data::Text;
 use rp_repo::{FromReader, Repository, RunFault, ToWriter, run_lines};
-use schema::schema_name;
+use schema::{LoadFault, load};
 use std::process::ExitCode;
 use std::rt::{Env, Files};
 use std::{env, io};
@@ -67,11 +68,11 @@ fn check<R: AllocGlobal + Files + Print>(rt: &R, path: &str) -> Result<ExitCode,
 fn batch<R: AllocGlobal + Files + Print + Input>(rt: &R, path: &str) -> Result<ExitCode, Fault> {
     let alloc = rt.alloc();
     let Config { partners, schemas } = config_at(rt, path)?;
-    let mut names = Vec::new(alloc);
-    for schema in schemas.into_vec() {
-        names.push(name_at(rt, schema)?)?;
+    let mut loaded = Vec::new(alloc);
+    for path in schemas.into_vec() {
+        loaded.push(schema_at(rt, path)?)?;
     }
-    let mut repository = Repository::new(alloc, names, partners.into_vec())?;
+    let mut repository = Repository::new(alloc, loaded, partners.into_vec())?;
     let mut reader = FromReader::new(rt.reader());
     let mut writer = ToWriter::new(io::writer(rt));
     match run_lines(alloc, &mut repository, &mut reader, &mut writer) {
@@ -95,12 +96,13 @@ fn config_at<R: AllocGlobal + Files>(rt: &R, path: &str) -> Result<Config, Fault
     }
 }
 
-/// The name of the schema in the file of this path.
-fn name_at<R: AllocGlobal + Files>(rt: &R, path: Text) -> Result<Text, Fault> {
+/// The schema in the file of this path.
+fn schema_at<R: AllocGlobal + Files>(rt: &R, path: Text) -> Result<Schema, Fault> {
     match file_bytes(rt, path.as_str()) {
-        Ok(bytes) => match schema_name(rt.alloc(), &bytes)? {
-            Some(name) => Ok(name),
-            None => Err(Fault::Schema(path)),
+        Ok(text) => match load(rt.alloc(), &text) {
+            Ok(schema) => Ok(schema),
+            Err(LoadFault::Faulty(words)) => Err(Fault::Schema(path, words)),
+            Err(LoadFault::NoMemory) => Err(Fault::NoMemory),
         },
         Err(fault) => Err(unread(path, fault)),
     }

@@ -6,7 +6,7 @@ use Rattle.serde_json.specs.Data.{Members, no_members, member}
 use Rattle.serde_json.specs.Find.{get_member, as_str, as_object}
 use Rattle.serde_json.specs.Read.{read}
 use Rattle.rp_plain.specs.declared.messages.Request.{Request}
-use Rattle.rp_plain.specs.declared.messages.Request.TheVariants.{CreateModel, DeleteModel, Put, Names, ListItems, GrantModel, RevokeModel}
+use Rattle.rp_plain.specs.declared.messages.Request.TheVariants.{CreateModel, DeleteModel, Put, Names, ListItems, GrantModel, RevokeModel, Schemas, CheckSchema}
 use Rattle.rp_plain.specs.declared.rows.Level.{Level}
 use Rattle.rp_plain.specs.declared.rows.Level.TheVariants.{Read, Write}
 use Rattle.rp_wire.specs.declared.asks.Asked.{Asked}
@@ -62,6 +62,12 @@ grant_of ms = if has_only (codes "kind" ∷ codes "level" ∷ codes "name" ∷ c
 abbrev pub revoke_of : Members → Option Request
 revoke_of ms = if has_only (codes "kind" ∷ codes "name" ∷ codes "to" ∷ []) ms && is_model_kind ms then with_text (codes "name") ms (λ name. with_text (codes "to") ms (λ to. Some (RevokeModel name to))) else None
 
+abbrev pub schemas_of : Members → Option Request
+schemas_of ms = if has_only [] ms then Some Schemas else None
+
+abbrev pub check_schema_of : Members → Option Request
+check_schema_of ms = if has_only (codes "text" ∷ []) ms then with_text (codes "text") ms (λ text. Some (CheckSchema text)) else None
+
 -- the request that is called by this word, of its own keys
 abbrev pub request_for : List ℕ → Members → Option Request
 request_for word ms =
@@ -71,7 +77,9 @@ request_for word ms =
     else (if bytes_eq word (codes "delete_model") then delete_model_of ms
     else (if bytes_eq word (codes "list") then list_of ms
     else (if bytes_eq word (codes "grant") then grant_of ms
-    else (if bytes_eq word (codes "revoke") then revoke_of ms else None))))))
+    else (if bytes_eq word (codes "revoke") then revoke_of ms
+    else (if bytes_eq word (codes "schemas") then schemas_of ms
+    else (if bytes_eq word (codes "check_schema") then check_schema_of ms else None))))))))
 
 -- `do` has the word
 abbrev pub request_in : Members → Option Request

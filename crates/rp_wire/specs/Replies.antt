@@ -15,7 +15,9 @@ use Rattle.rp_plain.specs.declared.rows.NamedType.{NamedType}
 use Rattle.rp_plain.specs.declared.messages.Refusal.{Refusal}
 use Rattle.rp_plain.specs.declared.messages.Refusal.TheVariants.{BadRequest, TooLarge, BadName, UnknownPartner, UnknownSchema, Exists, NoSuchItem, NoRight, WrongSchema, FileFault, InstanceFault, TooMany, NoMemory}
 use Rattle.rp_plain.specs.declared.messages.Reply.{Reply}
-use Rattle.rp_plain.specs.declared.messages.Reply.TheVariants.{Done, Stored, Names, Listed, Refused}
+use Rattle.rp_plain.specs.declared.messages.Reply.TheVariants.{Done, Stored, Names, Listed, Schemas, Checked, Faulty, Refused}
+use Rattle.ex_check.specs.declared.fault.SchemaFault.{SchemaFault}
+use Rattle.ex_check.specs.Check.{name as fault_name, place as fault_place}
 
 -- ---- members, whose keys are to be in byte order
 
@@ -89,6 +91,16 @@ level_word (Granted Write) = codes "write"
 abbrev pub item_data : Item → Data
 item_data i = object (with_string (codes "level") (level_word i.right) (with_string (codes "name") i.name (with_string (codes "owner") i.owner (with_string (codes "schema") i.schema no_members))))
 
+-- a place in a text, and of which kind it is
+abbrev pub place_data : ℕ → List ℕ → Data
+place_data at kind = object (with_number (codes "at") at (with_string (codes "kind") kind no_members))
+
+abbrev pub warning_data : ℕ → Data
+warning_data at = place_data at (codes "SelectInTypeof")
+
+abbrev pub fault_data : SchemaFault → Data
+fault_data fault = place_data (fault_place fault) (fault_name fault)
+
 -- ---- replies
 
 -- a reply as JSON
@@ -97,6 +109,9 @@ reply_data Done = only (codes "ok") (object no_members)
 reply_data (Stored n) = only (codes "ok") (only (codes "instances") (number (unsigned n)))
 reply_data (Names names) = only (codes "ok") (only (codes "names") (list_of named_type_data names))
 reply_data (Listed items) = only (codes "ok") (object (member (codes "groups") (array no_items) (member (codes "models") (list_of item_data items) no_members)))
+reply_data (Schemas names) = only (codes "ok") (only (codes "schemas") (list_of string names))
+reply_data (Checked schema warnings) = only (codes "ok") (object (with_string (codes "schema") schema (member (codes "warnings") (list_of warning_data warnings) no_members)))
+reply_data (Faulty fault) = only (codes "ok") (only (codes "fault") (fault_data fault))
 reply_data (Refused refusal) = only (codes "refused") (object (refusal_members refusal))
 
 -- as JSON without blanks

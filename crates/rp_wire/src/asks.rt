@@ -4,7 +4,7 @@ ghost use Rattle.std.specs.Prelude.{◌≡◌, ℕ, List, false, codes, IfOk, Is
 ghost use Rattle.std.specs.Str.{bytes_eq};
 ghost use Rattle.serde_json.specs.View.{view, members_view};
 ghost use Rattle.serde_json.specs.Find.{as_object};
-ghost use Rattle.rp_wire.specs.Asks.{create_model_of, put_of, names_of, delete_model_of, list_of, level_of, is_model_kind, grant_of, revoke_of, text_in, request_for, request_in, asked_in, asked_of};
+ghost use Rattle.rp_wire.specs.Asks.{create_model_of, put_of, names_of, delete_model_of, list_of, level_of, is_model_kind, grant_of, revoke_of, schemas_of, check_schema_of, text_in, request_for, request_in, asked_in, asked_of};
 
 use crate::members::{Members, has_only_keys, take_text};
 use plain_data::Text;
@@ -82,6 +82,8 @@ fn request_for(word: &str, members: Members) -> Option<Request>
         "list" => list(members),
         "grant" => grant(members),
         "revoke" => revoke(members),
+        "schemas" => schemas(members),
+        "check_schema" => check_schema(members),
         _ => None,
     }
 }
@@ -187,4 +189,24 @@ fn revoke(mut members: Members) -> Option<Request>
     let name = take_text(&mut members, "name")?;
     let to = take_text(&mut members, "to")?;
     Some(Request::RevokeModel { name, to })
+}
+
+fn schemas(members: Members) -> Option<Request>
+    ensures { result ≡ schemas_of (members_view members.entries) }
+{
+    if has_only_keys(&members, &[]) {
+        Some(Request::Schemas)
+    } else {
+        None
+    }
+}
+
+fn check_schema(mut members: Members) -> Option<Request>
+    ensures { result ≡ check_schema_of (members_view members.entries) }
+{
+    if !has_only_keys(&members, &["text"]) {
+        return None;
+    }
+    let text = take_text(&mut members, "text")?;
+    Some(Request::CheckSchema { text })
 }

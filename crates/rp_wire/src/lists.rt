@@ -1,11 +1,13 @@
 //! The lists of replies.
 
 ghost use Rattle.std.specs.Prelude.{◌≡◌, ◌++◌, OnOk};
-ghost use Rattle.rp_wire.specs.Replies.{named_type_data, level_word, item_data, list_of};
+ghost use Rattle.rp_wire.specs.Replies.{named_type_data, level_word, item_data, warning_data, list_of};
 ghost use Rattle.rp_wire.specs.Tokens.{tokens_of};
+ghost use Rattle.serde_json.specs.Data.{string};
 
-use crate::writing::{number_at, string_at};
+use crate::writing::{number_at, place_of_kind, string_at};
 use json::Writer;
+use plain_data::Text;
 use rp_plain::rows::{Item, Level, NamedType, Right};
 use std::alloc::AllocError;
 
@@ -62,4 +64,34 @@ fn word_of(right: Right) -> &'static str
         Right::Granted(Level::Group) => "group",
         Right::Granted(Level::Write) => "write",
     }
+}
+
+pub(crate) fn write_texts(out: &mut Writer, texts: &[Text]) -> Result<(), AllocError>
+    ensures ok { OnOk result (out.new.tokens ≡ out.old.tokens ++ tokens_of (list_of string texts.now)) }
+    ensures before { out.new.before ≡ out.old.before }
+{
+    out.begin_array()?;
+    for text in texts {
+        out.string(text.as_str())?;
+    }
+    out.end_array()
+}
+
+/// The places of warnings.
+pub(crate) fn write_warnings(out: &mut Writer, warnings: &[usize]) -> Result<(), AllocError>
+    ensures ok { OnOk result (out.new.tokens ≡ out.old.tokens ++ tokens_of (list_of warning_data warnings.now)) }
+    ensures before { out.new.before ≡ out.old.before }
+{
+    out.begin_array()?;
+    for at in warnings {
+        write_warning(out, *at)?;
+    }
+    out.end_array()
+}
+
+fn write_warning(out: &mut Writer, at: usize) -> Result<(), AllocError>
+    ensures ok { OnOk result (out.new.tokens ≡ out.old.tokens ++ tokens_of (warning_data at)) }
+    ensures before { out.new.before ≡ out.old.before }
+{
+    place_of_kind(out, at, "SelectInTypeof")
 }

@@ -4,10 +4,12 @@ ghost use Rattle.std.specs.Prelude.{◌≡◌, ◌++◌, IfOk, OnOk};
 ghost use Rattle.rp_wire.specs.Replies.{reply_data, reply_text, line_of_reply};
 ghost use Rattle.rp_wire.specs.Tokens.{tokens_of};
 
-use crate::lists::{write_items, write_named_types};
+use crate::lists::{write_items, write_named_types, write_texts, write_warnings};
 use crate::refusals::write_refusal;
-use crate::writing::{close, number_at, open};
+use crate::writing::{close, number_at, open, place_of_kind, string_at};
+use ex_check::SchemaFault;
 use json::Writer;
+use plain_data::Text;
 use rp_plain::messages::{Refusal, Reply};
 use rp_plain::rows::{Item, NamedType};
 use std::alloc::{AllocError, Global};
@@ -46,6 +48,9 @@ fn write_reply(out: &mut Writer, reply: &Reply) -> Result<(), AllocError>
         Reply::Stored(count) => write_stored(out, *count),
         Reply::Names(names) => write_names(out, names.as_slice()),
         Reply::Listed(items) => write_listed(out, items.as_slice()),
+        Reply::Schemas(names) => write_schemas(out, names.as_slice()),
+        Reply::Checked { schema, warnings } => write_checked(out, schema, warnings.as_slice()),
+        Reply::Faulty(fault) => write_faulty(out, *fault),
         Reply::Refused(refusal) => write_refused(out, *refusal),
     }
 }
@@ -87,6 +92,37 @@ fn write_listed(out: &mut Writer, items: &[Item]) -> Result<(), AllocError>
     out.end_array()?;
     out.key("models")?;
     write_items(out, items)?;
+    close(out)
+}
+
+fn write_schemas(out: &mut Writer, names: &[Text]) -> Result<(), AllocError>
+    ensures ok { OnOk result (out.new.tokens ≡ out.old.tokens ++ tokens_of (reply_data (Reply.Schemas names.now))) }
+    ensures before { out.new.before ≡ out.old.before }
+{
+    open(out, "ok")?;
+    out.key("schemas")?;
+    write_texts(out, names)?;
+    close(out)
+}
+
+fn write_checked(out: &mut Writer, schema: &Text, warnings: &[usize]) -> Result<(), AllocError>
+    ensures ok { OnOk result (out.new.tokens ≡ out.old.tokens ++ tokens_of (reply_data (Reply.Checked schema.now warnings.now))) }
+    ensures before { out.new.before ≡ out.old.before }
+{
+    open(out, "ok")?;
+    string_at(out, "schema", schema.as_str())?;
+    out.key("warnings")?;
+    write_warnings(out, warnings)?;
+    close(out)
+}
+
+fn write_faulty(out: &mut Writer, fault: SchemaFault) -> Result<(), AllocError>
+    ensures ok { OnOk result (out.new.tokens ≡ out.old.tokens ++ tokens_of (reply_data (Reply.Faulty fault))) }
+    ensures before { out.new.before ≡ out.old.before }
+{
+    open(out, "ok")?;
+    out.key("fault")?;
+    place_of_kind(out, fault.at(), fault.name())?;
     close(out)
 }
 

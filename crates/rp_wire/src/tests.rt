@@ -1,4 +1,6 @@
 use super::*;
+use ex_check::SchemaFault;
+use ex_types::{TypeFault, TypeFaultKind};
 use p21_tree::{FaultKind, FileFault, InstanceFault, InstanceFaultKind};
 use plain_data::{Rows, Text};
 use rp_plain::messages::{Refusal, Reply, Request};
@@ -40,17 +42,24 @@ fn in_words(alloc: Global, asked: &Asked) -> Result<String, AllocError> {
         Request::RevokeModel { name, to } => {
             format!(in alloc; "{caller} revokes {} on {}", to.as_str(), name.as_str())
         }
+        Request::Schemas => format!(in alloc; "{caller} reads schemas"),
+        Request::CheckSchema { text } => format!(in alloc; "{caller} checks {}", text.as_str()),
     }
 }
 
 #[test]
 fn requests(rt: HostRuntime) -> Result<(), Fail> {
-    let rows: [(&[u8], &str); 11] = [
+    let rows: [(&[u8], &str); 13] = [
         (
             b"{\"as\":\"ann\",\"do\":\"delete_model\",\"name\":\"m\"}",
             "ann deletes m",
         ),
         (b"{\"as\":\"bob\",\"do\":\"list\"}", "bob lists"),
+        (b"{\"as\":\"bob\",\"do\":\"schemas\"}", "bob reads schemas"),
+        (
+            b"{\"as\":\"bob\",\"do\":\"check_schema\",\"text\":\"SCHEMA\"}",
+            "bob checks SCHEMA",
+        ),
         (
             b"{\"as\":\"ann\",\"do\":\"grant\",\"kind\":\"model\",\"name\":\"m\",\"to\":\"bob\",\"level\":\"write\"}",
             "ann grants bob Write on m",
@@ -96,7 +105,10 @@ fn requests(rt: HostRuntime) -> Result<(), Fail> {
 
 #[test]
 fn no_requests(rt: HostRuntime) -> Result<(), Fail> {
-    let lines: [&[u8]; 21] = [
+    let lines: [&[u8]; 24] = [
+        b"{\"as\":\"ann\",\"do\":\"schemas\",\"text\":\"\"}",
+        b"{\"as\":\"ann\",\"do\":\"check_schema\"}",
+        b"{\"as\":\"ann\",\"do\":\"check_schema\",\"text\":\"\",\"name\":\"\"}",
         b"{\"as\":\"ann\",\"do\":\"grant\",\"kind\":\"model\",\"name\":\"m\",\"to\":\"bob\",\"level\":\"group\"}",
         b"{\"as\":\"ann\",\"do\":\"grant\",\"kind\":\"group\",\"name\":\"m\",\"to\":\"bob\",\"level\":\"read\"}",
         b"{\"as\":\"ann\",\"do\":\"list\",\"owner\":\"ann\"}",
@@ -154,6 +166,40 @@ fn replies(rt: HostRuntime) -> Result<(), Fail> {
         (
             Reply::Listed(Rows::new(rt.alloc())),
             "{\"ok\":{\"groups\":[],\"models\":[]}}",
+        ),
+    ];
+    for (reply, text) in &rows {
+        assert!(rt; is_written(rt.alloc(), reply, text)?, "{text}");
+    }
+    Ok(())
+}
+
+#[test]
+fn schemas(rt: HostRuntime) -> Result<(), Fail> {
+    let mut names = Rows::new(rt.alloc());
+    names.push(Text::from_str(rt.alloc(), "A")?)?;
+    names.push(Text::from_str(rt.alloc(), "T")?)?;
+    let mut warnings = Rows::new(rt.alloc());
+    warnings.push(57)?;
+    let fault = TypeFault {
+        kind: TypeFaultKind::RealArithmetic,
+        at: 38,
+    };
+    let rows = [
+        (
+            Reply::Schemas(names),
+            "{\"ok\":{\"schemas\":[\"A\",\"T\"]}}",
+        ),
+        (
+            Reply::Checked {
+                schema: Text::from_str(rt.alloc(), "W")?,
+                warnings,
+            },
+            "{\"ok\":{\"schema\":\"W\",\"warnings\":[{\"at\":57,\"kind\":\"SelectInTypeof\"}]}}",
+        ),
+        (
+            Reply::Faulty(SchemaFault::Typing(fault)),
+            "{\"ok\":{\"fault\":{\"at\":38,\"kind\":\"RealArithmetic\"}}}",
         ),
     ];
     for (reply, text) in &rows {

@@ -2,6 +2,8 @@
 
 ghost use Rattle.std.specs.Prelude.{◌≡◌, [], ◌∷◌, ◌++◌, OnOk, decimal};
 ghost use Rattle.json.specs.Token.{begin_object, end_object, key as key_token, number as number_token, string as string_token};
+ghost use Rattle.rp_wire.specs.Replies.{place_data};
+ghost use Rattle.rp_wire.specs.Tokens.{tokens_of};
 
 use json::Writer;
 use std::alloc::AllocError;
@@ -39,4 +41,15 @@ pub(crate) fn string_at(out: &mut Writer, key: &str, text: &str) -> Result<(), A
 {
     out.key(key)?;
     out.string(text)
+}
+
+/// An object with a place in a text, and of which kind it is.
+pub(crate) fn place_of_kind(out: &mut Writer, at: usize, kind: &str) -> Result<(), AllocError>
+    ensures ok { OnOk result (out.new.tokens ≡ out.old.tokens ++ tokens_of (place_data at kind.now)) }
+    ensures before { out.new.before ≡ out.old.before }
+{
+    out.begin_object()?;
+    number_at(out, "at", at as u64)?;
+    string_at(out, "kind", kind)?;
+    out.end_object()
 }

@@ -1,0 +1,9 @@
+use Rattle.std.proofs.Common.{◌≡◌, [], not, filter, drop}
+use Rattle.ex_attributes.specs.Attributes as spec
+use Rattle.ex_attributes.specs.Steps.{read}
+use Rattle.ex_attributes.proofs.attributes.Attributes.latest_kinds.Given as goal
+
+abbrev pub invariant-loop-entity : goal.invariant-loop-entity
+invariant-loop-entity l =
+    spec.all_kinds l.kinds (filter (λ r. not (spec.is_overridden l.self (read l.all) r.0)) (read (drop l.entity-index l.all)))
+    ≡ spec.all_kinds [] (spec.latest l.self (read l.all))

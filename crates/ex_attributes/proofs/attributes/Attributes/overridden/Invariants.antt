@@ -1,0 +1,9 @@
+use Rattle.std.proofs.Common.{◌≡◌, ℕ, ◌||◌, drop}
+use Rattle.ex_named.specs.Scopes.{is_among}
+use Rattle.ex_attributes.specs.Attributes as spec
+use Rattle.ex_attributes.specs.Steps.{read}
+use Rattle.ex_attributes.proofs.attributes.Attributes.overridden.Given as goal
+
+abbrev pub invariant-loop-entity : goal.invariant-loop-entity
+invariant-loop-entity l = (k : ℕ) →
+    (is_among l.found.keys k || spec.is_overridden l.self (read (drop l.entity-index l.all)) k) ≡ spec.is_overridden l.self (read l.all) k

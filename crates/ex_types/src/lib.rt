@@ -1,0 +1,17 @@
+//! A schema with its types checked.
+#![tactic(auto)]
+
+mod algorithms;
+mod constants;
+mod declarations;
+mod defined_types;
+mod entities;
+mod known;
+mod redeclared;
+mod rules;
+mod schema;
+mod uses;
+mod variables;
+
+pub use ex_kinds::{TypeFault, TypeFaultKind};
+pub use schema::{Schema, check};

@@ -1,0 +1,148 @@
+//! A schema whose types are checked.
+
+ghost use Rattle.std.specs.Prelude.{◌≡◌, ◌↔◌, ℕ, IfOk, IsTrue, Some, length, map};
+ghost use Rattle.std.specs.List.Sorted.{IsStrictlyIncreasing};
+ghost use Rattle.text_forms.specs.Gives.{Gives};
+ghost use Rattle.ex_lineage.specs.Lineage as lineage;
+ghost use Rattle.ex_resolve.specs.Schemas as schemas;
+ghost use Rattle.ex_types.specs.Checked as spec;
+ghost use Rattle.ex_types.specs.Redeclarations as redeclarations;
+
+use crate::declarations::fault_of;
+use crate::redeclared::redeclared_by;
+use ex_kinds::TypeFault;
+use ex_named::{
+    AttributePlace, NamedConstant, NamedEntity, NamedFunction, NamedRedeclaration, NamedRule,
+    NamedType,
+};
+use ex_resolve::Named;
+use ex_warnings::warnings;
+use plain_data::{Rows, Text};
+use std::alloc::{AllocError, Global};
+use std::marker::Model;
+use text_forms::Failure;
+
+/// A schema whose types are checked.
+#[derive(Drop)]
+pub struct Schema {
+    named: Named,
+    /// The first bytes of the literals that are warned of.
+    warnings: Rows<usize>,
+}
+
+impl Model for Schema {
+    ghost use Rattle.ex_types.specs.Checked as spec;
+
+    ghost Value = { spec.Checked };
+
+    ghost view = { λ s. record { named = s.named; warnings = s.warnings } };
+
+    ghost use Rattle.std.specs.Coded.{codes};
+    ghost use Rattle.ex_resolve.specs.contracts.named.Named as named_schema;
+
+    ghost coded = { Prim.hlevel (codes, named_schema.the_row.coded) };
+}
+
+impl Schema {
+    /// The schema with its names bound.
+    pub fn named(&self) -> &Named
+        ensures { result.now ≡ self.now.named }
+    {
+        &self.named
+    }
+
+    /// Its name, in upper case.
+    pub fn name(&self) -> &Text
+        ensures { result.now ≡ self.now.named.schema.name.text }
+    {
+        &self.named.schema().name.text
+    }
+
+    /// The first bytes of the literals that are warned of, in ascending order.
+    pub fn warnings(&self) -> &[usize]
+        ensures { result.now ≡ self.now.warnings }
+    {
+        self.warnings.as_slice()
+    }
+
+    pub fn constants(&self) -> &[NamedConstant]
+        ensures { result.now ≡ self.now.named.schema.constants }
+    {
+        self.named.schema().constants.as_slice()
+    }
+
+    pub fn types(&self) -> &[NamedType]
+        ensures { result.now ≡ self.now.named.schema.types }
+    {
+        self.named.schema().types.as_slice()
+    }
+
+    pub fn entities(&self) -> &[NamedEntity]
+        ensures { result.now ≡ self.now.named.schema.entities }
+    {
+        self.named.schema().entities.as_slice()
+    }
+
+    pub fn functions(&self) -> &[NamedFunction]
+        ensures { result.now ≡ self.now.named.schema.functions }
+    {
+        self.named.schema().functions.as_slice()
+    }
+
+    pub fn rules(&self) -> &[NamedRule]
+        ensures { result.now ≡ self.now.named.schema.rules }
+    {
+        self.named.schema().rules.as_slice()
+    }
+
+    pub fn function_count(&self) -> usize
+        ensures { result ≡ length self.now.named.schema.functions }
+    {
+        self.functions().len()
+    }
+
+    /// The entities above one, by their numbers in ascending order.
+    pub fn ancestors(&self, alloc: Global, entity: usize) -> Result<Rows<usize>, AllocError>
+        ensures ascending { IfOk result (λ found. IsStrictlyIncreasing found) }
+        ensures exact { IfOk result (λ found. (a : ℕ) → IsTrue (lineage.is_among found a) ↔ lineage.IsAncestor self.now.named.subtypes entity a) }
+    {
+        self.named.ancestors(alloc, entity)
+    }
+
+    /// The inherited and own explicit attributes of an entity, in the order in which files write their values.
+    pub fn attributes(
+        &self,
+        alloc: Global,
+        entity: usize,
+    ) -> Result<Rows<AttributePlace>, AllocError>
+        ensures { IfOk result (λ found. schemas.attributes self.now.named entity ≡ Some found) }
+    {
+        self.named.attributes(alloc, entity)
+    }
+
+    /// The inherited attributes that an entity redeclares, explicit ones and then derived ones, in order.
+    pub fn redeclarations(
+        &self,
+        alloc: Global,
+        entity: usize,
+    ) -> Result<Vec<&NamedRedeclaration>, AllocError>
+        ensures { IfOk result (λ found. map (λ r. r.now) found.items ≡ redeclarations.redeclarations_of self.now.named.schema.entities entity) }
+    {
+        match self.entities().get(entity) {
+            Some(entity) => redeclared_by(alloc, entity),
+            None => Ok(Vec::new(alloc)),
+        }
+    }
+}
+
+/// The schema, where its expressions can't go wrong in ways that the profile leaves out. Else the fault of least offset.
+#[tactic(auto, unfolding(crate::specs::Checked::checked))]
+pub fn check(alloc: Global, named: Named) -> Result<Schema, Failure<TypeFault>>
+    ensures { Gives (λ schema. schema) result (spec.checked named) }
+{
+    if let Some(fault) = fault_of(alloc, named.schema())? {
+        return Err(Failure::Fault(fault));
+    }
+    let warnings = warnings(alloc, named.schema())?;
+    Ok(Schema { named, warnings })
+}

@@ -1,0 +1,11 @@
+//! What the values of expressions may be, and the faults that are told of them.
+#![tactic(auto)]
+
+mod known;
+mod leaves;
+mod scope;
+mod trees;
+
+pub use known::{Known, Signature};
+pub use scope::Scope;
+pub use trees::{expression, expressions};

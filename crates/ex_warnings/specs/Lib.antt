@@ -1,0 +1,4 @@
+pub mod Literals
+pub mod Selects
+pub mod Steps
+pub mod Warnings
