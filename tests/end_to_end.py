@@ -338,7 +338,6 @@ def test_requests_that_come_later():
     group = {"owner": "ann", "group": "g"}
     model = {"owner": "ann", "model": "m"}
     lines = [
-        line("ann", "schemas"), line("ann", "check_schema", text=T),
         line("ann", "create_group", name="g", schema="T"), line("ann", "delete_group", name="g"),
         line("ann", "put", **model, file=file_of(""), links=[]), line("ann", "export", **model),
         line("ann", "get", **model, instance=1), line("ann", "add", **model, text="P(1.,$)"),
@@ -513,24 +512,27 @@ def test_wrong_configurations():
         expect_fault(folder.run("batch", "--config", ""))
 
 
-def test_beginnings_of_schemas():
-    """Of a schema's file the beginning has to be blanks, SCHEMA, a name and a semicolon."""
+def test_files_of_schemas():
+    """A schema's file has to be one whole schema."""
+    end = " END_SCHEMA;"
     wrong = [
-        "", "SCHEMA", "SCHEMA T", "SCHEMA ;", "SCHEMA T END_SCHEMA;", "SCHEMA T.;", "SCHEMA 1T;", "SCHEMA _T;",
-        "SCHEMAT;", "SCHEMA T_é;", "SCHEMA 'T';", "(* T *) SCHEMA T;", "SCHEMA (* T *) T;", "SCHEMA T -- T\n;",
-        "-- T\nSCHEMA T;", "ENTITY T;", "SCHEMA T U;", "\ufeffSCHEMA T;", b"SCHEMA\xa0T;", "SCHEMA T,;", "x SCHEMA T;",
+        "", "SCHEMA", "SCHEMA T", "SCHEMA T;", "SCHEMA ;" + end, "SCHEMA T" + end, "SCHEMA T.;" + end, "SCHEMA 1T;" + end,
+        "SCHEMA _T;" + end, "SCHEMAT;" + end, "SCHEMA T_é;" + end, "SCHEMA 'T';" + end, "ENTITY T;" + end,
+        "SCHEMA T U;" + end, "\ufeffSCHEMA T;" + end, b"SCHEMA\xa0T; END_SCHEMA;", "SCHEMA T,;" + end, "x SCHEMA T;" + end,
+        "SCHEMA T; ENTITY e; a : b; END_ENTITY;" + end, "SCHEMA T;;" + end, "SCHEMA T;" + end + end,
     ]
     for text in wrong:
         try:
             expect_config_fault({**CONFIG, "schemas": ["other.exp"]}, "other.exp", other=text)
         except Wrong as fault:
             raise Wrong(f"{text!r}: {fault}") from fault
-    right = ["SCHEMA T;", "\0\t\r\n schema\n\tt \x01;", "SchemA t; anything at all", b"SCHEMA t;\xff\x00", "SCHEMA T;;"]
+    right = ["SCHEMA T;" + end, "\0\t\r\n schema\n\tt \x01; end_schema ;", b"SchemA t; (* \xff *) END_SCHEMA; -- \xff",
+             "(* T *) SCHEMA T;" + end, "SCHEMA (* T *) T;" + end, "SCHEMA T -- T\n;" + end, "-- T\nSCHEMA T;" + end]
     for text in right:
         with Folder({**CONFIG, "schemas": ["other.exp"]}, other=text) as folder:
             if folder.batch(create("ann", "m")) != (0, OK + b"\n", b""):
-                raise Wrong(f"a schema that begins {text!r} isn't taken")
-    for name, text in (("a_1b", "SCHEMA A_1b;"), ("a" * 300, "SCHEMA " + "A" * 300 + ";")):
+                raise Wrong(f"the schema {text!r} isn't taken")
+    for name, text in (("a_1b", "SCHEMA A_1b;" + end), ("a" * 300, "SCHEMA " + "A" * 300 + ";" + end)):
         with Folder({**CONFIG, "schemas": ["other.exp"]}, other=text) as folder:
             if folder.batch(create("ann", "m", name)) != (0, OK + b"\n", b""):
                 raise Wrong(f"the schema of {text!r} has another name")
@@ -557,11 +559,11 @@ def test_what_no_repository_can_have():
     expect_config_fault({**CONFIG, "partners": partners("n" * 65)})
     expect_config_fault({**CONFIG, "partners": partners(*(f"p{k}" for k in range(1001)))})
     expect_config_fault({**CONFIG, "schemas": ["t.exp", "t.exp"]})
-    expect_config_fault({**CONFIG, "schemas": ["t.exp", "other.exp"]}, other="SCHEMA t;")
+    expect_config_fault({**CONFIG, "schemas": ["t.exp", "other.exp"]}, other="SCHEMA t; END_SCHEMA;")
     expect([(names("p999", "p0", "m"), NO_SUCH_ITEM), (names("p1000", "p0", "m"), BAD_REQUEST)],
            {**CONFIG, "partners": partners(*(f"p{k}" for k in range(1000)))})
     with Folder({**CONFIG, "schemas": [f"s{k}.exp" for k in range(101)]},
-                **{f"s{k}": f"SCHEMA s{k};" for k in range(101)}) as folder:
+                **{f"s{k}": f"SCHEMA s{k}; END_SCHEMA;" for k in range(101)}) as folder:
         expect_fault(folder.batch(b""))
         folder.write("config.json", json.dumps({**CONFIG, "schemas": [f"s{k}.exp" for k in range(100)]}))
         if folder.batch(create("ann", "m", "S99")) != (0, OK + b"\n", b""):

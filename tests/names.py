@@ -599,7 +599,7 @@ ITEMS = [
     ("a variable with the name of an enumeration", "SIZEOF(QUERY(colour <* r | colour.n = green)) = 0"),
     ("an item of the enumeration in the source of such a QUERY",
      "SIZEOF(QUERY(colour <* [colour.red] | colour = green)) = 0"),
-    ("a variable with the name of an item", "SIZEOF(QUERY(green <* r | green.n = red)) = 0"),
+    ("a variable with the name of an item", "SIZEOF(QUERY(green <* r | green.n = colour.red)) = 0"),
     ("an item that isn't there, where a variable has the type's name",
      "SIZEOF(QUERY(light <* r | light.n = colour.⟦Undeclared⟧n)) = 0"),
 ]
@@ -889,28 +889,6 @@ LETTERS = [
 
 # ---- faults of types, which aren't told yet
 
-LATER = [
-    ("an own attribute beside an inherited one",
-     "ENTITY r; a : INTEGER; END_ENTITY; ENTITY e SUBTYPE OF (r); a : INTEGER; UNIQUE a; WHERE a = 1; END_ENTITY;"),
-    ("two inherited attributes",
-     "ENTITY r; a : INTEGER; END_ENTITY; ENTITY s; a : INTEGER; END_ENTITY; "
-     "ENTITY e SUBTYPE OF (r, s); WHERE a = 1; END_ENTITY;"),
-    ("two attributes behind FOR",
-     "ENTITY r; a : INTEGER; END_ENTITY; ENTITY s; DERIVE a : INTEGER := 1; END_ENTITY; "
-     "ENTITY e SUBTYPE OF (r, s); INVERSE i : e FOR a; END_ENTITY;"),
-    ("two attributes that are redeclared as one",
-     "ENTITY r; a : INTEGER; END_ENTITY; ENTITY s; a : INTEGER; END_ENTITY; ENTITY e SUBTYPE OF (r, s); END_ENTITY; "
-     "ENTITY f SUBTYPE OF (e); SELF\\e.a : INTEGER; END_ENTITY;"),
-    ("an item of two enumerations",
-     "TYPE t = ENUMERATION OF (x); END_TYPE; TYPE u = ENUMERATION OF (x); END_TYPE; "
-     "FUNCTION f (p : t) : LOGICAL; RETURN (p = x); END_FUNCTION;"),
-    ("an attribute that no entity has", "ENTITY e; WHERE SELF.a = 1; EXISTS(SELF\\e.b); END_ENTITY;"),
-    ("an attribute of what has none", "FUNCTION f (p : INTEGER) : INTEGER; RETURN (p.a); END_FUNCTION;"),
-    ("a function with too few arguments", "FUNCTION f (p, q : INTEGER) : INTEGER; RETURN (f(p) + f); END_FUNCTION;"),
-    ("a quotient", "ENTITY e; a : REAL; WHERE a / 2.0 > 1.0; END_ENTITY;"),
-    ("two entities that are compared", "ENTITY e; x : e; y : e; WHERE x = y; END_ENTITY;"),
-]
-
 # ---- whole texts, and the schema's name
 
 WHOLE = [
@@ -1031,7 +1009,7 @@ def look_whole(it, name, schema, text):
 
 
 def rows(it):
-    for name, declarations in (*TWICE, *SCOPES, *TURNS, *MORE_ITEMS, *CYCLES, *SEVERAL, *LETTERS, *LATER):
+    for name, declarations in (*TWICE, *SCOPES, *TURNS, *MORE_ITEMS, *CYCLES, *SEVERAL, *LETTERS):
         look(it, name, declarations)
     for name, schema, text in WHOLE:
         look_whole(it, name, schema, text)

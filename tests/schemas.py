@@ -40,6 +40,9 @@ WHOLE = "{}"
 # The mark before the token of the fault: Syntax, OutOfProfile, TooDeep; or before a name that isn't declared.
 MARKS = {"¿": "Syntax", "¡": "OutOfProfile", "¶": "TooDeep", "¬": "Undeclared"}
 
+# The faults of kinds, which tests/kinds.py looks at: what has one of them is spelled, and its names are bound.
+KINDS = ("RealArithmetic", "EntityComparison", "Operand", "Arguments", "Assign", "Qualifier", "Ambiguous")
+
 # production, where the piece stands, a piece that is spelled, a piece that is not; `¬` in the first is a fault of names
 PRODUCTIONS = [
     ("abstract_supertype_declaration", HEAD, "ABSTRACT SUPERTYPE", "ABSTRACT ¿SUBTYPE OF (b)"),
@@ -280,6 +283,12 @@ class Checker:
     def accepts(self, name, text, schema=b"A"):
         self.expect(name, self.check(text), (0, schema + b": ok\n", b""))
 
+    def spells(self, name, text):
+        """The text is a schema, whatever is told of its kinds."""
+        status, out, err = self.check(text)
+        kind = out.split(b" ")[0].decode()
+        self.expect(name, (kind in KINDS if status else out == b"A: ok\n", err), (True, b""))
+
     def refuses(self, name, text, kind, at):
         self.expect(name, self.check(text), (1, told(kind, text, at), b""))
 
@@ -293,7 +302,7 @@ def productions(it):
         if "¬" in good:
             it.refuses(name, *marked(context.format(good)))
         else:
-            it.accepts(name, context.format(good).encode())
+            it.spells(name, context.format(good).encode())
         text, kind, at = marked(context.format(bad))
         # where the mark stands before blanks, the token is the next one; at the end it is the end
         while at < len(text) and text[at] <= 32:
@@ -336,13 +345,13 @@ def nesting(it):
     tail = b" END_FUNCTION; END_SCHEMA;"
     it.accepts("64 blocks", head + b"BEGIN " * 64 + b";" + b" END;" * 64 + tail)
     it.refuses("65 blocks", head + b"BEGIN " * 65 + b";" + b" END;" * 65 + tail, "TooDeep", len(head) + 64 * 6)
-    mixed = b"IF (a) THEN " * 63 + b"a := (1);" + b" END_IF;" * 63
+    mixed = b"IF (a) THEN " * 63 + b"a := (TRUE);" + b" END_IF;" * 63
     it.accepts("statements and parentheses", head + mixed + tail)
     deep = b"IF (a) THEN " * 64
     it.refuses("a parenthesis within 64 statements", head + deep + b"a := 1;" + b" END_IF;" * 64 + tail,
                "TooDeep", len(head) + 63 * 12 + 3)
     it.refuses("a token that can't be taken opens nothing", where(b"(" * 64 + b"1 ("), "Syntax", begin + 64 + 2)
-    it.accepts("operators and qualifiers of one level", where(b"a" + b".b" * 10000 + b" + 1" * 100000))
+    it.spells("operators and qualifiers of one level", where(b"a" + b".b" * 10000 + b" + 1" * 100000))
 
 
 def sizes(it):

@@ -38,19 +38,31 @@ CONSTANT k : INTEGER := -1; END_CONSTANT;
 TYPE s = SELECT (e, f); END_TYPE;
 ENTITY e SUPERTYPE OF (ONEOF (f, g) ANDOR h); a, b : LIST [0:?] OF UNIQUE STRING (5) FIXED;
 DERIVE d : REAL := -1.5; INVERSE i : SET OF f FOR x; UNIQUE u : a, b;
-WHERE w : SIZEOF(QUERY(q <* a | {1 < q.x[1] <= "00000041"})) = NVL([1, 'it''s'], ?); END_ENTITY;
-FUNCTION n (p, q : GENERIC) : INTEGER; LOCAL l : INTEGER := %01; END_LOCAL;
+WHERE w : SIZEOF(QUERY(q <* a | {'1' < q[1] <= "00000041"})) = NVL(k, ?); v : 'C.S' IN TYPEOF(SELF); END_ENTITY;
+FUNCTION n (p : INTEGER; q : GENERIC) : INTEGER; LOCAL l : INTEGER := 1; m : BINARY := %01; o : LIST OF INTEGER := [1, 2] + 3; END_LOCAL;
 REPEAT i := 1 TO 2 BY 3 WHILE TRUE UNTIL FALSE; CASE p OF 1, 2 : SKIP; OTHERWISE : BEGIN ; END; END_CASE; END_REPEAT;
-IF NOT p THEN l := n(p, q); ELSE RETURN (l); END_IF; END_FUNCTION;
+IF NOT ODD(p) THEN l := n(p, q); ELSE RETURN (l + o[1]); END_IF; END_FUNCTION;
 RULE r FOR (e); WHERE SIZEOF(e) = n(k, t.y); END_RULE; TYPE t = ENUMERATION OF (y, z); WHERE SELF <> z; END_TYPE;
-ENTITY f SUBTYPE OF (e); x : e; SELF\\e.a : LIST OF STRING; END_ENTITY; ENTITY h SUBTYPE OF (e); END_ENTITY;
+ENTITY f SUBTYPE OF (e); x : s; SELF\\e.a : LIST OF STRING; WHERE x\\f.x :=: x; SIZEOF(x.a) > 0; END_ENTITY; ENTITY h SUBTYPE OF (e); END_ENTITY;
 ENTITY g SUBTYPE OF (e); UNIQUE SELF\\e.b; WHERE EXISTS(SELF\\e.a); END_ENTITY;
 """
+WARNING = SCHEMA.index("'C.S'")
+QUOTIENT = "RULE z FOR (e); WHERE 1 / 2 = 1; END_RULE; END_SCHEMA;\n"
 CHECKS = {
-    "schema.exp": (SCHEMA + "END_SCHEMA;\n", 0, b"C: ok\n"),
+    "schema.exp": (SCHEMA + "END_SCHEMA;\n", 0, b"C: ok\nwarning SelectInTypeof line 6 column 79\n"),
+    "quotient.exp": (SCHEMA + QUOTIENT, 1, b"RealArithmetic line 13 column 25\n"),
     "twice.exp": (SCHEMA + "TYPE e = undeclared; END_TYPE; END_SCHEMA;\n", 1, b"DeclaredTwice line 13 column 6\n"),
     "broken.exp": (SCHEMA + "END;\n", 1, b"Syntax line 13 column 1\n"),
     "token.exp": (SCHEMA + "!\n", 1, b"Token line 13 column 1\n"),
+}
+
+# Texts that the lines ask to check, with what is told of them.
+TEXTS = {
+    SCHEMA + "END_SCHEMA;\n": {"schema": "C", "warnings": [{"at": WARNING, "kind": "SelectInTypeof"}]},
+    SCHEMA + QUOTIENT: {"fault": {"at": len(SCHEMA) + 24, "kind": "RealArithmetic"}},
+    SCHEMA + "TYPE e = undeclared; END_TYPE; END_SCHEMA;\n": {"fault": {"at": len(SCHEMA) + 5, "kind": "DeclaredTwice"}},
+    "SCHEMA A; ENTITY e; a : ; END_ENTITY; END_SCHEMA;": {"fault": {"at": 24, "kind": "Syntax"}},
+    "SCHEMA A; 'open": {"fault": {"at": 10, "kind": "OpenString"}},
 }
 
 
@@ -150,6 +162,10 @@ def step(models, line):
     except ValueError:
         return refused(1, "BadRequest"), models
     kind, who = request["do"], request["as"]
+    if kind == "schemas":
+        return ok(schemas=sorted(SCHEMAS.values())), models
+    if kind == "check_schema":
+        return ok(**TEXTS[request["text"]]), models
     if kind == "create_model":
         key = (who, request["name"])
         schema = request["schema"].upper()
