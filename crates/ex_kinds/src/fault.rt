@@ -4,7 +4,7 @@ ghost use Rattle.std.specs.Prelude.{◌≡◌, ◌||◌, ◌&&◌, ◌==◌, nat
 ghost use Rattle.ex_kinds.specs.Faults as spec;
 
 /// What is wrong with an expression or a statement. Of two that lie at one offset the one that stands first here is told.
-#[derive(Clone, Copy, Debug, PartialEq, Eq)]
+#[derive(Clone, Copy, PartialEq, Eq)]
 pub enum TypeFaultKind {
     /// `/`, or an arithmetic operator with an operand that may be REAL.
     RealArithmetic,
@@ -23,7 +23,7 @@ pub enum TypeFaultKind {
 }
 
 /// The fault of least offset among a schema's types, and its first byte, from 0.
-#[derive(Clone, Copy, Debug, PartialEq, Eq)]
+#[derive(Clone, Copy, PartialEq, Eq)]
 pub struct TypeFault {
     pub kind: TypeFaultKind,
     pub at: usize,

@@ -3,7 +3,7 @@
 use plain_data::Rows;
 
 /// What a value may be.
-#[derive(Clone, Copy, Debug, PartialEq, Eq)]
+#[derive(Clone, Copy, PartialEq, Eq)]
 pub enum Sort {
     Integer,
     Real,
@@ -24,7 +24,7 @@ pub enum Sort {
 }
 
 /// What a value may be, where the depth is 0; what its elements may be, where it is 1; their elements, where it is 2.
-#[derive(Clone, Copy, Debug, PartialEq, Eq)]
+#[derive(Clone, Copy, PartialEq, Eq)]
 pub struct Kind {
     pub depth: usize,
     pub sort: Sort,

@@ -3,7 +3,7 @@
 use crate::expression::{NamedDataType, NamedExpression};
 use crate::reference::{AttributeUse, TypeName};
 use crate::statement::NamedStatement;
-use ex_tree::{InverseAggregate, Name};
+use ex_tree::{InverseAggregate, Name, StringToken};
 use sqlite_items::Items;
 
 #[derive(Drop)]
@@ -20,7 +20,6 @@ pub struct NamedDomainRule {
     pub condition: NamedExpression,
 }
 
-#[derive(Drop)]
 pub enum NamedUnderlying {
     /// Its items in order.
     Enumeration(Items<Name>),
@@ -36,7 +35,6 @@ pub struct NamedType {
 }
 
 /// An attribute of one's own, or the inherited one that is redeclared.
-#[derive(Drop)]
 pub enum NamedAttribute {
     Own(Name),
     Redeclared(NamedRedeclaration),
@@ -80,7 +78,6 @@ pub struct NamedUniqueRule {
 }
 
 /// ANDOR, AND and ONEOF over entities, each with the first byte of its name.
-#[derive(Drop)]
 pub enum NamedSupertype {
     Entity(usize, usize),
     OneOf(Items<NamedSupertype>),
@@ -145,4 +142,37 @@ pub struct NamedSchema {
     pub entities: Items<NamedEntity>,
     pub functions: Items<NamedFunction>,
     pub rules: Items<NamedRule>,
+    /// The string literals of the whole text, in its order.
+    pub strings: Items<StringToken>,
+}
+
+impl Drop for NamedUnderlying {
+    fn drop(self) {
+        match self {
+            NamedUnderlying::Enumeration(items) => drop(items),
+            NamedUnderlying::Select(items) => drop(items),
+            NamedUnderlying::Data(data_type) => drop(data_type),
+        }
+    }
+}
+
+impl Drop for NamedAttribute {
+    fn drop(self) {
+        match self {
+            NamedAttribute::Own(name) => drop(name),
+            NamedAttribute::Redeclared(redeclaration) => drop(redeclaration),
+        }
+    }
+}
+
+impl Drop for NamedSupertype {
+    #[cycle(named_supertype_drop)]
+    fn drop(self) {
+        match self {
+            NamedSupertype::Entity(_, _) => {}
+            NamedSupertype::OneOf(parts) => drop(parts),
+            NamedSupertype::And(parts) => drop(parts),
+            NamedSupertype::AndOr(parts) => drop(parts),
+        }
+    }
 }

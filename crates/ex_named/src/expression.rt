@@ -8,7 +8,6 @@ use ex_tree::{
 use sqlite_items::{Boxed, Items};
 
 /// A type of an attribute, a constant, a variable, a parameter or a result.
-#[derive(Drop)]
 pub enum NamedDataType {
     Simple(SimpleType),
     Named(TypeName),
@@ -45,7 +44,6 @@ pub struct NamedOperation {
 }
 
 /// What is taken of a value. The number is the first byte of `.`, `\` or `[`.
-#[derive(Drop)]
 #[cycle(named_expression)]
 pub enum NamedQualifier {
     /// Which attribute is meant depends on the value's kinds.
@@ -81,7 +79,6 @@ pub struct NamedQuery {
 
 /// The numbers of constants, functions, entities and types are those of the schema. Variables have slots: first the
 /// parameters and locals in their order, then the variables of REPEAT and QUERY that are open, from the outermost.
-#[derive(Drop)]
 #[cycle(named_expression)]
 pub enum NamedExpression {
     Literal(Literal),
@@ -112,4 +109,71 @@ pub enum NamedExpression {
     Query(Boxed<NamedQuery>),
     /// `[ .. ]`
     Initializer(Items<NamedExpression>),
+}
+
+impl Drop for NamedDataType {
+    #[cycle(named_data_type_drop)]
+    fn drop(self) {
+        match self {
+            NamedDataType::Simple(_) | NamedDataType::Generic => {}
+            NamedDataType::Named(name) => drop(name),
+            NamedDataType::Array {
+                bounds: _,
+                optional: _,
+                unique: _,
+                element,
+            } => drop(element),
+            NamedDataType::List {
+                bounds: _,
+                unique: _,
+                element,
+            } => drop(element),
+            NamedDataType::Bag { bounds: _, element } => drop(element),
+            NamedDataType::Set { bounds: _, element } => drop(element),
+            NamedDataType::Aggregate(element) => drop(element),
+        }
+    }
+}
+
+impl Drop for NamedQualifier {
+    #[cycle(named_expression_drop)]
+    fn drop(self) {
+        match self {
+            NamedQualifier::Attribute(_, name) => drop(name),
+            NamedQualifier::Group(_, _) => {}
+            NamedQualifier::Index(_, index) => drop(index),
+            NamedQualifier::Range(_, first, last) => {
+                drop(first);
+                drop(last);
+            }
+        }
+    }
+}
+
+impl Drop for NamedExpression {
+    #[cycle(named_expression_drop)]
+    fn drop(self) {
+        match self {
+            NamedExpression::Literal(literal) => drop(literal),
+            NamedExpression::Itself | NamedExpression::Indeterminate => {}
+            NamedExpression::Variable(_) | NamedExpression::Constant(_) => {}
+            NamedExpression::Population(_) | NamedExpression::AmbiguousItem(_) => {}
+            NamedExpression::Attribute(name) => drop(name),
+            NamedExpression::Item(_) => {}
+            NamedExpression::Call(_, _, arguments) => drop(arguments),
+            NamedExpression::BuiltIn(_, _, arguments) => drop(arguments),
+            NamedExpression::Qualified(base, qualifiers) => {
+                drop(base);
+                drop(qualifiers);
+            }
+            NamedExpression::Unary(_, _, right) => drop(right),
+            NamedExpression::Chain(first, more) => {
+                drop(first);
+                drop(more);
+            }
+            NamedExpression::Interval(interval) => drop(interval),
+            NamedExpression::Query(query) => drop(query),
+            NamedExpression::Initializer(elements) => drop(elements),
+        }
+    }
 }

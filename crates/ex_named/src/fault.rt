@@ -1,5 +1,5 @@
 /// What is wrong with a name.
-#[derive(Clone, Copy, Debug, PartialEq, Eq)]
+#[derive(Clone, Copy, PartialEq, Eq)]
 pub enum NameFaultKind {
     /// Nothing of that name is in scope, or not of a sort that can stand here.
     Undeclared,
@@ -14,7 +14,7 @@ pub enum NameFaultKind {
 }
 
 /// The fault of least offset among a schema's names, and the first byte of its name, from 0.
-#[derive(Clone, Copy, Debug, PartialEq, Eq)]
+#[derive(Clone, Copy, PartialEq, Eq)]
 pub struct NameFault {
     pub kind: NameFaultKind,
     pub at: usize,

@@ -26,6 +26,3 @@ pub use reference::{
 pub use statement::{
     NamedCase, NamedCaseAction, NamedIncrement, NamedRepeatControl, NamedStatement,
 };
-
-#[cfg(test)]
-mod tests;

@@ -3,7 +3,7 @@
 use plain_data::Rows;
 
 /// What a name of the schema's own scope declares.
-#[derive(Clone, Copy, Debug, PartialEq, Eq)]
+#[derive(Clone, Copy, PartialEq, Eq)]
 pub enum Declared {
     Constant(usize),
     Entity(usize),
@@ -13,21 +13,21 @@ pub enum Declared {
 }
 
 /// What the name of a type stands for.
-#[derive(Clone, Copy, Debug, PartialEq, Eq)]
+#[derive(Clone, Copy, PartialEq, Eq)]
 pub enum TypeName {
     Entity(usize),
     Defined(usize),
 }
 
 /// An item of an enumeration: the type, and the item's place in it from 0.
-#[derive(Clone, Copy, Debug, PartialEq, Eq)]
+#[derive(Clone, Copy, PartialEq, Eq)]
 pub struct EnumerationItem {
     pub type_number: usize,
     pub place: usize,
 }
 
 /// How an attribute is declared.
-#[derive(Clone, Copy, Debug, PartialEq, Eq)]
+#[derive(Clone, Copy, PartialEq, Eq)]
 pub enum AttributeSort {
     Explicit,
     Derived,
@@ -36,7 +36,7 @@ pub enum AttributeSort {
 
 /// A declaration of an attribute: the entity, how it declares the attribute, and the place among the entity's attributes
 /// that are declared so, from 0.
-#[derive(Clone, Copy, Debug, PartialEq, Eq)]
+#[derive(Clone, Copy, PartialEq, Eq)]
 pub struct AttributePlace {
     pub entity: usize,
     pub sort: AttributeSort,

@@ -37,7 +37,6 @@ pub struct NamedCase {
     pub otherwise: Option<Boxed<NamedStatement>>,
 }
 
-#[derive(Drop)]
 #[cycle(named_statement)]
 pub enum NamedStatement {
     Null,
@@ -52,4 +51,26 @@ pub enum NamedStatement {
     /// With the first byte of its word.
     Return(usize, NamedExpression),
     Skip,
+}
+
+impl Drop for NamedStatement {
+    #[cycle(named_statement_drop)]
+    fn drop(self) {
+        match self {
+            NamedStatement::Null | NamedStatement::Escape | NamedStatement::Skip => {}
+            NamedStatement::Assignment(_, _, value) => drop(value),
+            NamedStatement::Case(case) => drop(case),
+            NamedStatement::Compound(statements) => drop(statements),
+            NamedStatement::If(condition, then_part, else_part) => {
+                drop(condition);
+                drop(then_part);
+                drop(else_part);
+            }
+            NamedStatement::Repeat(control, statements) => {
+                drop(control);
+                drop(statements);
+            }
+            NamedStatement::Return(_, value) => drop(value),
+        }
+    }
 }

@@ -7,7 +7,7 @@ use ex_forms::{Cursor, Kind};
 
 /// Where statements stand, at any depth of other statements: RETURN stands in functions alone, SKIP and ESCAPE in a
 /// REPEAT alone.
-#[derive(Clone, Copy, Debug)]
+#[derive(Clone, Copy)]
 pub struct Place {
     pub in_function: bool,
     pub in_repeat: bool,

@@ -4,26 +4,26 @@ use crate::expression::Name;
 use sqlite_items::Boxed;
 
 /// `(length)` or `(length) FIXED`
-#[derive(Clone, Copy, Debug, PartialEq, Eq)]
+#[derive(Clone, Copy, PartialEq, Eq)]
 pub struct Width {
     pub length: u64,
     pub fixed: bool,
 }
 
 /// `[low:high]`; without a high bound where it is `?`.
-#[derive(Clone, Copy, Debug, PartialEq, Eq)]
+#[derive(Clone, Copy, PartialEq, Eq)]
 pub struct Bounds {
     pub low: u64,
     pub high: Option<u64>,
 }
 
-#[derive(Clone, Copy, Debug, PartialEq, Eq)]
+#[derive(Clone, Copy, PartialEq, Eq)]
 pub struct ArrayBounds {
     pub low: u64,
     pub high: u64,
 }
 
-#[derive(Clone, Copy, Debug, PartialEq, Eq)]
+#[derive(Clone, Copy, PartialEq, Eq)]
 pub enum SimpleType {
     Binary(Option<Width>),
     Boolean,
@@ -36,7 +36,6 @@ pub enum SimpleType {
 
 /// A type of an attribute, a constant, a variable, a parameter or a result. Bounds that are not there are `[0:?]`;
 /// the labels of AGGREGATE and GENERIC are dropped.
-#[derive(Debug, Drop)]
 pub enum DataType {
     Simple(SimpleType),
     /// An entity or a defined type.
@@ -64,4 +63,28 @@ pub enum DataType {
     Aggregate(Boxed<DataType>),
     /// Of parameters and results alone.
     Generic,
+}
+
+impl Drop for DataType {
+    #[cycle(data_type_drop)]
+    fn drop(self) {
+        match self {
+            DataType::Simple(_) | DataType::Generic => {}
+            DataType::Named(name) => drop(name),
+            DataType::Array {
+                bounds: _,
+                optional: _,
+                unique: _,
+                element,
+            } => drop(element),
+            DataType::List {
+                bounds: _,
+                unique: _,
+                element,
+            } => drop(element),
+            DataType::Bag { bounds: _, element } => drop(element),
+            DataType::Set { bounds: _, element } => drop(element),
+            DataType::Aggregate(element) => drop(element),
+        }
+    }
 }

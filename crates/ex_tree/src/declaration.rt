@@ -3,10 +3,11 @@
 use crate::data_type::{Bounds, DataType};
 use crate::expression::{Expression, Name};
 use crate::statement::Statement;
+use plain_data::Text;
 use sqlite_items::Items;
 
 /// `name : data_type := value`
-#[derive(Debug, Drop)]
+#[derive(Drop)]
 pub struct Constant {
     pub name: Name,
     pub data_type: DataType,
@@ -14,13 +15,12 @@ pub struct Constant {
 }
 
 /// A rule of a WHERE clause.
-#[derive(Debug, Drop)]
+#[derive(Drop)]
 pub struct DomainRule {
     pub label: Option<Name>,
     pub condition: Expression,
 }
 
-#[derive(Debug, Drop)]
 pub enum UnderlyingType {
     /// Its items in order.
     Enumeration(Items<Name>),
@@ -28,7 +28,6 @@ pub enum UnderlyingType {
     Data(DataType),
 }
 
-#[derive(Debug, Drop)]
 pub struct TypeDeclaration {
     pub name: Name,
     pub underlying: UnderlyingType,
@@ -36,47 +35,46 @@ pub struct TypeDeclaration {
 }
 
 /// `SELF\entity.attribute`
-#[derive(Debug, Drop)]
+#[derive(Drop)]
 pub struct QualifiedAttribute {
     pub entity: Name,
     pub attribute: Name,
 }
 
 /// A name, or one that is inherited. It is what an attribute is declared by, and what a UNIQUE rule refers to.
-#[derive(Debug, Drop)]
 pub enum AttributeDeclaration {
     Own(Name),
     Qualified(QualifiedAttribute),
 }
 
-#[derive(Debug, Drop)]
+#[derive(Drop)]
 pub struct ExplicitAttribute {
     pub attributes: Items<AttributeDeclaration>,
     pub optional: bool,
     pub data_type: DataType,
 }
 
-#[derive(Debug, Drop)]
+#[derive(Drop)]
 pub struct DerivedAttribute {
     pub attribute: AttributeDeclaration,
     pub data_type: DataType,
     pub value: Expression,
 }
 
-#[derive(Clone, Copy, Debug, PartialEq, Eq)]
+#[derive(Clone, Copy, PartialEq, Eq)]
 pub enum SetOrBag {
     Set,
     Bag,
 }
 
-#[derive(Clone, Copy, Debug, PartialEq, Eq)]
+#[derive(Clone, Copy, PartialEq, Eq)]
 pub struct InverseAggregate {
     pub kind: SetOrBag,
     pub bounds: Bounds,
 }
 
 /// `name : SET [..] OF entity FOR attribute`
-#[derive(Debug, Drop)]
+#[derive(Drop)]
 pub struct InverseAttribute {
     pub name: Name,
     pub aggregate: Option<InverseAggregate>,
@@ -84,14 +82,13 @@ pub struct InverseAttribute {
     pub attribute: Name,
 }
 
-#[derive(Debug, Drop)]
+#[derive(Drop)]
 pub struct UniqueRule {
     pub label: Option<Name>,
     pub attributes: Items<AttributeDeclaration>,
 }
 
 /// ANDOR, AND and ONEOF over names of entities. A list of one is that one alone, but for ONEOF.
-#[derive(Debug, Drop)]
 pub enum SupertypeExpression {
     Entity(Name),
     OneOf(Items<SupertypeExpression>),
@@ -99,7 +96,6 @@ pub enum SupertypeExpression {
     AndOr(Items<SupertypeExpression>),
 }
 
-#[derive(Debug, Drop)]
 pub struct EntityHead {
     pub name: Name,
     pub is_abstract: bool,
@@ -109,7 +105,6 @@ pub struct EntityHead {
     pub supertypes: Items<Name>,
 }
 
-#[derive(Debug, Drop)]
 pub struct EntityBody {
     pub explicit: Items<ExplicitAttribute>,
     pub derived: Items<DerivedAttribute>,
@@ -118,49 +113,44 @@ pub struct EntityBody {
     pub domain_rules: Items<DomainRule>,
 }
 
-#[derive(Debug, Drop)]
 pub struct Entity {
     pub head: EntityHead,
     pub body: EntityBody,
 }
 
 /// `names : data_type`
-#[derive(Debug, Drop)]
+#[derive(Drop)]
 pub struct Parameter {
     pub names: Items<Name>,
     pub data_type: DataType,
 }
 
 /// `names : data_type := value`
-#[derive(Debug, Drop)]
+#[derive(Drop)]
 pub struct LocalVariable {
     pub names: Items<Name>,
     pub data_type: DataType,
     pub value: Option<Expression>,
 }
 
-#[derive(Debug, Drop)]
 pub struct FunctionHead {
     pub name: Name,
     pub parameters: Items<Parameter>,
     pub result: DataType,
 }
 
-#[derive(Debug, Drop)]
 pub struct Function {
     pub head: FunctionHead,
     pub locals: Items<LocalVariable>,
     pub statements: Items<Statement>,
 }
 
-#[derive(Debug, Drop)]
 pub struct RuleHead {
     pub name: Name,
     /// What FOR lists.
     pub entities: Items<Name>,
 }
 
-#[derive(Debug, Drop)]
 pub struct Rule {
     pub head: RuleHead,
     pub locals: Items<LocalVariable>,
@@ -168,7 +158,6 @@ pub struct Rule {
     pub domain_rules: Items<DomainRule>,
 }
 
-#[derive(Debug, Drop)]
 pub enum Declaration {
     Entity(Entity),
     Function(Function),
@@ -176,9 +165,161 @@ pub enum Declaration {
     Type(TypeDeclaration),
 }
 
-#[derive(Debug, Drop)]
+/// A string literal of the text: its value in UTF-8, and its first byte.
+#[derive(Drop)]
+pub struct StringToken {
+    pub value: Text,
+    pub at: usize,
+}
+
+#[derive(Drop)]
 pub struct Schema {
     pub name: Name,
     pub constants: Items<Constant>,
     pub declarations: Items<Declaration>,
+    /// The string literals of the whole text, in its order.
+    pub strings: Items<StringToken>,
+}
+
+impl Drop for UnderlyingType {
+    fn drop(self) {
+        match self {
+            UnderlyingType::Enumeration(items) => drop(items),
+            UnderlyingType::Select(items) => drop(items),
+            UnderlyingType::Data(data_type) => drop(data_type),
+        }
+    }
+}
+
+impl Drop for AttributeDeclaration {
+    fn drop(self) {
+        match self {
+            AttributeDeclaration::Own(name) => drop(name),
+            AttributeDeclaration::Qualified(attribute) => drop(attribute),
+        }
+    }
+}
+
+impl Drop for SupertypeExpression {
+    #[cycle(supertype_drop)]
+    fn drop(self) {
+        match self {
+            SupertypeExpression::Entity(name) => drop(name),
+            SupertypeExpression::OneOf(parts) => drop(parts),
+            SupertypeExpression::And(parts) => drop(parts),
+            SupertypeExpression::AndOr(parts) => drop(parts),
+        }
+    }
+}
+
+impl Drop for Declaration {
+    fn drop(self) {
+        match self {
+            Declaration::Entity(entity) => drop(entity),
+            Declaration::Function(function) => drop(function),
+            Declaration::Rule(rule) => drop(rule),
+            Declaration::Type(declared) => drop(declared),
+        }
+    }
+}
+
+impl Drop for EntityHead {
+    fn drop(self) {
+        let EntityHead {
+            name,
+            is_abstract: _,
+            constraint,
+            supertypes,
+        } = self;
+        drop(name);
+        drop(constraint);
+        drop(supertypes);
+    }
+}
+
+impl Drop for EntityBody {
+    fn drop(self) {
+        let EntityBody {
+            explicit,
+            derived,
+            inverse,
+            unique_rules,
+            domain_rules,
+        } = self;
+        drop(explicit);
+        drop(derived);
+        drop(inverse);
+        drop(unique_rules);
+        drop(domain_rules);
+    }
+}
+
+impl Drop for Entity {
+    fn drop(self) {
+        let Entity { head, body } = self;
+        drop(head);
+        drop(body);
+    }
+}
+
+impl Drop for FunctionHead {
+    fn drop(self) {
+        let FunctionHead {
+            name,
+            parameters,
+            result,
+        } = self;
+        drop(name);
+        drop(parameters);
+        drop(result);
+    }
+}
+
+impl Drop for Function {
+    fn drop(self) {
+        let Function {
+            head,
+            locals,
+            statements,
+        } = self;
+        drop(head);
+        drop(locals);
+        drop(statements);
+    }
+}
+
+impl Drop for RuleHead {
+    fn drop(self) {
+        let RuleHead { name, entities } = self;
+        drop(name);
+        drop(entities);
+    }
+}
+
+impl Drop for Rule {
+    fn drop(self) {
+        let Rule {
+            head,
+            locals,
+            statements,
+            domain_rules,
+        } = self;
+        drop(head);
+        drop(locals);
+        drop(statements);
+        drop(domain_rules);
+    }
+}
+
+impl Drop for TypeDeclaration {
+    fn drop(self) {
+        let TypeDeclaration {
+            name,
+            underlying,
+            domain_rules,
+        } = self;
+        drop(name);
+        drop(underlying);
+        drop(domain_rules);
+    }
 }

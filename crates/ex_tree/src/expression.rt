@@ -5,13 +5,12 @@ use rp_value::{Decimal, Logical};
 use sqlite_items::{Boxed, Items};
 
 /// An identifier in upper case, and its first byte.
-#[derive(Debug, Drop)]
+#[derive(Drop)]
 pub struct Name {
     pub text: Text,
     pub at: usize,
 }
 
-#[derive(Debug, Drop)]
 pub enum Literal {
     Integer(u64),
     /// With its sign, if one stands directly before it.
@@ -23,14 +22,14 @@ pub enum Literal {
     Logical(Logical),
 }
 
-#[derive(Clone, Copy, Debug, PartialEq, Eq)]
+#[derive(Clone, Copy, PartialEq, Eq)]
 pub enum UnaryOperator {
     Plus,
     Minus,
     Not,
 }
 
-#[derive(Clone, Copy, Debug, PartialEq, Eq)]
+#[derive(Clone, Copy, PartialEq, Eq)]
 pub enum BinaryOperator {
     Power,
     Multiply,
@@ -56,13 +55,13 @@ pub enum BinaryOperator {
     In,
 }
 
-#[derive(Clone, Copy, Debug, PartialEq, Eq)]
+#[derive(Clone, Copy, PartialEq, Eq)]
 pub enum IntervalOperator {
     Less,
     LessEqual,
 }
 
-#[derive(Clone, Copy, Debug, PartialEq, Eq)]
+#[derive(Clone, Copy, PartialEq, Eq)]
 pub enum BuiltInFunction {
     Abs,
     BLength,
@@ -79,7 +78,7 @@ pub enum BuiltInFunction {
 }
 
 /// An operator, its first byte, and the operand on its right.
-#[derive(Debug, Drop)]
+#[derive(Drop)]
 #[cycle(expression)]
 pub struct Operation {
     pub operator: BinaryOperator,
@@ -88,7 +87,6 @@ pub struct Operation {
 }
 
 /// What is taken of a value. The number is the first byte of `.`, `\` or `[`.
-#[derive(Debug, Drop)]
 #[cycle(expression)]
 pub enum Qualifier {
     Attribute(usize, Name),
@@ -99,7 +97,7 @@ pub enum Qualifier {
 }
 
 /// `{ low < item <= high }`, each operator with its first byte.
-#[derive(Debug, Drop)]
+#[derive(Drop)]
 #[cycle(expression)]
 pub struct Interval {
     pub low: Expression,
@@ -112,7 +110,7 @@ pub struct Interval {
 }
 
 /// `QUERY(variable <* source | condition)`, and the first byte of its word.
-#[derive(Debug, Drop)]
+#[derive(Drop)]
 #[cycle(expression)]
 pub struct Query {
     pub at: usize,
@@ -122,7 +120,6 @@ pub struct Query {
 }
 
 /// Parentheses leave no node.
-#[derive(Debug, Drop)]
 #[cycle(expression)]
 pub enum Expression {
     Literal(Literal),
@@ -144,4 +141,57 @@ pub enum Expression {
     Query(Boxed<Query>),
     /// `[ .. ]`
     Initializer(Items<Expression>),
+}
+
+impl Drop for Literal {
+    fn drop(self) {
+        match self {
+            Literal::Integer(_) | Literal::Real(_) | Literal::Logical(_) => {}
+            Literal::String(text, _) => drop(text),
+            Literal::Binary(bits) => drop(bits),
+        }
+    }
+}
+
+impl Drop for Qualifier {
+    #[cycle(expression_drop)]
+    fn drop(self) {
+        match self {
+            Qualifier::Attribute(_, name) => drop(name),
+            Qualifier::Group(_, name) => drop(name),
+            Qualifier::Index(_, index) => drop(index),
+            Qualifier::Range(_, first, last) => {
+                drop(first);
+                drop(last);
+            }
+        }
+    }
+}
+
+impl Drop for Expression {
+    #[cycle(expression_drop)]
+    fn drop(self) {
+        match self {
+            Expression::Literal(literal) => drop(literal),
+            Expression::Name(name) => drop(name),
+            Expression::Itself(_) | Expression::Indeterminate => {}
+            Expression::Call(name, arguments) => {
+                drop(name);
+                drop(arguments);
+            }
+            Expression::BuiltIn(_, _, arguments) => drop(arguments),
+            Expression::Qualified(base, qualifiers) => {
+                drop(base);
+                drop(qualifiers);
+            }
+            Expression::Unary(_, _, right) => drop(right),
+            Expression::Chain(first, more) => {
+                drop(first);
+                drop(more);
+            }
+            Expression::Interval(interval) => drop(interval),
+            Expression::Query(query) => drop(query),
+            Expression::Initializer(elements) => drop(elements),
+        }
+    }
 }

@@ -1,7 +1,7 @@
 use crate::kind::Kind;
 
 /// What is wrong with a token or a remark.
-#[derive(Clone, Copy, Debug, PartialEq, Eq)]
+#[derive(Clone, Copy, PartialEq, Eq)]
 pub enum LexFaultKind {
     /// No token begins here; or a simple string that is not UTF-8.
     Token,
@@ -16,14 +16,14 @@ pub enum LexFaultKind {
 }
 
 /// The first lexical fault of a text, and the byte at which its token or remark begins, from 0.
-#[derive(Clone, Copy, Debug, PartialEq, Eq)]
+#[derive(Clone, Copy, PartialEq, Eq)]
 pub struct LexFault {
     pub kind: LexFaultKind,
     pub at: usize,
 }
 
 /// Why a text of good tokens is no schema.
-#[derive(Clone, Copy, Debug, PartialEq, Eq)]
+#[derive(Clone, Copy, PartialEq, Eq)]
 pub enum ParseFaultKind {
     /// A token that cannot stand here, or the end.
     Syntax,
@@ -36,7 +36,7 @@ pub enum ParseFaultKind {
 
 /// The first fault of a text's syntax, and the byte at which its token begins, from 0; the text's length where it
 /// is the end.
-#[derive(Clone, Copy, Debug, PartialEq, Eq)]
+#[derive(Clone, Copy, PartialEq, Eq)]
 pub struct ParseFault {
     pub kind: ParseFaultKind,
     pub at: usize,

@@ -1,5 +1,5 @@
 /// What a token is: an identifier, a literal, a symbol, or a reserved word.
-#[derive(Clone, Copy, Debug, PartialEq, Eq)]
+#[derive(Clone, Copy, PartialEq, Eq)]
 pub enum Kind {
     /// `simple_id`: a word that isn't reserved.
     Identifier,

@@ -14,7 +14,7 @@ pub use data_type::{ArrayBounds, Bounds, DataType, SimpleType, Width};
 pub use declaration::{
     AttributeDeclaration, Constant, Declaration, DerivedAttribute, DomainRule, Entity, EntityBody,
     EntityHead, ExplicitAttribute, Function, FunctionHead, InverseAggregate, InverseAttribute,
-    LocalVariable, Parameter, QualifiedAttribute, Rule, RuleHead, Schema, SetOrBag,
+    LocalVariable, Parameter, QualifiedAttribute, Rule, RuleHead, Schema, SetOrBag, StringToken,
     SupertypeExpression, TypeDeclaration, UnderlyingType, UniqueRule,
 };
 pub use expression::{

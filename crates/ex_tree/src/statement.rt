@@ -4,7 +4,7 @@ use crate::expression::{Expression, Name};
 use sqlite_items::{Boxed, Items};
 
 /// `variable := first TO last BY step`
-#[derive(Debug, Drop)]
+#[derive(Drop)]
 pub struct Increment {
     pub variable: Name,
     pub first: Expression,
@@ -13,14 +13,14 @@ pub struct Increment {
 }
 
 /// What governs the turns of a REPEAT.
-#[derive(Debug, Drop)]
+#[derive(Drop)]
 pub struct RepeatControl {
     pub increment: Option<Increment>,
     pub while_condition: Option<Expression>,
     pub until_condition: Option<Expression>,
 }
 
-#[derive(Debug, Drop)]
+#[derive(Drop)]
 #[cycle(statement)]
 pub struct CaseAction {
     pub labels: Items<Expression>,
@@ -28,7 +28,7 @@ pub struct CaseAction {
 }
 
 /// A CASE, and the first byte of its word.
-#[derive(Debug, Drop)]
+#[derive(Drop)]
 #[cycle(statement)]
 pub struct Case {
     pub at: usize,
@@ -37,7 +37,6 @@ pub struct Case {
     pub otherwise: Option<Boxed<Statement>>,
 }
 
-#[derive(Debug, Drop)]
 #[cycle(statement)]
 pub enum Statement {
     Null,
@@ -51,4 +50,29 @@ pub enum Statement {
     /// With the first byte of its word.
     Return(usize, Expression),
     Skip,
+}
+
+impl Drop for Statement {
+    #[cycle(statement_drop)]
+    fn drop(self) {
+        match self {
+            Statement::Null | Statement::Escape | Statement::Skip => {}
+            Statement::Assignment(name, value) => {
+                drop(name);
+                drop(value);
+            }
+            Statement::Case(case) => drop(case),
+            Statement::Compound(statements) => drop(statements),
+            Statement::If(condition, then_part, else_part) => {
+                drop(condition);
+                drop(then_part);
+                drop(else_part);
+            }
+            Statement::Repeat(control, statements) => {
+                drop(control);
+                drop(statements);
+            }
+            Statement::Return(_, value) => drop(value),
+        }
+    }
 }

@@ -1,7 +1,7 @@
 use crate::kind::Kind;
 
 /// A slice of the text, and the place where it begins, in bytes from 0.
-#[derive(Clone, Copy, Debug)]
+#[derive(Clone, Copy)]
 pub struct Token<'a> {
     pub kind: Kind,
     pub at: usize,
