@@ -1,7 +1,9 @@
 //! The phases, one after the other.
 
-ghost use Rattle.std.specs.Prelude.{◌≡◌};
+ghost use Rattle.std.specs.Prelude.{◌≡◌, IfOk, map};
+ghost use Rattle.std.specs.List.Sorted.{IsStrictlyIncreasing};
 ghost use Rattle.text_forms.specs.Gives.{Gives};
+ghost use Rattle.ex_lex.specs.Spelling.{Rise};
 ghost use Rattle.ex_check.specs.Check as spec;
 
 use crate::fault::SchemaFault;
@@ -14,9 +16,10 @@ use std::alloc::Global;
 use text_forms::Failure;
 
 /// The tree that a text spells; else the first fault of its tokens, or else of its syntax.
-#[tactic(auto, unfolding(crate::specs::Check::syntax))]
+#[tactic(auto, unfolding(crate::specs::Check::syntax), using(crate::proofs::Warnings::strings_rise))]
 fn tree_of(alloc: Global, text: &[u8]) -> Result<Tree, Failure<SchemaFault>>
-    ensures { Gives (λ tree. tree) result (spec.syntax text.now) }
+    ensures value { Gives (λ tree. tree) result (spec.syntax text.now) }
+    ensures ascending { IfOk result (λ tree. Rise 0 (map (λ s. s.at) tree.strings)) }
 {
     let tokens = match tokens(alloc, text) {
         Ok(tokens) => tokens,
@@ -32,9 +35,10 @@ fn tree_of(alloc: Global, text: &[u8]) -> Result<Tree, Failure<SchemaFault>>
 
 /// The schema of a text with its names bound; else the first fault of its tokens, or else of its syntax, or else of its
 /// names.
-#[tactic(auto, unfolding(crate::specs::Check::resolution))]
+#[tactic(auto, unfolding(crate::specs::Check::resolution), using(crate::proofs::Warnings::named_rise))]
 fn named_of(alloc: Global, text: &[u8]) -> Result<Named, Failure<SchemaFault>>
-    ensures { Gives (λ schema. schema) result (spec.resolution text.now) }
+    ensures value { Gives (λ schema. schema) result (spec.resolution text.now) }
+    ensures ascending { IfOk result (λ schema. Rise 0 (map (λ s. s.at) schema.schema.strings)) }
 {
     let tree = tree_of(alloc, text)?;
     match resolve(alloc, &tree) {
@@ -44,11 +48,12 @@ fn named_of(alloc: Global, text: &[u8]) -> Result<Named, Failure<SchemaFault>>
     }
 }
 
-/// The schema of a text; else the first fault of its tokens, or else of its syntax, or else of its names, or else of its
-/// types.
-#[tactic(auto, unfolding(crate::specs::Check::schema))]
+/// The schema of a text, whose warnings stand in the text's order; else the first fault of its tokens, or else of its
+/// syntax, or else of its names, or else of its types.
+#[tactic(auto, unfolding(crate::specs::Check::schema), using(crate::proofs::Warnings::warnings_rise))]
 pub fn schema_of(alloc: Global, text: &[u8]) -> Result<Schema, Failure<SchemaFault>>
-    ensures { Gives (λ schema. schema) result (spec.schema text.now) }
+    ensures value { Gives (λ schema. schema) result (spec.schema text.now) }
+    ensures ascending { IfOk result (λ schema. IsStrictlyIncreasing schema.warnings) }
 {
     let named = named_of(alloc, text)?;
     match check(alloc, named) {

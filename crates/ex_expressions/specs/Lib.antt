@@ -3,3 +3,5 @@ pub mod Literals
 pub mod Levels
 pub mod Expressions
 pub mod Nests
+pub mod Strings
+pub mod Queries

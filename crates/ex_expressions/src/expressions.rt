@@ -191,7 +191,7 @@ pub fn begins_expression(cursor: &Cursor<'_>) -> bool
 }
 
 /// An expression, where so many levels of nesting are left.
-#[derive(Clone, Copy, Debug)]
+#[derive(Clone, Copy)]
 pub struct ExpressionForm {
     pub levels: u8,
 }

@@ -1,9 +1,10 @@
 //! Operands, and the unary operators before them.
 
-ghost use Rattle.std.specs.Prelude.{◌≡◌, ◌<◌};
+ghost use Rattle.std.specs.Prelude.{◌≡◌, ◌<◌, IsOk};
 ghost use Rattle.text_forms.specs.Gives.{Reads, Takes, Keeps};
 ghost use Rattle.ex_expressions.specs.Expressions as spec;
 ghost use Rattle.ex_expressions.specs.Nests.{NestsBoth};
+ghost use Rattle.ex_expressions.specs.Queries as queries;
 
 use crate::grammar::Grammar;
 use crate::literals::signed_real;
@@ -38,6 +39,18 @@ fn interval_op(cursor: &mut Cursor<'_>) -> Read<(IntervalOperator, usize)>
     };
     let token = cursor.expect(kind)?;
     Ok((operator, token.at))
+}
+
+/// `QUERY(`, and the first byte of its word.
+#[tactic(auto, unfolding(crate::specs::Queries::query_word))]
+fn query_word(cursor: &mut Cursor<'_>, levels: u8) -> Read<usize>
+    ensures reads { Reads (queries.query_word levels cursor.old) result cursor.new }
+    ensures takes { Takes result cursor.old cursor.new }
+    ensures deeper { IsOk result → 0 < levels }
+{
+    let word = cursor.expect(Kind::Query)?;
+    cursor.enter(levels, Kind::OpenParenthesis)?;
+    Ok(word.at)
 }
 
 impl<
@@ -165,14 +178,13 @@ impl<
     }
 
     /// `QUERY(variable <* source | condition)`
-    #[tactic(auto, unfolding(crate::specs::Expressions::query_expression))]
+    #[tactic(auto, unfolding(crate::specs::Expressions::query_expression, crate::specs::Queries::query_word))]
     fn query_expression(&self, cursor: &mut Cursor<'_>) -> Read<Expression>
         requires { NestsBoth self.now.levels (E.pre self.now.expression) (E.post self.now.expression) (S.pre self.now.simple_expression) (S.post self.now.simple_expression) }
         ensures reads { Reads (spec.query_expression self.now.levels (spec.below self.now.levels) cursor.old) result cursor.new }
         ensures takes { Takes result cursor.old cursor.new }
     {
-        let word = cursor.expect(Kind::Query)?;
-        cursor.enter(self.levels, Kind::OpenParenthesis)?;
+        let at = query_word(cursor, self.levels)?;
         let variable = name(self.alloc, cursor)?;
         cursor.expect(Kind::QuerySource)?;
         let source = self.inner_simple(cursor)?;
@@ -180,7 +192,7 @@ impl<
         let condition = self.inner(cursor)?;
         cursor.expect(Kind::CloseParenthesis)?;
         let query = Query {
-            at: word.at,
+            at,
             variable,
             source,
             condition,

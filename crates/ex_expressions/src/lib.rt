@@ -7,5 +7,7 @@ mod grammar;
 mod literals;
 mod operators;
 mod qualifiers;
+mod string_tokens;
 
 pub use expressions::{ExpressionForm, begins_expression, expression, simple_expression};
+pub use string_tokens::strings;

@@ -86,6 +86,14 @@ pub fn signed_real(cursor: &mut Cursor<'_>) -> Read<Literal>
     Ok(Literal::Real(real(cursor)?))
 }
 
+/// What a string in apostrophes holds.
+pub(crate) fn simple_value(alloc: Global, token: &[u8]) -> Result<Option<Text>, AllocError>
+    ensures { IfOk result (λ value. value ≡ spec.simple_value token.now) }
+{
+    let bytes = undoubled(alloc, inner(token))?;
+    Ok(text_of(bytes))
+}
+
 #[tactic(auto, unfolding(crate::specs::Literals::simple_string, ex_forms::specs::Input::expect))]
 fn simple_string(alloc: Global, cursor: &mut Cursor<'_>) -> Read<Literal>
     ensures reads { Reads (spec.simple_string cursor.old) result cursor.new }
@@ -93,8 +101,7 @@ fn simple_string(alloc: Global, cursor: &mut Cursor<'_>) -> Read<Literal>
 {
     let refusal = cursor.refusal();
     let token = cursor.expect(Kind::SimpleStringLiteral)?;
-    let bytes = undoubled(alloc, inner(token.text))?;
-    let Some(text) = text_of(bytes) else {
+    let Some(text) = simple_value(alloc, token.text)? else {
         return Err(Failure::Fault(refusal));
     };
     Ok(Literal::String(text, token.at))
@@ -120,6 +127,13 @@ fn decoded(alloc: Global, digits: &[u8]) -> Result<Option<Text>, AllocError>
     Ok(Some(Text::new(found)))
 }
 
+/// What a string in double quotes holds.
+pub(crate) fn encoded_value(alloc: Global, token: &[u8]) -> Result<Option<Text>, AllocError>
+    ensures { IfOk result (λ value. value ≡ spec.encoded_value token.now) }
+{
+    decoded(alloc, inner(token))
+}
+
 #[tactic(auto, unfolding(crate::specs::Literals::encoded_string, ex_forms::specs::Input::expect))]
 fn encoded_string(alloc: Global, cursor: &mut Cursor<'_>) -> Read<Literal>
     ensures reads { Reads (spec.encoded_string cursor.old) result cursor.new }
@@ -127,7 +141,7 @@ fn encoded_string(alloc: Global, cursor: &mut Cursor<'_>) -> Read<Literal>
 {
     let refusal = cursor.refusal();
     let token = cursor.expect(Kind::EncodedStringLiteral)?;
-    let Some(text) = decoded(alloc, inner(token.text))? else {
+    let Some(text) = encoded_value(alloc, token.text)? else {
         return Err(Failure::Fault(refusal));
     };
     Ok(Literal::String(text, token.at))

@@ -11,7 +11,7 @@ use std::alloc::{AllocError, Global};
 use text_forms::Failure;
 
 /// How tightly an operator binds, from the most.
-#[derive(Clone, Copy, Debug)]
+#[derive(Clone, Copy)]
 pub enum Rank {
     /// `**`
     Powering,

@@ -42,3 +42,8 @@ tokens text = of_length (length text) (lexemes 0 text)
 abbrev pub AreSlices : List ℕ → ℕ → List Lexeme → Type 0
 AreSlices text from [] = Unit {0}
 AreSlices text from (t ∷ ts) = (from ≤ t.at) × (t.text ≡ take (length t.text) (drop t.at text)) × AreSlices text (t.at + length t.text) ts
+
+-- numbers of which each is greater than the one before it; the first is no less than `from`
+abbrev pub Rise : ℕ → List ℕ → Type 0
+Rise from [] = Unit {0}
+Rise from (n ∷ ns) = (from ≤ n) × Rise (n + 1) ns

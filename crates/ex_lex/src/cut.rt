@@ -1,6 +1,6 @@
 //! The cut of a text into its tokens.
 
-ghost use Rattle.std.specs.Prelude.{IfOk};
+ghost use Rattle.std.specs.Prelude.{IfOk, map};
 ghost use Rattle.text_forms.specs.Gives.{Gives};
 ghost use Rattle.ex_lex.specs.Spelling as spec;
 
@@ -18,6 +18,7 @@ use text_forms::Failure;
 pub fn tokens(alloc: Global, text: &[u8]) -> Result<Tokens<'_>, Failure<LexFault>>
     ensures value { Gives (λ t. t) result (spec.tokens text.now) }
     ensures slices { IfOk result (λ t. spec.AreSlices text.now 0 t.lexemes) }
+    ensures ascending { IfOk result (λ t. spec.Rise 0 (map (λ l. l.at) t.lexemes)) }
 {
     let mut found = Vec::new(alloc);
     let mut left = text;

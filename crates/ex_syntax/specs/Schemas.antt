@@ -1,13 +1,14 @@
 -- Schemas (ISO 10303-11:1994, 9.3), and what the tokens of a text spell.
-use Rattle.std.specs.Prelude.{ℕ, Bool, ◌||◌, List, Result, Ok, Err}
+use Rattle.std.specs.Prelude.{ℕ, Bool, ◌||◌, List, [], Result, Ok, Err}
 use Rattle.text_forms.specs.Forms.{◌>>=◌, ◌>>◌, ◌<$>◌, pure}
-use Rattle.ex_lex.specs.Lexeme.{Lexed}
+use Rattle.ex_lex.specs.Lexeme.{Lexeme, Lexed}
 use Rattle.ex_tree.specs.declared.kind.Kind.{Kind}
 use Rattle.ex_tree.specs.declared.kind.Kind.TheVariants as k
 use Rattle.ex_tree.specs.declared.fault.ParseFault.{ParseFault}
 use Rattle.ex_tree.specs.declared.declaration.Declaration.{Declaration}
 use Rattle.ex_tree.specs.declared.declaration.Declaration.TheVariants as tree
 use Rattle.ex_tree.specs.declared.declaration.Schema.{Schema}
+use Rattle.ex_expressions.specs.Strings.{strings}
 use Rattle.ex_forms.specs.Input.{Parser, Lexemes, sees, peek, expect, refuse, finish, name, many, stream}
 use Rattle.ex_syntax.specs.Declarations.{type_decl, constants}
 use Rattle.ex_syntax.specs.Entities.{entity_decl}
@@ -35,7 +36,7 @@ schema_decl = do
   declarations ← many begins_declaration declaration
   expect k.EndSchema
   expect k.Semicolon
-  pure (record { name = name'; constants = constants'; declarations = declarations })
+  pure (record { name = name'; constants = constants'; declarations = declarations; strings = [] })
 
 -- one schema, and no token after it
 unfoldable pub syntax : Parser Schema
@@ -48,6 +49,11 @@ abbrev pub tree_of : {A : Type 0} → Result (A × Lexemes) ParseFault → Resul
 tree_of (Ok p) = Ok p.0
 tree_of (Err fault) = Err fault
 
--- The tree that the tokens of a text spell; else the first token that can't be taken, or the end.
+-- the string literals of the text put beside its declarations
+abbrev pub with_strings : List Lexeme → Result Schema ParseFault → Result Schema ParseFault
+with_strings lexemes (Ok schema) = Ok (record schema { strings = strings lexemes })
+with_strings lexemes (Err fault) = Err fault
+
+-- The tree that the tokens of a text spell, with its string literals; else the first token that can't be taken, or the end.
 unfoldable pub parsed : Lexed → Result Schema ParseFault
-parsed text = tree_of (syntax (stream text))
+parsed text = with_strings text.lexemes (tree_of (syntax (stream text)))

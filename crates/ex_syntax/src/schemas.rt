@@ -7,8 +7,10 @@ ghost use Rattle.ex_syntax.specs.Schemas as spec;
 use crate::algorithms::{function_decl, rule_decl};
 use crate::declarations::{constants, type_decl};
 use crate::entities::entity_decl;
+use ex_expressions::strings;
 use ex_forms::{Begins, Cursor, Form, Read, Tokens, many, name};
 use ex_tree::{Declaration, Kind, ParseFault, Schema};
+use sqlite_items::Items;
 use std::alloc::Global;
 use text_forms::Failure;
 
@@ -58,6 +60,7 @@ impl Begins for DeclarationForm {
     }
 }
 
+/// A schema; the strings of the text are put beside it later.
 #[tactic(auto, unfolding(crate::specs::Schemas::schema_decl))]
 fn schema_decl(alloc: Global, cursor: &mut Cursor<'_>) -> Read<Schema>
     ensures reads { Reads (spec.schema_decl cursor.old) result cursor.new }
@@ -74,6 +77,7 @@ fn schema_decl(alloc: Global, cursor: &mut Cursor<'_>) -> Read<Schema>
         name,
         constants,
         declarations,
+        strings: Items::new(alloc),
     })
 }
 
@@ -86,11 +90,13 @@ fn syntax(alloc: Global, cursor: &mut Cursor<'_>) -> Read<Schema>
     Ok(found)
 }
 
-/// The tree that the tokens of a text spell: one schema. Else the fault of the first token that cannot stand where it
-/// does, or of the text's end.
+/// The tree that the tokens of a text spell: one schema, with the text's string literals. Else the fault of the first
+/// token that cannot stand where it does, or of the text's end.
 #[tactic(auto, unfolding(crate::specs::Schemas::parsed))]
 pub fn parse(alloc: Global, tokens: &Tokens<'_>) -> Result<Schema, Failure<ParseFault>>
     ensures { Gives (λ schema. schema) result (spec.parsed tokens.now) }
 {
-    syntax(alloc, &mut Cursor::new(tokens))
+    let mut schema = syntax(alloc, &mut Cursor::new(tokens))?;
+    schema.strings = strings(alloc, tokens.as_slice())?;
+    Ok(schema)
 }

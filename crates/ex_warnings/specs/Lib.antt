@@ -1,4 +1,3 @@
-pub mod Literals
 pub mod Selects
 pub mod Steps
 pub mod Warnings

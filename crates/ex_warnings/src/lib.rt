@@ -2,11 +2,7 @@
 //! SELECT, so a test against such a literal never holds.
 #![tactic(auto)]
 
-mod declarations;
-mod expressions;
-mod literals;
 mod selects;
-mod statements;
 mod warned;
 
 pub use warned::warnings;

@@ -3,6 +3,7 @@ use Rattle.std.proofs.lemmas.List.{take_rest}
 use Rattle.ex_lex.specs.Lexeme.{lexeme}
 use Rattle.ex_lex.specs.Spelling.{behind, lexemes, of_length, tokens}
 use Rattle.ex_lex.proofs.Lexemes.{lexemes-blank, lexemes-token, lexemes-fault, lexemes-end, behind-nothing, lexemes-found}
+use Rattle.ex_lex.proofs.Rising.{tokens_rise}
 use Rattle.ex_lex.proofs.Slices.{tokens_are_slices}
 use Rattle.ex_lex.proofs.cut.tokens.Goals as goal
 
@@ -48,3 +49,12 @@ returns-clause-slices c =
     let found = map lexeme c.tokens.found.items in
     let goes = ap (behind found) (lexemes-end c.tokens.at z none) ∙ behind-nothing found in
     rw c.new.ensures (tokens_are_slices text found (sym c.tokens.invariant.0 ∙ goes))
+
+pub returns-clause-ascending : goal.returns-clause-ascending
+returns-clause-ascending c =
+    let text = c.args.text.now in
+    let z = c.tokens.left.now in
+    let none : length z ≡ 0 = search rules in
+    let found = map lexeme c.tokens.found.items in
+    let goes = ap (behind found) (lexemes-end c.tokens.at z none) ∙ behind-nothing found in
+    rw c.new.ensures (tokens_rise text found (sym c.tokens.invariant.0 ∙ goes))
