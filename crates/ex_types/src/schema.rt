@@ -58,7 +58,7 @@ impl Schema {
         &self.named.schema().name.text
     }
 
-    /// The first bytes of the literals that are warned of, in ascending order.
+    /// The first bytes of the literals that are warned of, in the order of the schema's strings.
     pub fn warnings(&self) -> &[usize]
         ensures { result.now ≡ self.now.warnings }
     {

@@ -1,6 +1,7 @@
 -- What is said of the trees in an expression.
-use Rattle.std.specs.Prelude.{ℕ, List, map, Option}
+use Rattle.std.specs.Prelude.{ℕ, List, map, Option, slice_get}
 use Rattle.ex_tree.specs.declared.expression.BuiltInFunction.{BuiltInFunction}
+use Rattle.ex_tree.specs.declared.expression.UnaryOperator.{UnaryOperator}
 use Rattle.ex_named.specs.declared.expression.NamedExpression.{NamedExpression}
 use Rattle.ex_named.specs.declared.expression.NamedExpression.TheFolds.{fold-NamedQualifier, fold-NamedInterval, fold-NamedOperation, fold-NamedQuery}
 use Rattle.ex_named.specs.declared.expression.NamedInterval.{NamedInterval}
@@ -11,7 +12,7 @@ use Rattle.ex_kinds.specs.declared.fault.TypeFault.{TypeFault}
 use Rattle.ex_kinds.specs.declared.typed.Typed.{Typed}
 use Rattle.ex_kinds.specs.Faults.{behind}
 use Rattle.ex_kinds.specs.Kinds.{Kinds}
-use Rattle.ex_typing.specs.Expressions.{Known, Scope, within, built_in_at, TypedExpression, TypedQualifier, TypedOperation, TypedList, expression_layer, qualifier_layer, interval_layer, operation_layer, query_layer, each, one_after_another, typed_expression}
+use Rattle.ex_typing.specs.Expressions.{Known, Scope, within, called_by, built_in_at, unary_at, TypedExpression, TypedQualifier, TypedOperation, TypedList, expression_layer, qualifier_layer, interval_layer, operation_layer, query_layer, each, one_after_another, initializer, typed_expression}
 
 module _ (schema : Known) where
   unfoldable pub typed_qualifier : NamedQualifier → TypedQualifier
@@ -43,8 +44,17 @@ module _ (schema : Known) where
 
   -- ---- in a scope
 
+  abbrev pub call : Scope → ℕ → ℕ → List NamedExpression → Typed
+  call s function at arguments = behind (expressions s arguments).1 (called_by schema at (slice_get schema.functions function) (expressions s arguments).0)
+
   abbrev pub call_built_in : Scope → BuiltInFunction → ℕ → List NamedExpression → Typed
   call_built_in s word at arguments = behind (expressions s arguments).1 (built_in_at schema word at (expressions s arguments).0)
+
+  abbrev pub initialized : Scope → List NamedExpression → Typed
+  initialized s elements = initializer (expressions s elements)
+
+  abbrev pub signed : Scope → UnaryOperator → ℕ → NamedExpression → Typed
+  signed s operator at operand = behind (typed_expression schema operand s).fault (unary_at schema operator at (typed_expression schema operand s).kinds)
 
   abbrev pub qualifier : Scope → Typed → NamedQualifier → Typed
   qualifier s base q = typed_qualifier q s base

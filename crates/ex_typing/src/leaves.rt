@@ -1,14 +1,16 @@
 //! What stands at the ends of expressions, and the rules that combine what is said of their parts.
 
 ghost use Rattle.std.specs.Prelude.{◌≡◌, [], ◌∷◌, true, IfOk, is_some, slice_get};
-ghost use Rattle.ex_kinds.specs.Faults.{fine};
+ghost use Rattle.ex_kinds.specs.Faults.{fine, refused};
+ghost use Rattle.ex_kinds.specs.declared.fault.TypeFaultKind.TheVariants.{Ambiguous};
 ghost use Rattle.ex_kinds.specs.Kinds.{itself, aggregate_of as aggregate_by};
 ghost use Rattle.ex_typing.specs.Expressions as spec;
 
 use crate::known::Known;
 use crate::scope::Scope;
 use ex_kinds::{
-    Kind, Kinds, Sort, TypeFault, Typed, aggregate_of, copied, join, kinds_of_one, ruled,
+    Kind, Kinds, Sort, TypeFault, TypeFaultKind, Typed, aggregate_of, copied, join, kinds_of_one,
+    ruled,
 };
 use ex_named::AttributeUse;
 use ex_operators::{
@@ -18,7 +20,7 @@ use ex_tree::{BinaryOperator, BuiltInFunction, Literal, UnaryOperator};
 use plain_data::Rows;
 use std::alloc::{AllocError, Global};
 
-pub(crate) fn literal(alloc: Global, value: &Literal) -> Result<Kinds, AllocError>
+fn literal(alloc: Global, value: &Literal) -> Result<Kinds, AllocError>
     ensures { IfOk result (λ kinds. kinds ≡ spec.literal value.now) }
 {
     kinds_of_one(
@@ -31,6 +33,27 @@ pub(crate) fn literal(alloc: Global, value: &Literal) -> Result<Kinds, AllocErro
             Literal::Logical(_) => Sort::Logical,
         },
     )
+}
+
+/// A value of this literal, without a fault.
+pub(crate) fn literal_value(alloc: Global, value: &Literal) -> Result<Typed, AllocError>
+    ensures { IfOk result (λ typed. typed ≡ fine (spec.literal value.now)) }
+{
+    Ok(Typed::fine(literal(alloc, value)?))
+}
+
+/// A value of one sort, without a fault.
+pub(crate) fn value_of_one(alloc: Global, sort: Sort) -> Result<Typed, AllocError>
+    ensures { IfOk result (λ typed. typed ≡ fine (itself sort ∷ [])) }
+{
+    Ok(Typed::fine(kinds_of_one(alloc, sort)?))
+}
+
+/// The name of an item of two enumerations, which stands there.
+pub(crate) fn ambiguous(alloc: Global, at: usize) -> Typed
+    ensures { result ≡ refused Ambiguous at }
+{
+    Typed::refused(alloc, TypeFaultKind::Ambiguous, at)
 }
 
 /// A value of these kinds, without a fault.

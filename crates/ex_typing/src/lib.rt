@@ -4,6 +4,7 @@
 mod known;
 mod leaves;
 mod scope;
+mod taken;
 mod trees;
 
 pub use known::{Known, Signature};

@@ -8,15 +8,17 @@ ghost use Rattle.ex_typing.specs.Trees as trees;
 
 use crate::known::Known;
 use crate::leaves::{
-    aggregate_of_one, attribute, binary_at, built_in_at, called, compared, grouped_at, initializer,
-    known_kinds, literal, unary_at,
+    aggregate_of_one, ambiguous, attribute, binary_at, built_in_at, called, compared, initializer,
+    known_kinds, literal_value, unary_at, value_of_one,
 };
 use crate::scope::Scope;
-use ex_kinds::{Kind, Kinds, Sort, TypeFault, TypeFaultKind, Typed, either, kinds_of_one, ruled};
+use crate::taken::{attribute_taken, group_taken, index_taken, range_taken};
+use ex_kinds::{Kind, Kinds, Sort, TypeFault, Typed, either, ruled};
 use ex_named::{NamedExpression, NamedInterval, NamedOperation, NamedQualifier, NamedQuery};
-use ex_operators::{comparison, elements_of, indexed, queried, ranged};
-use ex_tree::BuiltInFunction;
+use ex_operators::{comparison, elements_of, queried};
+use ex_tree::{BuiltInFunction, UnaryOperator};
 use plain_data::Rows;
+use sqlite_items::Items;
 use std::alloc::{AllocError, Global};
 
 /// What the value of an expression may be, and the fault that is told of it.
@@ -30,25 +32,16 @@ pub fn expression(
     ensures { IfOk result (λ typed. typed ≡ spec.expression schema.now scope.now tree.now) }
 {
     match tree {
-        NamedExpression::Literal(value) => Ok(Typed::fine(literal(alloc, value)?)),
+        NamedExpression::Literal(value) => literal_value(alloc, value),
         NamedExpression::Itself => known_kinds(alloc, scope.itself()),
         NamedExpression::Indeterminate => Ok(Typed::fine(Rows::new(alloc))),
         NamedExpression::Variable(slot) => known_kinds(alloc, scope.variable(*slot)),
         NamedExpression::Attribute(name) => attribute(alloc, schema, scope, name),
         NamedExpression::Constant(number) => known_kinds(alloc, schema.constant(*number)),
         NamedExpression::Population(entity) => aggregate_of_one(alloc, Sort::Entity(*entity)),
-        NamedExpression::Item(item) => {
-            let kinds = kinds_of_one(alloc, Sort::Enumeration(item.type_number))?;
-            Ok(Typed::fine(kinds))
-        },
-        NamedExpression::AmbiguousItem(at) => {
-            Ok(Typed::refused(alloc, TypeFaultKind::Ambiguous, *at))
-        },
-        NamedExpression::Call(function, at, arguments) => {
-            let (arguments, fault) = expressions(alloc, schema, scope, arguments.as_slice())?;
-            let typed = called(alloc, schema, *function, *at, arguments.as_slice())?;
-            Ok(typed.behind(fault))
-        },
+        NamedExpression::Item(item) => value_of_one(alloc, Sort::Enumeration(item.type_number)),
+        NamedExpression::AmbiguousItem(at) => Ok(ambiguous(alloc, *at)),
+        NamedExpression::Call(number, at, list) => call(alloc, schema, scope, *number, *at, list),
         NamedExpression::BuiltIn(function, at, arguments) => {
             call_built_in(alloc, schema, scope, *function, *at, arguments.as_slice())
         },
@@ -57,9 +50,7 @@ pub fn expression(
             qualifiers(alloc, schema, scope, base, taken.as_slice())
         },
         NamedExpression::Unary(operator, at, operand) => {
-            let operand = expression(alloc, schema, scope, operand.get())?;
-            let typed = unary_at(alloc, schema, *operator, *at, operand.kinds.as_slice())?;
-            Ok(typed.behind(operand.fault))
+            signed(alloc, schema, scope, *operator, *at, operand.get())
         },
         NamedExpression::Chain(left, operators) => {
             let left = expression(alloc, schema, scope, left.get())?;
@@ -67,10 +58,7 @@ pub fn expression(
         },
         NamedExpression::Interval(tree) => interval(alloc, schema, scope, tree.get()),
         NamedExpression::Query(tree) => query(alloc, schema, scope, tree.get()),
-        NamedExpression::Initializer(elements) => {
-            let (elements, fault) = expressions(alloc, schema, scope, elements.as_slice())?;
-            initializer(alloc, elements.as_slice(), fault)
-        },
+        NamedExpression::Initializer(elements) => initialized(alloc, schema, scope, elements),
     }
 }
 
@@ -95,6 +83,22 @@ pub fn expressions(
 }
 
 #[cycle(trees)]
+fn call(
+    alloc: Global,
+    schema: &Known,
+    scope: &Scope<'_>,
+    function: usize,
+    at: usize,
+    arguments: &Items<NamedExpression>,
+) -> Result<Typed, AllocError>
+    ensures { IfOk result (λ typed. typed ≡ trees.call schema.now scope.now function at arguments.now) }
+{
+    let (arguments, fault) = expressions(alloc, schema, scope, arguments.as_slice())?;
+    let typed = called(alloc, schema, function, at, arguments.as_slice())?;
+    Ok(typed.behind(fault))
+}
+
+#[cycle(trees)]
 fn call_built_in(
     alloc: Global,
     schema: &Known,
@@ -108,6 +112,36 @@ fn call_built_in(
     let (arguments, fault) = expressions(alloc, schema, scope, arguments)?;
     let typed = built_in_at(alloc, schema, function, at, arguments.as_slice())?;
     Ok(typed.behind(fault))
+}
+
+/// An aggregate of these elements.
+#[cycle(trees)]
+fn initialized(
+    alloc: Global,
+    schema: &Known,
+    scope: &Scope<'_>,
+    elements: &Items<NamedExpression>,
+) -> Result<Typed, AllocError>
+    ensures { IfOk result (λ typed. typed ≡ trees.initialized schema.now scope.now elements.now) }
+{
+    let (elements, fault) = expressions(alloc, schema, scope, elements.as_slice())?;
+    initializer(alloc, elements.as_slice(), fault)
+}
+
+#[cycle(trees)]
+fn signed(
+    alloc: Global,
+    schema: &Known,
+    scope: &Scope<'_>,
+    operator: UnaryOperator,
+    at: usize,
+    operand: &NamedExpression,
+) -> Result<Typed, AllocError>
+    ensures { IfOk result (λ typed. typed ≡ trees.signed schema.now scope.now operator at operand.now) }
+{
+    let operand = expression(alloc, schema, scope, operand)?;
+    let typed = unary_at(alloc, schema, operator, at, operand.kinds.as_slice())?;
+    Ok(typed.behind(operand.fault))
 }
 
 /// What is taken of a value, one after the other.
@@ -138,37 +172,17 @@ fn qualifier(
 ) -> Result<Typed, AllocError>
     ensures { IfOk result (λ typed. typed ≡ trees.qualifier schema.now scope.now base tree.now) }
 {
-    let Typed { kinds, fault } = base;
-    let kinds = kinds.as_slice();
-    let types = schema.types();
     match tree {
-        NamedQualifier::Attribute(at, name) => {
-            let plain = types.plain(alloc, kinds)?;
-            let typed = schema
-                .attributes()
-                .taken(alloc, plain.as_slice(), *at, name)?;
-            Ok(typed.behind(fault))
-        },
-        NamedQualifier::Group(at, entity) => {
-            let typed = grouped_at(alloc, schema, *at, kinds, *entity)?;
-            Ok(typed.behind(fault))
-        },
+        NamedQualifier::Attribute(at, name) => attribute_taken(alloc, schema, base, *at, name),
+        NamedQualifier::Group(at, entity) => group_taken(alloc, schema, base, *at, *entity),
         NamedQualifier::Index(at, index) => {
             let index = expression(alloc, schema, scope, index)?;
-            let rule = indexed(alloc, types, kinds, index.kinds.as_slice());
-            Ok(ruled(alloc, *at, rule)?.behind(either(fault, index.fault)))
+            index_taken(alloc, schema, base, *at, index)
         },
         NamedQualifier::Range(at, low, high) => {
             let low = expression(alloc, schema, scope, low)?;
             let high = expression(alloc, schema, scope, high)?;
-            let rule = ranged(
-                alloc,
-                types,
-                kinds,
-                low.kinds.as_slice(),
-                high.kinds.as_slice(),
-            );
-            Ok(ruled(alloc, *at, rule)?.behind(either(either(fault, low.fault), high.fault)))
+            range_taken(alloc, schema, base, *at, low, high)
         },
     }
 }

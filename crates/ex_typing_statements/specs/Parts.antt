@@ -1,13 +1,12 @@
 -- What is told of the parts of statements.
 use Rattle.std.specs.Prelude.{List, [], map, Option, Some, None}
-use Rattle.ex_named.specs.declared.expression.NamedExpression.{NamedExpression}
 use Rattle.ex_named.specs.declared.statement.NamedCase.{NamedCase}
 use Rattle.ex_named.specs.declared.statement.NamedCaseAction.{NamedCaseAction}
 use Rattle.ex_named.specs.declared.statement.NamedRepeatControl.{NamedRepeatControl}
 use Rattle.ex_named.specs.declared.statement.NamedStatement.{NamedStatement}
 use Rattle.ex_named.specs.declared.statement.NamedStatement.TheFolds.{fold-NamedCase, fold-NamedCaseAction}
 use Rattle.ex_kinds.specs.Faults.{either}
-use Rattle.ex_typing.specs.Expressions.{Known, Scope, TypedList, expression}
+use Rattle.ex_typing.specs.Expressions.{Known, Scope, TypedList}
 use Rattle.ex_typing_statements.specs.Statements.{Told, TypedStatement, TypedCaseAction, statement_layer, case_layer, case_action_layer, statement, statements, repeat_control, in_turn, actions_after}
 
 module _ (schema : Known) where
@@ -23,9 +22,6 @@ module _ (schema : Known) where
   abbrev pub otherwise : Scope → Option NamedStatement → Told
   otherwise s None = None
   otherwise s (Some x) = statement schema s x
-
-  abbrev pub choice : Scope → NamedExpression → List NamedStatement → List NamedStatement → Told
-  choice s condition then_part else_part = either (either (expression schema s condition).fault (statements schema s then_part)) (statements schema s else_part)
 
   abbrev pub repeat : Scope → NamedRepeatControl → List NamedStatement → Told
   repeat s control body = either (repeat_control schema s control) (statements schema (in_turn s control.increment) body)

@@ -5,7 +5,7 @@ ghost use Rattle.ex_operators.specs.Fitting as fitting;
 ghost use Rattle.ex_typing.specs.Expressions as expressions;
 ghost use Rattle.ex_typing_statements.specs.Statements as spec;
 
-use crate::places::{Told, assign_unless};
+use crate::places::{Told, assign_unless, fault_of};
 use ex_kinds::{TypeFault, either};
 use ex_named::{NamedExpression, NamedIncrement, NamedRepeatControl};
 use ex_operators::is_integer;
@@ -22,10 +22,7 @@ fn condition(
     ensures { IfOk result (λ told. told ≡ spec.condition schema.now scope.now value.now) }
 {
     match value {
-        Some(value) => {
-            let value = expression(alloc, schema, scope, value)?;
-            Ok(value.fault)
-        }
+        Some(value) => fault_of(alloc, schema, scope, value),
         None => Ok(None),
     }
 }

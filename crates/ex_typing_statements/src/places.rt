@@ -1,6 +1,7 @@
 //! Values that are given to places.
 
 ghost use Rattle.std.specs.Prelude.{◌≡◌, IfOk};
+ghost use Rattle.ex_typing.specs.Expressions as expressions;
 ghost use Rattle.ex_typing_statements.specs.Statements as spec;
 
 use ex_kinds::{Kind, TypeFault, TypeFaultKind, either, fault_at};
@@ -11,6 +12,19 @@ use std::alloc::{AllocError, Global};
 
 /// The fault that is told of a tree, if there is one.
 pub(crate) type Told = Result<Option<TypeFault>, AllocError>;
+
+/// The fault that is told of an expression.
+pub(crate) fn fault_of(
+    alloc: Global,
+    schema: &Known,
+    scope: &Scope<'_>,
+    value: &NamedExpression,
+) -> Told
+    ensures { IfOk result (λ told. told ≡ (expressions.expression schema.now scope.now value.now).fault) }
+{
+    let value = expression(alloc, schema, scope, value)?;
+    Ok(value.fault)
+}
 
 /// The fault of a value that doesn't fit its place, whose name stands there.
 pub fn assign_unless(fine: bool, at: usize) -> Option<TypeFault>

@@ -1,4 +1,5 @@
 //! Statements.
+#![tactic(auto, unfolding(crate::specs::Statements::typed_statement, crate::specs::Parts::typed_case, crate::specs::Parts::typed_case_action))]
 
 ghost use Rattle.std.specs.Prelude.{◌≡◌, [], None, IfOk};
 ghost use Rattle.ex_typing_statements.specs.Parts as parts;
@@ -6,7 +7,7 @@ ghost use Rattle.ex_typing_statements.specs.Statements as spec;
 
 use crate::control::repeat_control;
 use crate::labels::{Actions, append, fault_by};
-use crate::places::{Told, assigned};
+use crate::places::{Told, assigned, fault_of};
 use ex_kinds::{Kind, Sort, TypeFault, either};
 use ex_named::{NamedCase, NamedCaseAction, NamedExpression, NamedRepeatControl, NamedStatement};
 use ex_operators::case_fault;
@@ -52,10 +53,10 @@ fn statement(alloc: Global, schema: &Known, scope: &Scope<'_>, statement: &Named
         NamedStatement::Compound(body) => statements(alloc, schema, scope, body.as_slice()),
         NamedStatement::Escape => Ok(None),
         NamedStatement::If(condition, then_part, else_part) => {
-            let condition = expression(alloc, schema, scope, condition)?;
+            let condition = fault_of(alloc, schema, scope, condition)?;
             let then_part = statements(alloc, schema, scope, then_part.as_slice())?;
             let else_part = statements(alloc, schema, scope, else_part.as_slice())?;
-            Ok(either(either(condition.fault, then_part), else_part))
+            Ok(either(either(condition, then_part), else_part))
         }
         NamedStatement::Repeat(control, body) => repeat(alloc, schema, scope, control, body),
         NamedStatement::Return(at, value) => {
