@@ -17,7 +17,7 @@ use Rattle.ex_named.specs.declared.reference.AttributeSort.{AttributeSort}
 use Rattle.ex_named.specs.declared.reference.AttributeSort.TheVariants.{Explicit, Derived, Inverse}
 use Rattle.ex_named.specs.declared.reference.AttributeUse.{AttributeUse}
 use Rattle.ex_named.specs.Scopes.{is_among, and_then}
-use Rattle.ex_declarations.specs.Declared.{numbered}
+use Rattle.ex_lineage.specs.Numbered.{numbered}
 use Rattle.ex_lineage.specs.Lineage.{family, numbers_from}
 use Rattle.ex_kinds.specs.declared.fault.TypeFaultKind.TheVariants.{Qualifier, Ambiguous}
 use Rattle.ex_kinds.specs.declared.kind.Sort.{Sort}

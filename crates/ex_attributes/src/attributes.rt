@@ -1,7 +1,7 @@
 //! The attributes of a schema's entities.
 
 ghost use Rattle.std.specs.Prelude.{◌≡◌, map, length, IfOk};
-ghost use Rattle.ex_declarations.specs.Declared.{numbered};
+ghost use Rattle.ex_lineage.specs.Numbered.{numbered};
 ghost use Rattle.ex_lineage.specs.Lineage as lineage;
 ghost use Rattle.ex_attributes.specs.Attributes as spec;
 

@@ -1,11 +1,12 @@
 -- What the trees in an expression stand for.
-use Rattle.std.specs.Prelude.{List, Option, map}
+use Rattle.std.specs.Prelude.{ℕ, List, Option, map}
 use Rattle.ex_tree.specs.declared.expression.Expression.{Expression}
 use Rattle.ex_tree.specs.declared.expression.Interval.{Interval}
 use Rattle.ex_tree.specs.declared.expression.Name.{Name}
 use Rattle.ex_tree.specs.declared.expression.Operation.{Operation}
 use Rattle.ex_tree.specs.declared.expression.Qualifier.{Qualifier}
 use Rattle.ex_tree.specs.declared.expression.Query.{Query}
+use Rattle.ex_tree.specs.declared.expression.UnaryOperator.{UnaryOperator}
 use Rattle.ex_tree.specs.declared.expression.Expression.TheFolds.{fold-Qualifier, fold-Interval, fold-Operation, fold-Query}
 use Rattle.ex_named.specs.declared.expression.NamedExpression.{NamedExpression}
 use Rattle.ex_named.specs.declared.expression.NamedExpression.TheVariants as e
@@ -70,6 +71,10 @@ module _ (schema : Declarations) where
   -- the item, if `base.first` is the name of a type and an item of it
   abbrev pub item : Scope → Expression → Qualifier → Outcome (Option NamedExpression)
   item s base first = x.first_item schema s (x.bound_expression schema base).alone (bound_qualifier first).attribute
+
+  -- an operator before its operand
+  abbrev pub unary : Scope → UnaryOperator → ℕ → Expression → Outcome NamedExpression
+  unary s operator at operand = given (e.Unary operator at) (x.expression schema s operand)
 
   -- operators of one level
   abbrev pub chain : Scope → Expression → List Operation → Outcome NamedExpression

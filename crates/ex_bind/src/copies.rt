@@ -2,10 +2,11 @@
 
 ghost use Rattle.std.specs.Prelude.{◌≡◌, IfOk};
 
-use ex_tree::{Literal, Name};
+use ex_tree::{Literal, Name, StringToken};
+use sqlite_items::Items;
 use std::alloc::{AllocError, Global};
 
-pub fn copied_name(alloc: Global, name: &Name) -> Result<Name, AllocError>
+pub fn copy_name(alloc: Global, name: &Name) -> Result<Name, AllocError>
     ensures { IfOk result (λ n. n ≡ name.now) }
 {
     Ok(Name {
@@ -14,7 +15,26 @@ pub fn copied_name(alloc: Global, name: &Name) -> Result<Name, AllocError>
     })
 }
 
-pub fn copied_literal(alloc: Global, literal: &Literal) -> Result<Literal, AllocError>
+pub fn copy_names(alloc: Global, names: &[Name]) -> Result<Items<Name>, AllocError>
+    ensures { IfOk result (λ copies. copies ≡ names.now) }
+{
+    let mut copies = Vec::with_capacity(alloc, names.len())?;
+    for name in names {
+        copies.push(copy_name(alloc, name)?)?;
+    }
+    Ok(Items::from_vec(copies))
+}
+
+pub fn copy_label(alloc: Global, label: &Option<Name>) -> Result<Option<Name>, AllocError>
+    ensures { IfOk result (λ l. l ≡ label.now) }
+{
+    Ok(match label {
+        Some(name) => Some(copy_name(alloc, name)?),
+        None => None,
+    })
+}
+
+pub fn copy_literal(alloc: Global, literal: &Literal) -> Result<Literal, AllocError>
     ensures { IfOk result (λ l. l ≡ literal.now) }
 {
     Ok(match literal {
@@ -24,4 +44,20 @@ pub fn copied_literal(alloc: Global, literal: &Literal) -> Result<Literal, Alloc
         Literal::Binary(bits) => Literal::Binary(bits.copy(alloc)?),
         Literal::Logical(value) => Literal::Logical(*value),
     })
+}
+
+pub fn copy_strings(
+    alloc: Global,
+    strings: &[StringToken],
+) -> Result<Items<StringToken>, AllocError>
+    ensures { IfOk result (λ copies. copies ≡ strings.now) }
+{
+    let mut copies = Vec::with_capacity(alloc, strings.len())?;
+    for string in strings {
+        copies.push(StringToken {
+            value: string.value.copy(alloc)?,
+            at: string.at,
+        })?;
+    }
+    Ok(Items::from_vec(copies))
 }

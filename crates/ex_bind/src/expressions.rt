@@ -6,14 +6,14 @@ ghost use Rattle.ex_named.specs.Outcomes.{Binds};
 ghost use Rattle.ex_named.specs.Expressions as spec;
 ghost use Rattle.ex_bind.specs.Trees as trees;
 
-use crate::copies::{copied_literal, copied_name};
+use crate::copies::{copy_literal, copy_name};
 use crate::qualified::{item, taken_of};
 use ex_named::{
     Binding, Gathered, NamedExpression, NamedInterval, NamedOperation, NamedQualifier, NamedQuery,
     both,
 };
 use ex_scopes::{Declarations, Scope};
-use ex_tree::{Expression, Interval, Name, Operation, Qualifier, Query};
+use ex_tree::{Expression, Interval, Name, Operation, Qualifier, Query, UnaryOperator};
 use sqlite_items::{Boxed, Items};
 use std::alloc::Global;
 
@@ -28,7 +28,7 @@ pub fn expression(
     ensures { Binds result (spec.expression declarations.now scope.now tree.now) }
 {
     match tree {
-        Expression::Literal(value) => Ok(NamedExpression::Literal(copied_literal(alloc, value)?)),
+        Expression::Literal(value) => Ok(NamedExpression::Literal(copy_literal(alloc, value)?)),
         Expression::Name(name) => declarations.name(alloc, scope, name),
         Expression::Itself(at) => scope.itself(*at),
         Expression::Indeterminate => Ok(NamedExpression::Indeterminate),
@@ -43,8 +43,7 @@ pub fn expression(
             qualified(alloc, declarations, scope, base.get(), taken.as_slice())
         },
         Expression::Unary(operator, at, operand) => {
-            let operand = expression(alloc, declarations, scope, operand.get())?;
-            Ok(NamedExpression::Unary(*operator, *at, Boxed::new(alloc, operand)?))
+            unary(alloc, declarations, scope, *operator, *at, operand.get())
         },
         Expression::Chain(left, operators) => {
             chain(alloc, declarations, scope, left.get(), operators.as_slice())
@@ -143,7 +142,7 @@ fn qualifier(
 {
     Ok(match tree {
         Qualifier::Attribute(at, name) => {
-            NamedQualifier::Attribute(*at, copied_name(alloc, name)?)
+            NamedQualifier::Attribute(*at, copy_name(alloc, name)?)
         },
         Qualifier::Group(at, name) => NamedQualifier::Group(*at, declarations.entity(name)?),
         Qualifier::Index(at, index) => {
@@ -156,6 +155,22 @@ fn qualifier(
             NamedQualifier::Range(*at, low, high)
         },
     })
+}
+
+/// An operator before its operand.
+#[cycle(expressions)]
+fn unary(
+    alloc: Global,
+    declarations: &Declarations<'_>,
+    scope: &Scope<'_>,
+    operator: UnaryOperator,
+    at: usize,
+    operand: &Expression,
+) -> Binding<NamedExpression>
+    ensures { Binds result (trees.unary declarations.now scope.now operator at operand.now) }
+{
+    let operand = expression(alloc, declarations, scope, operand)?;
+    Ok(NamedExpression::Unary(operator, at, Boxed::new(alloc, operand)?))
 }
 
 #[cycle(expressions)]

@@ -20,7 +20,7 @@ use Rattle.ex_named.specs.DataTypes.{data_type}
 use Rattle.ex_named.specs.Expressions.{expression}
 use Rattle.ex_named.specs.Statements.{statements}
 use Rattle.ex_declarations.specs.Declared.{once}
-use Rattle.ex_bind_algorithms.specs.Rules.{domain_rules, labels, scope_of}
+use Rattle.ex_bind.specs.Rules.{domain_rules, labels, scope_of}
 
 -- where a function's or rule's statements stand: these variables, and the entities that it is for
 abbrev pub body_scope : List Name → List ℕ → Scope

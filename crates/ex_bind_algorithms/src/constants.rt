@@ -4,9 +4,8 @@ ghost use Rattle.std.specs.Prelude.{◌≡◌, []};
 ghost use Rattle.ex_named.specs.Outcomes.{Binds};
 ghost use Rattle.ex_bind_algorithms.specs.Algorithms as spec;
 
-use crate::names::copy_name;
 use crate::variables::frame_of;
-use ex_bind::{data_type, expression};
+use ex_bind::{copy_name, data_type, expression};
 use ex_named::{Binding, NamedConstant, both};
 use ex_names::SortedNames;
 use ex_scopes::{Declarations, Scope};

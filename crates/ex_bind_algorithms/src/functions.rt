@@ -4,11 +4,10 @@ ghost use Rattle.std.specs.Prelude.{◌≡◌, [], ◌++◌, false, map, IfOk};
 ghost use Rattle.ex_named.specs.Outcomes.{Binds};
 ghost use Rattle.ex_bind_algorithms.specs.Algorithms as spec;
 
-use crate::names::copy_name;
 use crate::variables::{
     frame_of, local_variables, parameters, push_local_names, push_parameter_names,
 };
-use ex_bind::data_type;
+use ex_bind::{copy_name, data_type};
 use ex_bind_statements::statements;
 use ex_declarations::once;
 use ex_named::{Binding, NamedFunction, both};

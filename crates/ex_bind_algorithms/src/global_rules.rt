@@ -7,9 +7,8 @@ ghost use Rattle.ex_named.specs.Outcomes.{Binds, each};
 ghost use Rattle.ex_named.specs.Scopes.{entity as entity_named, is_among};
 ghost use Rattle.ex_bind_algorithms.specs.Algorithms as spec;
 
-use crate::names::copy_name;
-use crate::rules::domain_rules;
 use crate::variables::{frame_of, local_variables, push_labels, push_local_names};
+use ex_bind::{copy_name, domain_rules};
 use ex_bind_statements::statements;
 use ex_declarations::once;
 use ex_named::{Binding, Gathered, NamedRule, both};

@@ -4,12 +4,8 @@
 mod constants;
 mod functions;
 mod global_rules;
-mod names;
-mod rules;
 mod variables;
 
 pub use constants::constant;
 pub use functions::named_function;
 pub use global_rules::named_rule;
-pub use names::{copy_label, copy_name, copy_names};
-pub use rules::domain_rules;

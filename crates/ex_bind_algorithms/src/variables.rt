@@ -4,10 +4,9 @@ ghost use Rattle.std.specs.Prelude.{◌≡◌, map, ◌++◌, OnOk, IfOk};
 ghost use Rattle.ex_named.specs.Expressions.{expression as bound};
 ghost use Rattle.ex_named.specs.Outcomes.{Binds, each, optional};
 ghost use Rattle.ex_bind_algorithms.specs.Algorithms as spec;
-ghost use Rattle.ex_bind_algorithms.specs.Rules.{labels};
+ghost use Rattle.ex_bind.specs.Rules.{labels};
 
-use crate::names::copy_names;
-use ex_bind::{data_type, expression};
+use ex_bind::{copy_names, data_type, expression};
 use ex_named::{Binding, Gathered, NamedExpression, NamedLocal, NamedParameter, both};
 use ex_names::{NameTable, SortedNames};
 use ex_scopes::{Declarations, Scope};

@@ -48,7 +48,7 @@ use Rattle.ex_named.specs.Outcomes.{Outcome, refused, given, both, each, optiona
 use Rattle.ex_named.specs.Scopes.{Declarations, and_then, declared, as_defined, or_undeclared, attributes_of, entity, type_name}
 use Rattle.ex_named.specs.DataTypes.{data_type}
 use Rattle.ex_named.specs.Expressions.{expression}
-use Rattle.ex_bind_algorithms.specs.Rules.{domain_rules, labels, scope_of}
+use Rattle.ex_bind.specs.Rules.{domain_rules, labels, scope_of}
 use Rattle.ex_lineage.specs.Lineage.{family, is_ancestor}
 use Rattle.ex_declarations.specs.Declared.{once, explicit_names, derived_names, inverse_names}
 

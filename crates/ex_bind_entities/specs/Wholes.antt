@@ -12,7 +12,7 @@ use Rattle.ex_named.specs.declared.declaration.NamedUniqueRule.{NamedUniqueRule}
 use Rattle.ex_named.specs.declared.fault.NameFaultKind.TheVariants.{CyclicType}
 use Rattle.ex_named.specs.Outcomes.{Outcome, refused, given, both}
 use Rattle.ex_named.specs.Scopes.{Declarations}
-use Rattle.ex_bind_algorithms.specs.Rules.{domain_rules, labels, scope_of}
+use Rattle.ex_bind.specs.Rules.{domain_rules, labels, scope_of}
 use Rattle.ex_declarations.specs.Declared.{once}
 use Rattle.ex_bind_entities.specs.Entities.{entity_head, entity_attributes, entity_rules, underlying}
 

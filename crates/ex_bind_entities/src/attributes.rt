@@ -2,7 +2,7 @@
 
 ghost use Rattle.std.specs.Prelude.{◌≡◌, true};
 ghost use Rattle.ex_named.specs.Outcomes.{Binds, each};
-ghost use Rattle.ex_bind_algorithms.specs.Rules.{scope_of};
+ghost use Rattle.ex_bind.specs.Rules.{scope_of};
 ghost use Rattle.ex_lineage.specs.Lineage.{family};
 ghost use Rattle.ex_bind_entities.specs.Entities as spec;
 ghost use Rattle.ex_bind_entities.specs.Sorts.{admitted};
@@ -10,8 +10,7 @@ ghost use Rattle.ex_bind_entities.specs.Sorts.{admitted};
 use crate::attribute_uses::{Sorts, attribute_of};
 use crate::families::EntityContext;
 use crate::redeclarations::attribute;
-use ex_bind::{data_type, expression};
-use ex_bind_algorithms::copy_name;
+use ex_bind::{copy_name, data_type, expression};
 use ex_named::{
     Binding, Gathered, NamedAttribute, NamedDerived, NamedExplicit, NamedInverse, both,
 };

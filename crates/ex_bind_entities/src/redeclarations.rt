@@ -6,7 +6,7 @@ ghost use Rattle.ex_bind_entities.specs.Sorts.{admitted};
 
 use crate::attribute_uses::{Sorts, attribute_of};
 use crate::families::EntityContext;
-use ex_bind_algorithms::copy_name;
+use ex_bind::copy_name;
 use ex_named::{Binding, NameFaultKind, NamedAttribute, NamedRedeclaration, refused};
 use ex_tree::{AttributeDeclaration, QualifiedAttribute};
 use std::alloc::Global;

@@ -2,7 +2,7 @@
 
 ghost use Rattle.std.specs.Prelude.{◌≡◌, [], ◌++◌, map, IfOk, OnOk};
 ghost use Rattle.std.specs.List.{filter_map, flat_map};
-ghost use Rattle.ex_bind_algorithms.specs.Rules.{labels};
+ghost use Rattle.ex_bind.specs.Rules.{labels};
 ghost use Rattle.ex_declarations.specs.Declared as declared;
 ghost use Rattle.ex_named.specs.Outcomes.{Binds};
 

@@ -6,7 +6,7 @@ ghost use Rattle.ex_bind_entities.specs.Entities as spec;
 
 use crate::attribute_uses::{Sorts, attribute_in, attribute_of};
 use crate::families::EntityContext;
-use ex_bind_algorithms::copy_label;
+use ex_bind::copy_label;
 use ex_named::{AttributeUse, Binding, Gathered, NameFaultKind, NamedUniqueRule, refused};
 use ex_tree::{AttributeDeclaration, Name, QualifiedAttribute, UniqueRule};
 use sqlite_items::Items;

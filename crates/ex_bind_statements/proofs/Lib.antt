@@ -1,1 +1,1 @@
-pub mod Equations
+pub mod Lists

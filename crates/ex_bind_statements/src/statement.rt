@@ -1,8 +1,9 @@
 //! Statements: all parts are bound before the least of their faults is told.
+#![tactic(auto, unfolding(ex_named::specs::Statements::bound_statement, crate::specs::Parts::bound_case, crate::specs::Parts::bound_case_action))]
 
 ghost use Rattle.std.specs.Prelude.{◌≡◌};
 ghost use Rattle.ex_named.specs.Expressions.{expression as bound};
-ghost use Rattle.ex_named.specs.Outcomes.{Binds, each, optional};
+ghost use Rattle.ex_named.specs.Outcomes.{Binds, each};
 ghost use Rattle.ex_named.specs.Statements as spec;
 ghost use Rattle.ex_bind_statements.specs.Parts as parts;
 
@@ -17,7 +18,6 @@ use sqlite_items::{Boxed, Items};
 use std::alloc::Global;
 
 /// Statements with their names bound, in order.
-#[cycle(statements)]
 pub fn statements(
     alloc: Global,
     declarations: &Declarations<'_>,
@@ -25,6 +25,18 @@ pub fn statements(
     statements: &[Statement],
 ) -> Binding<Items<NamedStatement>>
     ensures { Binds result (spec.statements declarations.now scope.now statements.now) }
+{
+    sequence(alloc, declarations, scope, statements)
+}
+
+#[cycle(statements)]
+fn sequence(
+    alloc: Global,
+    declarations: &Declarations<'_>,
+    scope: &Scope<'_>,
+    statements: &[Statement],
+) -> Binding<Items<NamedStatement>>
+    ensures { Binds result (parts.sequence declarations.now scope.now statements.now) }
 {
     let mut found = Gathered::new(alloc);
     for item in statements {
@@ -50,14 +62,14 @@ fn statement(
             Ok(NamedStatement::Case(case))
         },
         Statement::Compound(body) => {
-            let body = statements(alloc, declarations, scope, body.as_slice())?;
+            let body = sequence(alloc, declarations, scope, body.as_slice())?;
             Ok(NamedStatement::Compound(body))
         },
         Statement::Escape => Ok(NamedStatement::Escape),
         Statement::If(condition, then_part, else_part) => {
             let condition = expression(alloc, declarations, scope, condition);
-            let then_part = statements(alloc, declarations, scope, then_part.as_slice());
-            let else_part = statements(alloc, declarations, scope, else_part.as_slice());
+            let then_part = sequence(alloc, declarations, scope, then_part.as_slice());
+            let else_part = sequence(alloc, declarations, scope, else_part.as_slice());
             let ((condition, then_part), else_part) = both(both(condition, then_part), else_part)?;
             Ok(NamedStatement::If(condition, then_part, else_part))
         },
@@ -114,7 +126,7 @@ fn case_actions(
     scope: &Scope<'_>,
     actions: &[CaseAction],
 ) -> Binding<Items<NamedCaseAction>>
-    ensures { Binds result (each (λ a. parts.bound_case_action declarations.now a scope.now) actions.now) }
+    ensures { Binds result (parts.case_actions declarations.now scope.now actions.now) }
 {
     let mut found = Gathered::new(alloc);
     for action in actions {
@@ -162,7 +174,7 @@ fn otherwise(
     scope: &Scope<'_>,
     part: &Option<Boxed<Statement>>,
 ) -> Binding<Option<Boxed<NamedStatement>>>
-    ensures { Binds result (optional (spec.statement declarations.now scope.now) part.now) }
+    ensures { Binds result (parts.otherwise declarations.now scope.now part.now) }
 {
     match part {
         Some(part) => {
@@ -206,7 +218,7 @@ fn repeat_in<'a>(
     ensures { Binds result (parts.repeat declarations.now scope.now control.now body.now) }
 {
     let control = repeat_control(alloc, declarations, scope, turn, control);
-    let body = statements(alloc, declarations, turn, body.as_slice());
+    let body = sequence(alloc, declarations, turn, body.as_slice());
     let (control, body) = both(control, body)?;
     Ok(NamedStatement::Repeat(control, body))
 }

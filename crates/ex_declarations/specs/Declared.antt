@@ -1,6 +1,7 @@
 -- What a schema declares (ISO 10303-11:1994, clause 9 and 10).
 use Rattle.std.specs.Prelude.{ℕ, zero, suc, Bool, true, false, List, [], ◌∷◌, ◌++◌, map, Option, Some, None, is_some, if◌then◌else◌, Ok}
 use Rattle.std.specs.List.{filter_map, flat_map}
+use Rattle.ex_lineage.specs.Numbered.{numbered}
 use Rattle.ex_names.specs.Names.{place_of}
 use Rattle.ex_tree.specs.declared.expression.Name.{Name}
 use Rattle.ex_tree.specs.declared.data_type.DataType.{DataType}
@@ -57,16 +58,6 @@ functions schema = filter_map function_of schema.declarations
 
 abbrev pub rules : Schema → List Rule
 rules schema = filter_map rule_of schema.declarations
-
--- ---- numbers: how many of a list stand before
-
-abbrev pub numbered_from : {A B : Type 0} → (ℕ → A → B) → ℕ → List A → List B
-numbered_from make k [] = []
-numbered_from make k (x ∷ xs) = make k x ∷ numbered_from make (suc k) xs
-
--- each element with its number
-abbrev pub numbered : {A B : Type 0} → (ℕ → A → B) → List A → List B
-numbered make = numbered_from make zero
 
 -- ---- the schema's own scope
 

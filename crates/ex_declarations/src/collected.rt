@@ -3,6 +3,7 @@
 ghost use Rattle.std.specs.Prelude.{◌≡◌, [], ◌∷◌, map, IfOk, OnOk};
 ghost use Rattle.ex_declarations.specs.Declared as spec;
 ghost use Rattle.ex_declarations.specs.Steps.{and_attributes, and_items, and_names, and_types, rows_of};
+ghost use Rattle.ex_lineage.specs.Numbered.{numbered};
 
 use crate::attribute_names::{derived_names, explicit_names, inverse_names};
 use crate::own_names::own_names;
@@ -69,7 +70,7 @@ fn push_entities<'a>(
     found: &mut Declarations<'a>,
     entities: &[&'a Entity],
 ) -> Result<(), AllocError>
-    ensures { OnOk result (found.new ≡ and_attributes found.old (spec.concatenated (spec.numbered spec.attributes_of_entity (map (λ e. e.now) entities.now)))) }
+    ensures { OnOk result (found.new ≡ and_attributes found.old (spec.concatenated (numbered spec.attributes_of_entity (map (λ e. e.now) entities.now)))) }
 {
     for (number, entity) in entities.iter().enumerate() {
         push_entity(alloc, found, number, entity)?;
@@ -83,7 +84,7 @@ fn push_items<'a>(
     type_number: usize,
     names: &'a [Name],
 ) -> Result<(), AllocError>
-    ensures { OnOk result (found.new ≡ and_items found.old (spec.numbered (λ place n. (n.text, record { type_number = type_number; place = place })) names.now)) }
+    ensures { OnOk result (found.new ≡ and_items found.old (numbered (λ place n. (n.text, record { type_number = type_number; place = place })) names.now)) }
 {
     for (place, name) in names.iter().enumerate() {
         found.push_item(name.text.as_bytes(), EnumerationItem { type_number, place })?;
@@ -114,7 +115,7 @@ fn push_types<'a>(
     found: &mut Declarations<'a>,
     types: &[&'a TypeDeclaration],
 ) -> Result<(), AllocError>
-    ensures { OnOk result (found.new ≡ and_types found.old (spec.concatenated (spec.numbered spec.items_of_type (map (λ x. x.now) types.now))) (map (λ x. spec.is_enumeration x.underlying) (map (λ x. x.now) types.now))) }
+    ensures { OnOk result (found.new ≡ and_types found.old (spec.concatenated (numbered spec.items_of_type (map (λ x. x.now) types.now))) (map (λ x. spec.is_enumeration x.underlying) (map (λ x. x.now) types.now))) }
 {
     for (number, declared) in types.iter().enumerate() {
         push_type(found, number, declared)?;
@@ -122,14 +123,26 @@ fn push_types<'a>(
     Ok(())
 }
 
-/// All that a schema declares.
+/// Puts all that a schema declares into a list of nothing.
 #[tactic(auto, unfolding(crate::specs::Declared::declarations))]
+fn fill<'a>(
+    alloc: Global,
+    found: &mut Declarations<'a>,
+    schema: &'a Schema,
+) -> Result<(), AllocError>
+    requires { found.old ≡ record { names = []; attributes = []; items = []; enumerations = [] } }
+    ensures { OnOk result (found.new ≡ spec.declarations schema.now) }
+{
+    push_names(found, &own_names(alloc, schema)?)?;
+    push_entities(alloc, found, &entities(alloc, schema)?)?;
+    push_types(found, &types(alloc, schema)?)
+}
+
+/// All that a schema declares.
 pub fn declarations<'a>(alloc: Global, schema: &'a Schema) -> Result<Declarations<'a>, AllocError>
     ensures { IfOk result (λ found. found ≡ spec.declarations schema.now) }
 {
     let mut found = Declarations::new(alloc);
-    push_names(&mut found, &own_names(alloc, schema)?)?;
-    push_entities(alloc, &mut found, &entities(alloc, schema)?)?;
-    push_types(&mut found, &types(alloc, schema)?)?;
+    fill(alloc, &mut found, schema)?;
     Ok(found)
 }

@@ -4,7 +4,7 @@ use Rattle.std.specs.List.{list_any, flat_map, filter_map}
 use Rattle.ex_named.specs.declared.declaration.NamedType.{NamedType}
 use Rattle.ex_named.specs.declared.declaration.NamedUnderlying.{NamedUnderlying}
 use Rattle.ex_named.specs.declared.declaration.NamedUnderlying.TheVariants as u
-use Rattle.ex_declarations.specs.Declared.{numbered}
+use Rattle.ex_lineage.specs.Numbered.{numbered}
 use Rattle.ex_lineage.specs.Lineage.{family}
 use Rattle.ex_kinds.specs.declared.kind.Kind.{Kind}
 use Rattle.ex_kinds.specs.declared.kind.Sort.{Sort}

@@ -13,6 +13,3 @@ mod steps;
 pub use cycles::cyclic_marks;
 pub use order::line;
 pub use reached::{ancestors, family};
-
-#[cfg(test)]
-mod tests;

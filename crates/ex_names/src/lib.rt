@@ -71,6 +71,3 @@ impl<'a> NameTable<'a> {
         Ok(())
     }
 }
-
-#[cfg(test)]
-mod tests;

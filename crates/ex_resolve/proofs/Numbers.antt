@@ -7,7 +7,8 @@ use Rattle.ex_tree.specs.declared.declaration.Entity.{Entity}
 use Rattle.ex_tree.specs.declared.declaration.TypeDeclaration.{TypeDeclaration}
 use Rattle.ex_named.specs.Scopes.{Declarations}
 use Rattle.ex_lineage.specs.Lineage.{numbers_from}
-use Rattle.ex_declarations.specs.Declared.{numbered_from, subtype_graph, type_graph}
+use Rattle.ex_declarations.specs.Declared.{subtype_graph, type_graph}
+use Rattle.ex_lineage.specs.Numbered.{numbered_from}
 
 pub length-numbers : {A : Type 0} (f : ℕ → A) (start n : ℕ) → length (map f (numbers_from start n)) ≡ n
 length-numbers f start zero = refl

@@ -14,7 +14,8 @@ use Rattle.ex_named.specs.declared.declaration.NamedType.{NamedType}
 use Rattle.ex_named.specs.declared.reference.AttributePlace.{AttributePlace}
 use Rattle.ex_named.specs.declared.reference.AttributeSort.TheVariants.{Explicit}
 use Rattle.ex_named.specs.Outcomes.{Outcome, given, both, each}
-use Rattle.ex_declarations.specs.Declared.{declarations, declared_names, entities, types, functions, rules, once, subtype_graph, type_graph, each_numbered, numbered}
+use Rattle.ex_declarations.specs.Declared.{declarations, declared_names, entities, types, functions, rules, once, subtype_graph, type_graph, each_numbered}
+use Rattle.ex_lineage.specs.Numbered.{numbered}
 use Rattle.ex_lineage.specs.Lineage.{line}
 use Rattle.ex_bind_entities.specs.Entities.{named_entity, named_type}
 use Rattle.ex_bind_algorithms.specs.Algorithms.{constant, named_function, named_rule}
@@ -41,7 +42,7 @@ schema_parts schema = both (once (map (λ r. r.0) (declared_names schema)))
     (both (both (named_types schema) (named_entities schema)) (both (named_functions schema) (named_rules schema))))
 
 abbrev pub make_schema : Schema → Unit {0} × SchemaParts → NamedSchema
-make_schema schema p = record { name = schema.name; constants = p.1.0; types = p.1.1.0.0; entities = p.1.1.0.1; functions = p.1.1.1.0; rules = p.1.1.1.1 }
+make_schema schema p = record { name = schema.name; constants = p.1.0; types = p.1.1.0.0; entities = p.1.1.0.1; functions = p.1.1.1.0; rules = p.1.1.1.1; strings = schema.strings }
 
 unfoldable pub named_schema : Schema → Outcome NamedSchema
 named_schema schema = given (make_schema schema) (schema_parts schema)

@@ -4,7 +4,7 @@ ghost use Rattle.std.specs.Prelude.{◌≡◌, ◌↔◌, ◌++◌, ◌≤◌, �
 ghost use Rattle.std.specs.List.{flat_map};
 ghost use Rattle.std.specs.List.Sorted.{IsStrictlyIncreasing};
 ghost use Rattle.ex_lineage.specs.Lineage as lineage;
-ghost use Rattle.ex_declarations.specs.Declared.{numbered_from};
+ghost use Rattle.ex_lineage.specs.Numbered.{numbered_from};
 ghost use Rattle.ex_resolve.specs.Schemas as spec;
 
 use ex_lineage::{ancestors, line};

@@ -7,7 +7,7 @@ ghost use Rattle.ex_resolve.specs.Schemas as spec;
 
 use crate::named::Named;
 use crate::parts;
-use ex_bind_algorithms::copy_name;
+use ex_bind::{copy_name, copy_strings};
 use ex_declarations::{declarations, declared_names, entities, once, subtype_graph};
 use ex_named::{
     Binding, NamedConstant, NamedEntity, NamedFunction, NamedRule, NamedSchema, NamedType, both,
@@ -113,6 +113,7 @@ fn named_schema(
     ensures { Binds result (spec.named_schema schema.now) }
 {
     let name = copy_name(alloc, &schema.name)?;
+    let strings = copy_strings(alloc, schema.strings.as_slice())?;
     let ((), parts) = schema_parts(alloc, declarations, subtypes, entities, schema)?;
     let (constants, ((types, entities), (functions, rules))) = parts;
     Ok(NamedSchema {
@@ -122,5 +123,6 @@ fn named_schema(
         entities,
         functions,
         rules,
+        strings,
     })
 }

@@ -30,6 +30,9 @@ decreases-call l = 3 * most x.the_size l.arguments.now + 2
 abbrev pub decreases-qualified : goal.decreases-qualified
 decreases-qualified l = 3 * max (x.the_size l.base.now) (most q.the_size l.taken.now) + 2
 
+abbrev pub decreases-unary : goal.decreases-unary
+decreases-unary l = 3 * x.the_size l.operand.now + 2
+
 abbrev pub decreases-qualifiers : goal.decreases-qualifiers
 decreases-qualifiers l = 3 * goal.size-qualifiers l + 1
 

@@ -1,5 +1,5 @@
 use Rattle.std.proofs.Common.{◌≡◌, ◌++◌, map, drop}
-use Rattle.ex_bind_algorithms.specs.Rules.{labels}
+use Rattle.ex_bind.specs.Rules.{labels}
 use Rattle.ex_bind_algorithms.proofs.variables.push_labels.Given as goal
 
 abbrev pub invariant-loop-rule : goal.invariant-loop-rule

@@ -1,8 +1,8 @@
 use Rattle.std.proofs.Common.{◌≡◌, drop}
-use Rattle.ex_declarations.specs.Declared as spec
+use Rattle.ex_lineage.specs.Numbered.{numbered, numbered_from}
 use Rattle.ex_declarations.specs.Steps.{and_items}
 use Rattle.ex_declarations.proofs.collected.push_items.Given as goal
 
 abbrev pub invariant-loop-place : goal.invariant-loop-place
 invariant-loop-place l =
-    and_items l.found (spec.numbered_from (λ k n. (n.text, record { type_number = l.type_number; place = k })) l.place (drop l.place l.names)) ≡ and_items l.initial.found (spec.numbered (λ k n. (n.text, record { type_number = l.type_number; place = k })) l.names)
+    and_items l.found (numbered_from (λ k n. (n.text, record { type_number = l.type_number; place = k })) l.place (drop l.place l.names)) ≡ and_items l.initial.found (numbered (λ k n. (n.text, record { type_number = l.type_number; place = k })) l.names)

@@ -1,13 +1,14 @@
 use Rattle.std.proofs.Common.{◌≡◌, ◌+◌, ◌++◌, drop}
 use Rattle.ex_named.specs.declared.reference.Declared.TheVariants as d
+use Rattle.ex_lineage.specs.Numbered.{numbered, numbered_from}
 use Rattle.ex_declarations.specs.Declared as spec
 use Rattle.ex_declarations.specs.Steps.{rows_of}
 use Rattle.ex_declarations.proofs.own_names.own_names.Given as goal
 
 abbrev pub invariant-loop-number : goal.invariant-loop-number
 invariant-loop-number l =
-    rows_of l.rows.items ++ spec.numbered_from (λ k c. (c.name, d.Constant k)) l.number (drop l.number l.schema.constants)
-    ≡ spec.numbered (λ k c. (c.name, d.Constant k)) l.schema.constants
+    rows_of l.rows.items ++ numbered_from (λ k c. (c.name, d.Constant k)) l.number (drop l.number l.schema.constants)
+    ≡ numbered (λ k c. (c.name, d.Constant k)) l.schema.constants
 
 abbrev pub invariant-loop-declaration : goal.invariant-loop-declaration
 invariant-loop-declaration l = record {

@@ -1,10 +1,10 @@
 //! Rules of a WHERE clause.
 
 ghost use Rattle.ex_named.specs.Outcomes.{Binds};
-ghost use Rattle.ex_bind_algorithms.specs.Rules as spec;
+ghost use Rattle.ex_bind.specs.Rules as spec;
 
-use crate::names::copy_label;
-use ex_bind::expression;
+use crate::copies::copy_label;
+use crate::expressions::expression;
 use ex_named::{Binding, Gathered, NamedDomainRule};
 use ex_scopes::{Declarations, Scope};
 use ex_tree::DomainRule;
