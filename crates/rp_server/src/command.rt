@@ -1,7 +1,7 @@
 //! The command line.
 use crate::fault::Fault;
 use clap::error::ErrorKind;
-use clap::{Arg, ArgAction, Command, Error};
+use clap::{Arg, ArgAction, ArgMatches, Command, Error};
 use std::alloc::{AllocError, Global};
 
 /// What the command line asks for.
@@ -62,54 +62,75 @@ and the status is 1. The kinds are
 
 The status is 2, with one line on standard error, where the file can't be read or is over 8 MiB.";
 
-fn command<'a>(alloc: Global) -> Result<Command<'a>, AllocError> {
+/// `batch`, with its arguments.
+fn batch_command<'a>(alloc: Global) -> Result<Command<'a>, AllocError> {
     let config = Arg::new(alloc, "config")
         .long("config")
         .value_name("FILE")
         .help("The configuration, as shown below")
         .required(true)
         .action(ArgAction::Set);
-    let batch = Command::new(alloc, "batch")
+    Command::new(alloc, "batch")
         .about(BATCH_ABOUT)
         .after_help(BATCH_AFTER)
-        .arg(config)?;
+        .arg(config)
+}
+
+/// `check`, with its arguments.
+fn check_command<'a>(alloc: Global) -> Result<Command<'a>, AllocError> {
     let file = Arg::new(alloc, "file")
         .value_name("FILE")
         .help("The schema's file")
         .required(true)
         .action(ArgAction::Set);
-    let check = Command::new(alloc, "check")
+    Command::new(alloc, "check")
         .about(CHECK_ABOUT)
         .after_help(CHECK_AFTER)
-        .arg(file)?;
+        .arg(file)
+}
+
+/// The program, with `batch` alone. It is apart so that few commands are in hand where memory may be wanting.
+fn with_batch<'a>(alloc: Global) -> Result<Command<'a>, AllocError> {
+    let batch = batch_command(alloc)?;
     Command::new(alloc, "rp_server")
         .about(ABOUT)
         .after_help("Type rp_server batch --help for the configuration and the requests.")
         .subcommand_required(true)
-        .subcommand(batch)?
-        .subcommand(check)
+        .subcommand(batch)
+}
+
+fn command<'a>(alloc: Global) -> Result<Command<'a>, AllocError> {
+    let check = check_command(alloc)?;
+    with_batch(alloc)?.subcommand(check)
 }
 
 /// What these words ask for, the program's own name first.
 pub fn asked_of<'a>(alloc: Global, words: &'a [String]) -> Result<Asked<'a>, Fault> {
-    let matches = match command(alloc)?.try_get_matches_from(words) {
-        Ok(matches) => matches,
-        Err(error) if error.kind() == ErrorKind::OutOfMemory => return Err(Fault::NoMemory),
-        Err(error) if error.use_stderr() => return Err(Fault::CommandLine(line_of(alloc, &error)?)),
-        Err(error) => return Ok(Asked::Help(error)),
-    };
-    if let Some(("batch", found)) = matches.subcommand()
-        && let Some(config) = found.get_str("config")
-    {
-        return Ok(Asked::Batch(config));
+    match command(alloc)?.try_get_matches_from(words) {
+        Ok(matches) => asked_in(&matches).ok_or(Fault::Incomplete),
+        Err(error) if error.use_stderr() => Err(fault_of(alloc, &error)),
+        Err(error) => Ok(Asked::Help(error)),
     }
-    if let Some(("check", found)) = matches.subcommand()
-        && let Some(file) = found.get_str("file")
-    {
-        return Ok(Asked::Check(file));
+}
+
+/// What words that parse ask for.
+fn asked_in<'a>(matches: &ArgMatches<'a>) -> Option<Asked<'a>> {
+    match matches.subcommand()? {
+        ("batch", found) => found.get_str("config").map(Asked::Batch),
+        ("check", found) => found.get_str("file").map(Asked::Check),
+        _ => None,
     }
-    let why = String::from_str(alloc, "batch wants --config FILE, and check wants FILE")?;
-    Err(Fault::CommandLine(why))
+}
+
+/// What is wrong with words that don't parse.
+fn fault_of(alloc: Global, error: &Error) -> Fault {
+    if error.kind() == ErrorKind::OutOfMemory {
+        return Fault::NoMemory;
+    }
+    match line_of(alloc, error) {
+        Ok(line) => Fault::CommandLine(line),
+        Err(_) => Fault::NoMemory,
+    }
 }
 
 /// What an error says, in one line: the lines of its text up to an empty one, without its first word.

@@ -5,10 +5,12 @@ use std::alloc::{AllocError, AllocFailed};
 use std::fmt;
 
 /// Why the program ends with status 2.
-#[derive(Debug, Drop)]
+#[derive(Drop)]
 pub enum Fault {
     /// The command line is wrong; why, in one line.
     CommandLine(String),
+    /// The command line names no command with its file.
+    Incomplete,
     /// The command line has a word that isn't UTF-8.
     Words,
     /// The file of this path can't be read.
@@ -32,24 +34,37 @@ pub enum Fault {
 impl fmt::Display for Fault {
     fn fmt<W: fmt::Write>(&self, f: &mut fmt::Formatter<W>) -> fmt::Result {
         match self {
-            Fault::CommandLine(why) => { write!(f, "{why} (rp_server --help tells what to type)") }
-            Fault::Words => write!(f, "the command line isn't UTF-8"),
-            Fault::Unreadable(path) => write!(f, "{:?} can't be read", path.as_str()),
-            Fault::TooLarge(path) => write!(f, "{:?} is over 8 MiB", path.as_str()),
-            Fault::Config(path) => write!(
+            Fault::CommandLine(why) => write_usage(f, why.as_str()),
+            Fault::Incomplete => {
+                write_usage(f, "batch wants --config FILE, and check wants FILE")
+            }
+            Fault::Words => f.write_str("the command line isn't UTF-8"),
+            Fault::Unreadable(path) => write_of_file(f, path, "can't be read"),
+            Fault::TooLarge(path) => write_of_file(f, path, "is over 8 MiB"),
+            Fault::Config(path) => write_of_file(
                 f,
-                "{:?} is no configuration (rp_server batch --help shows one)",
-                path.as_str()
+                path,
+                "is no configuration (rp_server batch --help shows one)",
             ),
             Fault::Schema(path, words) => {
                 write!(f, "{:?} is no schema: {}", path.as_str(), words.as_str())
             }
             Fault::New(fault) => f.write_str(why_none(*fault)),
-            Fault::NoMemory => write!(f, "out of memory"),
-            Fault::Read => write!(f, "standard input can't be read"),
-            Fault::Write => write!(f, "standard output can't be written"),
+            Fault::NoMemory => f.write_str("out of memory"),
+            Fault::Read => f.write_str("standard input can't be read"),
+            Fault::Write => f.write_str("standard output can't be written"),
         }
     }
+}
+
+/// Writes what is wrong with the command line.
+fn write_usage<W: fmt::Write>(f: &mut fmt::Formatter<W>, why: &str) -> fmt::Result {
+    write!(f, "{why} (rp_server --help tells what to type)")
+}
+
+/// Writes what is wrong with the file of this path.
+fn write_of_file<W: fmt::Write>(f: &mut fmt::Formatter<W>, path: &Text, why: &str) -> fmt::Result {
+    write!(f, "{:?} {why}", path.as_str())
 }
 
 /// Why there is no repository.

@@ -2,20 +2,15 @@
 #![tactic(auto)]
 
 mod command;
-mod config;
 mod fault;
-mod files;
-mod schema;
 
 use command::{Asked, asked_of};
-use config::{Config, ConfigFault, config_of};
 use ex_check::{CheckFault, Verdict, check_text};
 use ex_types::Schema;
 use fault::Fault;
-use files::{FileFault, file_bytes};
 use plain_data::Text;
+use rp_config::{Config, ConfigFault, FileFault, LoadFault, config_of, file_bytes, load};
 use rp_repo::{FromReader, Repository, RunFault, ToWriter, run_lines};
-use schema::{LoadFault, load};
 use std::process::ExitCode;
 use std::rt::{Env, Files};
 use std::{env, io};
@@ -66,20 +61,30 @@ fn check<R: AllocGlobal + Files + Print>(rt: &R, path: &str) -> Result<ExitCode,
 
 /// Answers the lines of standard input.
 fn batch<R: AllocGlobal + Files + Print + Input>(rt: &R, path: &str) -> Result<ExitCode, Fault> {
-    let alloc = rt.alloc();
-    let Config { partners, schemas } = config_at(rt, path)?;
-    let mut loaded = Vec::new(alloc);
-    for path in schemas.into_vec() {
-        loaded.push(schema_at(rt, path)?)?;
-    }
-    let mut repository = Repository::new(alloc, loaded, partners.into_vec())?;
+    let mut repository = opened(rt, path)?;
     let mut reader = FromReader::new(rt.reader());
     let mut writer = ToWriter::new(io::writer(rt));
-    match run_lines(alloc, &mut repository, &mut reader, &mut writer) {
+    match run_lines(rt.alloc(), &mut repository, &mut reader, &mut writer) {
         Ok(_) => Ok(ExitCode::SUCCESS),
         Err(RunFault::ReadFault) => Err(Fault::Read),
         Err(RunFault::WriteFault) => Err(Fault::Write),
     }
+}
+
+/// The repository that the configuration in the file of this path tells.
+fn opened<R: AllocGlobal + Files>(rt: &R, path: &str) -> Result<Repository, Fault> {
+    let Config { partners, schemas } = config_at(rt, path)?;
+    let schemas = schemas_at(rt, schemas.into_vec())?;
+    Ok(Repository::new(rt.alloc(), schemas, partners.into_vec())?)
+}
+
+/// The schemas in the files of these paths.
+fn schemas_at<R: AllocGlobal + Files>(rt: &R, paths: Vec<Text>) -> Result<Vec<Schema>, Fault> {
+    let mut schemas = Vec::new(rt.alloc());
+    for path in paths {
+        schemas.push(schema_at(rt, path)?)?;
+    }
+    Ok(schemas)
 }
 
 /// The configuration in the file of this path.

@@ -3,8 +3,8 @@ use Rattle.std.specs.Prelude.{◌≡◌, ℕ, List, Result, Ok, Err}
 use Rattle.ex_types.specs.declared.schema.Schema.{Schema}
 use Rattle.ex_check.specs.declared.fault.SchemaFault.{SchemaFault}
 use Rattle.ex_check.specs.Check.{schema, words_of_fault}
-use Rattle.rp_server.specs.declared.schema.LoadFault.{LoadFault}
-use Rattle.rp_server.specs.declared.schema.LoadFault.TheVariants.{Faulty, NoMemory}
+use Rattle.rp_config.specs.declared.schema.LoadFault.{LoadFault}
+use Rattle.rp_config.specs.declared.schema.LoadFault.TheVariants.{Faulty, NoMemory}
 
 -- the words tell the fault, or memory is wanting
 abbrev pub Told : List ℕ → SchemaFault → LoadFault → Type 0

@@ -5,7 +5,7 @@ use Rattle.std.specs.Str.{bytes_eq, is_utf8}
 use Rattle.serde_json.specs.Data.{Data, Items, no_items, item, Members, no_members, member}
 use Rattle.serde_json.specs.Find.{get_member, as_str, as_array, as_object}
 use Rattle.serde_json.specs.Read.{read}
-use Rattle.rp_server.specs.declared.config.Config.{Config}
+use Rattle.rp_config.specs.declared.config.Config.{Config}
 
 -- each key is one of these
 abbrev pub has_only : List (List ℕ) → Members → Bool

@@ -10,7 +10,7 @@ use std::io::{ErrorKind, Read};
 pub const FILE_LIMIT: usize = 8_388_608;
 
 /// Why a file isn't read.
-#[derive(Clone, Copy, PartialEq, Eq, Debug, Drop)]
+#[derive(Clone, Copy, PartialEq, Eq, Drop)]
 pub enum FileFault {
     /// It can't be opened, or a read failed.
     Unreadable,

@@ -4,8 +4,8 @@ use Rattle.std.proofs.lemmas.Str.{is_utf8-from_IsUtf8, IsUtf8-from_is_utf8}
 use Rattle.serde_json.specs.Data.{Data}
 use Rattle.serde_json.specs.Find.{as_object}
 use Rattle.serde_json.specs.Read.{read}
-use Rattle.rp_server.specs.Configuration.{config_of, config_in}
-use Rattle.rp_server.proofs.config.config_of.Goals as goal
+use Rattle.rp_config.specs.Configuration.{config_of, config_in}
+use Rattle.rp_config.proofs.config.config_of.Goals as goal
 
 told : (bytes : List ℕ) (v : Data) → is_utf8 bytes ≡ true → read bytes ≡ Some v → config_of bytes ≡ option_and_then config_in (as_object v)
 told bytes v valid found = rw (valid, found) refl

@@ -1,6 +1,6 @@
 use Rattle.std.proofs.Common.{◌≤◌, length, rules}
-use Rattle.rp_server.proofs.FileLemmas.{all_of_few}
-use Rattle.rp_server.proofs.files.all_bytes.Goals as goal
+use Rattle.rp_config.proofs.FileLemmas.{all_of_few}
+use Rattle.rp_config.proofs.files.all_bytes.Goals as goal
 
 pub returns-clause-whole : goal.returns-clause-whole
 returns-clause-whole g c =

@@ -5,7 +5,7 @@ ghost use Rattle.std.specs.Str.{bytes_eq};
 ghost use Rattle.std.specs.BTreeMap.{keys as map_keys};
 ghost use Rattle.serde_json.specs.Find.{as_str, as_object};
 ghost use Rattle.serde_json.specs.View.{view, items_view, members_view};
-ghost use Rattle.rp_server.specs.Configuration as spec;
+ghost use Rattle.rp_config.specs.Configuration as spec;
 
 use plain_data::{Rows, Text};
 use serde_json::{Map, Value};
@@ -21,7 +21,7 @@ pub struct Config {
 }
 
 /// Why bytes give no configuration.
-#[derive(Clone, Copy, PartialEq, Eq, Debug, Drop)]
+#[derive(Clone, Copy, PartialEq, Eq, Drop)]
 pub enum ConfigFault {
     /// They are none.
     Wrong,
@@ -31,7 +31,7 @@ pub enum ConfigFault {
 
 impl From<AllocError> for ConfigFault {
     ghost use Rattle.std.specs.Prelude.{◌≡◌};
-    ghost use Rattle.rp_server.specs.declared.config.ConfigFault.TheVariants.{NoMemory};
+    ghost use Rattle.rp_config.specs.declared.config.ConfigFault.TheVariants.{NoMemory};
 
     ghost from_gives = { λ _ e. e ≡ NoMemory };
 
@@ -42,7 +42,7 @@ impl From<AllocError> for ConfigFault {
 
 impl<T: Drop> From<AllocFailed<T>> for ConfigFault {
     ghost use Rattle.std.specs.Prelude.{◌≡◌};
-    ghost use Rattle.rp_server.specs.declared.config.ConfigFault.TheVariants.{NoMemory};
+    ghost use Rattle.rp_config.specs.declared.config.ConfigFault.TheVariants.{NoMemory};
 
     ghost from_gives = { λ _ e. e ≡ NoMemory };
 

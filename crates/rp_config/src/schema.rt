@@ -1,5 +1,5 @@
 //! The schemas that a configuration names.
-ghost use Rattle.rp_server.specs.Loading.{Loads, Told};
+ghost use Rattle.rp_config.specs.Loading.{Loads, Told};
 
 use ex_check::{SchemaFault, schema_of, words_of_fault};
 use ex_types::Schema;
@@ -8,7 +8,7 @@ use std::alloc::Global;
 use text_forms::Failure;
 
 /// Why a text gives no schema.
-#[derive(Debug, Drop)]
+#[derive(Drop)]
 pub enum LoadFault {
     /// It is none: the kind of its first fault, its line and its column.
     Faulty(Text),

@@ -1,6 +1,0 @@
-use Rattle.rp_server.specs.Configuration.{name_of}
-use Rattle.rp_server.proofs.ConfigLemmas.{Found}
-use Rattle.rp_server.proofs.config.names_in.Given as goal
-
-abbrev pub invariant-loop-partner : goal.invariant-loop-partner
-invariant-loop-partner l = Found name_of l.partners l.partner-index l.names
