@@ -7,39 +7,16 @@ compares all that it writes, byte for byte.
 Each function `test_*` is one test; its document string says what has to hold. The last line is
 'check_schema: N passed, M failed', and the status is 0 only if none failed.
 """
-import json
 import sys
 
-from end_to_end import (
-    BAD_REQUEST, CONFIG, FILE_LIMIT, FIRST_LINES, FIRST_NAMES, FIRST_REPLIES, L, NO_SUCH_ITEM, OK, T, TOO_LARGE,
-    Folder, Wrong, create, expect, expect_fault, file_of, instances, line, names, put, run_tests,
+from harness import Wrong, run_tests
+from messages import (
+    BAD_REQUEST, CONFIG, FILE_LIMIT, FIRST, FIRST_NAMES, L, NO_SUCH_ITEM, OK, T, TOO_LARGE, UNKNOWN_SCHEMA,
+    Repository, check, create, expect, expect_fault, fault, file_of, good, instances, line, list_of, listed, loaded,
+    names, put, replies_to, schemas,
 )
 
 SCHEMA_C = "SCHEMA C; ENTITY e; x : REAL; WHERE -1.5 < x; END_ENTITY; END_SCHEMA;"
-
-
-def check(who, text):
-    return line(who, "check_schema", text=text)
-
-
-def schemas(who):
-    return line(who, "schemas")
-
-
-def loaded(*names_of_schemas):
-    """The reply to `schemas`."""
-    return b'{"ok":{"schemas":[%s]}}' % b",".join(b'"%s"' % it.encode() for it in names_of_schemas)
-
-
-def good(name, *warnings):
-    """The reply to a text that is a schema, with warnings at these bytes."""
-    told = b",".join(b'{"at":%d,"kind":"SelectInTypeof"}' % it for it in warnings)
-    return b'{"ok":{"schema":"%s","warnings":[%s]}}' % (name.encode(), told)
-
-
-def fault(kind, at):
-    """The reply to a text that is no schema."""
-    return b'{"ok":{"fault":{"at":%d,"kind":"%s"}}}' % (at, kind.encode())
 
 
 # A text, and the reply to it.
@@ -97,7 +74,7 @@ def test_schemas_in_byte_order():
     expect([(schemas("ann"), loaded("L", "T")), (schemas("bob"), loaded("L", "T"))])
     files = {"b": "SCHEMA b; END_SCHEMA;", "ab": "SCHEMA a_b; END_SCHEMA;", "a1": "SCHEMA A1; END_SCHEMA;",
              "a": "SCHEMA a; END_SCHEMA;"}
-    with Folder({**CONFIG, "schemas": ["t.exp", "b.exp", "ab.exp", "a1.exp", "a.exp", "l.exp"]}, **files) as folder:
+    with Repository({**CONFIG, "schemas": ["t.exp", "b.exp", "ab.exp", "a1.exp", "a.exp", "l.exp"]}, **files) as folder:
         seen = folder.batch(schemas("bob"))
     if seen != (0, loaded("A", "A1", "A_B", "B", "L", "T") + b"\n", b""):
         raise Wrong(f"{seen!r}")
@@ -123,9 +100,9 @@ def test_places_count_bytes():
 def test_a_check_changes_nothing():
     """The loaded schemas are as before, and a schema that was checked isn't loaded."""
     expect([(check("ann", "SCHEMA X; END_SCHEMA;"), good("X")),
-            (create("ann", "m", "X"), b'{"refused":{"code":5,"name":"UnknownSchema"}}'),
+            (create("ann", "m", "X"), UNKNOWN_SCHEMA),
             (schemas("ann"), loaded("L", "T")),
-            *zip(FIRST_LINES, FIRST_REPLIES),
+            *FIRST,
             (check("ann", "SCHEMA T; END_SCHEMA;"), good("T")),
             (check("bob", "no schema"), fault("Syntax", 0)),
             (names("ann", "ann", "m"), FIRST_NAMES)])
@@ -162,17 +139,6 @@ def test_what_is_no_request():
     expect([(it, BAD_REQUEST) for it in lines])
 
 
-def replies_to(who, lines):
-    """The reply lines to a partner's lines."""
-    with Folder() as folder:
-        status, output, errors = folder.batch(b"".join(it + b"\n" for it in lines))
-    replies = output.split(b"\n")[:-1]
-    if (status, errors, len(replies)) != (0, b"", len(lines)):
-        raise Wrong(f"status {status}, {len(replies)} replies to {len(lines)} lines, {errors!r}")
-    mark = b'{"as":"%s"' % who.encode()
-    return [reply for it, reply in zip(lines, replies) if it.startswith(mark)]
-
-
 def test_two_inputs_that_look_the_same_to_bob():
     """What ann checks, creates and puts changes none of bob's replies."""
     his = [schemas("bob"), check("bob", SCHEMA_C), check("bob", "SCHEMA A;"), schemas("bob"),
@@ -203,7 +169,7 @@ FAULTS = [
 def test_a_configured_schema_with_a_fault():
     """The program ends with status 2 and one line with the file's path and the words that `check` prints."""
     for text, words in FAULTS:
-        with Folder({**CONFIG, "schemas": ["t.exp", "other.exp"]}, other=text) as folder:
+        with Repository({**CONFIG, "schemas": ["t.exp", "other.exp"]}, other=text) as folder:
             status, output, errors = folder.batch(schemas("ann"))
             wanted = f'rp_server: "other.exp" is no schema: {words}\n'.encode()
             if (status, output, errors) != (2, b"", wanted):
@@ -221,13 +187,13 @@ def test_the_first_schema_with_a_fault():
                          (["two.exp", "one.exp"], '"two.exp" is no schema: OpenString line 1 column 11'),
                          (["t.exp", "t.exp", "absent.exp", "one.exp"], '"absent.exp"'),
                          (["t.exp", "t.exp", "one.exp", "absent.exp"], '"one.exp" is no schema')):
-        with Folder({"partners": twice, "schemas": order}, **bad) as folder:
+        with Repository({"partners": twice, "schemas": order}, **bad) as folder:
             expect_fault(folder.batch(b""), words)
 
 
 def test_a_large_file_of_a_schema():
     """A file of 8 MiB is read; one of a byte more is told by its path."""
-    with Folder({**CONFIG, "schemas": ["other.exp"]}, other=filled(FILE_LIMIT)) as folder:
+    with Repository({**CONFIG, "schemas": ["other.exp"]}, other=filled(FILE_LIMIT)) as folder:
         if folder.batch(schemas("ann")) != (0, loaded("C") + b"\n", b""):
             raise Wrong("a schema of 8 MiB isn't taken")
         folder.write("other.exp", filled(FILE_LIMIT + 1))
@@ -236,16 +202,15 @@ def test_a_large_file_of_a_schema():
 
 def test_schemas_that_share_a_name():
     """Names are compared without regard to case."""
-    with Folder({**CONFIG, "schemas": ["t.exp", "other.exp"]}, other="schema t; end_schema;") as folder:
+    with Repository({**CONFIG, "schemas": ["t.exp", "other.exp"]}, other="schema t; end_schema;") as folder:
         expect_fault(folder.batch(schemas("ann")), "two schemas have one name")
 
 
 def test_models_of_a_loaded_schema():
     """A schema's name is given in either case, and told in upper case."""
-    with Folder({**CONFIG, "schemas": ["other.exp"]}, other="schema Mixed_Case; end_schema;") as folder:
-        lines = [create("ann", "m", "mixed_CASE"), line("ann", "list"), put("ann", "ann", "m", file_of("", "mixed_case"))]
-        shown = json.dumps({"ok": {"groups": [], "models": [{"level": "owner", "name": "m", "owner": "ann",
-                                                             "schema": "MIXED_CASE"}]}}, separators=(",", ":")).encode()
+    with Repository({**CONFIG, "schemas": ["other.exp"]}, other="schema Mixed_Case; end_schema;") as folder:
+        lines = [create("ann", "m", "mixed_CASE"), list_of("ann"), put("ann", "ann", "m", file_of("", "mixed_case"))]
+        shown = listed((b"owner", b"m", b"ann", b"MIXED_CASE"))
         seen = folder.batch(b"\n".join(lines))
     if seen != (0, b"\n".join([OK, shown, instances(0), b""]), b""):
         raise Wrong(f"{seen!r}")

@@ -8,195 +8,28 @@ Each function `test_*` is one test; its document string says what has to hold. T
 """
 import json
 import os
+import re
 import subprocess
 import sys
-import tempfile
+import time
 
-TOP = os.path.dirname(os.path.dirname(os.path.abspath(__file__)))
-PROGRAM = os.path.join(TOP, "crates/rp_server/out/rp_server")
-REAL_EXPORT = os.path.join(os.path.dirname(TOP), "shared/data/real-export.step")
+from harness import TOP, Folder, Wrong, run_tests, shortened
+from messages import (
+    BAD_NAME, BAD_REQUEST, CONFIG, EXISTS, FILE_LIMIT, FIRST, FIRST_LINES, FIRST_NAMES, FIRST_REPLIES, HEAD, LINE_LIMIT,
+    NO_SUCH_ITEM, OK, T, TOO_LARGE, TOO_MANY, UNKNOWN_PARTNER, UNKNOWN_SCHEMA, WRONG_SCHEMA, Repository, check, create,
+    expect, expect_config_fault, expect_fault, expect_replies, fault, file_fault, file_of, grant, instance_fault,
+    instances, line, listed, loaded, named, names, put, refused,
+)
+
 sys.path.insert(0, os.path.join(TOP, "bench"))
 
 from make_part21 import part21  # noqa: E402
-
-MIB = 1024 * 1024
-FILE_LIMIT = 8 * MIB
-LINE_LIMIT = 16 * MIB
-
-T = """SCHEMA T;
-ENTITY p; x : REAL; n : OPTIONAL STRING;
-INVERSE u : SET [0:?] OF q FOR a;
-WHERE w1 : SIZEOF(u) <= 2; END_ENTITY;
-ENTITY q; a : p; END_ENTITY;
-END_SCHEMA;
-"""
-L = """SCHEMA L; ENTITY e; END_ENTITY;
-RULE r1 FOR (e); WHERE SIZEOF(QUERY(p <* e | TRUE)) >= 0; END_RULE;
-RULE r2 FOR (e); WHERE NOT (SIZEOF(QUERY(p <* e | TRUE)) < 0); END_RULE;
-END_SCHEMA;
-"""
-
-
-class Wrong(Exception):
-    """What was seen isn't what has to be."""
-
-
-# ---- requests and replies
-
-HEAD = ("ISO-10303-21;HEADER;FILE_DESCRIPTION((''),'2;1');FILE_NAME('','',(''),(''),'','','');"
-        "FILE_SCHEMA(('{}'));ENDSEC;")
-FOOT = "ENDSEC;END-ISO-10303-21;"
-
-
-def file_of(instances, schema="T", section="DATA;"):
-    """A Part 21 file without a line feed."""
-    return HEAD.format(schema) + section + instances + FOOT
-
-
-def line(who, do, **keys):
-    """A request as one line, without its line feed."""
-    return json.dumps({"as": who, "do": do, **keys}, separators=(",", ":"), ensure_ascii=False).encode()
-
-
-def create(who, name, schema="T"):
-    return line(who, "create_model", name=name, schema=schema)
-
-
-def put(who, owner, model, file):
-    return line(who, "put", owner=owner, model=model, file=file)
-
-
-def names(who, owner, model):
-    return line(who, "names", owner=owner, model=model)
-
-
-OK = b'{"ok":{}}'
-
-
-def instances(count):
-    return b'{"ok":{"instances":%d}}' % count
-
-
-def named(*rows):
-    """The reply to `names` for instances of these names and types."""
-    shown = ",".join('{"name":%d,"type":"%s"}' % row for row in rows)
-    return ('{"ok":{"names":[' + shown + "]}}").encode()
-
-
-def refused(code, name):
-    return b'{"refused":{"code":%d,"name":"%s"}}' % (code, name.encode())
-
-
-def file_fault(kind, at):
-    return b'{"refused":{"at":%d,"code":11,"kind":"%s","name":"FileFault"}}' % (at, kind.encode())
-
-
-def instance_fault(kind, instance):
-    return b'{"refused":{"code":12,"instance":%d,"kind":"%s","name":"InstanceFault"}}' % (instance, kind.encode())
-
-
-BAD_REQUEST = refused(1, "BadRequest")
-TOO_LARGE = refused(2, "TooLarge")
-BAD_NAME = refused(3, "BadName")
-UNKNOWN_PARTNER = refused(4, "UnknownPartner")
-UNKNOWN_SCHEMA = refused(5, "UnknownSchema")
-EXISTS = refused(6, "Exists")
-NO_SUCH_ITEM = refused(7, "NoSuchItem")
-WRONG_SCHEMA = refused(9, "WrongSchema")
-TOO_MANY = refused(16, "TooMany")
-
-FIRST_LINES = [create("ann", "m"), put("ann", "ann", "m", file_of("#2=Q(#1);#1=P(0.10,'a');"))]
-FIRST_REPLIES = [OK, instances(2)]
-FIRST_NAMES = named((1, "P"), (2, "Q"))
-
-
-# ---- running the program
-
-CONFIG = {"partners": [{"name": "ann", "token": "ta"}, {"name": "bob", "token": "tb"}],
-          "schemas": ["t.exp", "l.exp"]}
-
-
-class Folder:
-    """A folder with a configuration and schemas, in which the program is run."""
-
-    program = PROGRAM
-
-    def __init__(self, config=None, **files):
-        self.folder = tempfile.TemporaryDirectory()
-        self.write("config.json", json.dumps(CONFIG if config is None else config))
-        self.write("t.exp", T)
-        self.write("l.exp", L)
-        for name, text in files.items():
-            self.write(name + ".exp", text)
-
-    def __enter__(self):
-        return self
-
-    def __exit__(self, *_):
-        self.folder.cleanup()
-
-    def path(self, name):
-        return os.path.join(self.folder.name, name)
-
-    def write(self, name, text):
-        os.makedirs(os.path.dirname(self.path(name)), exist_ok=True)
-        with open(self.path(name), "wb") as it:
-            it.write(text if isinstance(text, bytes) else text.encode())
-
-    def run(self, *words, text=b"", **devices):
-        """The status, and what was written on standard output and standard error."""
-        given = {} if "stdin" in devices else {"input": text}
-        done = subprocess.run([Folder.program, *words], cwd=self.folder.name, timeout=300, check=False,
-                              **{"stdout": subprocess.PIPE, "stderr": subprocess.PIPE, **given, **devices})
-        return done.returncode, done.stdout, done.stderr
-
-    def batch(self, text):
-        return self.run("batch", "--config", "config.json", text=text)
-
-
-def shortened(text):
-    return text if len(text) <= 600 else text[:400] + b" .. " + text[-150:]
-
-
-def expect_replies(text, replies, config=None):
-    """The program answers the bytes of an input by these lines, and ends with status 0."""
-    with Folder(config) as folder:
-        status, output, errors = folder.batch(text)
-    if (status, errors) != (0, b""):
-        raise Wrong(f"status {status}, standard error {errors!r}")
-    written = output.split(b"\n")
-    for place, (reply, wanted) in enumerate(zip(written, replies), 1):
-        if reply != wanted:
-            raise Wrong(f"reply {place} is {shortened(reply)!r} in place of {shortened(wanted)!r}")
-    if output != b"".join(reply + b"\n" for reply in replies):
-        raise Wrong(f"{len(written) - 1} replies in place of {len(replies)}")
-
-
-def expect(turns, config=None):
-    """The program answers each line by the reply beside it."""
-    expect_replies(b"".join(it + b"\n" for it, _ in turns), [reply for _, reply in turns], config)
-
-
-def expect_fault(seen, *mentioned):
-    """The program ended with status 2, one line on standard error and nothing on standard output."""
-    status, output, errors = seen
-    if status != 2 or output or errors.count(b"\n") != 1 or not errors.endswith(b"\n") or len(errors) < 2:
-        raise Wrong(f"status {status}, standard output {output!r}, standard error {errors!r}")
-    for word in mentioned:
-        if word.encode() not in errors:
-            raise Wrong(f"standard error {errors!r} doesn't speak of {word!r}")
-
-
-def expect_config_fault(config, *mentioned, **files):
-    with Folder(config, **files) as folder:
-        expect_fault(folder.batch(names("ann", "ann", "m")), *mentioned)
-
 
 # ---- requests
 
 def test_three_lines_in_three_lines_out():
     """A model is created, a file is put into it, and its names are listed."""
-    expect([*zip(FIRST_LINES, FIRST_REPLIES), (names("ann", "ann", "m"), FIRST_NAMES)])
+    expect([*FIRST, (names("ann", "ann", "m"), FIRST_NAMES)])
 
 
 def test_empty_file():
@@ -207,7 +40,7 @@ def test_empty_file():
 
 def test_an_unseen_model_is_answered_as_an_absent_one():
     """bob learns nothing of ann's model, and may have one of the same name."""
-    expect([*zip(FIRST_LINES, FIRST_REPLIES),
+    expect([*FIRST,
             (names("bob", "ann", "m"), NO_SUCH_ITEM),
             (names("bob", "ann", "z"), NO_SUCH_ITEM),
             (put("bob", "ann", "m", file_of("")), NO_SUCH_ITEM),
@@ -222,7 +55,7 @@ def test_an_unseen_model_is_answered_as_an_absent_one():
 
 def test_files_that_are_cut_off():
     """The fault lies where the file is cut, and the model is as before."""
-    expect([*zip(FIRST_LINES, FIRST_REPLIES),
+    expect([*FIRST,
             (put("ann", "ann", "m", "ISO-10303-2"), file_fault("Token", 0)),
             (put("ann", "ann", "m", "ISO-10303-21;HEADER;FILE_DESC"), file_fault("Syntax", 20)),
             (put("ann", "ann", "m", "ISO-10303-21;HEADER;FILE_DESCRIPTION"), file_fault("Syntax", 36)),
@@ -271,7 +104,7 @@ def test_refusals_in_their_order():
 
 def test_instance_faults():
     """The first faulty instance in the order of the file is told, with its first fault."""
-    expect([*zip(FIRST_LINES, FIRST_REPLIES),
+    expect([*FIRST,
             (put("ann", "ann", "m", file_of("#2=Q(#9);#2=P(1.,$);")), instance_fault("Undefined", 2)),
             (put("ann", "ann", "m", file_of("#2=P(1.,$);#2=Q(#9);")), instance_fault("Twice", 2)),
             (put("ann", "ann", "m", file_of("#5=(P(1.)Q(#9)P(2.));")), instance_fault("Twice", 5)),
@@ -347,7 +180,7 @@ def test_requests_that_come_later():
         line("ann", "grant", kind="group", name="g", to="bob", level="read"),
         line("ann", "revoke", kind="group", name="g", to="bob"),
     ]
-    expect([*zip(FIRST_LINES, FIRST_REPLIES), *[(it, BAD_REQUEST) for it in lines]])
+    expect([*FIRST, *[(it, BAD_REQUEST) for it in lines]])
 
 
 def test_json_as_it_may_be_written():
@@ -357,6 +190,90 @@ def test_json_as_it_may_be_written():
             (b'{"as":"ann","do":"create_model","name":"\\u006B","schema":"T"}', EXISTS),
             (b'{"as":"carl","do":"names","as":"ann","owner":"bob","owner":"ann","model":"k"}', named()),
             (b'{"as":"ann","do":"names","as":"carl","owner":"ann","model":"k"}', BAD_REQUEST)])
+
+
+def test_what_a_line_asks():
+    """Each request is told by what it does, in whatever order, case of escapes and repetition its keys are written."""
+    file = '"ISO-10303-21/*\\u00e9*/\\n="'
+    expect([
+        (b'{"as":"ann","do":"create_model","name":"m","schema":"T"}', OK),
+        (b'{"as":"bob","do":"list"}', listed()),
+        (b'{"as":"ann","do":"list"}', listed((b"owner", b"m", b"ann"))),
+        (b'{"as":"ann","do":"names","owner":"ann","model":"m"}', named()),
+        (b'{"as":"bob","do":"schemas"}', loaded("L", "T")),
+        (b'{"as":"bob","do":"check_schema","text":"SCHEMA"}', fault("Syntax", 6)),
+        (b'{"as":"ann","do":"grant","kind":"model","name":"m","to":"bob","level":"read"}', OK),
+        (b'{"as":"bob","do":"list"}', listed((b"read", b"m", b"ann"))),
+        (b'{"as":"ann","do":"grant","kind":"model","name":"m","to":"bob","level":"write"}', OK),
+        (b'{"as":"bob","do":"list"}', listed((b"write", b"m", b"ann"))),
+        (f'{{"file":{file},"model":"m","owner":"ann","do":"put","as":"bob"}}'.encode(), file_fault("Syntax", 19)),
+        (b'{"file":"#1=P(0.10,\'\\u00e9\');\\n","model":"m","owner":"ann","do":"put","as":"bob"}', file_fault("Syntax", 0)),
+        (b'{"as":"ann","do":"revoke","kind":"model","name":"m","to":"bob"}', OK),
+        (b'{"as":"bob","do":"list"}', listed()),
+        (b'{"as":"bob","do":"names","owner":"carl","model":"a b"}', BAD_NAME),
+        (b'{"as":"bob","do":"names","owner":"carl","model":"m"}', UNKNOWN_PARTNER),
+        (b'{"as":1,"do":"put","model":{},"as":"ann","do":"names","owner":"ann","model":"m"}', named()),
+        (b' {"as" : "ann",\t"do":"names","owner":"","model":""}\r', BAD_NAME),
+        (b' {"as" : "",\t"do":"names","owner":"","model":""}\r', BAD_REQUEST),
+        (b'{"\\u0061s":"ann","do":"n\\u0061mes","owner":"ann","model":"m"}', named()),
+        (b'{"as":"ann","do":"create_model","name":"names","schema":"\\ud83d\\ude00"}', UNKNOWN_SCHEMA),
+        (b'{"as":"ann","do":"create_model","name":"names","schema":"T"}', OK),
+        (b'{"as":"ann","do":"delete_model","name":"m"}', OK),
+        (b'{"as":"ann","do":"list"}', listed((b"owner", b"names", b"ann"))),
+    ])
+
+
+def test_lines_of_bytes_that_are_no_request():
+    """A key that is missing, one too many or of another kind, a word that isn't there, and what is no JSON."""
+    lines = [
+        b'{"as":"ann","do":"schemas","text":""}',
+        b'{"as":"ann","do":"check_schema"}',
+        b'{"as":"ann","do":"check_schema","text":"","name":""}',
+        b'{"as":"ann","do":"grant","kind":"model","name":"m","to":"bob","level":"group"}',
+        b'{"as":"ann","do":"grant","kind":"group","name":"m","to":"bob","level":"read"}',
+        b'{"as":"ann","do":"list","owner":"ann"}',
+        b"{",
+        b"",
+        b'["as","ann"]',
+        b'{"do":"names","owner":"ann","model":"m"}',
+        b'{"as":null,"do":"names","owner":"ann","model":"m"}',
+        b'{"as":"ann","owner":"ann","model":"m"}',
+        b'{"as":"ann","do":["names"],"owner":"ann","model":"m"}',
+        b'{"as":"ann","do":"Names","owner":"ann","model":"m"}',
+        b'{"as":"ann","do":"export"}',
+        b'{"as":"ann","do":"names","owner":"ann"}',
+        b'{"as":"ann","do":"names","owner":"ann","model":1}',
+        b'{"as":"ann","do":"names","owner":"ann","model":"m","x":""}',
+        b'{"as":"ann","do":"put","owner":"ann","model":"m","file":"","links":[]}',
+        b'{"as":"ann","do":"create_model","name":1.0,"schema":"T"}',
+        b'{"as":"ann","do":"names","owner":"ann","model":"\xff"}',
+        b'{"as":"ann","do":"names","owner":"ann","model":"\\ud800"}',
+        b'{"as":"ann","do":"names","owner":"ann","model":"\x01"}',
+        b'\xef\xbb\xbf{"as":"ann","do":"names","owner":"ann","model":"m"}',
+    ]
+    expect([*FIRST, *[(it, BAD_REQUEST) for it in lines], (names("ann", "ann", "m"), FIRST_NAMES)])
+
+
+def test_each_refusal():
+    """Each refusal but the one for memory, with its code and its name, and nothing is changed."""
+    models = [(create("ann", f"m{k}"), OK) for k in range(99)]
+    expect([
+        *FIRST, (grant("ann", "m", "bob", "read"), OK),
+        (b"{", refused(1, "BadRequest")),
+        (check("ann", " " * (FILE_LIMIT + 1)), refused(2, "TooLarge")),
+        (create("ann", "a b"), refused(3, "BadName")),
+        (names("ann", "carl", "m"), refused(4, "UnknownPartner")),
+        (create("ann", "k", "U"), refused(5, "UnknownSchema")),
+        (create("ann", "m"), refused(6, "Exists")),
+        (names("ann", "ann", "k"), refused(7, "NoSuchItem")),
+        (put("bob", "ann", "m", ""), refused(8, "NoRight")),
+        (put("ann", "ann", "m", file_of("", "L")), refused(9, "WrongSchema")),
+        (put("ann", "ann", "m", "     'x"), b'{"refused":{"at":5,"code":11,"kind":"Open","name":"FileFault"}}'),
+        (put("ann", "ann", "m", file_of("#1=P();#1=P();")),
+         b'{"refused":{"code":12,"instance":1,"kind":"Twice","name":"InstanceFault"}}'),
+        (names("ann", "ann", "m"), FIRST_NAMES),
+        *models, (create("ann", "m99"), refused(16, "TooMany")),
+    ])
 
 
 # ---- lines
@@ -377,7 +294,7 @@ def test_lines_in_pieces():
     lines = [create("ann", "m"), names("ann", "ann", "m"), b"{"]
     replies = [OK, named(), BAD_REQUEST]
     expect_replies(b"\n".join(lines) + b"\n", replies)
-    with Folder() as folder:
+    with Repository() as folder:
         words = [Folder.program, "batch", "--config", "config.json"]
         with subprocess.Popen(words, cwd=folder.folder.name, stdin=subprocess.PIPE, stdout=subprocess.PIPE,
                               bufsize=0) as process:
@@ -390,6 +307,23 @@ def test_lines_in_pieces():
             process.stdin.close()
         if process.returncode != 0:
             raise Wrong(f"status {process.returncode}")
+
+
+def test_any_pieces_give_the_same_bytes():
+    """Four lines, of which the third is empty and the last has no line feed, sent in pieces of each of these sizes."""
+    text = b"\n".join([*FIRST_LINES, b"", names("ann", "ann", "m")])
+    wanted = b"\n".join([*FIRST_REPLIES, BAD_REQUEST, FIRST_NAMES, b""])
+    for size in (1, 7, 100, 5000):
+        with Repository() as folder:
+            words = [Folder.program, "batch", "--config", "config.json"]
+            with subprocess.Popen(words, cwd=folder.folder.name, stdin=subprocess.PIPE, stdout=subprocess.PIPE,
+                                  stderr=subprocess.PIPE, bufsize=0) as process:
+                for at in range(0, len(text), size):
+                    process.stdin.write(text[at:at + size])
+                    time.sleep(0.0002)
+                output, errors = process.communicate(timeout=60)
+        if (process.returncode, output, errors) != (0, wanted, b""):
+            raise Wrong(f"in pieces of {size}: status {process.returncode}, {output!r}, {errors!r}")
 
 
 def padded(text, size):
@@ -427,22 +361,41 @@ def test_large_files():
 def test_files_as_exporters_write_them():
     """Blanks, lines broken inside strings and several types of one instance are read."""
     config = {**CONFIG, "schemas": ["ap214.exp"]}
-    with Folder(config, ap214="\n SCHEMA automotive_design;\nEND_SCHEMA;") as folder:
+    with Repository(config, ap214="\n SCHEMA automotive_design;\nEND_SCHEMA;") as folder:
         create_line, put_line = create("ann", "m", "AUTOMOTIVE_DESIGN"), put("ann", "ann", "m", part21(3000))
         seen = folder.batch(create_line + b"\n" + put_line + b"\n")
         if seen != (0, OK + b"\n" + instances(3000) + b"\n", b""):
             raise Wrong(f"status {seen[0]}, {shortened(seen[1])!r}, {seen[2]!r}")
-        if not os.path.exists(REAL_EXPORT):
-            return
-        with open(REAL_EXPORT, encoding="utf-8") as it:
-            put_line = put("ann", "ann", "m", it.read())
-        status, output, _ = folder.batch(b"\n".join([create_line, put_line, names("ann", "ann", "m")]))
-        replies = output.split(b"\n")
-        if status != 0 or replies[:2] != [OK, instances(464)]:
-            raise Wrong(f"status {status}, {shortened(output)!r}")
-        types = [row["type"] for row in json.loads(replies[2])["ok"]["names"]]
-        if len(types) != 464 or sum("+" in it for it in types) != 4:
-            raise Wrong(f"{len(types)} names, of which {sum('+' in it for it in types)} have several types")
+
+
+def types_of(text):
+    """The names and types of a file in which each instance begins a line, and so does each type of one that has several."""
+    types = {}
+    for name, one, several in re.findall(r"^#(\d+)=(?:(\w+)|\((\n[^;]*)\);)", text, re.MULTILINE):
+        types[int(name)] = one or "+".join(sorted(re.findall(r"^(\w+)\(", several, re.MULTILINE)))
+    return sorted(types.items())
+
+
+def test_an_assembly_as_a_modeller_exports_it():
+    """Names from the last to the first, remarks in the header, escapes in strings: each instance is named with its types."""
+    with open(os.path.join(TOP, "tests/data/frame.step"), encoding="utf-8") as it:
+        text = it.read()
+    types = types_of(text)
+    if (len(types), sum("+" in it for _, it in types)) != (1560, 19):
+        raise Wrong(f"{len(types)} instances in tests/data/frame.step, {sum('+' in it for _, it in types)} of several types")
+    cut = text.index("#5000=")
+    expect([(create("ann", "m", "AUTOMOTIVE_DESIGN"), OK),
+            (put("ann", "ann", "m", text), instances(1560)),
+            (names("ann", "ann", "m"), named(*types)),
+            (put("ann", "ann", "m", text[:cut] + "5" + text[cut + 1:]), file_fault("Syntax", cut)),
+            (put("ann", "ann", "m", text.replace("#5000=", "#5001=")), instance_fault("Undefined", first_that_names(text, 5000))),
+            (names("ann", "ann", "m"), named(*types))],
+           {**CONFIG, "schemas": ["ap214.exp"]}, ap214="SCHEMA automotive_design; END_SCHEMA;")
+
+
+def first_that_names(text, name):
+    """The first instance of a file that refers to this name."""
+    return int(re.search(rf"#(\d+)=[^;=]*#{name}\b", text)[1])
 
 
 # ---- the program
@@ -459,7 +412,7 @@ def test_command_line_faults():
         ["batch", "--conf", "config.json"], ["--version"], ["batch", "--config", "config.json", "--", "x"],
         ["two", "batch", "--config", "config.json"],
     ]
-    with Folder() as folder:
+    with Repository() as folder:
         for words in wrong:
             try:
                 expect_fault(folder.run(*words, text=names("ann", "ann", "m")))
@@ -472,7 +425,7 @@ def test_command_line_faults():
 
 def test_help():
     """The help is printed on standard output with status 0, and names what there is to type."""
-    with Folder() as folder:
+    with Repository() as folder:
         for words, mentioned in ([["--help"], ["batch", "--help"]], [["batch", "--help"], ["--config", "FILE"]],
                                  [["help"], ["batch"]], [["help", "batch"], ["--config"]], [["-h"], ["batch"]]):
             status, output, errors = folder.run(*words)
@@ -498,7 +451,7 @@ def test_wrong_configurations():
         except Wrong as fault:
             raise Wrong(f"{config}: {fault}") from fault
     good = json.dumps({"partners": [ann], "schemas": ["t.exp"]})
-    with Folder() as folder:
+    with Repository() as folder:
         for text in ("", good[:-1], good + "x", b"\xff" + good.encode(), good.replace("ann", "\\ud800"),
                      good + " " * (FILE_LIMIT + 1 - len(good))):
             folder.write("config.json", text)
@@ -529,11 +482,11 @@ def test_files_of_schemas():
     right = ["SCHEMA T;" + end, "\0\t\r\n schema\n\tt \x01; end_schema ;", b"SchemA t; (* \xff *) END_SCHEMA; -- \xff",
              "(* T *) SCHEMA T;" + end, "SCHEMA (* T *) T;" + end, "SCHEMA T -- T\n;" + end, "-- T\nSCHEMA T;" + end]
     for text in right:
-        with Folder({**CONFIG, "schemas": ["other.exp"]}, other=text) as folder:
+        with Repository({**CONFIG, "schemas": ["other.exp"]}, other=text) as folder:
             if folder.batch(create("ann", "m")) != (0, OK + b"\n", b""):
                 raise Wrong(f"the schema {text!r} isn't taken")
     for name, text in (("a_1b", "SCHEMA A_1b;" + end), ("a" * 300, "SCHEMA " + "A" * 300 + ";" + end)):
-        with Folder({**CONFIG, "schemas": ["other.exp"]}, other=text) as folder:
+        with Repository({**CONFIG, "schemas": ["other.exp"]}, other=text) as folder:
             if folder.batch(create("ann", "m", name)) != (0, OK + b"\n", b""):
                 raise Wrong(f"the schema of {text!r} has another name")
 
@@ -542,7 +495,7 @@ def test_large_schemas():
     """A schema's file has at most 8 MiB."""
     config = {**CONFIG, "schemas": ["other.exp"]}
     expect_config_fault(config, "other.exp", other=T + " " * (FILE_LIMIT + 1 - len(T)))
-    with Folder(config, other=T + " " * (FILE_LIMIT - len(T))) as folder:
+    with Repository(config, other=T + " " * (FILE_LIMIT - len(T))) as folder:
         if folder.batch(create("ann", "m")) != (0, OK + b"\n", b""):
             raise Wrong("a schema of 8 MiB isn't taken")
 
@@ -553,16 +506,17 @@ def partners(*given):
 
 def test_what_no_repository_can_have():
     """Two schemas or partners of one name, a partner's name that is none, and too many of either."""
-    expect_config_fault({**CONFIG, "partners": partners("ann", "ann")})
-    expect_config_fault({**CONFIG, "partners": partners("a b")})
-    expect_config_fault({**CONFIG, "partners": partners("")})
-    expect_config_fault({**CONFIG, "partners": partners("n" * 65)})
-    expect_config_fault({**CONFIG, "partners": partners(*(f"p{k}" for k in range(1001)))})
-    expect_config_fault({**CONFIG, "schemas": ["t.exp", "t.exp"]})
-    expect_config_fault({**CONFIG, "schemas": ["t.exp", "other.exp"]}, other="SCHEMA t; END_SCHEMA;")
+    expect_config_fault({**CONFIG, "partners": partners("ann", "ann")}, "two partners have one name")
+    expect_config_fault({**CONFIG, "partners": partners("ann", "bob", "ann")}, "two partners have one name")
+    expect_config_fault({**CONFIG, "partners": partners("a b")}, "a partner's name isn't")
+    expect_config_fault({**CONFIG, "partners": partners("")}, "a partner's name isn't")
+    expect_config_fault({**CONFIG, "partners": partners("n" * 65)}, "a partner's name isn't")
+    expect_config_fault({**CONFIG, "partners": partners(*(f"p{k}" for k in range(1001)))}, "more than 1,000 partners")
+    expect_config_fault({**CONFIG, "schemas": ["t.exp", "t.exp"]}, "two schemas have one name")
+    expect_config_fault({**CONFIG, "schemas": ["t.exp", "other.exp"]}, "two schemas have one name", other="SCHEMA t; END_SCHEMA;")
     expect([(names("p999", "p0", "m"), NO_SUCH_ITEM), (names("p1000", "p0", "m"), BAD_REQUEST)],
            {**CONFIG, "partners": partners(*(f"p{k}" for k in range(1000)))})
-    with Folder({**CONFIG, "schemas": [f"s{k}.exp" for k in range(101)]},
+    with Repository({**CONFIG, "schemas": [f"s{k}.exp" for k in range(101)]},
                 **{f"s{k}": f"SCHEMA s{k}; END_SCHEMA;" for k in range(101)}) as folder:
         expect_fault(folder.batch(b""))
         folder.write("config.json", json.dumps({**CONFIG, "schemas": [f"s{k}.exp" for k in range(100)]}))
@@ -583,7 +537,7 @@ def test_faults_in_their_order():
 
 def test_paths_start_at_the_working_directory():
     """A schema's path doesn't start where the configuration lies."""
-    with Folder() as folder:
+    with Repository() as folder:
         folder.write("sub/config.json", json.dumps({**CONFIG, "schemas": ["other.exp"]}))
         folder.write("sub/other.exp", T)
         expect_fault(folder.run("batch", "--config", "sub/config.json"), "other.exp")
@@ -596,9 +550,12 @@ def test_paths_start_at_the_working_directory():
 def test_devices_that_fail():
     """An input or output that fails ends the program with status 2 and one line."""
     given = ("batch", "--config", "config.json")
-    with Folder() as folder:
+    with Repository() as folder:
         with open("/dev/full", "wb") as full:
             status, _, errors = folder.run(*given, text=names("ann", "ann", "m"), stdout=full)
+        expect_fault((status, b"", errors))
+        with open("/dev/full", "wb") as full:
+            status, _, errors = folder.run("check", "t.exp", stdout=full)
         expect_fault((status, b"", errors))
         directory = os.open(folder.folder.name, os.O_RDONLY)
         try:
@@ -612,25 +569,6 @@ def test_devices_that_fail():
         finally:
             os.close(end)
         expect_fault((status, b"", errors))
-
-
-def run_tests(label, given, words):
-    """Runs each function `test_*` of these on the program that the words name, and ends this one."""
-    Folder.program = os.path.abspath(words[0] if words else PROGRAM)
-    if not os.access(Folder.program, os.X_OK):
-        sys.exit(f"{label}: there is no program {Folder.program}: run rt ci first, or name it")
-    passed = failed = 0
-    for name, test in list(given.items()):
-        if not name.startswith("test_"):
-            continue
-        try:
-            test()
-            passed += 1
-        except (Wrong, subprocess.TimeoutExpired) as fault:
-            print(f"{name}: FAILED: {fault}")
-            failed += 1
-    print(f"{label}: {passed} passed, {failed} failed")
-    sys.exit(1 if failed else 0)
 
 
 if __name__ == "__main__":

@@ -9,36 +9,12 @@ Each function `test_*` is one test; its document string says what has to hold. T
 """
 import sys
 
-from end_to_end import (
-    BAD_NAME, BAD_REQUEST, EXISTS, FIRST_LINES, FIRST_NAMES, FIRST_REPLIES, NO_SUCH_ITEM, OK, TOO_MANY,
-    UNKNOWN_PARTNER, WRONG_SCHEMA, Folder, Wrong, create, expect, file_fault, file_of, instances, line, named,
-    names, put, refused, run_tests,
+from harness import Wrong, run_tests
+from messages import (
+    BAD_NAME, BAD_REQUEST, EXISTS, FIRST, FIRST_LINES, FIRST_NAMES, NO_RIGHT, NO_SUCH_ITEM, OK, TOO_MANY,
+    UNKNOWN_PARTNER, WRONG_SCHEMA, create, delete, expect, file_fault, file_of, grant, instances, line, list_of,
+    listed, named, names, put, replies_to, revoke,
 )
-
-NO_RIGHT = refused(8, "NoRight")
-FIRST = [*zip(FIRST_LINES, FIRST_REPLIES)]
-
-
-def grant(who, name, to, level):
-    return line(who, "grant", kind="model", name=name, to=to, level=level)
-
-
-def revoke(who, name, to):
-    return line(who, "revoke", kind="model", name=name, to=to)
-
-
-def delete(who, name):
-    return line(who, "delete_model", name=name)
-
-
-def list_of(who):
-    return line(who, "list")
-
-
-def listed(*rows):
-    """The models that a partner sees: level, name and owner, all of schema T."""
-    models = b",".join(b'{"level":"%s","name":"%s","owner":"%s","schema":"T"}' % row for row in rows)
-    return b'{"ok":{"groups":[],"models":[%s]}}' % models
 
 
 def test_a_model_that_is_granted_to_read():
@@ -148,17 +124,6 @@ def test_models_of_others_do_not_count():
 
 
 # ---- two inputs
-
-def replies_to(who, lines):
-    """The reply lines to a partner's lines."""
-    with Folder() as folder:
-        status, output, errors = folder.batch(b"".join(it + b"\n" for it in lines))
-    replies = output.split(b"\n")[:-1]
-    if (status, errors, len(replies)) != (0, b"", len(lines)):
-        raise Wrong(f"status {status}, {len(replies)} replies to {len(lines)} lines, {errors!r}")
-    mark = b'{"as":"%s"' % who.encode()
-    return [reply for it, reply in zip(lines, replies) if it.startswith(mark)]
-
 
 def test_two_inputs_that_look_the_same_to_bob():
     """What ann does with a model that bob doesn't see, and what she is refused, changes none of his replies."""

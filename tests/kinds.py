@@ -6,24 +6,20 @@ types: which kinds fit where, which fault is told, and which warnings.
 
 A mark as ⟦Operand⟧ stands right before the first byte of a fault; of several faults the first is told, and no warning
 with it. ⟦SelectInTypeof⟧ stands before each literal that is warned of. What has no mark is accepted. First come the
-tables of tests/kind_tables.py, then rows by hand, then the long schema of tests/long.exp. It lists the cases that
-differ; the last line is 'N schemas passed', and the status is 0 only if none failed.
+tables of tests/kind_tables.py, then rows by hand, then the long schema of tests/long.exp. The last line is
+'kinds: N passed, M failed', and the status is 0 only if none failed.
 """
 import os
 import re
-import subprocess
 import sys
-import tempfile
-from concurrent.futures import ThreadPoolExecutor
 
+from harness import MARK, TOP, WARNING, run_parts
 from kind_tables import TABLES
-from schemas import PROGRAM, TOP, told
 
-MARK = re.compile(r"⟦(\w+)⟧")
-WARNING = "SelectInTypeof"
 FAULTS = {"Operand", "Arguments", "Assign", "Qualifier", "Ambiguous", "RealArithmetic", "EntityComparison"}
 
 SECONDS = 60
+
 # ---- whole schemas, and to the letter what is told of them
 
 EXACT = [
@@ -634,80 +630,17 @@ def named_rows():
     yield "constants that are warned of", "A", f"SCHEMA A; {CONSTANT_WARNED} END_SCHEMA;"
 
 
-def wanted_of(schema, text):
-    """The text without marks, what is told of it, and the status."""
-    pieces = MARK.split(text)
-    plain = "".join(pieces[::2]).encode()
-    marks = []
-    at = 0
-    for kind, before in zip(pieces[1::2], pieces[::2]):
-        at += len(before.encode())
-        marks.append((kind, at))
-    faults = [it for it in marks if it[0] != WARNING]
-    if faults:
-        return plain, told(faults[0][0], plain, faults[0][1]), 1
-    warnings = b"".join(b"warning " + told(kind, plain, place) for kind, place in marks)
-    return plain, schema.encode() + b": ok\n" + warnings, 0
-
-
-class Runner:
-    """Runs the program on texts, several at a time, and keeps what differed."""
-
-    def __init__(self, program, folder, pool):
-        self.program = program
-        self.folder = folder
-        self.pool = pool
-        self.number = 0
-        self.passed = 0
-        self.differing = []
-
-    def told(self, job):
-        """What the program writes of a text, and its status."""
-        path, plain = job
-        with open(path, "wb") as it:
-            it.write(plain)
-        try:
-            done = subprocess.run([self.program, "check", path], capture_output=True, check=False, timeout=SECONDS)
-        except subprocess.TimeoutExpired:
-            return b"nothing in %d seconds" % SECONDS, None
-        finally:
-            os.remove(path)
-        return done.stdout + done.stderr, done.returncode
-
-    def job(self, plain):
-        """A file of its own for a text."""
-        self.number += 1
-        return os.path.join(self.folder, f"{self.number}.exp"), plain
-
-    def run(self, cases):
-        """Runs cases (name, schema, text) and answers for each what is told, and what is to be."""
-        wanted = [wanted_of(schema, text) for _, schema, text in cases]
-        seen = self.pool.map(self.told, [self.job(plain) for plain, _, _ in wanted])
-        return [(got, it[1:]) for got, it in zip(seen, wanted)]
-
-    def expect(self, name, seen, wanted):
-        if seen == wanted:
-            self.passed += 1
-        else:
-            self.differing.append(f"{name}: {seen!r} in place of {wanted!r}")
-
-    def look(self, cases):
-        for (name, _, _), (seen, wanted) in zip(cases, self.run(cases)):
-            self.expect(name, seen, wanted)
-
-    def look_together(self, cases):
-        """Pieces that are accepted, many in one schema. Where that isn't accepted, each is looked at alone."""
-        groups = {}
-        for context, piece in cases:
-            groups.setdefault(context, []).append(piece)
-        chunks = [(context, pieces[at:at + 200]) for context, pieces in groups.items() for at in range(0, len(pieces), 200)]
-        together = [("together", "A", put(context, pieces)) for context, pieces in chunks]
-        for (context, pieces), (got, wanted) in zip(chunks, self.run(together)):
-            if got == wanted:
-                self.passed += 1
-            else:
-                self.look([(piece, "A", put(context, [piece])) for piece in pieces])
-                self.differing.append(f"{len(pieces)} pieces together, {pieces[0]} the first: {got!r} in place of {wanted!r}")
+def look_together(it, cases):
+    """Pieces that are accepted, many in one schema. Where that isn't accepted, each is looked at alone."""
+    groups = {}
+    for context, piece in cases:
+        groups.setdefault(context, []).append(piece)
+    chunks = [(context, pieces[at:at + 200]) for context, pieces in groups.items() for at in range(0, len(pieces), 200)]
+    together = [("together", "A", put(context, pieces)) for context, pieces in chunks]
+    for (context, pieces), (seen, wanted) in zip(chunks, it.run(together, SECONDS)):
+        it.expect(f"{len(pieces)} pieces together, {pieces[0]} the first", seen, wanted)
+        if seen != wanted:
+            it.looks([(piece, "A", put(context, [piece])) for piece in pieces], SECONDS)
 
 
 def put(context, pieces):
@@ -719,48 +652,28 @@ def tables(it):
         rows = list(table())
         good = [row for row in rows if not MARK.search(row[1])]
         bad = [row for row in rows if MARK.search(row[1])]
-        if not good or not bad:
-            sys.exit(f"kinds: {table.__name__} has nothing that is accepted, or nothing that is refused")
-        it.look_together(good)
-        it.look([(f"{table.__name__}: {piece}", "A", put(context, [piece])) for context, piece in bad])
+        it.expect(f"{table.__name__} has what is accepted and what is refused", (bool(good), bool(bad)), (True, True))
+        look_together(it, good)
+        it.looks([(f"{table.__name__}: {piece}", "A", put(context, [piece])) for context, piece in bad], SECONDS)
 
 
 def rows_by_hand(it):
     rows = list(named_rows())
     marks = {kind for _, _, text in rows for kind in MARK.findall(text)[:1]}
-    if not FAULTS | {WARNING} <= marks:
-        sys.exit(f"kinds: no row begins with {FAULTS - marks}")
-    it.look(rows)
+    it.expect("no row begins with", (FAULTS | {WARNING}) - marks, set())
+    it.looks(rows, SECONDS)
     for name, text, wanted, status in EXACT:
-        it.expect(name, it.told(it.job(text.encode())), (wanted, status))
+        it.expect(name, it.check(text, SECONDS), (status, wanted, b""))
 
 
 def long_schema(it):
     """Its name, and a warning at the last string of the text."""
     with open(LONG, encoding="utf-8") as file:
         text = file.read()
-    missing = missing_of(text)
-    if missing:
-        it.differing.append(f"long.exp has no {' '.join(missing)}")
+    it.expect("long.exp has no", missing_of(text), [])
     at = text.rindex("'PLANT_MODEL.")
-    it.look([("long.exp", "PLANT_MODEL", f"{text[:at]}⟦{WARNING}⟧{text[at:]}")])
-
-
-def main(words):
-    program = os.path.abspath(words[0] if words else PROGRAM)
-    if not os.access(program, os.X_OK):
-        sys.exit(f"kinds: there is no program {program}: run rt ci first, or name it")
-    with tempfile.TemporaryDirectory() as folder, ThreadPoolExecutor(os.cpu_count() or 1) as pool:
-        it = Runner(program, folder, pool)
-        for part in (tables, rows_by_hand, long_schema):
-            part(it)
-    for difference in it.differing:
-        print(difference)
-    if it.differing:
-        print(f"{len(it.differing)} cases differ")
-    print(f"{it.passed} schemas passed")
-    return 1 if it.differing else 0
+    it.looks([("long.exp", "PLANT_MODEL", f"{text[:at]}⟦{WARNING}⟧{text[at:]}")], SECONDS)
 
 
 if __name__ == "__main__":
-    sys.exit(main(sys.argv[1:]))
+    run_parts("kinds", (tables, rows_by_hand, long_schema), sys.argv[1:])

@@ -8,12 +8,9 @@ A mark as ⟦Undeclared⟧ stands right before the first byte of a fault; of sev
 no mark is accepted. First each sort of name stands at each place that a name can have; then come rows by hand. The
 last line is 'names: N passed, M failed', and the status is 0 only if none failed.
 """
-import re
 import sys
 
-from schemas import run_parts
-
-MARK = re.compile(r"⟦(\w+)⟧")
+from harness import run_parts
 
 # What stands around a piece: something of each sort.
 WORLD = ("TYPE t = INTEGER; END_TYPE; TYPE l = ENUMERATION OF (i, j); END_TYPE; "
@@ -884,10 +881,46 @@ LETTERS = [
      "FUNCTION f : INTEGER; REPEAT Vv := 1 TO 2; ⟦Undeclared⟧vV := 1; END_REPEAT; END_FUNCTION;"),
     ("letters: digits and underscores count",
      "ENTITY e_1; END_ENTITY; ENTITY e1; x : e_1; y : ⟦Undeclared⟧e_11; END_ENTITY;"),
+    ("letters: names that begin other names",
+     "TYPE q = INTEGER; END_TYPE; TYPE Part = INTEGER; END_TYPE; TYPE p = INTEGER; END_TYPE; "
+     "ENTITY e; a : Q; b : part; c : P; d : PART; f : ⟦Undeclared⟧pa; g : ⟦Undeclared⟧parts; END_ENTITY;"),
+    ("letters: a name that begins with others", "TYPE part = INTEGER; END_TYPE; TYPE p = INTEGER; END_TYPE; ENTITY e; a : ⟦Undeclared⟧parts; END_ENTITY;"),
     ("letters: a longer and a shorter name", "ENTITY abc; END_ENTITY; ENTITY ab; x : abc; y : ⟦Undeclared⟧abcd; END_ENTITY;"),
 ]
 
-# ---- faults of types, which aren't told yet
+# ---- ancestors
+
+# what each of e_0 to e_4 is a subtype of, and the rule of one that names what it has or hasn't
+LINEAGES = [
+    ("a diamond", ["", "e_0", "e_0", "e_1, e_2", ""], 3, "[n_0, n_1, n_2, n_3, n_3]"),
+    ("one side of a diamond", ["", "e_0", "e_0", "e_1, e_2", ""], 1, "[n_0, n_1, ⟦Undeclared⟧n_2]"),
+    ("what is below in a diamond", ["", "e_0", "e_0", "e_1, e_2", ""], 2, "[n_0, n_2, ⟦Undeclared⟧n_3]"),
+    ("the top of a diamond", ["", "e_0", "e_0", "e_1, e_2", ""], 0, "[n_0, ⟦Undeclared⟧n_1]"),
+    ("a later supertype first, and one twice", ["e_2, e_1, e_2", "e_3", "", "", ""], 0, "[n_0, n_1, n_2, n_3, ⟦Undeclared⟧n_4]"),
+    ("a supertype's supertype", ["e_2, e_1, e_2", "e_3", "", "", ""], 1, "[n_1, n_3, ⟦Undeclared⟧n_2]"),
+]
+# e_0 and e_1 are below each other, e_1 also below e_4, e_2 below e_1, and e_3 below itself
+RING = ["e_1", "e_0, e_4", "e_1", "e_3", ""]
+# orders of these, and the first that is below itself
+RINGS = [((2, 4, 0, 1, 3), 0), ((4, 2, 1, 0, 3), 1), ((2, 4, 3, 0, 1), 3)]
+
+
+def entity(k, supertypes, mark="", rule=""):
+    """An entity with an attribute of its number."""
+    above = f"SUBTYPE OF ({supertypes[k]})" if supertypes[k] else ""
+    return f"ENTITY {mark}e_{k} {above}; n_{k} : INTEGER; {rule} END_ENTITY; "
+
+
+def lineages(it):
+    for name, supertypes, which, values in LINEAGES:
+        rules = {which: f"WHERE SIZEOF({values}) > 0;"}
+        look(it, name, "".join(entity(k, supertypes, rule=rules.get(k, "")) for k in range(5)))
+    for order, first in RINGS:
+        marks = {first: "⟦CyclicSubtype⟧"}
+        look(it, f"below itself first: e_{first}", "".join(entity(k, RING, marks.get(k, "")) for k in order))
+    look(it, "a chain of 3,000 subtypes", chain(3000))
+    look(it, "a chain of 3,000 subtypes, without a name", chain(3000, "n_2999 + ⟦Undeclared⟧n_3000"))
+
 
 # ---- whole texts, and the schema's name
 
@@ -996,26 +1029,16 @@ def many(it):
 
 def look(it, name, declarations):
     """Compares what is told of a schema of these declarations."""
-    look_whole(it, name, "A", f"SCHEMA A; {declarations} END_SCHEMA;")
-
-
-def look_whole(it, name, schema, text):
-    pieces = MARK.split(text)
-    plain = "".join(pieces[::2]).encode()
-    if len(pieces) == 1:
-        it.accepts(name, plain, schema.encode())
-    else:
-        it.refuses(name, plain, pieces[1], len(pieces[0].encode()))
+    it.looks([(name, "A", f"SCHEMA A; {declarations} END_SCHEMA;")])
 
 
 def rows(it):
     for name, declarations in (*TWICE, *SCOPES, *TURNS, *MORE_ITEMS, *CYCLES, *SEVERAL, *LETTERS):
         look(it, name, declarations)
-    for name, schema, text in WHOLE:
-        look_whole(it, name, schema, text)
+    it.looks(WHOLE)
 
 
-PARTS = (places, twice_in_a_schema, twice_in_an_entity, attributes, items, several, rows, many)
+PARTS = (places, twice_in_a_schema, twice_in_an_entity, attributes, items, several, lineages, rows, many)
 
 if __name__ == "__main__":
-    sys.exit(run_parts("names", PARTS, sys.argv[1:]))
+    run_parts("names", PARTS, sys.argv[1:])

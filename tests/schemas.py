@@ -10,14 +10,10 @@ declared has a mark too, before the name at which it is refused. Then come the f
 nesting and of size, and the command line. What names mean is looked at by tests/names.py. The last line is
 'schemas: N passed, M failed', and the status is 0 only if none failed.
 """
-import os
-import subprocess
 import sys
-import tempfile
 import time
 
-TOP = os.path.dirname(os.path.dirname(os.path.abspath(__file__)))
-PROGRAM = os.path.join(TOP, "crates/rp_server/out/rp_server")
+from harness import run_parts
 
 # Where a piece of a schema stands, and the names that it uses there.
 SCHEMA = "SCHEMA A; {} END_SCHEMA;"
@@ -237,17 +233,6 @@ TOKENS = [
 ]
 
 
-def place_of(text, at):
-    """The line and the column of a byte, from 1."""
-    before = text[:at]
-    return before.count(b"\n") + 1, at - (before.rfind(b"\n") + 1) + 1
-
-
-def told(kind, text, at):
-    line, column = place_of(text, at)
-    return b"%s line %d column %d\n" % (kind.encode(), line, column)
-
-
 def marked(text):
     """The text without its mark, what the mark says, and the byte where it stood."""
     for mark, kind in MARKS.items():
@@ -257,40 +242,11 @@ def marked(text):
     raise ValueError(f"no mark in {text}")
 
 
-class Checker:
-    def __init__(self, program, folder):
-        self.program = program
-        self.folder = folder
-        self.passed = 0
-        self.failed = 0
-
-    def run(self, words):
-        done = subprocess.run([self.program, *words], cwd=self.folder, capture_output=True, check=False)
-        return done.returncode, done.stdout, done.stderr
-
-    def check(self, text):
-        with open(os.path.join(self.folder, "it.exp"), "wb") as it:
-            it.write(text)
-        return self.run(["check", "it.exp"])
-
-    def expect(self, name, seen, wanted):
-        if seen == wanted:
-            self.passed += 1
-        else:
-            self.failed += 1
-            print(f"{name}: {seen!r} in place of {wanted!r}")
-
-    def accepts(self, name, text, schema=b"A"):
-        self.expect(name, self.check(text), (0, schema + b": ok\n", b""))
-
-    def spells(self, name, text):
-        """The text is a schema, whatever is told of its kinds."""
-        status, out, err = self.check(text)
-        kind = out.split(b" ")[0].decode()
-        self.expect(name, (kind in KINDS if status else out == b"A: ok\n", err), (True, b""))
-
-    def refuses(self, name, text, kind, at):
-        self.expect(name, self.check(text), (1, told(kind, text, at), b""))
+def spells(it, name, text):
+    """The text is a schema, whatever is told of its kinds."""
+    status, out, err = it.check(text)
+    kind = out.split(b" ")[0].decode()
+    it.expect(name, (kind in KINDS if status else out == b"A: ok\n", err), (True, b""))
 
 
 def nested(count):
@@ -302,7 +258,7 @@ def productions(it):
         if "¬" in good:
             it.refuses(name, *marked(context.format(good)))
         else:
-            it.spells(name, context.format(good).encode())
+            spells(it, name, context.format(good).encode())
         text, kind, at = marked(context.format(bad))
         # where the mark stands before blanks, the token is the next one; at the end it is the end
         while at < len(text) and text[at] <= 32:
@@ -351,7 +307,7 @@ def nesting(it):
     it.refuses("a parenthesis within 64 statements", head + deep + b"a := 1;" + b" END_IF;" * 64 + tail,
                "TooDeep", len(head) + 63 * 12 + 3)
     it.refuses("a token that can't be taken opens nothing", where(b"(" * 64 + b"1 ("), "Syntax", begin + 64 + 2)
-    it.spells("operators and qualifiers of one level", where(b"a" + b".b" * 10000 + b" + 1" * 100000))
+    spells(it, "operators and qualifiers of one level", where(b"a" + b".b" * 10000 + b" + 1" * 100000))
 
 
 def sizes(it):
@@ -365,11 +321,12 @@ def sizes(it):
 
 
 def commands(it):
+    it.folder.write("it.exp", "SCHEMA A; END_SCHEMA;")
     for name, words in (("no file", ["check"]), ("a file that isn't there", ["check", "none.exp"]),
                         ("a folder", ["check", "."]), ("two files", ["check", "it.exp", "it.exp"])):
-        status, out, err = it.run(words)
+        status, out, err = it.folder.run(*words)
         it.expect(name, (status, out, err.count(b"\n")), (2, b"", 1))
-    status, out, err = it.run(["check", "--help"])
+    status, out, err = it.folder.run("check", "--help")
     it.expect("help", (status, err, b"FILE" in out), (0, b"", True))
 
 
@@ -397,18 +354,5 @@ def rows(it):
         it.expect(name, it.check(text.encode()), (status, out, b""))
 
 
-def run_parts(title, parts, words):
-    """Runs the parts on the program that is named, or on the one that was built. Answers the status."""
-    program = os.path.abspath(words[0] if words else PROGRAM)
-    if not os.access(program, os.X_OK):
-        sys.exit(f"{title}: there is no program {program}: run rt ci first, or name it")
-    with tempfile.TemporaryDirectory() as folder:
-        it = Checker(program, folder)
-        for part in parts:
-            part(it)
-    print(f"{title}: {it.passed} passed, {it.failed} failed")
-    return 1 if it.failed else 0
-
-
 if __name__ == "__main__":
-    sys.exit(run_parts("schemas", (productions, tokens, nesting, sizes, rows, commands), sys.argv[1:]))
+    run_parts("schemas", (productions, tokens, nesting, sizes, rows, commands), sys.argv[1:])

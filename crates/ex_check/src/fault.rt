@@ -8,7 +8,7 @@ use ex_tree::{LexFault, LexFaultKind, ParseFault, ParseFaultKind};
 use ex_types::{TypeFault, TypeFaultKind};
 
 /// The first fault of a text that is no schema: of its tokens, else of its syntax, else of its names, else of its types.
-#[derive(Clone, Copy, Debug, PartialEq, Eq)]
+#[derive(Clone, Copy, PartialEq, Eq)]
 pub enum SchemaFault {
     Lexical(LexFault),
     Syntactic(ParseFault),

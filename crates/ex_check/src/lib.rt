@@ -10,8 +10,3 @@ mod schema;
 pub use fault::SchemaFault;
 pub use report::{CheckFault, Verdict, check_text, words_of_fault};
 pub use schema::schema_of;
-
-#[cfg(test)]
-mod names_tests;
-#[cfg(test)]
-mod parser_tests;

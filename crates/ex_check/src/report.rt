@@ -16,14 +16,14 @@ use std::alloc::{AllocError, Global};
 use text_forms::Failure;
 
 /// Whether a text is a schema.
-#[derive(Clone, Copy, Debug, PartialEq, Eq)]
+#[derive(Clone, Copy, PartialEq, Eq)]
 pub enum Verdict {
     Accepted,
     Refused,
 }
 
 /// Why a report isn't written whole.
-#[derive(Clone, Copy, Debug, PartialEq, Eq)]
+#[derive(Clone, Copy, PartialEq, Eq)]
 pub enum CheckFault {
     /// A growth was refused; nothing was written.
     NoMemory,

@@ -12,7 +12,7 @@ use crate::words::word_kind;
 use ex_tree::{Kind, LexFaultKind};
 
 /// What stands at the front of a text.
-#[derive(Clone, Copy, Debug)]
+#[derive(Clone, Copy)]
 pub enum Start {
     /// This many bytes separate tokens.
     Blank(usize),

@@ -7,8 +7,6 @@ mod lexed;
 mod numbers;
 mod strings;
 mod symbols;
-#[cfg(test)]
-mod tests;
 mod words;
 
 pub use cut::tokens;

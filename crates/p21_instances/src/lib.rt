@@ -9,6 +9,3 @@ mod types;
 pub use fault::first_fault;
 pub use name::{greatest_name, in_name_order};
 pub use types::type_of;
-
-#[cfg(test)]
-mod tests;

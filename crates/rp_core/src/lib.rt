@@ -16,6 +16,3 @@ mod schemas;
 
 pub use plans::Pending;
 pub use repository::{Call, Caller, Repository};
-
-#[cfg(test)]
-mod tests;

@@ -17,7 +17,7 @@ use std::marker::Model;
 pub const LINE_LIMIT: usize = 16_777_216;
 
 /// What was kept of a line.
-#[derive(Clone, Copy, PartialEq, Eq, Debug)]
+#[derive(Clone, Copy, PartialEq, Eq)]
 pub enum Room {
     /// All of it.
     Kept,
@@ -28,7 +28,7 @@ pub enum Room {
 }
 
 /// What [`next_line`] found.
-#[derive(Clone, Copy, PartialEq, Eq, Debug)]
+#[derive(Clone, Copy, PartialEq, Eq)]
 pub enum Taken {
     /// The input has ended, and no line was left.
     End,

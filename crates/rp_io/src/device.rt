@@ -9,7 +9,7 @@ ghost use Rattle.rp_io.specs.Front.{AppendsFront};
 use std::io;
 
 /// A read or a write failed. Why isn't told.
-#[derive(Clone, Copy, PartialEq, Eq, Debug)]
+#[derive(Clone, Copy, PartialEq, Eq)]
 pub struct DeviceFault;
 
 /// A reader that tells its bytes and counts its failures.

@@ -52,7 +52,7 @@ pub enum Request {
 }
 
 /// Why a request is refused.
-#[derive(Clone, Copy, Debug, PartialEq, Eq)]
+#[derive(Clone, Copy, PartialEq, Eq)]
 pub enum Refusal {
     BadRequest,
     TooLarge,
@@ -136,7 +136,7 @@ pub enum Change {
 }
 
 /// Why there is no repository of these schemas and partners.
-#[derive(Clone, Copy, Debug, PartialEq, Eq)]
+#[derive(Clone, Copy, PartialEq, Eq)]
 pub enum NewFault {
     /// Two schemas have one name.
     TwoSchemas,

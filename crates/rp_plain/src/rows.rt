@@ -4,7 +4,7 @@ use p21_tree::{Header, Instance};
 use plain_data::{Rows, Text};
 
 /// What a partner may do with a model that is granted to him, from least to greatest.
-#[derive(Clone, Copy, Debug, PartialEq, Eq)]
+#[derive(Clone, Copy, PartialEq, Eq)]
 pub enum Level {
     Read,
     /// Also to list the model in groups of his own.
@@ -20,7 +20,7 @@ pub struct Grant {
 }
 
 /// What a partner may do with a model that he sees.
-#[derive(Clone, Copy, Debug, PartialEq, Eq)]
+#[derive(Clone, Copy, PartialEq, Eq)]
 pub enum Right {
     Owner,
     Granted(Level),

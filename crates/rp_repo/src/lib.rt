@@ -5,8 +5,6 @@
 pub mod answer;
 pub mod laws;
 pub mod run;
-#[cfg(test)]
-mod tests;
 
 pub use ex_check::SchemaFault;
 pub use ex_types::Schema;

@@ -11,7 +11,7 @@ use rp_wire::no_memory_line;
 use std::alloc::Global;
 
 /// Why a run ended before its input.
-#[derive(Clone, Copy, PartialEq, Eq, Debug)]
+#[derive(Clone, Copy, PartialEq, Eq)]
 pub enum RunFault {
     ReadFault,
     WriteFault,

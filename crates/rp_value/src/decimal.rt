@@ -11,7 +11,7 @@ use std::marker::Model;
 const MAX_EXPONENT: i16 = 1000;
 
 /// Why a spelling has no decimal.
-#[derive(Clone, Copy, Debug, PartialEq, Eq)]
+#[derive(Clone, Copy, PartialEq, Eq)]
 pub enum DecimalFault {
     /// It is no real.
     NotReal,
@@ -22,7 +22,7 @@ pub enum DecimalFault {
 }
 
 /// The real number `coefficient * 10^exponent`, in its one normal form.
-#[derive(Clone, Copy, Debug)]
+#[derive(Clone, Copy)]
 pub struct Decimal {
     coefficient: i128,
     exponent: i16,

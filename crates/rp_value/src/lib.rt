@@ -10,12 +10,9 @@ pub use decimal::{Decimal, DecimalFault};
 pub use whole::whole_number;
 
 /// A value of LOGICAL, in the order of the standard.
-#[derive(Clone, Copy, Debug, PartialEq, Eq)]
+#[derive(Clone, Copy, PartialEq, Eq)]
 pub enum Logical {
     False,
     Unknown,
     True,
 }
-
-#[cfg(test)]
-mod tests;

@@ -22,7 +22,7 @@ pub struct Asked {
 }
 
 /// Why a line gives no request.
-#[derive(Clone, Copy, Debug, PartialEq, Eq)]
+#[derive(Clone, Copy, PartialEq, Eq)]
 pub enum Unread {
     /// The line is no request.
     BadRequest,

@@ -10,6 +10,3 @@ mod writing;
 
 pub use asks::{Asked, Unread, request_of};
 pub use replies::{no_memory_line, reply_bytes, reply_line};
-
-#[cfg(test)]
-mod tests;

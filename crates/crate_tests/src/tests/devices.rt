@@ -1,11 +1,10 @@
-//! Runs over readers and writers in memory, which give and take few bytes at a time or fail.
+//! Runs over a reader and a writer in memory that move a byte at a time, and of which a call fails.
 ghost use Rattle.std.specs.Prelude.{None};
 
-use crate::{DeviceFault, FromReader, Repository, RunFault, Sink, Source, ToWriter, run_lines};
 use ex_check::schema_of;
-use plain_data::Text;
+use rp_repo::{DeviceFault, Repository, RunFault, Sink, Source, Text, run_lines};
 use std::alloc::Global;
-use std::test::Fail;
+use std::test::*;
 
 const INPUT: &[u8] =
     b"{\"as\":\"ann\",\"do\":\"create_model\",\"name\":\"m\",\"schema\":\"T\"}\n{\"as\":\"ann\",\"do\":\"put\",\"model\":\"m\",\"owner\":\"ann\",\"file\":\"ISO-10303-21;HEADER;FILE_DESCRIPTION((''),'2;1');FILE_NAME('','',(''),(''),'','','');FILE_SCHEMA(('T'));ENDSEC;DATA;#2=Q(#1);#1=P(0.10,'a');ENDSEC;END-ISO-10303-21;\"}\n\n{\"as\":\"ann\",\"do\":\"names\",\"model\":\"m\",\"owner\":\"ann\"}";
@@ -13,11 +12,10 @@ const INPUT: &[u8] =
 const OUTPUT: &[u8] =
     b"{\"ok\":{}}\n{\"ok\":{\"instances\":2}}\n{\"refused\":{\"code\":1,\"name\":\"BadRequest\"}}\n{\"ok\":{\"names\":[{\"name\":1,\"type\":\"P\"},{\"name\":2,\"type\":\"Q\"}]}}\n";
 
-/// A reader that gives a few bytes at a time, and fails at one read.
+/// A reader that gives a byte at a time, and fails at one read.
 #[derive(Drop)]
 struct Pieces<'a> {
     bytes: &'a [u8],
-    piece: usize,
     fails_at: u64,
     reads: u64,
     failures: u64,
@@ -34,7 +32,7 @@ impl Source for Pieces<'_> {
             self.failures = self.failures.wrapping_add(1);
             return Err(DeviceFault);
         }
-        let n = self.piece.min(self.bytes.len()).min(buf.len());
+        let n = 1.min(self.bytes.len()).min(buf.len());
         let (front, rest) = self.bytes.split_at(n);
         buf[..n].copy_from_slice(front);
         self.bytes = rest;
@@ -42,11 +40,10 @@ impl Source for Pieces<'_> {
     }
 }
 
-/// A writer that takes a few bytes at a time, and fails at one write.
+/// A writer that takes a byte at a time, and fails at one write.
 #[derive(Drop)]
 struct Taker {
     bytes: Vec<u8>,
-    piece: usize,
     fails_at: u64,
     writes: u64,
     failures: u64,
@@ -59,11 +56,8 @@ impl Sink for Taker {
 
     fn write(&mut self, buf: &[u8]) -> Result<usize, DeviceFault> {
         self.writes = self.writes.wrapping_add(1);
-        let n = self.piece.min(buf.len());
-        if self.writes == self.fails_at
-            || self.piece == 0
-            || self.bytes.extend_from_slice(&buf[..n]).is_err()
-        {
+        let n = 1.min(buf.len());
+        if self.writes == self.fails_at || self.bytes.extend_from_slice(&buf[..n]).is_err() {
             self.failures = self.failures.wrapping_add(1);
             return Err(DeviceFault);
         }
@@ -87,22 +81,16 @@ fn repository(alloc: Global) -> Result<Repository, Fail> {
     )
 }
 
-fn run(
-    alloc: Global,
-    piece: usize,
-    read: u64,
-    write: u64,
-) -> Result<(Result<u64, RunFault>, Vec<u8>), Fail> {
+/// How a run ends, and what it writes, where this read and this write fail; the first is 1.
+fn run(alloc: Global, read: u64, write: u64) -> Result<(Result<u64, RunFault>, Vec<u8>), Fail> {
     let mut reader = Pieces {
         bytes: INPUT,
-        piece,
         fails_at: read,
         reads: 0,
         failures: 0,
     };
     let mut writer = Taker {
         bytes: Vec::new(alloc),
-        piece,
         fails_at: write,
         writes: 0,
         failures: 0,
@@ -113,42 +101,19 @@ fn run(
 }
 
 #[test]
-fn any_pieces_give_the_same_bytes(rt: HostRuntime) -> Result<(), Fail> {
-    for piece in [1usize, 7, 100, 5000] {
-        let (ended, bytes) = run(rt.alloc(), piece, 0, 0)?;
-        assert_eq!(rt; ended, Ok(4), "in pieces of {piece}");
-        assert_eq!(rt; bytes.as_slice(), OUTPUT, "in pieces of {piece}");
-    }
-    Ok(())
-}
-
-#[test]
 fn each_failure_leaves_a_front(rt: HostRuntime) -> Result<(), Fail> {
     // Each byte is a read, and so is the end.
     for n in 1..INPUT.len() as u64 + 2 {
-        let (ended, bytes) = run(rt.alloc(), 1, n, 0)?;
-        assert_eq!(rt; ended, Err(RunFault::ReadFault), "at read {n}");
+        let (ended, bytes) = run(rt.alloc(), n, 0)?;
+        assert!(rt; ended == Err(RunFault::ReadFault), "at read {n}");
         assert!(rt; OUTPUT.starts_with(bytes.as_slice()), "at read {n}");
     }
     for n in 1..160u64 {
-        let (ended, bytes) = run(rt.alloc(), 1, 0, n)?;
+        let (ended, bytes) = run(rt.alloc(), 0, n)?;
         let is_cut = ended == Err(RunFault::WriteFault) && bytes.len() as u64 + 1 == n;
         let is_whole = ended == Ok(4) && bytes.len() == OUTPUT.len();
         assert!(rt; is_cut || is_whole, "at write {n}");
         assert!(rt; OUTPUT.starts_with(bytes.as_slice()), "at write {n}");
     }
-    Ok(())
-}
-
-#[test]
-fn readers_and_writers_of_std(rt: HostRuntime) -> Result<(), Fail> {
-    let alloc = rt.alloc();
-    let mut repository = repository(alloc)?;
-    let mut reader = FromReader::new(INPUT);
-    let mut writer = ToWriter::new(Vec::new(alloc));
-    let ended = run_lines(alloc, &mut repository, &mut reader, &mut writer);
-    assert_eq!(rt; ended, Ok(4));
-    let bytes = writer.into_inner();
-    assert_eq!(rt; bytes.as_slice(), OUTPUT);
     Ok(())
 }

@@ -1,0 +1,5 @@
+//! The tests, by what they look at.
+
+mod attributes;
+mod decimals;
+mod devices;

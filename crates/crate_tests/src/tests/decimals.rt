@@ -1,0 +1,106 @@
+//! Decimals by hand: the one that a real spells, and how two of them stand to each other.
+
+use rp_value::{Decimal, DecimalFault};
+use std::cmp::Ordering;
+use std::test::*;
+
+const NINES: &[u8] = b"999999999999999999999999999999999999.";
+
+/// A real, and the coefficient and the exponent of its decimal.
+static SPELLED: [(&[u8], i128, i16); 13] = [
+    (b"0.10", 1, -1),
+    (b"1.E-1", 1, -1),
+    (b"10.", 1, 1),
+    (b"+00120.300e+0007", 1203, 6),
+    (b"-12.5", -125, -1),
+    (b"0.E9999", 0, 0),
+    (b"-0.E99999999999999999999", 0, 0),
+    (b"0.001E1001", 1, 998),
+    (b"1000.E-1003", 1, -1000),
+    (b"1.E1000", 1, 1000),
+    (b"1.E-1000", 1, -1000),
+    (NINES, 999999999999999999999999999999999999, 0),
+    (
+        b"000999999999999999999999999999999999999000.000",
+        999999999999999999999999999999999999,
+        3,
+    ),
+];
+
+/// A text that has no decimal, and why.
+static REFUSED: [(&[u8], DecimalFault); 18] = [
+    (b"", DecimalFault::NotReal),
+    (b".5", DecimalFault::NotReal),
+    (b"5", DecimalFault::NotReal),
+    (b"+.5", DecimalFault::NotReal),
+    (b"--5.", DecimalFault::NotReal),
+    (b"5.E", DecimalFault::NotReal),
+    (b"5.E+", DecimalFault::NotReal),
+    (b"5.5.", DecimalFault::NotReal),
+    (b"5. ", DecimalFault::NotReal),
+    (b" 5.", DecimalFault::NotReal),
+    (b"5.E1x", DecimalFault::NotReal),
+    (b"5.F1", DecimalFault::NotReal),
+    (
+        b"9999999999999999999999999999999999999.",
+        DecimalFault::TooManyDigits,
+    ),
+    (
+        b"9.999999999999999999999999999999999999E9999",
+        DecimalFault::TooManyDigits,
+    ),
+    (b"10.E1000", DecimalFault::TooWide),
+    (b"0.1E-1000", DecimalFault::TooWide),
+    (b"1.E99999999999999999999", DecimalFault::TooWide),
+    (b"1.E-99999999999999999999", DecimalFault::TooWide),
+];
+
+/// How the first stands to the second.
+static ORDERED: [(&[u8], Ordering, &[u8]); 11] = [
+    (b"0.1", Ordering::Equal, b"1.E-1"),
+    (
+        b"100000000000000000000000000000000001.",
+        Ordering::Greater,
+        b"100000000000000000000000000000000000.",
+    ),
+    (
+        b"123456789012345678.E0",
+        Ordering::Less,
+        b"123456789012345679.E0",
+    ),
+    (b"-1.E1000", Ordering::Less, b"1.E-1000"),
+    (b"1.E-1000", Ordering::Greater, b"0."),
+    (b"0.", Ordering::Less, b"1.E1000"),
+    (b"-0.", Ordering::Equal, b"0.E5"),
+    (b"-2.", Ordering::Less, b"-1.999"),
+    (b"1.E1000", Ordering::Greater, NINES),
+    (b"1.E36", Ordering::Greater, NINES),
+    (b"1.E35", Ordering::Less, NINES),
+];
+
+#[test]
+fn a_real_spells_one_decimal(rt: HostRuntime) -> Result<(), Fail> {
+    for (spelling, coefficient, exponent) in SPELLED.iter() {
+        let decimal = Decimal::parse(spelling).ok().ok_or("no decimal")?;
+        assert_eq!(rt; decimal.coefficient(), *coefficient);
+        assert_eq!(rt; decimal.exponent(), *exponent);
+        assert_eq!(rt; decimal.negate().coefficient(), coefficient.wrapping_neg());
+        assert_eq!(rt; decimal.negate().exponent(), *exponent);
+        assert!(rt; decimal.negate().negate().cmp(&decimal) == Ordering::Equal);
+    }
+    for (text, fault) in REFUSED.iter() {
+        assert!(rt; Decimal::parse(text).err() == Some(*fault));
+    }
+    Ok(())
+}
+
+#[test]
+fn decimals_are_ordered_exactly(rt: HostRuntime) -> Result<(), Fail> {
+    for (left, order, right) in ORDERED.iter() {
+        let left = Decimal::parse(left).ok().ok_or("no decimal")?;
+        let right = Decimal::parse(right).ok().ok_or("no decimal")?;
+        assert!(rt; left.cmp(&right) == *order);
+        assert!(rt; right.cmp(&left) == order.reverse());
+    }
+    Ok(())
+}

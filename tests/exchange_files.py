@@ -1,0 +1,215 @@
+#!/usr/bin/env python3
+"""Puts exchange files (ISO 10303-21) into a model of the built program and compares all that it answers, byte for byte:
+the names and types of their instances, or the first fault with its byte.
+
+    tests/exchange_files.py [PROGRAM]
+
+A mark as ⟦Token⟧ stands right before the first byte of a fault, and a put that is refused changes nothing. Beside a file
+without a mark stand its instances, in order of name, or else what is refused of it. The last line is
+'exchange files: N passed, M failed', and the status is 0 only if none failed.
+"""
+import sys
+
+from harness import run_parts, unmarked
+from messages import CONFIG, OK, WRONG_SCHEMA, Repository, create, file_fault, file_of, instance_fault, instances, named, names, put
+
+START = "ISO-10303-21;HEADER;FILE_DESCRIPTION((''),'2;1');FILE_NAME('','',(''),(''),'','','');"
+SCHEMA = "FILE_SCHEMA(('T'));"
+
+
+def whole(lines, header=SCHEMA):
+    """A file, of what follows FILE_NAME up to `DATA`, and what follows that up to the last `ENDSEC`."""
+    return f"{START}{header}ENDSEC;DATA{lines}ENDSEC;END-ISO-10303-21;\n\\F\\"
+
+
+def looks(it, rows, schema="T", **files):
+    """Puts each file of the rows in turn, and reads the names after it."""
+    lines, wanted, content = [create("ann", "m", schema)], [OK], ()
+    for _, marked, told in rows:
+        plain, marks = unmarked(marked)
+        reply = file_fault(*marks[0]) if marks else told if isinstance(told, bytes) else instances(len(told))
+        content = content if marks or isinstance(told, bytes) else told
+        lines += [put("ann", "ann", "m", plain.decode()), names("ann", "ann", "m")]
+        wanted += [reply, named(*content)]
+    with Repository({**CONFIG, "schemas": ["t.exp", *(name + ".exp" for name in files)]}, **files) as folder:
+        status, output, errors = folder.batch(b"\n".join(lines))
+    replies = output.split(b"\n")
+    it.expect(f"{rows[0][0]} and {len(rows) - 1} more", (status, replies.pop(), errors, len(replies)), (0, b"", b"", len(wanted)))
+    for place, (name, _, _) in enumerate(rows):
+        its = slice(2 * place + 1, 2 * place + 3)
+        it.expect(name, replies[its], wanted[its])
+
+
+# ---- tokens
+
+# an instance, as each token with what stands before it
+INSTANCE = [("", "#10"), (" ", "="), (" ", "P"), ("", "("), ("", "-1.E-1"), ("", ","), ("/* x */", "'a''b'"), ("", ","), ("", ".T."),
+            ("", ","), ("", '"23B"'), ("", ")"), ("\\N\\", ";")]
+
+P = ((1, "P"),)
+
+# what stands in the data section
+LINES = [
+    ("a keyword behind control characters", "#1=\x00_a\x1f();", ((1, "_A"),)),
+    ("zeros in front of a name", "#0000000000000000000007=P();", ((7, "P"),)),
+    ("comments and directives between tokens", "/**//***/\\F\\#1/*/*/=\\N\\P();", P),
+    ("the file's mark as a keyword", "#1=iso-10303-21();#2=END-ISO-10303-21();", ((1, "ISO-10303-21"), (2, "END-ISO-10303-21"))),
+    ("the greatest name", "#999999999999999999=P();", ((999999999999999999, "P"),)),
+    ("a name over the greatest", "⟦Number⟧#1000000000000000000=P();", None),
+    ("a name without digits", "⟦Token⟧#=P();", None),
+    ("a hyphen in another word", "#1=⟦Token⟧A-B();", None),
+    ("a page of characters outside of a string", "⟦Token⟧\\S\\#1=P();", None),
+    ("a byte order mark behind the front", "⟦Token⟧\ufeff#1=P();", None),
+]
+
+# what stands among the values of an instance
+VALUES = [
+    ("an integer, and a word", "1⟦Syntax⟧A"),
+    ("a real with an exponent in lower case", "1.e3"),
+    ("an E without digits is no exponent", "1.⟦Syntax⟧E "),
+    ("an item in lower case", ".t."),
+    ("two binaries", '"0"⟦Syntax⟧"3ab"'),
+    ("binaries", '"0","3ab","1f","23B"'),
+    ("a string that isn't closed", "1.,⟦Open⟧'ab"),
+    ("a comment that isn't closed", "1. ⟦Open⟧/* x"),
+    ("a word, and a point without one", "a ⟦Token⟧.5"),
+    ("four unused bits", '⟦Token⟧"4F"'),
+    ("an unused bit of none", '⟦Token⟧"1"'),
+    ("a binary that isn't closed", '⟦Open⟧"0'),
+    ("a blank in a binary", '⟦Token⟧"0 "'),
+    ("the greatest integer", "9223372036854775807,+9223372036854775807"),
+    ("an integer over the greatest", "⟦Number⟧9223372036854775808"),
+    ("an integer over the greatest, with its sign", "⟦Number⟧+9223372036854775808"),
+    ("the least integer", "-9223372036854775808"),
+    ("an integer below the least", "⟦Number⟧-9223372036854775809"),
+    ("a real is of any size", "9223372036854775808.,-9223372036854775809.E+99999"),
+    ("an item that isn't closed", " ⟦Token⟧.T"),
+    ("an item of digits", "⟦Token⟧.5."),
+    ("a delete", "⟦Token⟧\x7f"),
+    ("a sign without digits", "⟦Token⟧-"),
+    ("a letter above 7F outside of a string", "⟦Token⟧é"),
+    ("a reference over the greatest name", "⟦Number⟧#1000000000000000000"),
+]
+
+# whole texts
+FRONTS = [
+    ("a byte order mark in front", "\ufeff " + whole(";#1=P();"), P),
+    ("a word behind a byte order mark", "\ufeff ⟦Syntax⟧a", None),
+    ("an end behind a byte order mark", "\ufeff iso-10303-21⟦Syntax⟧", None),
+    ("two byte order marks", "\ufeff⟦Token⟧\ufeff", None),
+    ("two byte order marks before a file", "\ufeff⟦Token⟧\ufeffISO-10303-21", None),
+    ("an empty text", "⟦Syntax⟧", None),
+    ("half of the mark", "⟦Token⟧ISO-10303-2", None),
+    ("half of the mark behind a byte order mark", "\ufeff⟦Token⟧ISO-10303-2", None),
+    ("half of a word", "ISO-10303-21;HEADER;⟦Syntax⟧FILE_DESC", None),
+    ("the mark in lower case", "iso-10303-21;⟦Token⟧ï", None),
+    ("a header's entity without values", "ISO-10303-21;HEADER;FILE_DESCRIPTION⟦Syntax⟧", None),
+    ("one value too few", "ISO-10303-21;HEADER;FILE_DESCRIPTION(''⟦Syntax⟧)", None),
+    ("one value too many", "ISO-10303-21;HEADER;FILE_DESCRIPTION($,()⟦Syntax⟧,$", None),
+    ("an integer in the header", "ISO-10303-21;HEADER;FILE_DESCRIPTION((⟦Syntax⟧1))", None),
+    ("16 levels in the header", "ISO-10303-21;HEADER;FILE_DESCRIPTION(" + "(" * 16 + "⟦Syntax⟧", None),
+    ("17 levels in the header", "ISO-10303-21;HEADER;FILE_DESCRIPTION(" + "(" * 16 + "⟦Deep⟧(1", None),
+    ("a file's name with one value too few", START.replace(",'')", "⟦Syntax⟧)"), None),
+]
+
+
+def tokens(it):
+    rows = [("an instance of tokens of each sort", "".join(blank + token for blank, token in INSTANCE), ((10, "P"),))]
+    for place, (blank, token) in enumerate(INSTANCE):
+        before = "".join(blank + token for blank, token in INSTANCE[:place])
+        other = ";" if token == "=" else "="
+        rows.append((f"{other} in place of {token}", f"{before}{blank}⟦Syntax⟧{other}", None))
+    rows += LINES + [(name, f"#1=P({value});", P) for name, value in VALUES]
+    looks(it, [(name, file_of(text), told) for name, text, told in rows])
+    looks(it, FRONTS)
+
+
+# ---- the grammar
+
+TWO = ((1, "P"), (2, "Q"))
+
+# what follows DATA
+SECTIONS = [
+    ("an internal mapping", ";#2=/* ; */Q(#1);#1=P(0.10,'a');", TWO),
+    ("an external mapping of one type, in a named section", "('n',('t'));#02=(q(#01));\\N\\#1=(P(0.10,'a'));", TWO),
+    ("values of each kind", ";#1=P($,*,-07,.t.,\"23B\",(1,(.T.)),L(M(2)),());", P),
+    ("no instances", ";", ()),
+    ("lists and keywords 16 levels deep", ";#0=P(" + "(" * 16 + " A(1),A(.B.) " + ")" * 16 + ");", ((0, "P"),)),
+    ("a value that is no token", ";#1=P(⟦Token⟧.5);", None),
+    ("a string that isn't closed, at the end", ";#1=P(1.,⟦Open⟧'ab", None),
+    ("a comment that isn't closed, at the end", ";#1=P(1. ⟦Open⟧/* x", None),
+    ("a comma too many, before a string that isn't closed", ";#1=P(1.,⟦Syntax⟧,'ab", None),
+    ("an external mapping of no type", ";#1=(⟦Syntax⟧);", None),
+    ("a list 17 levels deep", ";#1=P(" + "(" * 16 + "⟦Deep⟧(1", None),
+    ("a list within a keyword at the last level", ";#1=P(" + "(" * 16 + "A(⟦Deep⟧(", None),
+    ("a keyword within a keyword at the last level", ";#1=P(" + "(" * 16 + "A(⟦Deep⟧B(", None),
+    ("a keyword that isn't closed", ";#1=P(" + "(" * 16 + "A(1⟦Syntax⟧;", None),
+    ("a word in place of an instance", ";⟦Syntax⟧x", None),
+    ("a section of two schemas", "('n',('T'⟦Syntax⟧,'U'));", None),
+    ("a section of a schema that isn't said", "('n',(⟦Syntax⟧$));", None),
+    ("a section without a name", "(⟦Syntax⟧);", None),
+    ("a second data section", ";ENDSEC;⟦Sections⟧DATA x", None),
+    ("a semicolon behind the end", ";ENDSEC;END-ISO-10303-21;⟦Syntax⟧;", None),
+]
+
+# what stands between FILE_NAME and ENDSEC
+HEADERS = [
+    ("a schema that isn't said", "FILE_SCHEMA((⟦Syntax⟧$));", None),
+    ("no schema", "FILE_SCHEMA((⟦Syntax⟧));", None),
+    ("two schemas", "FILE_SCHEMA(('T'⟦Syntax⟧,'U'));", None),
+    ("another entity of the header", SCHEMA + "⟦Syntax⟧FILE_OTHER();", None),
+    ("17 levels in an entity that says nothing", SCHEMA + "FILE_POPULATION(" + "(" * 16 + "⟦Deep⟧(1", None),
+    ("entities that say nothing here",
+     "file_schema(('T'));SECTION_CONTEXT($);file_population();SECTION_LANGUAGE('a',(1.,#2),A(*));SECTION_CONTEXT(1);", ()),
+]
+
+
+def grammar(it):
+    looks(it, [(name, whole(text), told) for name, text, told in SECTIONS])
+    looks(it, [(name, whole(";", header), told) for name, header, told in HEADERS])
+
+
+# ---- schemas
+
+# the schema's name in the header, the section, the model's schema, and whether the file is of it
+SCHEMAS = [
+    ("T", ";", "t", True),
+    ("t {1 0 10303}", ";", "T", True),
+    ("T\r\nU{}", ";", "TU", True),
+    (" T", ";", "T", False),
+    ("T", ";", "TU", False),
+    ("TU", ";", "T", False),
+    ("T", "('',('t '));", "T", True),
+    ("T", "('',('U'));", "T", False),
+    ("U", "('',('T'));", "T", False),
+]
+
+
+def schemas(it):
+    others = {name: f"SCHEMA {name}; END_SCHEMA;" for name in ("tu", "u")}
+    for schema, section, model, is_of_it in SCHEMAS:
+        file = whole(section + "#1=P();", f"FILE_SCHEMA(('{schema}'));")
+        looks(it, [(f"{schema!r} and {section} for {model}", file, P if is_of_it else WRONG_SCHEMA)], model, **others)
+
+
+# ---- instances
+
+INSTANCES = [
+    ("a name that is defined later", "#2=P((S(#1)));#1=P($);", ((1, "P"), (2, "P"))),
+    ("a name that isn't defined, within a keyword", "#1=P((S(#3)));", instance_fault("Undefined", 1)),
+    ("a name that isn't defined, within keywords", "#2=P();#1=P(L(M(#3)));", instance_fault("Undefined", 1)),
+    ("the first of two instances of one name", "#1=P((S(#3)));#1=P((S(#3)));", instance_fault("Undefined", 1)),
+    ("the second of two instances of one name", "#1=P((S(#3)));#1=P((S(#3)));#3=(a()b());", instance_fault("Twice", 1)),
+    ("types in byte order", "#1=(b()A());", ((1, "A+B"),)),
+    ("one type twice", "#5=(a()A());", instance_fault("Twice", 5)),
+    ("one type twice, in an instance behind others", "#1=P();#7=(a()b()A());#1=P();", instance_fault("Twice", 7)),
+    ("names in the order of numbers", "#10=P();#9=Q();#100=R();", ((9, "Q"), (10, "P"), (100, "R"))),
+]
+
+
+def instances_of_files(it):
+    looks(it, [(name, file_of(text), told) for name, text, told in INSTANCES])
+
+
+if __name__ == "__main__":
+    run_parts("exchange files", (tokens, grammar, schemas, instances_of_files), sys.argv[1:])

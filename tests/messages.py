@@ -1,0 +1,201 @@
+"""Requests and replies for the test scripts, the repository that most of them open, and turns that are compared."""
+import json
+
+from harness import Folder, Wrong, shortened
+
+MIB = 1024 * 1024
+FILE_LIMIT = 8 * MIB
+LINE_LIMIT = 16 * MIB
+
+T = """SCHEMA T;
+ENTITY p; x : REAL; n : OPTIONAL STRING;
+INVERSE u : SET [0:?] OF q FOR a;
+WHERE w1 : SIZEOF(u) <= 2; END_ENTITY;
+ENTITY q; a : p; END_ENTITY;
+END_SCHEMA;
+"""
+L = """SCHEMA L; ENTITY e; END_ENTITY;
+RULE r1 FOR (e); WHERE SIZEOF(QUERY(p <* e | TRUE)) >= 0; END_RULE;
+RULE r2 FOR (e); WHERE NOT (SIZEOF(QUERY(p <* e | TRUE)) < 0); END_RULE;
+END_SCHEMA;
+"""
+CONFIG = {"partners": [{"name": "ann", "token": "ta"}, {"name": "bob", "token": "tb"}],
+          "schemas": ["t.exp", "l.exp"]}
+
+# ---- files
+
+HEAD = ("ISO-10303-21;HEADER;FILE_DESCRIPTION((''),'2;1');FILE_NAME('','',(''),(''),'','','');"
+        "FILE_SCHEMA(('{}'));ENDSEC;")
+FOOT = "ENDSEC;END-ISO-10303-21;"
+
+
+def file_of(instances, schema="T", section="DATA;"):
+    """A Part 21 file without a line feed."""
+    return HEAD.format(schema) + section + instances + FOOT
+
+
+# ---- requests
+
+def line(who, do, **keys):
+    """A request as one line, without its line feed."""
+    return json.dumps({"as": who, "do": do, **keys}, separators=(",", ":"), ensure_ascii=False).encode()
+
+
+def create(who, name, schema="T"):
+    return line(who, "create_model", name=name, schema=schema)
+
+
+def delete(who, name):
+    return line(who, "delete_model", name=name)
+
+
+def put(who, owner, model, file):
+    return line(who, "put", owner=owner, model=model, file=file)
+
+
+def names(who, owner, model):
+    return line(who, "names", owner=owner, model=model)
+
+
+def list_of(who):
+    return line(who, "list")
+
+
+def grant(who, name, to, level):
+    return line(who, "grant", kind="model", name=name, to=to, level=level)
+
+
+def revoke(who, name, to):
+    return line(who, "revoke", kind="model", name=name, to=to)
+
+
+def schemas(who):
+    return line(who, "schemas")
+
+
+def check(who, text):
+    return line(who, "check_schema", text=text)
+
+
+# ---- replies
+
+OK = b'{"ok":{}}'
+
+
+def instances(count):
+    return b'{"ok":{"instances":%d}}' % count
+
+
+def named(*rows):
+    """The reply to `names` for instances of these names and types."""
+    shown = ",".join('{"name":%d,"type":"%s"}' % row for row in rows)
+    return ('{"ok":{"names":[' + shown + "]}}").encode()
+
+
+def listed(*rows):
+    """The models that a partner sees: level, name and owner, and the schema where it isn't T."""
+    models = b",".join(b'{"level":"%s","name":"%s","owner":"%s","schema":"%s"}' % (*row[:3], *(row[3:] or [b"T"])) for row in rows)
+    return b'{"ok":{"groups":[],"models":[%s]}}' % models
+
+
+def loaded(*names_of_schemas):
+    """The reply to `schemas`."""
+    return b'{"ok":{"schemas":[%s]}}' % b",".join(b'"%s"' % it.encode() for it in names_of_schemas)
+
+
+def good(name, *warnings):
+    """The reply to a text that is a schema, with warnings at these bytes."""
+    shown = b",".join(b'{"at":%d,"kind":"SelectInTypeof"}' % it for it in warnings)
+    return b'{"ok":{"schema":"%s","warnings":[%s]}}' % (name.encode(), shown)
+
+
+def fault(kind, at):
+    """The reply to a text that is no schema."""
+    return b'{"ok":{"fault":{"at":%d,"kind":"%s"}}}' % (at, kind.encode())
+
+
+def refused(code, name):
+    return b'{"refused":{"code":%d,"name":"%s"}}' % (code, name.encode())
+
+
+def file_fault(kind, at):
+    return b'{"refused":{"at":%d,"code":11,"kind":"%s","name":"FileFault"}}' % (at, kind.encode())
+
+
+def instance_fault(kind, instance):
+    return b'{"refused":{"code":12,"instance":%d,"kind":"%s","name":"InstanceFault"}}' % (instance, kind.encode())
+
+
+BAD_REQUEST = refused(1, "BadRequest")
+TOO_LARGE = refused(2, "TooLarge")
+BAD_NAME = refused(3, "BadName")
+UNKNOWN_PARTNER = refused(4, "UnknownPartner")
+UNKNOWN_SCHEMA = refused(5, "UnknownSchema")
+EXISTS = refused(6, "Exists")
+NO_SUCH_ITEM = refused(7, "NoSuchItem")
+NO_RIGHT = refused(8, "NoRight")
+WRONG_SCHEMA = refused(9, "WrongSchema")
+TOO_MANY = refused(16, "TooMany")
+
+# ---- turns
+
+FIRST_LINES = [create("ann", "m"), put("ann", "ann", "m", file_of("#2=Q(#1);#1=P(0.10,'a');"))]
+FIRST_REPLIES = [OK, instances(2)]
+FIRST = [*zip(FIRST_LINES, FIRST_REPLIES)]
+FIRST_NAMES = named((1, "P"), (2, "Q"))
+
+
+class Repository(Folder):
+    """A folder with a configuration and schemas, in which requests are answered."""
+
+    def __init__(self, config=None, **files):
+        schemas_of_files = {name + ".exp": text for name, text in {"t": T, "l": L, **files}.items()}
+        super().__init__(**{"config.json": json.dumps(CONFIG if config is None else config), **schemas_of_files})
+
+    def batch(self, text):
+        return self.run("batch", "--config", "config.json", text=text)
+
+
+def expect_replies(text, replies, config=None, **files):
+    """The program answers the bytes of an input by these lines, and ends with status 0."""
+    with Repository(config, **files) as folder:
+        status, output, errors = folder.batch(text)
+    if (status, errors) != (0, b""):
+        raise Wrong(f"status {status}, standard error {errors!r}")
+    written = output.split(b"\n")
+    for place, (reply, wanted) in enumerate(zip(written, replies), 1):
+        if reply != wanted:
+            raise Wrong(f"reply {place} is {shortened(reply)!r} in place of {shortened(wanted)!r}")
+    if output != b"".join(reply + b"\n" for reply in replies):
+        raise Wrong(f"{len(written) - 1} replies in place of {len(replies)}")
+
+
+def expect(turns, config=None, **files):
+    """The program answers each line by the reply beside it."""
+    expect_replies(b"".join(it + b"\n" for it, _ in turns), [reply for _, reply in turns], config, **files)
+
+
+def expect_fault(seen, *mentioned):
+    """The program ended with status 2, one line on standard error and nothing on standard output."""
+    status, output, errors = seen
+    if status != 2 or output or errors.count(b"\n") != 1 or not errors.endswith(b"\n") or len(errors) < 2:
+        raise Wrong(f"status {status}, standard output {output!r}, standard error {errors!r}")
+    for word in mentioned:
+        if word.encode() not in errors:
+            raise Wrong(f"standard error {errors!r} doesn't speak of {word!r}")
+
+
+def expect_config_fault(config, *mentioned, **files):
+    with Repository(config, **files) as folder:
+        expect_fault(folder.batch(names("ann", "ann", "m")), *mentioned)
+
+
+def replies_to(who, lines):
+    """The reply lines to a partner's lines."""
+    with Repository() as folder:
+        status, output, errors = folder.batch(b"".join(it + b"\n" for it in lines))
+    replies = output.split(b"\n")[:-1]
+    if (status, errors, len(replies)) != (0, b"", len(lines)):
+        raise Wrong(f"status {status}, {len(replies)} replies to {len(lines)} lines, {errors!r}")
+    mark = b'{"as":"%s"' % who.encode()
+    return [reply for it, reply in zip(lines, replies) if it.startswith(mark)]
