@@ -1,33 +1,34 @@
 #!/usr/bin/env python3
-"""Fails where docs/CLAIMS.md names a crate, function, must-fail edit or test that isn't there.
+"""Fails where docs/CLAIMS.md names what isn't there, or leaves out a public call or a must-fail edit.
 
     .ci/check_claims.py [FILE]
 
-The syntax of docs/CLAIMS.md. Text outside tables is free. A table has exactly these columns, its header
-written so:
+The form of docs/CLAIMS.md. No line has more than 200 characters. A paragraph that begins 'Public crates:' names
+those crates in backticks; all others are inner ones. A promise is a block:
 
-    | What holds | Functions | Must-fail edits | Tests |
+    ### The promise in short
+    What holds, in free text.
+    - calls: `crate::function`, `crate::Type::method`
+    - edits: `crate/must-fail/name.edit`
+    - tests: `tests/script.py`, `crate test_name`
 
-The first cell is free text, which has to be there. Each other cell is `none`, or items in backticks with
-a comma between them:
+Its three lists are `none`, or items in backticks with commas between, and may go on over further lines that begin
+with two spaces; a block names at least one call. Other text is free. Refused are:
 
-    Functions        `crate::function`         a `pub fn` of the crate's src/ that stands in no block
-                     `crate::Type::method`     a function of an `impl` block of the type, or of the trait;
-                                               `pub fn` unless the block is a trait's
-    Must-fail edits  `crate/must-fail/name.edit`
-    Tests            `crate test_name`         a function with #[test] of the crate
-                     `path`                    a script of the repository: it has a `/` and can be run
-
-A line names at least one function. A crate is one that crates.txt lists and whose folder is there. A
-table that isn't of this form, and an item that isn't of its column's form, are faults too, and so is a
-file without a single line of claims.
+    a call that is no `pub fn` which other crates can name, nor a method of one of a crate's traits
+    an edit or a test that isn't there; a test is a function with #[test], or a script that can be run
+    a public call of a public crate that no block names
+    an edit in a must-fail/ that no block names, or that is named twice
+    an inner crate whose calls stand in more than one block
 """
+import collections
 import os
 import re
 import sys
 
 TOP = os.path.dirname(os.path.dirname(os.path.abspath(__file__)))
-COLUMNS = ["What holds", "Functions", "Must-fail edits", "Tests"]
+LISTS = ("calls", "edits", "tests")
+WIDEST = 200
 
 COMMENT_OR_TEXT = re.compile(
     r"//[^\n]*|/\*.*?\*/|b?r(?P<h>#*)\".*?\"(?P=h)|b?\"(?:\\.|[^\"\\])*\"|b?'(?:\\.[^']*|[^'\\])'", re.DOTALL
@@ -36,6 +37,12 @@ WORDS = re.compile(r"[{}]|[^{};]+|;")
 FUNCTION = re.compile(r"(?P<public>\bpub\s+)?(?:const\s+|unsafe\s+)*\bfn\s+(?P<name>\w+)")
 IMPL = re.compile(r"\bimpl\b(?P<head>.*)\Z", re.DOTALL)
 TRAIT = re.compile(r"\btrait\s+(?P<name>\w+)")
+PUBLIC_MODULE = re.compile(r"^pub mod (\w+);", re.MULTILINE)
+PUBLIC_USE = re.compile(r"^pub use ([^;]+);", re.MULTILINE)
+
+# A function of a source: the type or trait of its block or None, its name, whether it says `pub`, whether its block is
+# a trait's, and whether it is a test. In a function's own body the type is 'body'.
+Function = collections.namedtuple("Function", "owner name is_pub in_trait is_test")
 
 
 def without_angles(text):
@@ -67,8 +74,7 @@ def block_of(head):
 
 
 def functions_of(text):
-    """The functions of a file: (type or None, name, is public, is in a test module or marked as a test)."""
-    text = COMMENT_OR_TEXT.sub(lambda found: " " * len(found[0]), text)
+    """The functions of a source."""
     blocks, head, found = [], "", []
     for piece in WORDS.findall(text):
         if piece == "{":
@@ -77,7 +83,7 @@ def functions_of(text):
                 if not any(block == "body" for block, _ in blocks):
                     owner = next((block for block, _ in reversed(blocks) if block), None)
                     in_trait = any(is_trait for _, is_trait in blocks)
-                    found.append((owner, it["name"], bool(it["public"]) or in_trait, "#[test]" in head))
+                    found.append(Function(owner, it["name"], bool(it["public"]), in_trait, "#[test]" in head))
             block = block_of(head)
             blocks.append(block or (("body" if FUNCTION.search(head) else None), False))
             head = ""
@@ -89,75 +95,90 @@ def functions_of(text):
             for it in FUNCTION.finditer(head):
                 owner = next((block for block, is_trait in reversed(blocks) if is_trait), None)
                 if owner:
-                    found.append((owner, it["name"], True, False))
+                    found.append(Function(owner, it["name"], False, True, False))
             head = ""
         else:
             head += piece
     return found
 
 
+def exports_of(root):
+    """What a crate's root file hands out: the names of its `pub use`, and of its `pub mod`."""
+    used = set()
+    for path in PUBLIC_USE.findall(root):
+        inner = re.search(r"\{(.*)\}", path, re.DOTALL)
+        used |= {it.strip().split("::")[-1] for it in (inner[1] if inner else path).split(",") if it.strip()}
+    return used, set(PUBLIC_MODULE.findall(root))
+
+
 class Crate:
-    """What a crate's sources and must-fail edits have."""
+    """What a crate's sources have: its public calls, the methods of its traits, and its tests."""
 
-    def __init__(self, name):
-        self.functions, self.methods, self.tests = set(), set(), set()
-        for folder, _, files in os.walk(os.path.join(TOP, "crates", name, "src")):
-            for file in files:
-                if file.endswith(".rt"):
-                    with open(os.path.join(folder, file), encoding="utf-8") as it:
-                        self.read(it.read())
+    def __init__(self, folder):
+        self.calls, self.trait_methods, self.tests = set(), set(), set()
+        texts = {os.path.relpath(path, folder)[: -len(".rt")]: self.plain(path) for path in self.files(folder)}
+        root = "lib" if "lib" in texts else "main"
+        used, modules = exports_of(texts[root])
+        for module, text in texts.items():
+            is_open = module == root or module in modules
+            for it in functions_of(text):
+                is_seen = is_open or (it.owner or it.name) in used
+                if it.is_test:
+                    self.tests.add(it.name)
+                elif it.owner != "body" and it.in_trait:
+                    self.trait_methods.add((it.owner, it.name))
+                elif it.owner != "body" and it.is_pub and is_seen:
+                    self.calls.add((it.owner, it.name))
 
-    def read(self, text):
-        for owner, name, is_public, is_test in functions_of(text):
-            if is_test:
-                self.tests.add(name)
-            elif is_public and owner is None:
-                self.functions.add(name)
-            elif is_public and owner != "body":
-                self.methods.add((owner, name))
+    @staticmethod
+    def files(folder):
+        """The sources below a folder."""
+        return [os.path.join(at, name) for at, _, names in os.walk(folder) for name in sorted(names) if name.endswith(".rt")]
+
+    @staticmethod
+    def plain(path):
+        """A source without its comments, and with blanks for its strings."""
+        with open(path, encoding="utf-8") as it:
+            return COMMENT_OR_TEXT.sub(lambda found: " " * len(found[0]), it.read())
 
 
-class Claims:
-    """The faults of a file of claims."""
+class Repository:
+    """The crates that crates.txt lists, and their edits."""
 
     def __init__(self):
         self.crates = {}
-        self.faults = []
-        self.rows = 0
         with open(os.path.join(TOP, "crates.txt"), encoding="utf-8") as it:
-            self.listed = {line.split(":")[0].split()[0] for line in it if ":" in line and not line.startswith("#")}
+            names = [line.split(":")[0].split()[0] for line in it if ":" in line and not line.startswith("#")]
+        for name in names:
+            folder = os.path.join(TOP, "crates", name, "src")
+            if os.path.isdir(folder):
+                self.crates[name] = Crate(folder)
 
-    def crate(self, name):
-        """The crate of this name, or None."""
-        if name not in self.crates:
-            is_there = name in self.listed and os.path.isdir(os.path.join(TOP, "crates", name, "src"))
-            self.crates[name] = Crate(name) if is_there else None
-        return self.crates[name]
+    def edits(self):
+        """The edits that the gate tries."""
+        crates = os.path.join(TOP, "crates")
+        folders = [it for it in sorted(os.listdir(crates)) if os.path.isdir(os.path.join(crates, it, "must-fail"))]
+        return [f"{it}/must-fail/{name}" for it in folders for name in sorted(os.listdir(os.path.join(crates, it, "must-fail")))]
 
-    def function_fault(self, item):
+    def call_fault(self, item):
         found = re.fullmatch(r"(\w+)::(?:([A-Z]\w*)::)?([a-z_]\w*)", item)
         if not found:
             return "is no `crate::function` or `crate::Type::method`"
-        crate = self.crate(found[1])
+        crate = self.crates.get(found[1])
         if not crate:
             return "names no crate of this repository"
-        if found[2]:
-            return None if (found[2], found[3]) in crate.methods else "names no public method of its crate"
-        return None if found[3] in crate.functions else "names no public function of its crate"
+        call = (found[2], found[3])
+        return None if call in crate.calls or call in crate.trait_methods else "names no public call of its crate"
 
     def edit_fault(self, item):
-        found = re.fullmatch(r"(\w+)/must-fail/([\w.-]+\.edit)", item)
-        if not found:
+        if not re.fullmatch(r"\w+/must-fail/[\w.-]+\.edit", item):
             return "is no `crate/must-fail/name.edit`"
-        if not self.crate(found[1]):
-            return "names no crate of this repository"
-        is_there = os.path.isfile(os.path.join(TOP, "crates", item))
-        return None if is_there else "names no must-fail edit"
+        return None if os.path.isfile(os.path.join(TOP, "crates", item)) else "names no must-fail edit"
 
     def test_fault(self, item):
         found = re.fullmatch(r"(\w+) (\w+)", item)
         if found:
-            crate = self.crate(found[1])
+            crate = self.crates.get(found[1])
             if not crate:
                 return "names no crate of this repository"
             return None if found[2] in crate.tests else "names no test of its crate"
@@ -166,51 +187,99 @@ class Claims:
         path = os.path.join(TOP, item)
         return None if os.path.isfile(path) and os.access(path, os.X_OK) else "names no script that can be run"
 
-    def cell(self, place, column, text):
-        """The faults of a cell after the first. Answers how many items it has."""
-        if text == "none":
-            return 0
-        items = re.findall(r"`([^`]*)`", text)
-        if not items or ", ".join(f"`{it}`" for it in items) != text:
-            self.faults.append(f"{place}: {column}: neither `none` nor items in backticks with `, ` between them: {text}")
-            return 0
-        tests = {"Functions": self.function_fault, "Must-fail edits": self.edit_fault, "Tests": self.test_fault}
-        for item in items:
-            fault = tests[column](item)
-            if fault:
-                self.faults.append(f"{place}: {column}: `{item}` {fault}")
-        return len(items)
 
-    def row(self, place, cells):
-        if len(cells) != len(COLUMNS):
-            self.faults.append(f"{place}: {len(cells)} cells in place of {len(COLUMNS)}")
-            return
-        self.rows += 1
-        if not cells[0]:
-            self.faults.append(f"{place}: it says nothing that holds")
-        counts = [self.cell(place, column, text) for column, text in zip(COLUMNS[1:], cells[1:])]
-        if counts[0] == 0:
-            self.faults.append(f"{place}: it names no function")
+class Block:
+    """A promise: where it stands, whether it has text, and its lists as they are written."""
 
-    def read(self, name, text):
-        is_fenced, at = False, 0
-        for number, line in enumerate(text.splitlines(), 1):
-            place = f"{name}:{number}"
-            if line.lstrip().startswith("```"):
-                is_fenced = not is_fenced
-            if is_fenced or not line.lstrip().startswith("|"):
-                at = 0
-                continue
-            cells = [it.strip() for it in line.strip().strip("|").split("|")]
-            at += 1
-            if at == 1 and cells != COLUMNS:
-                self.faults.append(f"{place}: the columns of a table are {' | '.join(COLUMNS)}")
-            elif at == 2 and not all(re.fullmatch(r":?-+:?", it) for it in cells):
-                self.faults.append(f"{place}: the second line of a table is | --- | --- | --- | --- |")
-            elif at > 2:
-                self.row(place, cells)
-        if self.rows == 0:
-            self.faults.append(f"{name}: no line of claims")
+    def __init__(self, place):
+        self.place = place
+        self.has_text = False
+        self.lists = {}
+
+    def items(self, word):
+        return re.findall(r"`([^`]*)`", self.lists.get(word, ""))
+
+    def faults(self):
+        """What is wrong with the block's form."""
+        if not self.has_text:
+            yield f"{self.place}: it doesn't say what holds"
+        if tuple(self.lists) != LISTS:
+            yield f"{self.place}: it has no lists of {', '.join(LISTS)}, once each and in this order"
+        for word, text in self.lists.items():
+            if text != "none" and (not self.items(word) or ", ".join(f"`{it}`" for it in self.items(word)) != text):
+                yield f"{self.place}: {word}: neither 'none' nor items in backticks with commas between: {text}"
+        if not self.items("calls"):
+            yield f"{self.place}: it names no call"
+
+
+class Claims:
+    """The blocks and the public crates of a file of claims, and what is wrong with its lines."""
+
+    def __init__(self, name, text):
+        self.blocks, self.public, self.faults = [], [], []
+        self.block, self.word = None, None
+        for number, line in enumerate(text.split("\n"), 1):
+            if len(line) > WIDEST:
+                self.faults.append(f"{name}:{number}: {len(line)} characters, over {WIDEST}")
+            self.read(f"{name}:{number}", line)
+        for paragraph in re.findall(r"^Public crates:(.*?)(?:\n\n|\Z)", text, re.MULTILINE | re.DOTALL):
+            self.public += re.findall(r"`([^`]*)`", paragraph)
+        self.faults += [it for block in self.blocks for it in block.faults()]
+        if not self.blocks or not self.public:
+            self.faults.append(f"{name}: it has no block, or no 'Public crates:'")
+
+    def read(self, place, line):
+        """Takes a line into the block that is open, or opens or closes one."""
+        if line.startswith("#"):
+            self.block, self.word = (Block(place) if line.startswith("### ") else None), None
+            self.blocks += [self.block] if self.block else []
+        elif self.block and line.startswith("- "):
+            self.word, _, text = line.removeprefix("- ").partition(": ")
+            if self.word in self.block.lists or self.word not in LISTS:
+                self.faults.append(f"{place}: '{self.word}' is no list of a block, or its second one")
+            self.block.lists[self.word] = text.strip()
+        elif self.block and line.startswith("  ") and self.word:
+            self.block.lists[self.word] += " " + line.strip()
+        elif self.block and line.strip() and not self.block.lists:
+            self.block.has_text = True
+        elif not line.strip() and self.word:
+            self.block, self.word = None, None
+        elif self.word:
+            self.faults.append(f"{place}: a list goes on with two spaces, and a block ends with an empty line")
+
+
+def named_faults(blocks, repository):
+    """What the blocks name and isn't there."""
+    tests = {"calls": repository.call_fault, "edits": repository.edit_fault, "tests": repository.test_fault}
+    for block in blocks:
+        for word, test in tests.items():
+            for item in block.items(word):
+                fault = test(item)
+                if fault:
+                    yield f"{block.place}: {word}: `{item}` {fault}"
+
+
+def missing_faults(claims, repository):
+    """What the blocks leave out, and what they name too often."""
+    named = {it for block in claims.blocks for it in block.items("calls")}
+    for crate in claims.public:
+        if crate not in repository.crates:
+            yield f"Public crates: `{crate}` is no crate of this repository"
+            continue
+        for owner, name in sorted(repository.crates[crate].calls, key=str):
+            call = "::".join([crate, owner, name] if owner else [crate, name])
+            if call not in named:
+                yield f"{call}: a public call of a public crate, and no block names it"
+    edits = collections.Counter(it for block in claims.blocks for it in block.items("edits"))
+    for edit in repository.edits():
+        if edits[edit] != 1:
+            yield f"crates/{edit}: {f'{edits[edit]} times named' if edits[edit] else 'no block names it'}"
+    inner = collections.Counter()
+    for block in claims.blocks:
+        inner.update({it.split("::")[0] for it in block.items("calls")} - set(claims.public))
+    for crate, count in sorted(inner.items()):
+        if count > 1:
+            yield f"{crate}: an inner crate, and {count} blocks name calls of it"
 
 
 def main(words):
@@ -218,14 +287,15 @@ def main(words):
     try:
         with open(file, encoding="utf-8") as it:
             text = it.read()
+        repository = Repository()
     except OSError as fault:
         sys.exit(f"check_claims: {fault}")
-    claims = Claims()
-    claims.read(os.path.relpath(file, TOP) if file.startswith(TOP) else file, text)
-    for fault in claims.faults:
+    claims = Claims(os.path.relpath(file, TOP) if file.startswith(TOP) else file, text)
+    faults = [*claims.faults, *named_faults(claims.blocks, repository), *missing_faults(claims, repository)]
+    for fault in faults:
         print(fault)
-    print(f"check_claims: {claims.rows} lines, {len(claims.faults)} faults")
-    sys.exit(1 if claims.faults else 0)
+    print(f"check_claims: {len(claims.blocks)} promises, {len(faults)} faults")
+    sys.exit(1 if faults else 0)
 
 
 if __name__ == "__main__":
