@@ -27,14 +27,28 @@ type SchemaParts = (Items<NamedConstant>, (Classes, Algorithms));
 /// The schema with its names bound. Else the fault of least offset: a name that means nothing where it stands or
 /// something of another sort, one that its scope declares twice, an entity or a type in a cycle, an attribute that the
 /// entity hasn't.
-#[tactic(auto, unfolding(crate::specs::Schemas::resolved))]
 pub fn resolve(alloc: Global, schema: &Schema) -> Binding<Named>
     ensures { Binds result (spec.resolved schema.now) }
 {
     let declarations = declarations(alloc, schema)?;
     let entities = entities(alloc, schema)?;
-    let subtypes = subtype_graph(alloc, &declarations, &entities)?;
-    let found = named_schema(alloc, &declarations, subtypes.as_slice(), &entities, schema)?;
+    named(alloc, &declarations, &entities, schema)
+}
+
+/// The schema with its names bound, by what it declares.
+#[tactic(auto, unfolding(crate::specs::Schemas::resolved))]
+fn named(
+    alloc: Global,
+    declarations: &Declarations<'_>,
+    entities: &[&Entity],
+    schema: &Schema,
+) -> Binding<Named>
+    requires declared { declarations.now ≡ declared.declarations schema.now }
+    requires listed { map (λ e. e.now) entities.now ≡ declared.entities schema.now }
+    ensures { Binds result (spec.resolved schema.now) }
+{
+    let subtypes = subtype_graph(alloc, declarations, entities)?;
+    let found = named_schema(alloc, declarations, subtypes.as_slice(), entities, schema)?;
     Ok(Named::new(found, subtypes))
 }
 
