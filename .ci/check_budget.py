@@ -125,7 +125,8 @@ def faults_of_tests(crates):
 
 def faults_of_operations(crates, budget):
     past, is_whole = {}, True
-    for crate in filter(operations.is_library, crates):
+    # (the crate of tests has no function but these)
+    for crate in (it for it in crates if it != TESTS and operations.is_library(it)):
         try:
             found = operations.operations_of(crate, crates)
         except operations.NotBuilt as why:
