@@ -1,6 +1,6 @@
 -- The instances of a file: their order, their types and their first fault.
 use Rattle.std.specs.Prelude.{ℕ, max, Bool, false, ◌||◌, ◌==◌, nat_lt, if◌then◌else◌, List, [], ◌∷◌, ◌++◌, map, fold, Option, Some, None}
-use Rattle.std.specs.Char.{encode_utf8, to_ascii_uppercase}
+use Rattle.std.specs.Char.{to_ascii_uppercase}
 use Rattle.std.specs.Cmp.Lexicographic.{slice_cmp}
 use Rattle.std.specs.List.{flat_map, join_by, list_all, list_any}
 use Rattle.std.specs.Ordering.{is_lt, nat_cmp}
@@ -29,7 +29,7 @@ module _ {X : Type 0} (is_below : X → X → Bool) where
   in_order [] = []
   in_order (x ∷ xs) = placed x (in_order xs)
 
--- the instances in order of name
+-- the instances in order of name, those of one name as they stand
 abbrev pub by_name : List Instance → List Instance
 by_name = in_order (λ i j. nat_lt i.name j.name)
 
@@ -55,13 +55,9 @@ parts (External several) = several
 abbrev pub keywords : Mapping → List (List ℕ)
 keywords mapping = map keyword (parts mapping)
 
--- a keyword as text: each byte is the character of that code
-abbrev pub text : List ℕ → List ℕ
-text = flat_map encode_utf8
-
 -- the keywords of an instance in byte order, joined by `+`
 abbrev pub type_of : Mapping → List ℕ
-type_of mapping = join_by text (43 ∷ []) (in_order (λ k l. is_lt (slice_cmp nat_cmp k l)) (keywords mapping))
+type_of mapping = join_by (λ k. k) (43 ∷ []) (in_order (λ k l. is_lt (slice_cmp nat_cmp k l)) (keywords mapping))
 
 -- ---- references
 

@@ -1,6 +1,6 @@
 //! The types of an instance.
 
-ghost use Rattle.std.specs.Prelude.{◌≡◌, [], ◌∷◌, ◌++◌, map, IfOk};
+ghost use Rattle.std.specs.Prelude.{◌≡◌, [], ◌∷◌, map, IfOk};
 ghost use Rattle.std.specs.Ordering.{is_lt, nat_cmp};
 ghost use Rattle.std.specs.Cmp.Lexicographic.{slice_cmp};
 ghost use Rattle.std.specs.Str.{bytes_eq};
@@ -14,10 +14,10 @@ use std::alloc::{AllocError, Global};
 use std::collections::BTreeSet;
 
 /// The keyword of a part in upper case.
-fn keyword(alloc: Global, part: &Record) -> Result<Vec<u8>, AllocError>
-    ensures { IfOk result (λ k. k.items ≡ spec.keyword part.now) }
+fn keyword(alloc: Global, part: &Record) -> Result<String, AllocError>
+    ensures { IfOk result (λ k. string_bytes k ≡ spec.keyword part.now) }
 {
-    let mut keyword = Vec::from_slice(alloc, part.keyword.as_slice())?;
+    let mut keyword = String::from_str(alloc, part.keyword.as_str())?;
     keyword.make_ascii_uppercase();
     Ok(keyword)
 }
@@ -46,8 +46,8 @@ pub fn repeats_a_type(alloc: Global, mapping: &Mapping) -> Result<bool, AllocErr
 }
 
 /// The keywords of the parts in upper case, in byte order.
-fn sorted_keywords(alloc: Global, parts: &[Record]) -> Result<Vec<Vec<u8>>, AllocError>
-    ensures { IfOk result (λ ks. map (λ k. k.items) ks.items ≡ spec.in_order (λ k l. is_lt (slice_cmp nat_cmp k l)) (map spec.keyword parts.now)) }
+fn sorted_keywords(alloc: Global, parts: &[Record]) -> Result<Vec<String>, AllocError>
+    ensures { IfOk result (λ ks. map (λ k. string_bytes k) ks.items ≡ spec.in_order (λ k l. is_lt (slice_cmp nat_cmp k l)) (map spec.keyword parts.now)) }
 {
     let mut keywords = Vec::new(alloc);
     for part in parts {
@@ -57,43 +57,33 @@ fn sorted_keywords(alloc: Global, parts: &[Record]) -> Result<Vec<Vec<u8>>, Allo
     Ok(keywords)
 }
 
-/// Appends a keyword as text.
-fn write(text: &mut String, keyword: &[u8]) -> Result<(), AllocError>
-    ensures { IfOk result (λ _. string_bytes text.new ≡ string_bytes text.old ++ spec.text keyword.now) }
-{
-    for byte in keyword {
-        text.push(char::from(*byte))?;
-    }
-    Ok(())
-}
-
-/// The keywords as texts, joined by `+`.
-fn joined(alloc: Global, keywords: &[Vec<u8>]) -> Result<String, AllocError>
-    ensures { IfOk result (λ text. string_bytes text ≡ join_by (λ k. spec.text k.items) (43 ∷ []) keywords.now) }
+/// The keywords, joined by `+`.
+fn joined(alloc: Global, keywords: &[String]) -> Result<String, AllocError>
+    ensures { IfOk result (λ text. string_bytes text ≡ join_by (λ k. string_bytes k) (43 ∷ []) keywords.now) }
 {
     let mut text = String::new(alloc);
     let Some((first, rest)) = keywords.split_first() else {
         return Ok(text);
     };
-    write(&mut text, first)?;
+    text.push_str(first.as_str())?;
     for keyword in rest {
         text.push('+')?;
-        write(&mut text, keyword)?;
+        text.push_str(keyword.as_str())?;
     }
     Ok(text)
 }
 
-/// The type of an instance as text: its keyword in upper case, or the keywords of an external
-/// mapping in byte order, joined by `+`. A byte beyond ASCII is the character of that code.
+/// The type of an instance: its keyword in upper case, or the keywords of an external mapping in
+/// byte order, joined by `+`.
+///
+/// # Errors
+///
+/// Want of memory.
 pub fn type_of(alloc: Global, mapping: &Mapping) -> Result<Text, AllocError>
     ensures { IfOk result (λ t. t ≡ spec.type_of mapping.now) }
 {
     match mapping {
-        Mapping::Internal(part) => {
-            let mut text = String::new(alloc);
-            write(&mut text, &keyword(alloc, part)?)?;
-            Ok(Text::new(text))
-        }
+        Mapping::Internal(part) => Ok(Text::new(keyword(alloc, part)?)),
         Mapping::External(parts) => {
             let keywords = sorted_keywords(alloc, parts.as_slice())?;
             Ok(Text::new(joined(alloc, &keywords)?))

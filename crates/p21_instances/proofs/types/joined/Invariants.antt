@@ -1,8 +1,7 @@
 use Rattle.std.proofs.Common.{◌≡◌, [], ◌∷◌, ◌++◌, take}
 use Rattle.std.specs.List.{flat_map}
 use Rattle.std.specs.String.{string_bytes}
-use Rattle.p21_instances.specs.Instances as spec
 use Rattle.p21_instances.proofs.types.joined.Given as goal
 
 abbrev pub invariant-loop-keyword : goal.invariant-loop-keyword
-invariant-loop-keyword l = string_bytes l.text ≡ string_bytes l.initial.text ++ flat_map (λ k. (43 ∷ []) ++ spec.text k.items) (take l.keyword-index l.rest)
+invariant-loop-keyword l = string_bytes l.text ≡ string_bytes l.initial.text ++ flat_map (λ k. (43 ∷ []) ++ string_bytes k) (take l.keyword-index l.rest)

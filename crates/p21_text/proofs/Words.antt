@@ -1,0 +1,101 @@
+-- A word is ASCII.
+use Rattle.std.proofs.Common.{◌≡◌, ◌<◌, ◌+◌, ◌||◌, ℕ, suc, nat_le, Bool, true, false, List, [], ◌∷◌, take, if◌then◌else◌, Option, Some, None, refl, ◌∙◌, ap, arith}
+use Rattle.std.proofs.lemmas.Bool.Decides.{nat_tests}
+use Rattle.std.proofs.lemmas.Str.Ascii.{IsAscii-nil, IsAscii-cons}
+use Rattle.std.specs.Char.{is_ascii_digit}
+use Rattle.std.specs.List.{prefix_len, slice_index}
+use Rattle.std.specs.Str.{IsAscii}
+use Rattle.p21_text.specs.declared.token.Kind.{Kind}
+use Rattle.p21_text.specs.declared.token.Kind.TheVariants as k
+use Rattle.p21_text.specs.declared.front.Start.{Start}
+use Rattle.p21_text.specs.declared.front.Start.TheVariants.{Blank, Token}
+use Rattle.p21_text.specs.Lexical.{is_letter, is_mark_byte, is_sign, word, number, name, item, closed, string, binary, commented, slash, directive, single, punctuation, front}
+
+-- ---- nothing else is a word
+
+abbrev is_word : Start → Bool
+is_word (Token k.Word n) = true
+is_word _ = false
+
+number_is : (z : List ℕ) → is_word (number z) ≡ false
+unfolding number
+number_is z = grind arith
+
+name_is : (z : List ℕ) → is_word (name z) ≡ false
+unfolding name
+name_is z = grind arith
+
+item_is : (z : List ℕ) → is_word (item z) ≡ false
+unfolding item
+item_is z = grind arith
+
+closed_is : (end : Option ℕ) → is_word (closed k.Text end) ≡ false
+closed_is None = refl
+closed_is (Some end) = refl
+
+string_is : (z : List ℕ) → is_word (string z) ≡ false
+unfolding string
+string_is z = closed_is _
+
+binary_is : (z : List ℕ) → is_word (binary z) ≡ false
+unfolding binary
+binary_is z = grind arith
+
+commented_is : (len : Option ℕ) → is_word (commented len) ≡ false
+commented_is None = refl
+commented_is (Some len) = refl
+
+slash_is : (z : List ℕ) → is_word (slash z) ≡ false
+unfolding slash
+slash_is z = grind (arith, commented_is)
+
+directive_is : (z : List ℕ) → is_word (directive z) ≡ false
+unfolding directive
+directive_is z = grind arith
+
+single_is : (b : ℕ) → is_word (single b) ≡ false
+single_is b = grind arith
+
+punctuation_is : (z : List ℕ) → is_word (punctuation z) ≡ false
+unfolding punctuation
+punctuation_is z = grind (arith, string_is, name_is, item_is, binary_is, slash_is, directive_is, single_is)
+
+-- ---- a word is ASCII
+
+mark_byte_below : (b : ℕ) → is_mark_byte b ≡ true → b < 128
+mark_byte_below b e = grind (arith, nat_tests)
+
+marks_below : (z : List ℕ) → IsAscii (take (prefix_len is_mark_byte z) z)
+marks_below [] = IsAscii-nil
+marks_below (b ∷ z) = first (is_mark_byte b) refl (marks_below z)
+  where
+    first : (t : Bool) → is_mark_byte b ≡ t → IsAscii (take (prefix_len is_mark_byte z) z) → IsAscii (take (prefix_len is_mark_byte (b ∷ z)) (b ∷ z))
+    first true e more =
+        let one_more : 1 + prefix_len is_mark_byte z ≡ suc (prefix_len is_mark_byte z) = omega arith in
+        rw (e, one_more) (IsAscii-cons b (take (prefix_len is_mark_byte z) z) (mark_byte_below b e) more)
+    first false e more = rw e IsAscii-nil
+
+word_len : (z : List ℕ) (n : ℕ) → word z ≡ Token k.Word n → n ≡ prefix_len is_mark_byte z
+unfolding word
+word_len z n e = grind arith
+
+no_word : (s : Start) (n : ℕ) → is_word s ≡ false → s ≡ Token k.Word n → ⊥
+no_word s n other e = let same = ap is_word e in cc
+
+the_word : (is_blank begins_word begins_number : Bool) (a b c : Start) (n m : ℕ) → (a ≡ Token k.Word n → n ≡ m) → (b ≡ Token k.Word n → ⊥) → (c ≡ Token k.Word n → ⊥)
+    → (if is_blank then Blank 1 else if begins_word then a else if begins_number then b else c) ≡ Token k.Word n → n ≡ m
+the_word true begins_word begins_number a b c n m here there elsewhere e = cc
+the_word false true begins_number a b c n m here there elsewhere e = here e
+the_word false false true a b c n m here there elsewhere e = absurd (there e)
+the_word false false false a b c n m here there elsewhere e = absurd (elsewhere e)
+
+front_len : (z : List ℕ) (n : ℕ) → front z ≡ Token k.Word n → n ≡ prefix_len is_mark_byte z
+unfolding front
+front_len z n e =
+    let b = slice_index z 0 in
+    the_word (nat_le b 32) (is_letter b) (is_sign b || is_ascii_digit b) (word z) (number z) (punctuation z) n (prefix_len is_mark_byte z)
+    (word_len z n) (no_word (number z) n (number_is z)) (no_word (punctuation z) n (punctuation_is z)) e
+
+-- a word in front of a text
+pub word-IsAscii : (z : List ℕ) (kind : Kind) (n : ℕ) → front z ≡ Token kind n → kind ≡ k.Word → IsAscii (take n z)
+word-IsAscii z kind n e is = rw (front_len z n (e ∙ ap (λ k. Token k n) is)) (marks_below z)
