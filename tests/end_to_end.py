@@ -6,9 +6,11 @@
 Each function `test_*` is one test; its document string says what has to hold. The last line is
 'end to end: N passed, M failed', and the status is 0 only if none failed.
 """
+import itertools
 import json
 import os
 import re
+import select
 import subprocess
 import sys
 import time
@@ -18,7 +20,7 @@ from messages import (
     BAD_NAME, BAD_REQUEST, CONFIG, EXISTS, FILE_LIMIT, FIRST, FIRST_LINES, FIRST_NAMES, FIRST_REPLIES, HEAD, LINE_LIMIT,
     NO_SUCH_ITEM, OK, T, TOO_LARGE, TOO_MANY, UNKNOWN_PARTNER, UNKNOWN_SCHEMA, WRONG_SCHEMA, Repository, check, create,
     expect, expect_config_fault, expect_fault, expect_replies, fault, file_fault, file_of, grant, instance_fault,
-    instances, line, listed, loaded, named, names, put, refused,
+    instances, line, list_of, listed, loaded, named, names, put, refused, schemas,
 )
 
 sys.path.insert(0, os.path.join(TOP, "bench"))
@@ -288,6 +290,19 @@ def test_last_line_without_its_feed():
     expect_replies(b"\n", [BAD_REQUEST])
 
 
+def expect_written(process, wanted, seconds=60):
+    """The process writes these bytes on standard output, and no others yet, before so many seconds are over."""
+    found, end = b"", time.monotonic() + seconds
+    while len(found) < len(wanted):
+        ready = select.select([process.stdout], [], [], max(0, end - time.monotonic()))[0]
+        piece = os.read(process.stdout.fileno(), 65536) if ready else b""
+        if not piece:
+            break
+        found += piece
+    if found != wanted:
+        raise Wrong(f"{shortened(found)!r} in place of {shortened(wanted)!r}")
+
+
 def test_lines_in_pieces():
     """Several lines in one read and one line in many reads give the same replies, and a reply comes
     before the next line is sent."""
@@ -301,12 +316,33 @@ def test_lines_in_pieces():
             for it, reply in zip(lines, replies):
                 for byte in it + b"\n":
                     process.stdin.write(bytes([byte]))
-                written = process.stdout.readline()
-                if written != reply + b"\n":
-                    raise Wrong(f"{written!r} in place of {reply!r}")
+                expect_written(process, reply + b"\n")
             process.stdin.close()
         if process.returncode != 0:
             raise Wrong(f"status {process.returncode}")
+
+
+def test_each_reply_before_the_next_line():
+    """Whoever waits for a reply gets it before he sends the next line: also where a line ends with what one read takes."""
+    turns = [*FIRST, (names("ann", "ann", "m"), FIRST_NAMES), (b"{", BAD_REQUEST), (b"", BAD_REQUEST),
+             (padded(create("ann", "k"), 4095), OK), (padded(create("ann", "k"), 8191), EXISTS),
+             (padded(names("ann", "ann", "k"), 4096), named()), (padded(names("ann", "ann", "k"), 12_000), named()),
+             (list_of("ann"), listed((b"owner", b"k", b"ann"), (b"owner", b"m", b"ann")))]
+    with Repository() as folder:
+        words = [Folder.program, "batch", "--config", "config.json"]
+        with subprocess.Popen(words, cwd=folder.folder.name, stdin=subprocess.PIPE, stdout=subprocess.PIPE,
+                              stderr=subprocess.PIPE, bufsize=0) as process:
+            for it, reply in turns:
+                process.stdin.write(it + b"\n")
+                expect_written(process, reply + b"\n")
+            process.stdin.write(names("bob", "ann", "m") + b"\n" + list_of("bob") + b"\n" + names("ann", "ann", "m")[:9])
+            expect_written(process, NO_SUCH_ITEM + b"\n" + listed() + b"\n")
+            process.stdin.write(names("ann", "ann", "m")[9:] + b"\n")
+            expect_written(process, FIRST_NAMES + b"\n")
+            process.stdin.close()
+            output, errors = process.stdout.read(), process.stderr.read()
+        if (process.returncode, output, errors) != (0, b"", b""):
+            raise Wrong(f"status {process.returncode}, {output!r}, {errors!r}")
 
 
 def test_any_pieces_give_the_same_bytes():
@@ -491,13 +527,50 @@ def test_files_of_schemas():
                 raise Wrong(f"the schema of {text!r} has another name")
 
 
-def test_large_schemas():
-    """A schema's file has at most 8 MiB."""
-    config = {**CONFIG, "schemas": ["other.exp"]}
-    expect_config_fault(config, "other.exp", other=T + " " * (FILE_LIMIT + 1 - len(T)))
-    with Repository(config, other=T + " " * (FILE_LIMIT - len(T))) as folder:
-        if folder.batch(create("ann", "m")) != (0, OK + b"\n", b""):
-            raise Wrong("a schema of 8 MiB isn't taken")
+def expect_told(seen, words):
+    """The program ended with status 2 and this line on standard error, and wrote nothing else."""
+    if seen != (2, b"", b"rp_server: %s\n" % words.encode()):
+        raise Wrong(f"{seen!r} in place of {words!r}")
+
+
+def test_files_at_their_limit():
+    """A configuration and a schema's file may have 8 MiB each. With a byte more the first such file is told."""
+    good = (0, OK + b"\n", b"")
+    with Repository({**CONFIG, "schemas": ["l.exp", "other.exp"]}) as folder:
+        with open(folder.path("config.json"), "rb") as it:
+            config = it.read()
+        for config_size, schema_size, words in (
+            (FILE_LIMIT, FILE_LIMIT, None),
+            (FILE_LIMIT - 1, FILE_LIMIT - 1, None),
+            (FILE_LIMIT, FILE_LIMIT + 1, '"other.exp" is over 8 MiB'),
+            (FILE_LIMIT + 1, FILE_LIMIT, '"config.json" is over 8 MiB'),
+            (FILE_LIMIT + 1, FILE_LIMIT + 1, '"config.json" is over 8 MiB'),
+            (len(config), 2 * FILE_LIMIT, '"other.exp" is over 8 MiB'),
+        ):
+            folder.write("config.json", padded(config, config_size))
+            folder.write("other.exp", padded(T.encode(), schema_size))
+            seen = folder.batch(create("ann", "m"))
+            if words is None and seen != good:
+                raise Wrong(f"{config_size} and {schema_size} bytes: {seen!r}")
+            if words is not None:
+                expect_told(seen, words)
+            seen = folder.run("check", "other.exp")
+            if schema_size > FILE_LIMIT:
+                expect_told(seen, '"other.exp" is over 8 MiB')
+            elif seen != (0, b"T: ok\n", b""):
+                raise Wrong(f"check of {schema_size} bytes: {seen!r}")
+
+
+def test_as_many_schemas_as_there_may_be():
+    """Each of 100 configured schemas is loaded; 101 are too many."""
+    files = {f"s{k}": f"SCHEMA s{k}; END_SCHEMA;" for k in range(101)}
+    turns = [(schemas("ann"), loaded(*sorted(f"S{k}" for k in range(100)))),
+             *((create("ann", f"m{k}", f"S{k}"), OK) for k in range(100)), (create("bob", "m", "S100"), UNKNOWN_SCHEMA)]
+    expect(turns, {**CONFIG, "schemas": [f"s{k}.exp" for k in reversed(range(100))]}, **files)
+    with Repository({**CONFIG, "schemas": [f"s{k}.exp" for k in range(101)]}, **files) as folder:
+        expect_told(folder.batch(schemas("ann")), "more than 100 schemas or more than 1,000 partners")
+        folder.write("s100.exp", "SCHEMA")
+        expect_told(folder.batch(schemas("ann")), '"s100.exp" is no schema: Syntax line 1 column 7')
 
 
 def partners(*given):
@@ -516,12 +589,6 @@ def test_what_no_repository_can_have():
     expect_config_fault({**CONFIG, "schemas": ["t.exp", "other.exp"]}, "two schemas have one name", other="SCHEMA t; END_SCHEMA;")
     expect([(names("p999", "p0", "m"), NO_SUCH_ITEM), (names("p1000", "p0", "m"), BAD_REQUEST)],
            {**CONFIG, "partners": partners(*(f"p{k}" for k in range(1000)))})
-    with Repository({**CONFIG, "schemas": [f"s{k}.exp" for k in range(101)]},
-                **{f"s{k}": f"SCHEMA s{k}; END_SCHEMA;" for k in range(101)}) as folder:
-        expect_fault(folder.batch(b""))
-        folder.write("config.json", json.dumps({**CONFIG, "schemas": [f"s{k}.exp" for k in range(100)]}))
-        if folder.batch(create("ann", "m", "S99")) != (0, OK + b"\n", b""):
-            raise Wrong("100 schemas aren't taken")
     expect([(names("ann", "ann", "m"), BAD_REQUEST)], {"partners": [], "schemas": []})
 
 
@@ -533,6 +600,13 @@ def test_faults_in_their_order():
     expect_config_fault({"partners": [], "schemas": ["other.exp", "absent.exp"]}, "other.exp", other="")
     expect_config_fault({"partners": [], "schemas": ["absent.exp", "other.exp"]}, "absent.exp", other="")
     expect_config_fault({"partners": [], "schemas": ["."]})
+    with Repository({"partners": twice, "schemas": ["t.exp"]}, big=padded(T.encode(), FILE_LIMIT + 1), bad="x") as folder:
+        lines = {"absent": '"absent.exp" can\'t be read', "big": '"big.exp" is over 8 MiB',
+                 "bad": '"bad.exp" is no schema: Syntax line 1 column 1'}
+        for order in itertools.permutations(lines):
+            paths = ["t.exp", "t.exp", *(f"{name}.exp" for name in order)]
+            folder.write("config.json", json.dumps({"partners": twice, "schemas": paths}))
+            expect_told(folder.batch(b""), lines[order[0]])
 
 
 def test_paths_start_at_the_working_directory():

@@ -1,2 +1,2 @@
-pub mod FileLemmas
 pub mod ConfigLemmas
+pub mod LoadLemmas

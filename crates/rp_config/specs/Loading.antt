@@ -1,24 +1,55 @@
--- What the file of a configured schema gives.
-use Rattle.std.specs.Prelude.{◌≡◌, ℕ, List, Result, Ok, Err}
-use Rattle.ex_types.specs.declared.schema.Schema.{Schema}
+-- What the files of a folder mean.
+use Rattle.std.specs.Prelude.{ℕ, List, [], ◌∷◌, length, take, nat_le, if◌then◌else◌, Option, Some, None, ok_or, option_map, Result, Ok, Err}
+use Rattle.rp_io.specs.declared.device.DeviceFault.{DeviceFault}
 use Rattle.ex_check.specs.declared.fault.SchemaFault.{SchemaFault}
-use Rattle.ex_check.specs.Check.{schema, words_of_fault}
-use Rattle.rp_config.specs.declared.schema.LoadFault.{LoadFault}
-use Rattle.rp_config.specs.declared.schema.LoadFault.TheVariants.{Faulty, NoMemory}
+use Rattle.ex_check.specs.Check as check
+use Rattle.ex_types.specs.Checked.{Checked}
+use Rattle.rp_config.specs.declared.config.Config.{Config}
+use Rattle.rp_config.specs.declared.fault.LoadFault.{LoadFault}
+use Rattle.rp_config.specs.declared.fault.LoadFault.TheVariants as fault
+use Rattle.rp_config.specs.declared.loading.Loaded.{Loaded}
+use Rattle.rp_config.specs.Configuration.{config_of}
 
--- the words tell the fault, or memory is wanting
-abbrev pub Told : List ℕ → SchemaFault → LoadFault → Type 0
-Told text fault (Faulty words) = words ≡ words_of_fault text fault
-Told text fault NoMemory = Unit {0}
+-- what each path holds: the bytes of a file, or nothing where none can be read
+abbrev pub Held : Type 0
+Held = List ℕ → Option (List ℕ)
 
--- the words tell the first fault of the text
-pub record TellsFault (text words : List ℕ) : Type 0 where
-  pub fault : SchemaFault
-  pub is_first : schema text ≡ Err fault
-  pub told : words ≡ words_of_fault text fault
+-- the most bytes of a file
+abbrev pub file_limit : ℕ
+file_limit = 8388608
 
--- the schema of the text, or what is wrong with it, or memory is wanting
-abbrev pub Loads : List ℕ → Result Schema LoadFault → Type 0
-Loads text (Ok found) = schema text ≡ Ok found
-Loads text (Err (Faulty words)) = TellsFault text words
-Loads text (Err NoMemory) = Unit {0}
+abbrev pub and_then : {A B F : Type 0} → Result A F → (A → Result B F) → Result B F
+and_then (Ok x) next = next x
+and_then (Err fault) next = Err fault
+
+-- the first bytes of a file, at most so many
+abbrev pub front_of : ℕ → Option (List ℕ) → Result (List ℕ) DeviceFault
+front_of most read = ok_or (option_map (λ bytes. take most bytes) read) (record {})
+
+-- all bytes of a file, unless they are too many
+abbrev pub whole_of : ℕ → List ℕ → Option (List ℕ) → Result (List ℕ) LoadFault
+whole_of limit path None = Err (fault.Unreadable path)
+whole_of limit path (Some bytes) = if nat_le (length bytes) limit then Ok bytes else Err (fault.TooLarge path)
+
+abbrev pub file_at : Held → List ℕ → Result (List ℕ) LoadFault
+file_at held path = whole_of file_limit path (held path)
+
+abbrev pub config_at : Held → List ℕ → Result Config LoadFault
+config_at held path = and_then (file_at held path) (λ bytes. ok_or (config_of bytes) (fault.Config path))
+
+-- the schema that was read of a path's text; else the words that tell the text's first fault
+abbrev pub schema_in : List ℕ → List ℕ → Result Checked SchemaFault → Result Checked LoadFault
+schema_in path text (Ok found) = Ok found
+schema_in path text (Err it) = Err (fault.Schema path (check.words_of_fault text it))
+
+abbrev pub schema_at : Held → List ℕ → Result Checked LoadFault
+schema_at held path = and_then (file_at held path) (λ text. schema_in path text (check.schema text))
+
+-- one schema for each path, in order; else the first fault
+abbrev pub schemas_at : Held → List (List ℕ) → Result (List Checked) LoadFault
+schemas_at held [] = Ok []
+schemas_at held (path ∷ paths) = and_then (schema_at held path) (λ found. and_then (schemas_at held paths) (λ more. Ok (found ∷ more)))
+
+-- The partners of the configuration at a path, and the schemas that it names; else the first fault.
+abbrev pub loaded_at : Held → List ℕ → Result Loaded LoadFault
+loaded_at held path = and_then (config_at held path) (λ config. and_then (schemas_at held config.schemas) (λ found. Ok (record { partners = config.partners; schemas = found })))

@@ -1,53 +1,115 @@
 //! Files that are read whole, up to a size.
-ghost use Rattle.std.specs.Prelude.{◌≡◌, ◌≤◌, length, IfOk, IfSome, IsErrOf};
+ghost use Rattle.std.specs.Prelude.{◌≡◌, ◌≢◌, ◌≤◌, List, ℕ, length, take, Option, None, IfErr, IfOk, IfSome, OnOk};
+ghost use Rattle.text_forms.specs.Gives.{Gives};
+ghost use Rattle.rp_config.specs.Loading as spec;
 
+use crate::fault::LoadFault;
+use plain_data::Text;
+use rp_io::{DeviceFault, FromReader, Source};
 use std::alloc::Global;
 use std::fs::{File, Files};
-use std::io;
-use std::io::{ErrorKind, Read};
+use std::io::ErrorKind;
+use text_forms::Failure;
 
 /// The most bytes of a configuration or of a schema's file: 8 MiB.
 pub const FILE_LIMIT: usize = 8_388_608;
 
-/// Why a file isn't read.
-#[derive(Clone, Copy, PartialEq, Eq, Drop)]
-pub enum FileFault {
-    /// It can't be opened, or a read failed.
-    Unreadable,
-    /// It has more bytes than the limit.
-    TooLarge,
-    /// Memory is wanting.
-    NoMemory,
+/// Files that are read by their paths.
+///
+/// What this crate promises of files it promises of any folder whose paths hold what is known. Of
+/// [`FromFiles`] this isn't known, but no code here can tell one folder from another.
+pub trait Folder {
+    /// What each path holds, where this is known: the bytes of a file, or nothing where none can be
+    /// read.
+    ghost files: { Self → Option (List ℕ → Option (List ℕ)) };
+
+    /// The first bytes of the file of this path: as many as are asked for, or all where it has fewer.
+    fn front(&self, alloc: Global, path: &str, most: usize) -> Result<Vec<u8>, Failure<DeviceFault>>
+        ensures bound { IfOk result (λ front. length front.items ≤ most) }
+        ensures bytes { IfSome (files self.now) (λ held. Gives (λ front. front.items) result (spec.front_of most (held path.now))) };
 }
 
-impl From<io::Error> for FileFault {
-    fn from(error: io::Error) -> FileFault {
-        if error.kind() == ErrorKind::OutOfMemory {
-            FileFault::NoMemory
-        } else {
-            FileFault::Unreadable
+/// The files of `std`, by paths that start at the working directory.
+///
+/// No contract of `std` says what a path holds, so this isn't known here. It is only promised that no
+/// more bytes are given than were asked for.
+#[derive(Drop)]
+pub struct FromFiles<R> {
+    files: R,
+}
+
+impl<R: Files> FromFiles<R> {
+    /// The files as they stand. None is opened yet.
+    pub fn new(files: R) -> Self
+        ensures { result.files ≡ files }
+    {
+        FromFiles { files }
+    }
+}
+
+impl<R: Files> Folder for FromFiles<R> {
+    ghost files = { λ _. None };
+
+    fn front(
+        &self,
+        alloc: Global,
+        path: &str,
+        most: usize,
+    ) -> Result<Vec<u8>, Failure<DeviceFault>> {
+        match File::open(&self.files, path) {
+            Ok(file) => first_bytes(alloc, &mut FromReader::new(file), most),
+            Err(error) if error.kind() == ErrorKind::OutOfMemory => Err(Failure::NoMemory),
+            Err(_) => Err(Failure::Fault(DeviceFault)),
         }
     }
 }
 
-/// All bytes of the file of this path.
-pub fn file_bytes<R: AllocGlobal + Files>(rt: &R, path: &str) -> Result<Vec<u8>, FileFault>
-    ensures { IfOk result (λ bytes. length bytes.items ≤ FILE_LIMIT) }
-{
-    let file = File::open(rt, path)?;
-    all_bytes(rt.alloc(), file)
-}
-
-/// All bytes of a reader, unless they are too many. No more than one byte past the limit is read.
-fn all_bytes<R: Read + Drop>(alloc: Global, reader: R) -> Result<Vec<u8>, FileFault>
-    ensures whole { IfOk result (λ bytes. IfSome (R.remaining reader) (λ left. bytes.items ≡ left)) }
-    ensures limit { IfOk result (λ bytes. length bytes.items ≤ FILE_LIMIT) }
+/// The first bytes of a reader: as many as are asked for, or all where it has fewer.
+fn first_bytes<R: Source>(
+    alloc: Global,
+    reader: &mut R,
+    most: usize,
+) -> Result<Vec<u8>, Failure<DeviceFault>>
+    ensures bound { IfOk result (λ front. length front.items ≤ most) }
+    ensures bytes { IfOk result (λ front. IfSome (R.remaining reader.old) (λ bytes. front.items ≡ take most bytes)) }
+    ensures same { OnOk result (R.read_failures reader.new ≡ R.read_failures reader.old) }
+    ensures err { IfErr result (λ e. e ≢ Failure.NoMemory → R.read_failures reader.new ≢ R.read_failures reader.old) }
 {
     let mut bytes = Vec::new(alloc);
-    let mut limited = reader.take(FILE_LIMIT as u64 + 1);
-    limited.read_to_end(&mut bytes)?;
+    let mut piece = [0; 4096];
+    while bytes.len() < most {
+        let room = piece.len().min(most - bytes.len());
+        let Ok(count) = reader.read(&mut piece[..room]) else {
+            return Err(Failure::Fault(DeviceFault));
+        };
+        if count == 0 {
+            return Ok(bytes);
+        }
+        bytes.extend_from_slice(&piece[..count])?;
+    }
+    Ok(bytes)
+}
+
+/// All bytes of the file of this path. One that has more than [`FILE_LIMIT`] isn't read to its end.
+pub fn file_bytes<D: Folder>(
+    alloc: Global,
+    folder: &D,
+    path: &str,
+) -> Result<Vec<u8>, Failure<LoadFault>>
+    ensures limit { IfOk result (λ bytes. length bytes.items ≤ FILE_LIMIT) }
+    ensures bytes { IfSome (D.files folder.now) (λ held. Gives (λ bytes. bytes.items) result (spec.file_at held path.now)) }
+{
+    let bytes = match folder.front(alloc, path, FILE_LIMIT + 1) {
+        Ok(bytes) => bytes,
+        Err(Failure::Fault(_)) => {
+            let path = Text::from_str(alloc, path)?;
+            return Err(Failure::Fault(LoadFault::Unreadable(path)));
+        }
+        Err(Failure::NoMemory) => return Err(Failure::NoMemory),
+    };
     if bytes.len() > FILE_LIMIT {
-        return Err(FileFault::TooLarge);
+        let path = Text::from_str(alloc, path)?;
+        return Err(Failure::Fault(LoadFault::TooLarge(path)));
     }
     Ok(bytes)
 }

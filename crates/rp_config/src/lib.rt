@@ -2,9 +2,10 @@
 #![tactic(auto)]
 
 mod config;
+mod fault;
 mod files;
-mod schema;
+mod loading;
 
-pub use config::{Config, ConfigFault, config_of};
-pub use files::{FILE_LIMIT, FileFault, file_bytes};
-pub use schema::{LoadFault, load};
+pub use fault::LoadFault;
+pub use files::{FILE_LIMIT, Folder, FromFiles, file_bytes};
+pub use loading::{Loaded, load_all};

@@ -3,9 +3,10 @@
 //! A line ends with its line feed, which isn't part of it. A last line without one counts, and an
 //! empty input has no line.
 ghost use Rattle.std.specs.Prelude.{◌≡◌, ◌≢◌, ◌<◌, ◌≤◌, ◌+◌, ◌⊎◌, ℕ, List, [], ◌∷◌, ◌++◌, true, false, length, take, drop, IfOk, OnOk, OnErr, MatchOption};
-ghost use Rattle.std.specs.Io.KnownBytes.{Consumes, IsAtEnd};
+ghost use Rattle.std.specs.Io.KnownBytes.{Consumes, IsAtEnd, Keeps};
 ghost use Rattle.std.specs.Vec.{vec_capacity};
 ghost use Rattle.rp_io.specs.Held.{left, turns, IsSettled, Fills, HasAtLeast, Spends};
+ghost use Rattle.rp_io.specs.Ahead.{Refills, NoneAhead, LosesNoLine};
 ghost use Rattle.rp_io.specs.Lines.{NoFeed, Holds, Frees, FreesTaken, Takes};
 ghost use Rattle.rp_io.specs.Absorbed.{Absorbs};
 
@@ -95,7 +96,9 @@ impl Chunk {
         requires empty { self.old.bytes ≡ [] }
         requires settled { IsSettled self.old (R.remaining reader.old) }
         ensures ok { IfOk result (Fills self.old self.new (R.remaining reader.old) (R.remaining reader.new)) }
+        ensures once { OnOk result (Refills R.read_gives self.old self.new reader.old reader.new) }
         ensures same { OnOk result (R.read_failures reader.new ≡ R.read_failures reader.old) }
+        ensures keeps { OnErr result (Keeps (R.remaining reader.old) (R.remaining reader.new)) }
         ensures err { OnErr result ((R.read_failures reader.new ≢ R.read_failures reader.old) ⊎ (self.old.reads ≡ 0)) }
     {
         if self.ended {
@@ -181,10 +184,13 @@ fn refill<R: Source>(chunk: &mut Chunk, reader: &mut R) -> Result<bool, DeviceFa
     ensures left { OnOk result (Consumes (left chunk.old (R.remaining reader.old)) (left chunk.new (R.remaining reader.new)) []) }
     ensures end { IfOk result (λ some. some ≡ false → IsAtEnd (left chunk.new (R.remaining reader.new))) }
     ensures some { IfOk result (λ some. some ≡ true → 0 < length chunk.new.bytes × (chunk.new.ended ≡ false)) }
+    ensures none { IfOk result (λ some. some ≡ false → chunk.new.bytes ≡ []) }
+    ensures once { OnOk result (Refills R.read_gives chunk.old chunk.new reader.old reader.new) }
     ensures settled { OnOk result (IsSettled chunk.new (R.remaining reader.new)) }
     ensures same { OnOk result (R.read_failures reader.new ≡ R.read_failures reader.old) }
     ensures fewer { OnOk result (turns chunk.new ≤ turns chunk.old) }
     ensures spends { OnOk result (Spends (R.remaining reader.old) (R.remaining reader.new) chunk.old.reads chunk.new.reads) }
+    ensures keeps { OnErr result ((chunk.old.bytes ≡ []) × Keeps (R.remaining reader.old) (R.remaining reader.new)) }
     ensures err { OnErr result ((R.read_failures reader.new ≢ R.read_failures reader.old) ⊎ (chunk.old.reads ≡ 0)) }
 {
     if chunk.as_slice().is_empty() {
@@ -198,7 +204,10 @@ fn refill<R: Source>(chunk: &mut Chunk, reader: &mut R) -> Result<bool, DeviceFa
 /// of what stood there. A line that is too large or finds no room is read to its end, and `line`
 /// is then empty and holds no memory.
 ///
-/// After an error some of a line may be used up, and nothing is said of `chunk` and `line`.
+/// Nothing is read while there is a whole line, so that it can be answered before the next one comes.
+///
+/// After an error some of a line may be used up, but no whole one, and nothing is said of `chunk` and
+/// `line`.
 pub fn next_line<R: Source>(
     chunk: &mut Chunk,
     reader: &mut R,
@@ -211,6 +220,9 @@ pub fn next_line<R: Source>(
     ensures same { OnOk result (R.read_failures reader.new ≡ R.read_failures reader.old) }
     ensures fewer { IfOk result (λ taken. taken ≢ Taken.End → turns chunk.new < turns chunk.old) }
     ensures spends { OnOk result (Spends (R.remaining reader.old) (R.remaining reader.new) chunk.old.reads chunk.new.reads) }
+    // The last read, if any, gave the end of this line.
+    ensures ahead { OnOk result (NoneAhead R.read_gives chunk.old chunk.new reader.old reader.new) }
+    ensures lost { OnErr result (NoFeed chunk.old.bytes × LosesNoLine (left chunk.old (R.remaining reader.old)) (R.remaining reader.new)) }
     // It fails only where a read failed, or where no read is left after so many bytes.
     ensures err { OnErr result ((R.read_failures reader.new ≢ R.read_failures reader.old) ⊎ HasAtLeast (R.remaining reader.old) chunk.old.reads) }
 {

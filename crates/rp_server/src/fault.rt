@@ -1,8 +1,10 @@
 //! Why the program ends with status 2, and the line that it then writes on standard error.
 use plain_data::Text;
+use rp_config::LoadFault;
 use rp_repo::NewFault;
 use std::alloc::{AllocError, AllocFailed};
 use std::fmt;
+use text_forms::Failure;
 
 /// Why the program ends with status 2.
 #[derive(Drop)]
@@ -13,14 +15,8 @@ pub enum Fault {
     Incomplete,
     /// The command line has a word that isn't UTF-8.
     Words,
-    /// The file of this path can't be read.
-    Unreadable(Text),
-    /// The file of this path is over 8 MiB.
-    TooLarge(Text),
-    /// The file of this path is no configuration.
-    Config(Text),
-    /// The file of this path is no schema: the kind of its first fault, its line and its column.
-    Schema(Text, Text),
+    /// A file gives nothing.
+    Load(LoadFault),
     /// There is no repository of these schemas and partners.
     New(NewFault),
     /// Memory is wanting before the first line is read.
@@ -39,16 +35,7 @@ impl fmt::Display for Fault {
                 write_usage(f, "batch wants --config FILE, and check wants FILE")
             }
             Fault::Words => f.write_str("the command line isn't UTF-8"),
-            Fault::Unreadable(path) => write_of_file(f, path, "can't be read"),
-            Fault::TooLarge(path) => write_of_file(f, path, "is over 8 MiB"),
-            Fault::Config(path) => write_of_file(
-                f,
-                path,
-                "is no configuration (rp_server batch --help shows one)",
-            ),
-            Fault::Schema(path, words) => {
-                write!(f, "{:?} is no schema: {}", path.as_str(), words.as_str())
-            }
+            Fault::Load(fault) => write_of_file(f, fault),
             Fault::New(fault) => f.write_str(why_none(*fault)),
             Fault::NoMemory => f.write_str("out of memory"),
             Fault::Read => f.write_str("standard input can't be read"),
@@ -62,8 +49,24 @@ fn write_usage<W: fmt::Write>(f: &mut fmt::Formatter<W>, why: &str) -> fmt::Resu
     write!(f, "{why} (rp_server --help tells what to type)")
 }
 
-/// Writes what is wrong with the file of this path.
-fn write_of_file<W: fmt::Write>(f: &mut fmt::Formatter<W>, path: &Text, why: &str) -> fmt::Result {
+/// Writes what is wrong with a file.
+fn write_of_file<W: fmt::Write>(f: &mut fmt::Formatter<W>, fault: &LoadFault) -> fmt::Result {
+    match fault {
+        LoadFault::Unreadable(path) => write_after(f, path, "can't be read"),
+        LoadFault::TooLarge(path) => write_after(f, path, "is over 8 MiB"),
+        LoadFault::Config(path) => write_after(
+            f,
+            path,
+            "is no configuration (rp_server batch --help shows one)",
+        ),
+        LoadFault::Schema(path, words) => {
+            write!(f, "{:?} is no schema: {}", path.as_str(), words.as_str())
+        }
+    }
+}
+
+/// Writes the path of a file, and then what is wrong with it.
+fn write_after<W: fmt::Write>(f: &mut fmt::Formatter<W>, path: &Text, why: &str) -> fmt::Result {
     write!(f, "{:?} {why}", path.as_str())
 }
 
@@ -81,6 +84,15 @@ fn why_none(fault: NewFault) -> &'static str {
 impl From<NewFault> for Fault {
     fn from(fault: NewFault) -> Fault {
         Fault::New(fault)
+    }
+}
+
+impl From<Failure<LoadFault>> for Fault {
+    fn from(failure: Failure<LoadFault>) -> Fault {
+        match failure {
+            Failure::NoMemory => Fault::NoMemory,
+            Failure::Fault(fault) => Fault::Load(fault),
+        }
     }
 }
 

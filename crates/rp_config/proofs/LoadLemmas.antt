@@ -1,0 +1,51 @@
+-- Files of a folder, one after another.
+use Rattle.std.proofs.Common.{◌≡◌, ◌<◌, ◌≤◌, ◌+◌, ℕ, List, [], ◌∷◌, ◌++◌, drop, get_or, take, length, length-take, true, false, Option, Some, None, IfSome, Result, Ok, Err, refl, sym, ap, ◌∙◌, append_assoc, add-one, arith, nat_le}
+use Rattle.std.proofs.Math.Seq.{drop-cons}
+use Rattle.std.proofs.lemmas.Grind.{common_steps}
+use Rattle.std.proofs.lemmas.Bool.Decides.{nat_tests}
+use Rattle.ex_types.specs.Checked.{Checked}
+use Rattle.rp_config.specs.declared.fault.LoadFault.{LoadFault}
+use Rattle.rp_config.specs.declared.fault.LoadFault.TheVariants.{TooLarge}
+use Rattle.rp_config.specs.Loading.{Held, and_then, front_of, whole_of, schema_at, schemas_at}
+
+-- what holds where it is known what the paths hold
+pub on_known : (known : Option Held) (P Q : Held → Type 0) → ((held : Held) → P held → Q held) → IfSome known P → IfSome known Q
+on_known None P Q f p = tt
+on_known (Some held) P Q f p = f held p
+
+nat_le_true : (m n : ℕ) → m ≤ n → nat_le m n ≡ true
+nat_le_true m n h = grind (arith, nat_tests)
+
+nat_le_false : (m n : ℕ) → n < m → nat_le m n ≡ false
+nat_le_false m n h = grind (arith, nat_tests)
+
+-- no more bytes than the limit came, though one more was asked for
+pub all_came : (limit : ℕ) (path front : List ℕ) (read : Option (List ℕ)) → length front ≤ limit → front_of (limit + 1) read ≡ Ok front → whole_of limit path read ≡ Ok front
+all_came limit path front None h e = cc
+all_came limit path front (Some bytes) h e =
+    let same : take (limit + 1) bytes ≡ front = cc in
+    let all : bytes ≡ front = grind (arith, common_steps, same, length-take (limit + 1) bytes) in
+    rw (nat_le_true (length bytes) limit (rw all h), all) refl
+
+pub more_came : (limit : ℕ) (path front : List ℕ) (read : Option (List ℕ)) → limit < length front → front_of (limit + 1) read ≡ Ok front → whole_of limit path read ≡ Err (TooLarge path)
+more_came limit path front None h e = cc
+more_came limit path front (Some bytes) h e =
+    let same : take (limit + 1) bytes ≡ front = cc in
+    let long : limit < length bytes = omega (arith, length-take (limit + 1) bytes, ap length same) in
+    rw (nat_le_false (length bytes) limit long) refl
+
+-- the schemas of the paths before i stand in front of those of the others
+abbrev pub Found : Held → List (List ℕ) → ℕ → List Checked → Type 0
+Found held paths i found = schemas_at held paths ≡ and_then (schemas_at held (drop i paths)) (λ more. Ok (found ++ more))
+
+one_before : (found : List Checked) (x : Checked) (o : Result (List Checked) LoadFault) → and_then (and_then o (λ more. Ok (x ∷ more))) (λ more. Ok (found ++ more)) ≡ and_then o (λ more. Ok ((found ++ x ∷ []) ++ more))
+one_before found x (Ok xs) = ap Ok (sym (append_assoc found (x ∷ []) xs))
+one_before found x (Err e) = refl
+
+-- the schema of the path at i behind them
+pub one_more : (known : Option Held) (paths : List (List ℕ)) (i : ℕ) (path : List ℕ) (found : List Checked) (x : Checked) → i < length paths → path ≡ get_or paths i path
+    → IfSome known (λ held. Found held paths i found) → IfSome known (λ held. schema_at held path ≡ Ok x) → IfSome known (λ held. Found held paths (i + 1) (found ++ x ∷ []))
+one_more None paths i path found x within is before e = tt
+one_more (Some held) paths i path found x within is before e =
+    let next : drop i paths ≡ path ∷ drop (i + 1) paths = drop-cons paths i path within ∙ rw (add-one, ← is) refl in
+    before ∙ rw (next, e) (one_before found x (schemas_at held (drop (i + 1) paths)))

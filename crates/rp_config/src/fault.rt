@@ -1,0 +1,15 @@
+//! Why nothing is loaded.
+use plain_data::Text;
+
+/// Why a file gives nothing.
+#[derive(Drop)]
+pub enum LoadFault {
+    /// The file of this path can't be opened, or a read of it failed.
+    Unreadable(Text),
+    /// The file of this path has more than [`FILE_LIMIT`](crate::FILE_LIMIT) bytes.
+    TooLarge(Text),
+    /// The file of this path is no configuration.
+    Config(Text),
+    /// The file of this path is no schema: the kind of its first fault, its line and its column.
+    Schema(Text, Text),
+}
