@@ -6,21 +6,15 @@
 The schemas have 1, 2, 4 and 8 MiB, of several families: entities whose rules use their own attributes; one function
 with one very long expression; functions with statements; SELECTs within each other and attributes through them; and
 strings that name SELECTs, each of which is warned of. Each run is a process of its own, and its time is from the
-program's start to its end (the best of three). Where the program's `batch` takes check_schema, the same texts go
-through it in one process, as lines of JSON. For each it prints the megabytes a second and the nanoseconds for a byte,
-and for each family whether the latter stay within a factor 2 of each other. What the program prints is compared with
-what it must be. Status 1 means that a family does not stay within it.
+program's start to its end (the best of three), of `check` and of `batch` with the request check_schema. For each it
+prints the megabytes a second and the nanoseconds for a byte, and for each family whether the latter stay within a factor
+2 of each other. Status 1 means that a family does not stay within it.
 """
 import json
-import os
-import subprocess
 import sys
-import tempfile
-import time
 
-from check import PROGRAM, run
+from harness import MIB, Table, request, run_bench
 
-MIB = 1024 * 1024
 SIZES = (1, 2, 4, 8)
 FACTOR = 2
 
@@ -160,76 +154,40 @@ def told_of(text, places):
     return ("\n".join(lines) + "\n").encode()
 
 
-def compare(seen, wanted):
-    if seen != wanted:
-        sys.exit(f"bench: the program writes {seen[:300]!r} in place of {wanted[:300]!r}")
+def through_check(folder, text, places):
+    return folder.check_seconds(text, told_of(text, places), 3)
 
 
-def through_check(program, folder, text, places):
-    """The least seconds of three runs."""
-    path = os.path.join(folder, "measured.exp")
-    with open(path, "w", encoding="ascii") as it:
-        it.write(text)
-    wanted = told_of(text, places)
-    tries = [run(program, path) for _ in range(3)]
-    for written, _ in tries:
-        compare(written, wanted)
-    return min(seconds for _, seconds in tries)
-
-
-def batch(program, folder, lines):
-    """What `batch` answers to these lines, and its seconds."""
-    begin = time.monotonic()
-    done = subprocess.run([program, "batch", "--config", "config.json"], input=lines, cwd=folder, capture_output=True, check=False)
-    return done.stdout, time.monotonic() - begin
-
-
-def request(text):
-    return json.dumps({"as": "ann", "do": "check_schema", "text": text}).encode() + b"\n"
-
-
-def takes_check_schema(program, folder):
-    with open(os.path.join(folder, "config.json"), "w", encoding="ascii") as it:
-        it.write('{"partners":[{"name":"ann","token":"ta"}],"schemas":[]}')
-    return batch(program, folder, request("SCHEMA a; END_SCHEMA;"))[0] == b'{"ok":{"schema":"A","warnings":[]}}\n'
-
-
-def through_batch(program, folder, text, places):
+def through_batch(folder, text, places):
     warnings = [{"at": place, "kind": "SelectInTypeof"} for place in places]
     wanted = json.dumps({"ok": {"schema": "MEASURED", "warnings": warnings}}, separators=(",", ":")).encode() + b"\n"
-    line = request(text)
-    tries = [batch(program, folder, line) for _ in range(3)]
-    for written, _ in tries:
-        compare(written, wanted)
-    return min(seconds for _, seconds in tries)
+    return folder.batch_seconds(request("check_schema", text=text), wanted, 3)
 
 
-def measure(program, folder, family, way, seconds_of):
+# what answers, and the least seconds of its runs
+WAYS = {"check": through_check, "batch": through_batch}
+
+
+def is_within(folder, table, family, way):
     """Measures a family at each size, and answers whether the time for a byte stays within the factor."""
     each = []
     for size in SIZES:
         text = FAMILIES[family](size * MIB)
-        seconds = seconds_of(program, folder, text, warnings_of(text))
+        seconds = WAYS[way](folder, text, warnings_of(text))
         each.append(seconds / len(text) * 1e9)
-        print(f"{family:>12} {way:>6} {len(text):>10,} {seconds:>8.3f} {len(text) / 1e6 / seconds:>7.2f} {each[-1]:>9.1f}", flush=True)
+        table.row(family, way, len(text), seconds, len(text) / 1e6 / seconds, each[-1])
     within = max(each) <= FACTOR * min(each)
     print(f"{family:>12} {way:>6} time for a byte: {'within' if within else 'NOT within'} a factor {FACTOR} "
           f"({max(each) / min(each):.2f})", flush=True)
     return within
 
 
-def main(words):
-    program = os.path.abspath(words[0] if words else PROGRAM)
-    if not os.access(program, os.X_OK):
-        sys.exit(f"bench: there is no program {program}: run rt ci first, or name it")
-    print(f"{'family':>12} {'way':>6} {'bytes':>10} {'seconds':>8} {'MB/s':>7} {'ns/byte':>9}")
-    with tempfile.TemporaryDirectory() as folder:
-        ways = [("check", through_check)]
-        if takes_check_schema(program, folder):
-            ways.append(("batch", through_batch))
-        within = [measure(program, folder, family, way, seconds_of) for family in FAMILIES for way, seconds_of in ways]
+def measure(folder):
+    table = Table({"family": "12", "way": "6", "bytes": "10,", "seconds": "8.3f", "MB/s": "7.2f", "ns/byte": "9.1f"})
+    folder.configure()
+    within = [is_within(folder, table, family, way) for family in FAMILIES for way in WAYS]
     return 0 if all(within) else 1
 
 
 if __name__ == "__main__":
-    sys.exit(main(sys.argv[1:]))
+    run_bench(measure, sys.argv[1:])

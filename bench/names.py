@@ -11,13 +11,10 @@ in a chain and in diamonds these lists grow with the square of the entities. For
 lists of all entities are, the seconds from the program's start to its end (the best of five), the nanoseconds for a
 byte of the schema, and those for a byte or an element of the lists. The aim is that the last column grows with the
 logarithm at most.
-What the program prints is compared with what it must be.
 """
-import os
 import sys
-import tempfile
 
-from check import PROGRAM, run
+from harness import Table, run_bench
 
 COUNTS = (250, 500, 1000, 2000, 4000)
 
@@ -65,36 +62,17 @@ def schema(entities):
     return f"SCHEMA measured;\n\n{''.join(entities)}END_SCHEMA;\n".encode()
 
 
-def seconds_of(program, path):
-    """The least seconds of five runs."""
-    tries = [run(program, path) for _ in range(5)]
-    for written, _ in tries:
-        if written != b"MEASURED: ok\n":
-            sys.exit(f"bench: the program writes {written[:300]!r}")
-    return min(seconds for _, seconds in tries)
-
-
-def measure(program, path, entities_of):
-    for count in COUNTS:
-        text = schema(entities_of(count))
-        with open(path, "wb") as it:
-            it.write(text)
-        listed = answered(entities_of, count)
-        seconds = seconds_of(program, path)
-        print(f"{entities_of.__name__:>10} {count:>8,} {len(text):>9,} {listed:>11,} {seconds:>8.4f} "
-              f"{seconds / len(text) * 1e9:>8.1f} {seconds / (len(text) + listed) * 1e9:>8.1f}", flush=True)
-
-
-def main(words):
-    program = os.path.abspath(words[0] if words else PROGRAM)
-    if not os.access(program, os.X_OK):
-        sys.exit(f"bench: there is no program {program}: run rt ci first, or name it")
-    print(f"{'schema':>10} {'entities':>8} {'bytes':>9} {'listed':>11} {'seconds':>8} {'ns/byte':>8} {'ns/all':>8}")
-    with tempfile.TemporaryDirectory() as folder:
-        path = os.path.join(folder, "measured.exp")
-        for entities_of in (chain, diamonds, flat, namesakes):
-            measure(program, path, entities_of)
+def measure(folder):
+    table = Table({"schema": "10", "entities": "8,", "bytes": "9,", "listed": "11,", "seconds": "8.4f",
+                   "ns/byte": "8.1f", "ns/all": "8.1f"})
+    for entities_of in (chain, diamonds, flat, namesakes):
+        for count in COUNTS:
+            text = schema(entities_of(count))
+            listed = answered(entities_of, count)
+            seconds = folder.check_seconds(text, b"MEASURED: ok\n", 5)
+            table.row(entities_of.__name__, count, len(text), listed, seconds,
+                      seconds / len(text) * 1e9, seconds / (len(text) + listed) * 1e9)
 
 
 if __name__ == "__main__":
-    main(sys.argv[1:])
+    run_bench(measure, sys.argv[1:])

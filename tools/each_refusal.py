@@ -5,11 +5,11 @@
 
 For each file of request lines (else those of tools/lines) the program is run once for each of its
 allocations with that one refused, and once with that one and all later ones refused, by refuse.c. A reply
-has to be NoMemory or the exact one for the content so far, which a small model of the repository in this
-script gives. A request that was answered NoMemory has changed nothing, so what follows is answered
-accordingly. The program may end with status 2 and no output only where the allocation was one of those
-that it makes before it first reads its input. It is a failure too if a run that refuses nothing has a
-NoMemory, if a run has more of them than refusals, or if nothing was refused.
+has to be NoMemory or the exact one for the content so far, which tests/plain_model.py gives. A request that
+was answered NoMemory has changed nothing, so what follows is answered accordingly. The program may end with
+status 2 and no output only where the allocation was one of those that it makes before it first reads its
+input. It is a failure too if a run that refuses nothing has a NoMemory, if a run has more of them than
+refusals, or if nothing was refused.
 
 Of a check of a schema's file the program writes what it writes with ample memory, or ends with status 2, one line on
 standard error and no output.
@@ -25,7 +25,12 @@ import sys
 import tempfile
 
 TOOLS = os.path.dirname(os.path.abspath(__file__))
-PROGRAM = os.path.join(os.path.dirname(TOOLS), "crates/rp_server/out/rp_server")
+TOP = os.path.dirname(TOOLS)
+sys.dont_write_bytecode = True
+sys.path.insert(0, os.path.join(TOP, "tests"))
+from plain_model import File, FileFault, Instance, Repository  # noqa: E402
+
+PROGRAM = os.path.join(TOP, "crates/rp_server/out/rp_server")
 LINES = os.path.join(TOOLS, "lines")
 
 PARTNERS = ["ann", "bob"]
@@ -70,13 +75,13 @@ class Failure(Exception):
     """The program did what it must not."""
 
 
-# ---- the model of the repository
+# ---- what the lines' files say
 
 # Files that aren't Part 21, with the kind and the place of their fault.
 FILE_FAULTS = {
-    "ISO-10303-2": ("Token", 0),
-    "ISO-10303-21;HEADER;FILE_DESC": ("Syntax", 20),
-    "ISO-10303-21;HEADER;FILE_DESCRIPTION": ("Syntax", 36),
+    "ISO-10303-2": FileFault("Token", 0),
+    "ISO-10303-21;HEADER;FILE_DESC": FileFault("Syntax", 20),
+    "ISO-10303-21;HEADER;FILE_DESCRIPTION": FileFault("Syntax", 36),
 }
 
 FILE = re.compile(
@@ -87,133 +92,33 @@ FILE = re.compile(
 INSTANCE = re.compile(r"#([0-9]+)=([A-Z]+)\(([^();]*)\);")
 
 
-# What the repository has of a model: its schema, the names and types of its instances, its grants.
-Model = collections.namedtuple("Model", "schema rows grants")
-
-
-def ok(**keys):
-    return {"ok": keys}
-
-
-def refused(code, name, **keys):
-    return {"refused": {"code": code, "name": name, **keys}}
-
-
-def instance_fault(instances):
-    """The first instance whose name stood before or that refers to none, with the kind of its fault."""
-    names = {int(name) for name, _, _ in instances}
-    before = set()
-    for name, _, values in instances:
-        if int(name) in before:
-            return int(name), "Twice"
-        before.add(int(name))
-        if not {int(it) for it in re.findall(r"#([0-9]+)", values)} <= names:
-            return int(name), "Undefined"
-    return None
-
-
-def put(models, key, file):
-    """The reply to a put into a model that there is, and the models after it."""
-    if file in FILE_FAULTS:
-        kind, at = FILE_FAULTS[file]
-        return refused(11, "FileFault", at=at, kind=kind), models
-    found = FILE.fullmatch(file)
+def file_of(text):
+    """What a file of the lines says."""
+    if text in FILE_FAULTS:
+        return FILE_FAULTS[text]
+    found = FILE.fullmatch(text)
     if not found:
-        raise Failure(f"the model of this script can't read the file {file!r}")
-    if found["schema"].upper() != models[key].schema:
-        return refused(9, "WrongSchema"), models
-    instances = INSTANCE.findall(found["instances"])
-    fault = instance_fault(instances)
-    if fault:
-        return refused(12, "InstanceFault", instance=fault[0], kind=fault[1]), models
-    rows = sorted((int(name), keyword) for name, keyword, _ in instances)
-    return ok(instances=len(rows)), {**models, key: models[key]._replace(rows=rows)}
-
-
-def level_of(models, who, key):
-    """The level at which a partner sees a model, or nothing where he doesn't."""
-    if key not in models:
-        return None
-    return "owner" if key[0] == who else models[key].grants.get(who)
-
-
-def grant(models, who, request):
-    """The reply to a grant or a revoke, and the models after it."""
-    key, to = (who, request["name"]), request["to"]
-    if key not in models:
-        return refused(7, "NoSuchItem"), models
-    model = models[key]
-    grants = {partner: level for partner, level in model.grants.items() if partner != to}
-    if request["do"] == "grant" and to != who:
-        grants[to] = request["level"]
-    return ok(), {**models, key: model._replace(grants=grants)}
-
-
-def listed(models, who):
-    rows = [(key, level_of(models, who, key)) for key in sorted(models)]
-    return ok(groups=[], models=[{"level": level, "name": key[1], "owner": key[0], "schema": models[key].schema}
-                                 for key, level in rows if level])
-
-
-def step(models, line):
-    """The reply to a line, want of memory aside, and the models after it."""
-    try:
-        request = json.loads(line)
-    except ValueError:
-        return refused(1, "BadRequest"), models
-    kind, who = request["do"], request["as"]
-    if kind == "schemas":
-        return ok(schemas=sorted(SCHEMAS.values())), models
-    if kind == "check_schema":
-        return ok(**TEXTS[request["text"]]), models
-    if kind == "create_model":
-        key = (who, request["name"])
-        schema = request["schema"].upper()
-        if schema not in SCHEMAS.values():
-            return refused(5, "UnknownSchema"), models
-        if key in models:
-            return refused(6, "Exists"), models
-        return ok(), {**models, key: Model(schema, [], {})}
-    if kind == "delete_model":
-        key = (who, request["name"])
-        if key not in models:
-            return refused(7, "NoSuchItem"), models
-        return ok(), {it: model for it, model in models.items() if it != key}
-    if kind == "list":
-        return listed(models, who), models
-    if kind in ("grant", "revoke"):
-        return grant(models, who, request)
-    key = (request["owner"], request["model"])
-    level = level_of(models, who, key)
-    if not level:
-        return refused(7, "NoSuchItem"), models
-    if kind == "put":
-        if level not in ("owner", "write"):
-            return refused(8, "NoRight"), models
-        return put(models, key, request["file"])
-    if kind == "names":
-        return ok(names=[{"name": name, "type": keyword} for name, keyword in models[key].rows]), models
-    raise Failure(f"the model of this script doesn't know the request {kind!r}")
-
-
-def compact(reply):
-    return json.dumps(reply, sort_keys=True, separators=(",", ":")).encode()
+        raise Failure(f"this script can't read the file {text!r}")
+    instances = [Instance(int(name), [keyword], [int(it) for it in re.findall(r"#([0-9]+)", values)])
+                 for name, keyword, values in INSTANCE.findall(found["instances"])]
+    return File([found["schema"]], instances)
 
 
 def check_replies(lines, replies):
     """Each reply is NoMemory or the exact one. Answers how many are NoMemory."""
     if len(replies) != len(lines):
         raise Failure(f"{len(lines)} lines got {len(replies)} replies")
-    models = {}
+    repository = Repository(PARTNERS, SCHEMAS.values(), file_of, TEXTS.__getitem__)
     count = 0
     for place, (line, reply) in enumerate(zip(lines, replies), 1):
         if reply == NO_MEMORY:
             count += 1
             continue
-        wanted, after = step(models, line)
-        if reply != compact(wanted):
-            raise Failure(f"line {place} got {reply!r} in place of {compact(wanted)!r} or NoMemory")
-        models = after
+        wanted, change = repository.step(line)
+        if reply != wanted:
+            raise Failure(f"line {place} got {reply!r} in place of {wanted!r} or NoMemory")
+        if change:
+            change()
     return count
 
 

@@ -1,0 +1,170 @@
+"""What the benchmarks share: the program, a folder in which its runs are timed and compared, and tables.
+
+A benchmark is its families of inputs and the rows that it prints of them. It ends by `run_bench`. All that the program
+writes is compared with what it must be, and a difference ends the benchmark.
+"""
+import json
+import os
+import re
+import subprocess
+import sys
+import tempfile
+import time
+
+KIB = 1024
+MIB = 1024 * KIB
+
+# The most bytes of a file that is put, and of a schema.
+FILE_LIMIT = 8 * MIB
+
+TOP = os.path.dirname(os.path.dirname(os.path.abspath(__file__)))
+PROGRAM = os.path.join(TOP, "crates/rp_server/out/rp_server")
+
+SCHEMA_FILE = "measured.exp"
+CHECK = ("check", SCHEMA_FILE)
+BATCH = ("batch", "--config", "config.json")
+
+
+def compare(written, wanted):
+    if written != wanted:
+        sys.exit(f"bench: the program writes {written[:300]!r} in place of {wanted[:300]!r}")
+
+
+def expect_success(status):
+    if status != 0:
+        sys.exit(f"bench: the program ended with status {status}")
+
+
+def request(do, **keys):
+    """A request of ann's, as a line."""
+    return json.dumps({"as": "ann", "do": do, **keys}).encode() + b"\n"
+
+
+# ---- a process that runs
+
+def most_memory(process):
+    """The most bytes that a running process has held."""
+    with open(f"/proc/{process.pid}/status", encoding="ascii") as it:
+        found = re.search(r"^VmHWM:\s*(\d+) kB$", it.read(), re.MULTILINE)
+    return int(found[1]) * KIB
+
+
+def processor_seconds(process):
+    """How long a processor has run a running process of one thread."""
+    with open(f"/proc/{process.pid}/schedstat", encoding="ascii") as it:
+        return int(it.read().split()[0]) / 1e9
+
+
+def waits_to_write(process):
+    with open(f"/proc/{process.pid}/wchan", encoding="ascii") as it:
+        if "pipe" in it.read():
+            return True
+    with open(f"/proc/{process.pid}/syscall", encoding="ascii") as it:
+        return it.read().startswith("1 ")
+
+
+def full_pipe():
+    """A pipe into which nothing more can be written until it is read."""
+    reader, writer = os.pipe()
+    os.set_blocking(writer, False)
+    try:
+        while True:
+            os.write(writer, bytes(4 * KIB))
+    except BlockingIOError:
+        os.set_blocking(writer, True)
+    return reader, writer
+
+
+# ---- runs
+
+class Folder:
+    """A folder in which the program is run, each time as a process of its own."""
+
+    def __init__(self, program, path):
+        self.program = program
+        self.path = path
+
+    def write(self, name, text):
+        with open(os.path.join(self.path, name), "wb") as it:
+            it.write(text if isinstance(text, bytes) else text.encode())
+
+    def configure(self, **schemas):
+        """Writes a configuration of one partner, ann, and the files of these schemas."""
+        for name, text in schemas.items():
+            self.write(f"{name}.exp", text)
+        files = [f"{name}.exp" for name in schemas]
+        self.write("config.json", json.dumps({"partners": [{"name": "ann", "token": "ta"}], "schemas": files}))
+
+    def seconds(self, words, text, wanted):
+        """The seconds from the program's start to its end."""
+        given = {"input": text} if text else {"stdin": subprocess.DEVNULL}
+        begin = time.monotonic()
+        done = subprocess.run([self.program, *words], cwd=self.path, capture_output=True, check=False, **given)
+        seconds = time.monotonic() - begin
+        compare(done.stdout, wanted)
+        expect_success(done.returncode)
+        return seconds
+
+    def check_seconds(self, text, wanted, times):
+        """The least seconds of so many checks of a schema."""
+        self.write(SCHEMA_FILE, text)
+        return min(self.seconds(CHECK, b"", wanted) for _ in range(times))
+
+    def batch_seconds(self, lines, wanted, times):
+        """The least seconds of so many batches of these lines."""
+        return min(self.seconds(BATCH, lines, wanted) for _ in range(times))
+
+    def check_memory(self):
+        """The most bytes that the check of the schema that was checked last holds. Its standard output is a pipe that is
+        full, so that it can be looked at when all its work is done and it waits to write."""
+        reader, writer = full_pipe()
+        with subprocess.Popen([self.program, *CHECK], cwd=self.path, stdin=subprocess.DEVNULL, stdout=writer) as process:
+            os.close(writer)
+            while not waits_to_write(process):
+                time.sleep(0.005)
+            memory = most_memory(process)
+            with open(reader, "rb") as it:
+                it.read()
+        expect_success(process.returncode)
+        return memory
+
+    def batch_measured(self, lines, wanted):
+        """The seconds until the last reply to these lines, how many of them a processor ran the program, and the most
+        bytes that it held until then."""
+        begin = time.monotonic()
+        words = [self.program, *BATCH]
+        with subprocess.Popen(words, cwd=self.path, stdin=subprocess.PIPE, stdout=subprocess.PIPE) as process:
+            process.stdin.write(lines)
+            process.stdin.flush()
+            written = b"".join(process.stdout.readline() for _ in range(wanted.count(b"\n")))
+            seconds = time.monotonic() - begin
+            busy, memory = processor_seconds(process), most_memory(process)
+            process.stdin.close()
+            written += process.stdout.read()
+        compare(written, wanted)
+        expect_success(process.returncode)
+        return seconds, busy, memory
+
+
+# ---- what is printed
+
+class Table:
+    """Columns, each with its title and the form of its values, as '12,' or '8.3f'. Its head is printed at once."""
+
+    def __init__(self, columns):
+        self.forms = list(columns.values())
+        widths = [re.match(r"\d+", form)[0] for form in self.forms]
+        print(" ".join(f"{title:>{width}}" for title, width in zip(columns, widths)))
+
+    def row(self, *values):
+        print(" ".join(f"{value:>{form}}" for value, form in zip(values, self.forms, strict=True)), flush=True)
+
+
+def run_bench(measure, words):
+    """Runs a benchmark in a new folder by the program that the words name, or else the one that was built, and ends the
+    script. What the benchmark answers is the status, where that isn't 0."""
+    program = os.path.abspath(words[0] if words else PROGRAM)
+    if not os.access(program, os.X_OK):
+        sys.exit(f"bench: there is no program {program}: run rt ci first, or name it")
+    with tempfile.TemporaryDirectory() as path:
+        sys.exit(measure(Folder(program, path)))
