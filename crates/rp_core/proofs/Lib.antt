@@ -1,8 +1,10 @@
-pub mod Keys
-pub mod Searching
-pub mod Repeats
-pub mod Suiting
-pub mod Putting
-pub mod Preparing
-pub mod Running
+pub mod Finding
+pub mod Counting
+pub mod Joining
+pub mod Looking
+pub mod Firsts
 pub mod SchemaNames
+pub mod Repeats
+pub mod Putting
+pub mod Making
+pub mod Preparing

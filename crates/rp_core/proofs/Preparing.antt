@@ -1,70 +1,100 @@
--- A plan gives the reply of the step, and its change what the step leaves.
-use Rattle.std.proofs.Common.{◌≡◌, ℕ, Bool, true, false, List, Result, Ok, Err, refl, sym, ◌∙◌, ap, subst}
+-- A plan gives the reply of the turn, and its steps what the turn leaves.
+use Rattle.std.proofs.Common.{◌≡◌, true, false, Bool, Result, Ok, Err, refl, sym, ◌∙◌, ap, subst}
 use Rattle.std.proofs.lemmas.Bool.{false≢true}
-use Rattle.rp_plain.specs.declared.messages.Request.{Request}
-use Rattle.rp_plain.specs.declared.messages.Request.TheVariants.{ListItems, CreateModel, DeleteModel, Put, Names, GrantModel, RevokeModel, Schemas, CheckSchema}
-use Rattle.rp_plain.specs.declared.messages.Refusal.{Refusal}
-use Rattle.rp_plain.specs.declared.messages.Reply.TheVariants.{Refused}
-use Rattle.rp_plain.specs.declared.messages.Change.TheVariants.{Nothing}
 use Rattle.ex_types.specs.Checked.{Checked}
 use Rattle.ex_check.specs.declared.fault.SchemaFault.{SchemaFault}
-use Rattle.ex_check.specs.Check.{schema as schema_in}
+use Rattle.ex_check.specs.Check.{schema as schema_of}
 use Rattle.p21_tree.specs.declared.raw.Raw.{Raw}
 use Rattle.p21_tree.specs.declared.fault.FileFault.{FileFault}
 use Rattle.p21_read.specs.File.{file_of}
-use Rattle.rp_plain.specs.Plain as plain
-use Rattle.rp_plain.specs.Plain.{Plain, stored, ok_reply, changed, outcome}
+use Rattle.rp_rows.specs.Rows.{Text}
+use Rattle.rp_plain.specs.declared.messages.Request.{Request}
+use Rattle.rp_plain.specs.declared.messages.Request.TheVariants.{CreateModel, DeleteModel, Put, Names, ListItems, GrantModel, RevokeModel, Schemas, CheckSchema}
+use Rattle.rp_plain.specs.declared.messages.Refusal.{Refusal}
+use Rattle.rp_plain.specs.declared.messages.Refusal.TheVariants.{NoMemory}
+use Rattle.rp_plain.specs.declared.messages.Reply.TheVariants.{Refused}
+use Rattle.rp_plain.specs.Plain.{Plain}
+use Rattle.rp_plain.specs.Edits.{changed}
+use Rattle.rp_plain.specs.Asked.{Asked, asked}
+use Rattle.rp_plain.specs.Files.{stored}
+use Rattle.rp_plain.specs.Checks as checks
+use Rattle.rp_plain.specs.Step.{meaning, outcome}
 use Rattle.rp_plain.specs.Runs.{is_no_memory}
-use Rattle.rp_core.specs.Held.{Plan, IsAnswer, IsRefusal, IsPrepared}
+use Rattle.rp_plain.specs.Turns.{Turn}
+use Rattle.rp_core.specs.declared.edits.Plan.{Plan}
+use Rattle.rp_core.specs.declared.steps.Pending.{Pending}
+use Rattle.rp_core.specs.declared.steps.Steps.{Steps}
+use Rattle.rp_core.specs.declared.steps.Steps.TheVariants.{Nothing}
+use Rattle.rp_core.specs.Plans.{IsAnswer, IsRefusal}
+use Rattle.rp_core.specs.Held.{made, steps_of, IsPrepared}
+use Rattle.rp_core.proofs.Making.{made_changed}
 
-told_stored : (file : Result Raw FileFault) → is_no_memory (stored file) ≡ false
-told_stored (Ok raw) = refl
-told_stored (Err fault) = refl
+stored_told : (file : Result Raw FileFault) → is_no_memory (stored file) ≡ false
+stored_told (Ok raw) = refl
+stored_told (Err fault) = refl
 
-told_of : (found : Result Checked SchemaFault) → is_no_memory (plain.told found) ≡ false
-told_of (Ok schema) = refl
-told_of (Err fault) = refl
+check_told : (schema : Result Checked SchemaFault) → is_no_memory (checks.told schema) ≡ false
+check_told (Ok schema) = refl
+check_told (Err fault) = refl
 
-told : (r : Plain) (c : List ℕ) (q : Request) → is_no_memory (ok_reply r c q) ≡ false
-told r c (CreateModel name schema) = refl
-told r c (DeleteModel name) = refl
-told r c (Put owner name file) = told_stored (file_of file)
-told r c (Names owner name) = refl
-told r c ListItems = refl
-told r c Schemas = refl
-told r c (CheckSchema text) = told_of (schema_in text)
-told r c (GrantModel name to level) = refl
-told r c (RevokeModel name to) = refl
+-- no request is answered that memory is wanting
+told : (a : Asked) (c : Text) (q : Request) → is_no_memory (meaning a c q).reply ≡ false
+told a c (CreateModel name schema) = refl
+told a c (DeleteModel name) = refl
+told a c (Put k file) = stored_told (file_of file)
+told a c (Names k) = refl
+told a c ListItems = refl
+told a c (GrantModel name to l) = refl
+told a c (RevokeModel name to) = refl
+told a c Schemas = refl
+told a c (CheckSchema text) = check_told (schema_of text)
 
-pub prepared_answer : (r : Plain) (c : List ℕ) (q : Request) (plan : Plan) → IsAnswer r c q plan.reply plan.change → IsPrepared r c q plan
-prepared_answer r c q plan answer =
-    let no : is_no_memory plan.reply ≡ false = ap is_no_memory answer.replies ∙ told r c q in
-    let is_step = sym (ap (outcome r c q) answer.passes) in
+prepared_answer : (r : Plain) (c : Text) (q : Request) (plan : Plan) (steps : Steps) → IsAnswer (asked r c) c q plan → steps ≡ steps_of r.models plan.edits → IsPrepared r (record { caller = c; request = q }) (record { reply = plan.reply; steps = steps })
+prepared_answer r c q plan steps is are =
+    let a = asked r c in
+    let no : is_no_memory plan.reply ≡ false = ap is_no_memory is.replies ∙ told a c q in
+    let is_answer = sym (ap (outcome (meaning a c q)) is.passes) in
     record {
-      replies = λ _. answer.replies ∙ ap (λ o. o.reply) is_step;
-      changes = rw no (ap (λ ch. changed ch r) answer.changes ∙ ap (λ o. o.next) is_step);
-      suits = answer.suits;
+      replies = λ _. is.replies ∙ ap (λ o. o.reply) is_answer;
+      changes =
+          rw no
+          (ap (λ s. made s r) are
+          ∙ made_changed r plan.edits
+          ∙ ap (λ es. changed es r) is.edits
+          ∙ ap (λ o. changed o.edits r) is_answer);
     }
 
-pub prepared_refusal : (r : Plain) (c : List ℕ) (q : Request) (refusal : Refusal) → IsRefusal r c q refusal → IsPrepared r c q (record { reply = Refused refusal; change = Nothing })
+prepared_refusal : (r : Plain) (c : Text) (q : Request) (refusal : Refusal) → IsRefusal (asked r c) c q refusal → IsPrepared r (record { caller = c; request = q }) (record { reply = Refused refusal; steps = Nothing })
 prepared_refusal r c q refusal refused = by (is_no_memory (Refused refusal)) refl
   where
-    by : (t : Bool) → is_no_memory (Refused refusal) ≡ t → IsPrepared r c q (record { reply = Refused refusal; change = Nothing })
+    by : (t : Bool) → is_no_memory (Refused refusal) ≡ t → IsPrepared r (record { caller = c; request = q }) (record { reply = Refused refusal; steps = Nothing })
     by true is =
         record {
           replies = λ no. absurd (false≢true (sym no ∙ is));
           changes = rw is refl;
-          suits = tt;
         }
     by false is =
-        let is_step = sym (ap (outcome r c q) (refused (λ e. false≢true (sym is ∙ ap (λ f. is_no_memory (Refused f)) e)))) in
+        let is_answer = sym (ap (outcome (meaning (asked r c) c q)) (refused (λ e. false≢true (sym is ∙ ap (λ f. is_no_memory (Refused f)) e)))) in
         record {
-          replies = λ _. ap (λ o. o.reply) is_step;
-          changes = rw is (ap (λ o. o.next) is_step);
-          suits = tt;
+          replies = λ _. ap (λ o. o.reply) is_answer;
+          changes = rw is (ap (λ o. changed o.edits r) is_answer);
         }
 
--- the same, where the content and the partner were read
-pub prepared_from : (r s : Plain) (c d : List ℕ) (q : Request) (plan : Plan) → IsAnswer s d q plan.reply plan.change → s ≡ r → d ≡ c → IsPrepared r c q plan
-prepared_from r s c d q plan answer same who =
-    subst (λ x. IsPrepared x c q plan) same (subst (λ y. IsPrepared s y q plan) who (prepared_answer s d q plan answer))
+-- the same, where content and partner were read
+pub prepared_from : (r : Plain) (c : Text) (s : Plain) (d : Text) (q : Request) (plan : Plan) (pending : Pending) → s ≡ r → d ≡ c → IsAnswer (asked s d) d q plan → pending ≡ record { reply = plan.reply; steps = steps_of s.models plan.edits } → IsPrepared r (record { caller = c; request = q }) pending
+prepared_from r c s d q plan pending same who is are =
+    subst (λ (p : Plain). IsPrepared p (record { caller = c; request = q }) pending) same
+    (subst (λ (e : Text). IsPrepared s (record { caller = e; request = q }) pending) who
+    (subst (λ (p : Pending). IsPrepared s (record { caller = d; request = q }) p) (sym are) (prepared_answer s d q plan (steps_of s.models plan.edits) is refl)))
+
+pub refused_from : (r : Plain) (c : Text) (s : Plain) (d : Text) (q : Request) (refusal : Refusal) (pending : Pending) → s ≡ r → d ≡ c → IsRefusal (asked s d) d q refusal → pending ≡ record { reply = Refused refusal; steps = Nothing } → IsPrepared r (record { caller = c; request = q }) pending
+refused_from r c s d q refusal pending same who refused are =
+    subst (λ (p : Plain). IsPrepared p (record { caller = c; request = q }) pending) same
+    (subst (λ (e : Text). IsPrepared s (record { caller = e; request = q }) pending) who
+    (subst (λ (p : Pending). IsPrepared s (record { caller = d; request = q }) p) (sym are) (prepared_refusal s d q refusal refused)))
+
+-- want of memory leaves all as it is
+pub wanting : (r : Plain) (t : Turn) (refusal : Refusal) (pending : Pending) → refusal ≡ NoMemory → pending ≡ record { reply = Refused refusal; steps = Nothing } → IsPrepared r t pending
+wanting r t refusal pending is are =
+    let left : pending ≡ record { reply = Refused NoMemory; steps = Nothing } = are ∙ ap (λ f. record { reply = Refused f; steps = Nothing }) is in
+    subst (λ (p : Pending). IsPrepared r t p) (sym left) (record { replies = λ no. absurd (false≢true (sym no)); changes = refl })

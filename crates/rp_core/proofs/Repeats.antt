@@ -7,7 +7,7 @@ use Rattle.std.proofs.lemmas.List.Folds.{list_any_at}
 use Rattle.std.proofs.lemmas.Slice.Eq.{bytes_eq-Decides}
 use Rattle.std.proofs.Common.{sym}
 use Rattle.sorted_tables.proofs.Tables.{list_any-append}
-use Rattle.rp_plain.specs.Plain.{has_text}
+use Rattle.rp_plain.specs.Meaning.{has_text}
 use Rattle.rp_plain.specs.Opening.{has_twice}
 
 pub not_false : (t : Bool) → not t ≡ false → t ≡ true

@@ -10,7 +10,8 @@ use Rattle.std.specs.List.Sorted.{IsPermutation, IsSortedBy}
 use Rattle.std.specs.Ordering.{is_lt}
 use Rattle.p21_instances.specs.Instances.{in_order}
 use Rattle.p21_instances.proofs.Keywords.{keywords-sorted}
-use Rattle.rp_plain.specs.Plain.{Text, text_cmp, is_below}
+use Rattle.rp_rows.specs.Rows.{Text, text_cmp}
+use Rattle.rp_plain.specs.Lists.{is_below}
 
 map_itself : (xs : List Text) → map (λ x. x) xs ≡ xs
 map_itself [] = refl

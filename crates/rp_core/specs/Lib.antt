@@ -1,4 +1,6 @@
-pub mod Held
-pub mod Lent
-pub mod Calls
+pub mod Entries
+pub mod Stored
+pub mod Told
+pub mod Plans
 pub mod Files
+pub mod Held

@@ -1,18 +1,38 @@
-//! What a request asks of texts and of a model.
+//! What a partner's requests are told. Plans ask nothing but this.
+#![tactic(auto, unfolding(crate::specs::Told::told))]
 
-ghost use Rattle.std.specs.Prelude.{◌≡◌, ◌<◌, [], false, slice_index_or, MatchOption, ◌&&◌, length, map, filter, IfOk, option_copied};
-ghost use Rattle.std.specs.List.{find, list_any};
-ghost use Rattle.rp_plain.specs.Plain.{granted_level, right_of, item_of, owns, is_grant_to, sees, is_write, may_write, has_text};
+ghost use Rattle.std.specs.Prelude.{◌≡◌, ◌<◌, [], false, slice_index_or, MatchOption, length, option_map, option_copied};
+ghost use Rattle.rp_plain.specs.Plain.{model_at};
+ghost use Rattle.rp_plain.specs.Meaning.{has_text, has_schema as HasSchema};
+ghost use Rattle.rp_core.specs.Stored.{row_of};
+ghost use Rattle.rp_core.specs.Told.{plain_of, told};
 
+use crate::sight::{at_least, level};
+use crate::table::{RowRef, Table};
+use ex_types::Schema;
 use plain_data::Text;
-use rp_plain::rows::{Grant, Item, Level, ModelRow, Right};
-use std::alloc::{AllocError, Global};
+use rp_rows::rows::{Content, Key, Listing, Right};
 
-/// Whether the text is among the texts.
-pub fn has(texts: &[Text], text: &Text) -> bool
+/// What a repository holds, as one partner asks it.
+#[derive(Clone, Copy)]
+pub struct Asking<'a> {
+    pub schemas: &'a [Schema],
+    pub partners: &'a [Text],
+    pub models: &'a Table<Content>,
+    pub groups: &'a Table<Listing>,
+    pub caller: &'a Text,
+}
+
+fn has(texts: &[Text], text: &Text) -> bool
     ensures { result ≡ has_text texts.now text.now }
 {
-    texts.iter().any(|x| text.is(x))
+    texts.iter().any(|other| text.is(other))
+}
+
+fn is_loaded(schemas: &[Schema], name: &Text) -> bool
+    ensures { result ≡ HasSchema schemas.now name.now }
+{
+    schemas.iter().any(|schema| name.is(schema.name()))
 }
 
 /// Where the text stands among the texts.
@@ -28,91 +48,54 @@ pub fn place_among(texts: &[Text], text: &Text) -> Option<usize>
     None
 }
 
-/// Whether the model is the caller's own.
-pub fn is_owner(caller: &Text, model: &ModelRow) -> bool
-    ensures { result ≡ owns caller.now model.now }
-{
-    model.owner.is(caller)
-}
-
-fn is_granted(caller: &Text, grants: &[Grant]) -> bool
-    ensures { result ≡ list_any (is_grant_to caller.now) grants.now }
-{
-    grants.iter().any(|grant| grant.partner.is(caller))
-}
-
-fn is_granted_write(caller: &Text, grants: &[Grant]) -> bool
-    ensures { result ≡ list_any (λ g. is_grant_to caller.now g && is_write g.level) grants.now }
-{
-    grants.iter().any(|grant| grant.partner.is(caller) && grant.level == Level::Write)
-}
-
-/// Whether the caller sees the model: it is his own, or he has a level on it.
-pub fn is_seen(caller: &Text, model: &ModelRow) -> bool
-    ensures { result ≡ sees caller.now model.now }
-{
-    is_owner(caller, model) || is_granted(caller, model.grants.as_slice())
-}
-
-/// Whether the caller may replace the model's content.
-pub fn is_writable(caller: &Text, model: &ModelRow) -> bool
-    ensures { result ≡ may_write caller.now model.now }
-{
-    is_owner(caller, model) || is_granted_write(caller, model.grants.as_slice())
-}
-
-fn find_grant<'a>(caller: &Text, grants: &'a [Grant]) -> Option<&'a Grant>
-    ensures { option_copied result ≡ find (is_grant_to caller.now) grants.now }
-{
-    grants.iter().find(|grant| grant.partner.is(caller))
-}
-
-fn level_granted(caller: &Text, grants: &[Grant]) -> Level
-    ensures { result ≡ granted_level (find (is_grant_to caller.now) grants.now) }
-{
-    match find_grant(caller, grants) {
-        Some(grant) => grant.level,
-        None => Level::Read,
+impl<'a> Asking<'a> {
+    /// Whether a schema has this name, as it is written.
+    pub fn has_schema(&self, name: &Text) -> bool
+        ensures { result ≡ HasSchema (told self.now).schemas name.now }
+    {
+        is_loaded(self.schemas, name)
     }
-}
 
-fn right_to(caller: &Text, model: &ModelRow) -> Right
-    ensures { result ≡ right_of caller.now model.now }
-{
-    if is_owner(caller, model) {
-        Right::Owner
-    } else {
-        Right::Granted(level_granted(caller, model.grants.as_slice()))
+    pub fn has_partner(&self, name: &Text) -> bool
+        ensures { result ≡ has_text (told self.now).partners name.now }
+    {
+        has(self.partners, name)
     }
-}
 
-fn item(alloc: Global, caller: &Text, model: &ModelRow) -> Result<Item, AllocError>
-    ensures { IfOk result (λ item. item ≡ item_of caller.now model.now) }
-{
-    let owner = model.owner.copy(alloc)?;
-    let name = model.name.copy(alloc)?;
-    let schema = model.schema.copy(alloc)?;
-    Ok(Item {
-        owner,
-        name,
-        schema,
-        right: right_to(caller, model),
-    })
-}
-
-/// The models that the caller sees, as they are listed for him.
-pub fn seen_items(
-    alloc: Global,
-    caller: &Text,
-    models: &[ModelRow],
-) -> Result<Vec<Item>, AllocError>
-    ensures { IfOk result (λ items. items.items ≡ map (item_of caller.now) (filter (sees caller.now) models.now)) }
-{
-    let mut items = Vec::new(alloc);
-    for model in models {
-        if is_seen(caller, model) {
-            items.push(item(alloc, caller, model)?)?;
+    fn model(&self, key: &Key) -> Option<RowRef<'a, Content>>
+        ensures { option_map row_of result ≡ model_at (plain_of self.now) self.now.caller.now key.now }
+    {
+        let model = self.models.find(key)?;
+        if at_least(Right::Reads, level(self.groups, self.caller, &model)) {
+            Some(model)
+        } else {
+            None
         }
     }
-    Ok(items)
+
+    pub fn model_right(&self, key: &Key) -> Right
+        ensures { result ≡ (told self.now).model_right key.now }
+    {
+        match self.model(key) {
+            Some(model) => level(self.groups, self.caller, &model),
+            None => Right::Unseen,
+        }
+    }
+
+    /// What the model holds, if the partner sees it.
+    pub fn content(&self, key: &Key) -> Option<&'a Content>
+        ensures { option_copied result ≡ (told self.now).content key.now }
+    {
+        match self.model(key) {
+            Some(model) => Some(model.holds),
+            None => None,
+        }
+    }
+
+    /// How many models are the partner's own.
+    pub fn model_count(&self) -> usize
+        ensures { result ≡ (told self.now).model_count }
+    {
+        self.models.count_of(self.caller)
+    }
 }

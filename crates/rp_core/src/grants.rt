@@ -1,96 +1,60 @@
-//! A model's grants as a request leaves them, in order of partner.
+//! Grants of the caller's own models.
 
-ghost use Rattle.std.specs.Prelude.{◌≡◌, ◌++◌, filter, OnOk, IfOk};
-ghost use Rattle.sorted_tables.specs.Table.{is_before, is_after};
-ghost use Rattle.rp_plain.specs.Plain.{text_cmp, grant_key, with_grant, without_grant};
+ghost use Rattle.rp_core.specs.Told.{told};
+ghost use Rattle.rp_core.specs.Plans.{Plans};
 
-use plain_data::{Rows, Text};
-use rp_plain::rows::{Grant, Level};
-use std::alloc::{AllocError, Global};
+use crate::asked::Asking;
+use crate::edits::{Change, Edits, Plan};
+use crate::faults::{first, is_no_partner, names_fault, unseen};
+use crate::models::own;
+use plain_data::Text;
+use rp_plain::messages::{Refusal, Reply, Request};
+use rp_rows::rows::Level;
+use std::alloc::Global;
 
-fn copy_grant(alloc: Global, grant: &Grant) -> Result<Grant, AllocError>
-    ensures { IfOk result (λ copy. copy ≡ grant.now) }
+pub fn plan_grant(
+    alloc: Global,
+    asked: &Asking<'_>,
+    name: Text,
+    to: Text,
+    level: Level,
+) -> Result<Plan, Refusal>
+    ensures { Plans (told asked.now) asked.now.caller.now (Request.GrantModel name to level) result }
 {
-    let partner = grant.partner.copy(alloc)?;
-    Ok(Grant {
-        partner,
-        level: grant.level,
+    let key = own(alloc, asked, name)?;
+    let tests = [
+        names_fault(&key.1, &to),
+        is_no_partner(asked, &to),
+        unseen(asked.model_right(&key)),
+    ];
+    if let Some(refusal) = first(&tests) {
+        return Err(refusal);
+    }
+    let edits = if to.is(asked.caller) {
+        Edits::Nothing
+    } else {
+        Edits::OfModel(key, Change::Grants(to, Some(level)))
+    };
+    Ok(Plan {
+        reply: Reply::Done,
+        edits,
     })
 }
 
-fn copy_grants(alloc: Global, grants: &[Grant]) -> Result<Vec<Grant>, AllocError>
-    ensures { IfOk result (λ copy. copy.items ≡ grants.now) }
+pub fn plan_revoke(alloc: Global, asked: &Asking<'_>, name: Text, to: Text) -> Result<Plan, Refusal>
+    ensures { Plans (told asked.now) asked.now.caller.now (Request.RevokeModel name to) result }
 {
-    let mut copy = Vec::with_capacity(alloc, grants.len())?;
-    for grant in grants {
-        copy.push(copy_grant(alloc, grant)?)?;
+    let key = own(alloc, asked, name)?;
+    let tests = [
+        names_fault(&key.1, &to),
+        is_no_partner(asked, &to),
+        unseen(asked.model_right(&key)),
+    ];
+    if let Some(refusal) = first(&tests) {
+        return Err(refusal);
     }
-    Ok(copy)
-}
-
-/// Adds the grants to partners before this one.
-fn push_before(
-    alloc: Global,
-    to: &Text,
-    grants: &[Grant],
-    out: &mut Vec<Grant>,
-) -> Result<(), AllocError>
-    ensures { OnOk result (out.new.items ≡ out.old.items ++ filter (is_before text_cmp grant_key to.now) grants.now) }
-{
-    for grant in grants {
-        if grant.partner.order(to).is_lt() {
-            out.push(copy_grant(alloc, grant)?)?;
-        }
-    }
-    Ok(())
-}
-
-/// Adds the grants to partners after this one.
-fn push_after(
-    alloc: Global,
-    to: &Text,
-    grants: &[Grant],
-    out: &mut Vec<Grant>,
-) -> Result<(), AllocError>
-    ensures { OnOk result (out.new.items ≡ out.old.items ++ filter (is_after text_cmp grant_key to.now) grants.now) }
-{
-    for grant in grants {
-        if grant.partner.order(to).is_gt() {
-            out.push(copy_grant(alloc, grant)?)?;
-        }
-    }
-    Ok(())
-}
-
-/// The grants with this level of the partner in place of any former one. The owner gets none.
-pub fn grants_with(
-    alloc: Global,
-    owner: &Text,
-    to: Text,
-    level: Level,
-    grants: &[Grant],
-) -> Result<Rows<Grant>, AllocError>
-    ensures { IfOk result (λ g. g ≡ with_grant owner.now to level grants.now) }
-{
-    if owner.is(&to) {
-        let rows = copy_grants(alloc, grants)?;
-        return Ok(Rows::from_vec(rows));
-    }
-    let mut rows = Vec::new(alloc);
-    push_before(alloc, &to, grants, &mut rows)?;
-    let mut after = Vec::new(alloc);
-    push_after(alloc, &to, grants, &mut after)?;
-    rows.push(Grant { partner: to, level })?;
-    rows.append(&mut after)?;
-    Ok(Rows::from_vec(rows))
-}
-
-/// The grants without any of the partner.
-pub fn grants_without(alloc: Global, to: &Text, grants: &[Grant]) -> Result<Rows<Grant>, AllocError>
-    ensures { IfOk result (λ g. g ≡ without_grant to.now grants.now) }
-{
-    let mut rows = Vec::new(alloc);
-    push_before(alloc, to, grants, &mut rows)?;
-    push_after(alloc, to, grants, &mut rows)?;
-    Ok(Rows::from_vec(rows))
+    Ok(Plan {
+        reply: Reply::Done,
+        edits: Edits::OfModel(key, Change::Grants(to, None)),
+    })
 }

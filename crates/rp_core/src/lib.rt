@@ -1,18 +1,28 @@
-//! The repository in memory.
+//! What a repository holds, in memory, and the turns that its requests are.
 //!
-//! A request is planned over what the repository holds, and only then is anything changed: see
-//! [`Repository`].
+//! A request is planned over what is held: its refusals are tested, its reply made, and what it
+//! changes said as edits. Room is made for these, and only then is anything changed, which takes no
+//! memory: see [`Holdings`].
 #![tactic(auto)]
 
 mod asked;
-mod commits;
+mod checks;
+mod edits;
+mod faults;
 mod files;
 mod grants;
+mod holdings;
+mod items;
+mod keyed;
+mod lists;
+mod models;
 mod opening;
-mod places;
 mod plans;
-mod repository;
+mod regranted;
 mod schemas;
+mod sight;
+mod steps;
+mod table;
 
-pub use plans::Pending;
-pub use repository::{Call, Caller, Repository};
+pub use holdings::Holdings;
+pub use steps::Pending;

@@ -1,62 +1,63 @@
--- A change leaves the rows of other names.
-use Rattle.std.proofs.Common.{◌≡◌, Bool, true, false, not, ◌&&◌, ◌||◌, List, [], ◌∷◌, ◌++◌, Option, Some, None, is_some, refl, ◌∙◌, ap, arith, append-nil}
+-- Edits leave the rows of other names.
+use Rattle.std.proofs.Common.{◌≡◌, Bool, true, false, not, ◌&&◌, List, [], ◌∷◌, ◌++◌, is_some, refl, ◌∙◌, ap, append-nil}
 use Rattle.std.specs.Prelude.{filter, option_to_list}
-use Rattle.std.specs.List.{find}
-use Rattle.std.specs.declared.cmp.Ordering.{Ordering}
-use Rattle.std.specs.Ordering.{is_eq}
-use Rattle.std.specs.Cmp.{IsTotalOrder}
-use Rattle.std.proofs.lemmas.Cmp.{tied_itself}
+use Rattle.std.specs.List.{find, list_any, AllByRecursion}
 use Rattle.std.proofs.lemmas.List.Elements.{filter-append}
-use Rattle.sorted_tables.specs.Table.{is_at, is_before, is_after, with_row, edited, IsAscending}
+use Rattle.sorted_tables.specs.Table.{is_before, is_after, IsAscending}
 use Rattle.sorted_tables.proofs.Ascending.{passing-split}
-use Rattle.rp_plain.specs.declared.rows.ModelRow.{ModelRow}
+use Rattle.std.proofs.lemmas.Cmp.{tied_itself}
+use Rattle.std.specs.Ordering.{is_eq}
 use Rattle.rp_plain.specs.declared.messages.Request.{Request}
-use Rattle.rp_plain.specs.declared.messages.Refusal.{Refusal}
-use Rattle.rp_plain.specs.declared.messages.Change.{Change}
-use Rattle.rp_plain.specs.declared.messages.Change.TheVariants.{Nothing, Create, Remove, Fill, Regrant}
-use Rattle.rp_plain.specs.Plain.{Text, Plain, key_cmp, model_key, tests, first_some, change_of, changed_models, step, outcome}
-use Rattle.rp_plain.specs.Seen.{names_of}
-use Rattle.rp_laws.specs.Laws.{IsOrdered, is_other}
-use Rattle.rp_laws.proofs.Parts.{key_total}
+use Rattle.rp_rows.specs.Rows.{Text, Key, key_cmp, Row, row_key, is_row, Model, GroupRow}
+use Rattle.rp_rows.specs.Alterations.{Alteration, alter, altered}
+use Rattle.rp_plain.specs.Plain.{Plain, Kind}
+use Rattle.rp_plain.specs.Edits.{Edit, EditModel, EditGroup, edited_by, changed, names_of}
+use Rattle.rp_plain.specs.Asked.{asked}
+use Rattle.rp_plain.specs.Step.{answer, next}
+use Rattle.rp_plain.specs.Valid.{IsOrdered}
+use Rattle.rp_rows.proofs.Keys.{key_total, found_at}
+use Rattle.rp_laws.specs.Laws.{names_model, names_group}
+use Rattle.rp_laws.proofs.Sight.{IsIn, all_in}
+use Rattle.rp_laws.proofs.Keeping.{edited_ordered}
+use Rattle.rp_laws.proofs.Outside.{new_owner, unseen_row}
 
-module _ {K X : Type 0} (cmp : K → K → Ordering) (key : X → K) (total : IsTotalOrder cmp) where
-  abbrev other : K → X → Bool
-  other k x = not (is_at cmp key k x || false)
+none_passes : {A : Type 0} (q : Row A → Bool) (k : Key) (fails : (x : Row A) → is_row k x ≡ true → q x ≡ false) (xs : List (Row A)) → is_some (find (λ x. is_row k x && q x) xs) ≡ false
+none_passes q k fails [] = refl
+none_passes q k fails (x ∷ xs) = by (none_passes q k fails xs) (is_row k x) refl
+  where
+    by : is_some (find (λ y. is_row k y && q y) xs) ≡ false → (t : Bool) → is_row k x ≡ t → is_some (find (λ y. is_row k y && q y) (x ∷ xs)) ≡ false
+    by rest true e = rw (e, fails x e) rest
+    by rest false e = rw e rest
 
-  both : (a : Bool) → (a && not (a || false)) ≡ false
-  both true = refl
-  both false = refl
+pub others_altered : {A : Type 0} (q : Row A → Bool) (k : Key) (a : Alteration A) (xs : List (Row A)) → IsAscending key_cmp row_key xs → ((x : Row A) → is_row k x ≡ true → q x ≡ false) → filter q (altered k a xs) ≡ filter q xs
+others_altered q k a xs order fails =
+    let row = alter k a (find (is_row k) xs) in
+    let before = filter (is_before key_cmp row_key k) xs in
+    let after = filter (is_after key_cmp row_key k) xs in
+    let gone = unseen_row q row (λ y e. let there = new_owner k a (find (is_row k) xs) (λ x f. found_at (is_row k) xs x f) y e in fails y (ap (λ j. is_eq (key_cmp j k)) there ∙ ap is_eq (tied_itself key_total k))) in
+    filter-append q (before ++ option_to_list row) after
+    ∙ ap (λ ys. ys ++ filter q after) (filter-append q before (option_to_list row) ∙ ap (λ ys. filter q before ++ ys) gone ∙ append-nil (filter q before))
+    ∙ passing-split key_cmp row_key key_total q k xs order (none_passes q k fails xs)
 
-  none_other : (k : K) (xs : List X) → is_some (find (λ x. is_at cmp key k x && other k x) xs) ≡ false
-  none_other k [] = refl
-  none_other k (x ∷ xs) = rw (both (is_at cmp key k x)) (none_other k xs)
+abbrev FailNamed : (Model → Bool) → (GroupRow → Bool) → Kind × Key → Type 0
+FailNamed p q n = ((x : Model) → names_model x n ≡ true → p x ≡ false) × ((x : GroupRow) → names_group x n ≡ true → q x ≡ false)
 
-  others-with_row : (k : K) (row : Option X) (xs : List X) → IsAscending cmp key xs → filter (other k) (option_to_list row) ≡ [] → filter (other k) (with_row cmp key k row xs) ≡ filter (other k) xs
-  others-with_row k row xs order unseen =
-      let before = filter (is_before cmp key k) xs in
-      let after = filter (is_after cmp key k) xs in
-      filter-append (other k) (before ++ option_to_list row) after
-      ∙ ap (λ ys. ys ++ filter (other k) after) (filter-append (other k) before (option_to_list row) ∙ ap (λ ys. filter (other k) before ++ ys) unseen ∙ append-nil (filter (other k) before))
-      ∙ passing-split cmp key total (other k) k xs order (none_other k xs)
+others_changed : (p : Model → Bool) (q : GroupRow → Bool) (es : List Edit) (r : Plain) → IsOrdered r → AllByRecursion (FailNamed p q) (names_of es) → (filter p (changed es r).models ≡ filter p r.models) × (filter q (changed es r).groups ≡ filter q r.groups)
+others_changed p q [] r ordered fails = (refl, refl)
+others_changed p q (EditModel k a ∷ es) r ordered fails =
+    let rest = others_changed p q es (edited_by (EditModel k a) r) (edited_ordered (EditModel k a) r ordered) fails.1 in
+    (rest.0 ∙ others_altered p k a r.models ordered.models fails.0.0, rest.1)
+others_changed p q (EditGroup k a ∷ es) r ordered fails =
+    let rest = others_changed p q es (edited_by (EditGroup k a) r) (edited_ordered (EditGroup k a) r ordered) fails.1 in
+    (rest.0, rest.1 ∙ others_altered q k a r.groups ordered.groups fails.0.1)
 
-  not_itself : (row : X) → filter (other (key row)) (row ∷ []) ≡ []
-  not_itself row = rw (ap is_eq (tied_itself total (key row))) refl
+each_named : (names ns : List (Kind × Key)) → AllByRecursion (IsIn names) ns → AllByRecursion (FailNamed (λ x. not (list_any (names_model x) names)) (λ x. not (list_any (names_group x) names))) ns
+each_named names [] all = tt
+each_named names (n ∷ ns) all = ((λ x e. ap not (all.0 (names_model x) e), λ x e. ap not (all.0 (names_group x) e)), each_named names ns all.1)
 
-  others-edited : (k : K) (edit : X → X) (same : (x : X) → key (edit x) ≡ key x) (xs : List X) → filter (other k) (edited cmp key k edit xs) ≡ filter (other k) xs
-  others-edited k edit same [] = refl
-  others-edited k edit same (x ∷ xs) = grind (arith, ap (λ j. is_eq (cmp j k)) (same x), others-edited k edit same xs)
-
-others_stay : (change : Change) (ms : List ModelRow) → IsAscending key_cmp model_key ms → filter (is_other (names_of change)) (changed_models change ms) ≡ filter (is_other (names_of change)) ms
-others_stay Nothing ms order = refl
-others_stay (Create m) ms order = others-with_row key_cmp model_key key_total (model_key m) (Some m) ms order (not_itself key_cmp model_key key_total m)
-others_stay (Remove owner name) ms order = others-with_row key_cmp model_key key_total (owner, name) None ms order refl
-others_stay (Fill owner name header greatest instances links) ms order =
-    others-edited key_cmp model_key key_total (owner, name) (λ m. record m { header = Some header; greatest = greatest; instances = instances; links = links }) (λ m. refl) ms
-others_stay (Regrant owner name grants) ms order = others-edited key_cmp model_key key_total (owner, name) (λ m. record m { grants = grants }) (λ m. refl) ms
-
-outcome_others : (r : Plain) (c : Text) (q : Request) (refusal : Option Refusal) → IsOrdered r → filter (is_other (names_of (change_of r c q))) (outcome r c q refusal).next.models ≡ filter (is_other (names_of (change_of r c q))) r.models
-outcome_others r c q None order = others_stay (change_of r c q) r.models order
-outcome_others r c q (Some refusal) order = refl
-
-pub step_others : (r : Plain) (c : Text) (q : Request) → IsOrdered r → filter (is_other (names_of (change_of r c q))) (step r c q).next.models ≡ filter (is_other (names_of (change_of r c q))) r.models
-step_others r c q order = outcome_others r c q (first_some (tests r c q)) order
+pub next_others : (r : Plain) (c : Text) (q : Request) → IsOrdered r → let names = names_of (answer (asked r c) c q).edits in
+    (filter (λ x. not (list_any (names_model x) names)) (next r c q).models ≡ filter (λ x. not (list_any (names_model x) names)) r.models)
+    × (filter (λ x. not (list_any (names_group x) names)) (next r c q).groups ≡ filter (λ x. not (list_any (names_group x) names)) r.groups)
+next_others r c q ordered =
+    let names = names_of (answer (asked r c) c q).edits in
+    others_changed (λ x. not (list_any (names_model x) names)) (λ x. not (list_any (names_group x) names)) (answer (asked r c) c q).edits r ordered (each_named names names (all_in names))

@@ -1,55 +1,61 @@
 -- What holds of the plain repository for each partner.
-use Rattle.std.specs.Prelude.{◌≡◌, ℕ, Bool, true, false, not, List, filter}
+use Rattle.std.specs.Prelude.{◌≡◌, ℕ, Bool, true, false, not, ◌&&◌, List, None, filter}
 use Rattle.std.specs.List.{list_any}
-use Rattle.std.specs.Str.{bytes_eq}
 use Rattle.ex_types.specs.Checked.{Checked}
-use Rattle.rp_plain.specs.declared.rows.ModelRow.{ModelRow}
+use Rattle.rp_rows.specs.Rows.{Key, is_row, Model, GroupRow}
 use Rattle.rp_plain.specs.declared.messages.Request.{Request}
 use Rattle.rp_plain.specs.declared.messages.Reply.{Reply}
-use Rattle.sorted_tables.specs.Table.{IsAscending}
-use Rattle.rp_plain.specs.Plain.{Plain, Key, key_cmp, model_key, is_model, has_text, change_of, step}
-use Rattle.rp_plain.specs.Opening.{opened}
-use Rattle.rp_plain.specs.Seen.{part, reaches, names_of, Avoids}
-use Rattle.rp_plain.specs.Runs.{Turn, Run, OthersOutside, requests_of, replies_to, alone, alone_end}
-use Rattle.rp_laws.specs.Valid.{IsValid}
+use Rattle.rp_plain.specs.Plain.{Plain, Kind, OfModel, OfGroup, part, reaches}
+use Rattle.rp_plain.specs.Edits.{names_of, Avoids}
+use Rattle.rp_plain.specs.Asked.{asked}
+use Rattle.rp_plain.specs.Meaning.{has_text}
+use Rattle.rp_plain.specs.Step.{answer, reply_to, next}
+use Rattle.rp_plain.specs.Opening.{new_fault, opened}
+use Rattle.rp_plain.specs.Turns.{Turn, Run, OthersOutside, requests_of, replies_to, alone, alone_end}
+use Rattle.rp_plain.specs.Valid.{IsOrdered, IsValid}
 
--- models stand in the order of owner and name, each key once
-abbrev pub IsOrdered : Plain → Type 0
-IsOrdered r = IsAscending key_cmp model_key r.models
-
--- a step keeps the order of the models
+-- a step keeps the order of models and groups
 abbrev pub KeepsOrder : Type 0
-KeepsOrder = (r : Plain) (c : List ℕ) (q : Request) → IsOrdered r → IsOrdered (step r c q).next
+KeepsOrder = (r : Plain) (c : List ℕ) (q : Request) → IsOrdered r → IsOrdered (next r c q)
 
 -- a partner's step keeps the repository valid
 abbrev pub KeepsValid : Type 0
-KeepsValid = (r : Plain) (c : List ℕ) (q : Request) → has_text r.partners c ≡ true → IsValid r → IsValid (step r c q).next
+KeepsValid = (r : Plain) (c : List ℕ) (q : Request) → has_text r.partners c ≡ true → IsValid r → IsValid (next r c q)
 
 -- a repository as it is opened is valid
 abbrev pub OpensValid : Type 0
-OpensValid = (schemas : List Checked) (partners : List (List ℕ)) → IsValid (opened schemas partners)
+OpensValid = (schemas : List Checked) (partners : List (List ℕ)) → new_fault schemas partners ≡ None → IsValid (opened schemas partners)
 
--- whether a model has none of these names
-abbrev pub is_other : List Key → ModelRow → Bool
-is_other keys m = not (list_any (λ k. is_model k m) keys)
+abbrev pub is_model_name : Kind → Bool
+is_model_name OfModel = true
+is_model_name OfGroup = false
 
--- a step changes at most the rows of the names that its change has: the others stay, in their order
+-- whether a name is that of this row, among models or among groups
+abbrev pub names_model : Model → Kind × Key → Bool
+names_model x n = is_model_name n.0 && is_row n.1 x
+
+abbrev pub names_group : GroupRow → Kind × Key → Bool
+names_group x n = not (is_model_name n.0) && is_row n.1 x
+
+-- a step changes at most the rows of the names that its edits have: the others stay, in their order
 abbrev pub ChangesOnlyNamed : Type 0
-ChangesOnlyNamed = (r : Plain) (c : List ℕ) (q : Request) → IsOrdered r → let others = is_other (names_of (change_of r c q)) in filter others (step r c q).next.models ≡ filter others r.models
+ChangesOnlyNamed = (r : Plain) (c : List ℕ) (q : Request) → IsOrdered r → let names = names_of (answer (asked r c) c q).edits in
+    (filter (λ x. not (list_any (names_model x) names)) (next r c q).models ≡ filter (λ x. not (list_any (names_model x) names)) r.models)
+    × (filter (λ x. not (list_any (names_group x) names)) (next r c q).groups ≡ filter (λ x. not (list_any (names_group x) names)) r.groups)
 
 -- a partner's reply, and what he sees after it, come from what he sees alone
 abbrev pub OwnTurnReply : Type 0
-OwnTurnReply = (r : Plain) (c : List ℕ) (q : Request) → (step r c q).reply ≡ (step (part r c) c q).reply
+OwnTurnReply = (r : Plain) (c : List ℕ) (q : Request) → reply_to r c q ≡ reply_to (part r c) c q
 
 abbrev pub OwnTurnPart : Type 0
-OwnTurnPart = (r : Plain) (c : List ℕ) (q : Request) → part (step r c q).next c ≡ part (step (part r c) c q).next c
+OwnTurnPart = (r : Plain) (c : List ℕ) (q : Request) → IsOrdered r → part (next r c q) c ≡ part (next (part r c) c q) c
 
 -- a turn of another that avoids what a partner reaches leaves what he sees and what he reaches
 abbrev pub OutsideTurnPart : Type 0
-OutsideTurnPart = (r : Plain) (c d : List ℕ) (q : Request) → IsOrdered r → bytes_eq d c ≡ false → Avoids r c d q → part (step r d q).next c ≡ part r c
+OutsideTurnPart = (r : Plain) (c d : List ℕ) (q : Request) → IsOrdered r → Avoids r c (answer (asked r d) d q).edits → part (next r d q) c ≡ part r c
 
 abbrev pub OutsideTurnReach : Type 0
-OutsideTurnReach = (r : Plain) (c d : List ℕ) (q : Request) → IsOrdered r → bytes_eq d c ≡ false → Avoids r c d q → (owner name : List ℕ) → reaches (step r d q).next c owner name ≡ reaches r c owner name
+OutsideTurnReach = (r : Plain) (c d : List ℕ) (q : Request) → IsOrdered r → Avoids r c (answer (asked r d) d q).edits → (kind : Kind) (k : Key) → reaches (next r d q) c kind k ≡ reaches r c kind k
 
 -- in a run where the turns of others are outside, a partner's replies are those that he gets alone
 abbrev pub OneRunReplies : Type 0

@@ -5,7 +5,7 @@
 
 ghost use Rattle.rp_laws.specs.Laws.{KeepsOrder, KeepsValid, OpensValid, ChangesOnlyNamed, OwnTurnReply, OwnTurnPart, OutsideTurnPart, OutsideTurnReach, OneRunReplies, OneRunPart, TwoRuns};
 
-/// A step keeps the models in order.
+/// A step keeps models and groups in order.
 pub fn step_keeps_order()
     ensures { KeepsOrder }
 {}
@@ -16,7 +16,7 @@ pub fn step_keeps_validity()
     ensures opening { OpensValid }
 {}
 
-/// A step changes at most the rows of the names that its change has.
+/// A step changes at most the rows of the names that its edits have.
 pub fn step_changes_named_rows()
     ensures { ChangesOnlyNamed }
 {}

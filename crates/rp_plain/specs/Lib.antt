@@ -1,5 +1,14 @@
-pub mod Names
 pub mod Plain
+pub mod Edits
+pub mod Asked
+pub mod Meaning
+pub mod Models
+pub mod Grants
+pub mod Files
+pub mod Lists
+pub mod Checks
+pub mod Step
 pub mod Opening
-pub mod Seen
+pub mod Valid
 pub mod Runs
+pub mod Turns

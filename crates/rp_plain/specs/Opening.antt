@@ -1,12 +1,13 @@
--- The repository as it is opened: schemas and partners, and no model.
+-- The repository as it is opened: schemas and partners, and nothing in it.
 use Rattle.std.specs.Prelude.{ℕ, Bool, true, false, not, ◌||◌, nat_lt, List, [], ◌∷◌, length, map, Option, Some, None}
 use Rattle.std.specs.List.{list_any, list_all}
 use Rattle.std.specs.Str.{bytes_eq}
 use Rattle.ex_types.specs.Checked.{Checked}
+use Rattle.rp_rows.specs.Names.{is_name}
 use Rattle.rp_plain.specs.declared.messages.NewFault.{NewFault}
 use Rattle.rp_plain.specs.declared.messages.NewFault.TheVariants.{TwoSchemas, TwoPartners, BadName, TooMany}
-use Rattle.rp_plain.specs.Names.{is_name}
-use Rattle.rp_plain.specs.Plain.{Plain, first_some, schema_name}
+use Rattle.rp_plain.specs.Plain.{Plain}
+use Rattle.rp_plain.specs.Meaning.{first_some, schema_name}
 
 -- a text stands among those that follow it
 abbrev pub has_twice : List (List ℕ) → Bool
@@ -27,4 +28,4 @@ new_fault schemas partners = first_some (
     ∷ [])
 
 abbrev pub opened : List Checked → List (List ℕ) → Plain
-opened schemas partners = record { schemas = schemas; partners = partners; models = [] }
+opened schemas partners = record { schemas = schemas; partners = partners; models = []; groups = [] }

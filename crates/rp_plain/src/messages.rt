@@ -1,12 +1,13 @@
-//! Requests, their replies and what they change.
+//! Requests and their replies.
 
-use crate::rows::{Grant, Item, Level, Link, ModelRow, NamedType};
+use crate::lists::{Item, NamedType};
 use ex_check::SchemaFault;
-use p21_tree::{FileFault, Header, Instance, InstanceFault};
+use p21_tree::{FileFault, InstanceFault};
 use plain_data::{Rows, Text};
+use rp_rows::rows::{Key, Level};
 use std::alloc::{AllocError, AllocFailed};
 
-/// What a partner asks.
+/// What a partner asks. A lone name is one of his own.
 #[derive(Drop)]
 pub enum Request {
     /// An empty model of the caller's.
@@ -21,16 +22,14 @@ pub enum Request {
     },
     /// The content of a model is replaced by that of a file.
     Put {
-        owner: Text,
-        model: Text,
+        model: Key,
         file: Text,
     },
     /// The names of a model's instances, with their types.
     Names {
-        owner: Text,
-        model: Text,
+        model: Key,
     },
-    /// The models that the caller sees.
+    /// The groups and the models that the caller sees.
     ListItems,
     /// A partner's level on a model of the caller's.
     GrantModel {
@@ -99,7 +98,8 @@ pub enum Reply {
     /// So many instances were put.
     Stored(usize),
     Names(Rows<NamedType>),
-    Listed(Rows<Item>),
+    /// The groups, and the models.
+    Listed(Rows<Item>, Rows<Item>),
     /// The names of the schemas, in byte order.
     Schemas(Rows<Text>),
     /// The text is this schema, with warnings at these bytes.
@@ -107,32 +107,6 @@ pub enum Reply {
     /// The text is no schema: this is its first fault.
     Faulty(SchemaFault),
     Refused(Refusal),
-}
-
-/// What a request changes.
-#[derive(Drop)]
-pub enum Change {
-    Nothing,
-    Create(ModelRow),
-    Remove {
-        owner: Text,
-        name: Text,
-    },
-    /// The content of a model.
-    Fill {
-        owner: Text,
-        name: Text,
-        header: Header,
-        greatest: u64,
-        instances: Rows<Instance>,
-        links: Rows<Link>,
-    },
-    /// The grants of a model.
-    Regrant {
-        owner: Text,
-        name: Text,
-        grants: Rows<Grant>,
-    },
 }
 
 /// Why there is no repository of these schemas and partners.

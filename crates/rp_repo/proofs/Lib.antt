@@ -1,3 +1,5 @@
+pub mod Partners
+pub mod Running
 pub mod RunLemmas
 pub mod LineTurns
 pub mod AnswerLemmas

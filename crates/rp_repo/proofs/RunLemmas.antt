@@ -1,12 +1,13 @@
 -- A run goes on by one line.
-use Rattle.std.proofs.Common.{◌≡◌, ℕ, List, [], ◌∷◌, ◌++◌, Bool, true, Option, Some, None, Result, Ok, Err, is_ok, OnOk, append_assoc, append-nil, refl, sym, ap, ◌∙◌, true≢false}
+use Rattle.std.proofs.Common.{◌≡◌, ℕ, List, [], ◌∷◌, ◌++◌, Bool, true, Option, Some, None, Result, Ok, Err, is_ok, OnOk, append_assoc, append-nil, refl, sym, ap, subst, ◌∙◌, true≢false}
 use Rattle.std.proofs.lemmas.List.Concat.{flat_map-append}
 use Rattle.rp_io.specs.Lines.{lines_of, TakesLine}
 use Rattle.rp_io.proofs.KnownLemmas.{Appends-trans}
 use Rattle.rp_plain.specs.Plain.{Plain}
 use Rattle.rp_plain.specs.declared.messages.Reply.{Reply}
 use Rattle.rp_wire.specs.Replies.{line_of_reply}
-use Rattle.rp_repo.specs.LineRuns.{LineRun, MayReply, left_by, meant, text_of, Replies, RepliesInPart, Serves, TakesLines, AreFirstLines}
+use Rattle.rp_plain.specs.Runs.{MayReply, left_by}
+use Rattle.rp_repo.specs.LineRuns.{LineRun, meant, text_of, Replies, RepliesInPart, Serves, TakesLines, AreFirstLines}
 
 pub on_ok : {T E : Type 0} (r : Result T E) (P : Type 0) → OnOk r P → is_ok r ≡ true → P
 on_ok (Ok x) P h e = h
@@ -14,7 +15,7 @@ on_ok (Err d) P h e = absurd (true≢false (sym e))
 
 pub LineRun-append : (old mid new : Plain) (lines : List (List ℕ)) (replies : List Reply) (line : List ℕ) (reply : Reply) → LineRun old lines replies mid
     → MayReply (meant mid line) reply → new ≡ left_by mid (meant mid line) reply → LineRun old (lines ++ line ∷ []) (replies ++ reply ∷ []) new
-LineRun-append old mid new [] [] line reply run may content = (rw run at may, rw run at content)
+LineRun-append old mid new [] [] line reply run may content = (subst (λ r. MayReply (meant r line) reply) run may, subst (λ r. new ≡ left_by r (meant r line) reply) run content)
 LineRun-append old mid new [] (r ∷ rs) line reply run may content = absurd run
 LineRun-append old mid new (l ∷ ls) [] line reply run may content = absurd run
 LineRun-append old mid new (l ∷ ls) (r ∷ rs) line reply run may content = (run.0, LineRun-append (left_by old (meant old l) r) mid new ls rs line reply run.1 may content)

@@ -1,2 +1,4 @@
+pub mod Calls
+pub mod Ready
 pub mod LineRuns
 pub mod LineLaws

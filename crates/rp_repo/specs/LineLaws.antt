@@ -1,19 +1,12 @@
 -- What holds of runs over lines for each partner.
 use Rattle.std.specs.Prelude.{◌≡◌, ℕ, List, [], ◌∷◌, map, length, nat_lt, if◌then◌else◌, Option, Some, None}
-use Rattle.rp_plain.specs.Plain.{Plain, has_text}
-use Rattle.rp_plain.specs.Seen.{part}
-use Rattle.rp_plain.specs.Runs.{Turn, Run, OthersOutside, requests_of, replies_to}
+use Rattle.rp_plain.specs.Plain.{Plain, part}
+use Rattle.rp_plain.specs.Turns.{Turn, Run, OthersOutside, requests_of, replies_to}
+use Rattle.rp_plain.specs.Valid.{IsOrdered}
 use Rattle.rp_plain.specs.declared.messages.Reply.{Reply}
-use Rattle.rp_laws.specs.Laws.{IsOrdered}
-use Rattle.rp_wire.specs.declared.asks.Asked.{Asked}
 use Rattle.rp_wire.specs.Asks.{asked_of}
 use Rattle.rp_wire.specs.Replies.{line_of_reply}
-use Rattle.rp_repo.specs.LineRuns.{max_line, LineRun}
-
--- the turn of a request that was read, if its partner is one of these
-abbrev pub turn_for : List (List ℕ) → Option Asked → Option Turn
-turn_for partners None = None
-turn_for partners (Some asked) = if has_text partners asked.caller then Some (record { caller = asked.caller; request = asked.request }) else None
+use Rattle.rp_repo.specs.LineRuns.{max_line, turn_for, LineRun}
 
 -- the turn that a line asks for; a line that is no partner's request asks for none
 abbrev pub turn_of : List (List ℕ) → List ℕ → Option Turn

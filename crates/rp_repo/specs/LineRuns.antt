@@ -1,10 +1,13 @@
 -- What lines mean to a repository, and runs over the lines of an input.
-use Rattle.std.specs.Prelude.{◌≡◌, ℕ, Bool, true, false, List, [], ◌∷◌, ◌++◌, length, nat_lt, if◌then◌else◌, Option, Some, None, flat_map, ⊤}
+use Rattle.std.specs.Prelude.{◌≡◌, ℕ, Bool, true, List, [], ◌∷◌, ◌++◌, length, nat_lt, if◌then◌else◌, Option, Some, None, option_map, flat_map, ⊤}
 use Rattle.std.specs.Io.KnownBytes.{Appends}
 use Rattle.rp_io.specs.Front.{AppendsFront}
 use Rattle.rp_io.specs.Lines.{lines_of}
-use Rattle.rp_plain.specs.Plain.{Plain, Outcome, has_text, step}
-use Rattle.rp_plain.specs.Runs.{is_no_memory}
+use Rattle.rp_plain.specs.Plain.{Plain}
+use Rattle.rp_plain.specs.Meaning.{has_text}
+use Rattle.rp_plain.specs.Runs as runs
+use Rattle.rp_plain.specs.Runs.{Effect, MayReply, left_by}
+use Rattle.rp_plain.specs.Turns.{Turn, effect}
 use Rattle.rp_plain.specs.declared.messages.Reply.{Reply}
 use Rattle.rp_plain.specs.declared.messages.Reply.TheVariants.{Refused}
 use Rattle.rp_plain.specs.declared.messages.Refusal.{Refusal}
@@ -15,39 +18,42 @@ use Rattle.rp_wire.specs.Replies.{line_of_reply}
 
 -- ---- one line
 
--- a refusal changes nothing
-abbrev pub refusal_of : Plain → Refusal → Outcome
-refusal_of r refusal = record { reply = Refused refusal; next = r }
-
--- what a request that was read means, if its partner is one
-abbrev pub meant_for : Plain → Option Asked → Outcome
-meant_for r None = refusal_of r BadRequest
-meant_for r (Some asked) = if has_text r.partners asked.caller then step r asked.caller asked.request else refusal_of r BadRequest
-
 -- the bytes of a line: 16 MiB
 abbrev pub max_line : ℕ
 max_line = 16777216
 
--- the reply to a line, memory aside, and the repository after it
-abbrev pub meant : Plain → List ℕ → Outcome
-meant r line = if nat_lt max_line (length line) then refusal_of r TooLarge else meant_for r (asked_of line)
+-- whom a line names, if it names one of these partners
+abbrev pub caller_of : List (List ℕ) → Option (List ℕ) → Option (List ℕ)
+caller_of partners None = None
+caller_of partners (Some name) = if has_text partners name then Some name else None
 
--- the reply is that one, or that memory is wanting
-abbrev pub MayReply : Outcome → Reply → Type 0
-MayReply meaning reply = is_no_memory reply ≡ false → reply ≡ meaning.reply
+-- the turn of a request that was read, if one of these partners asks
+abbrev pub turn_for : List (List ℕ) → Option Asked → Option Turn
+turn_for partners None = None
+turn_for partners (Some asked) = option_map (λ c. record { caller = c; request = asked.request }) (caller_of partners asked.caller)
 
--- the repository after a line with this reply: where memory was wanting, as it was
-abbrev pub left_by : Plain → Outcome → Reply → Plain
-left_by r meaning reply = if is_no_memory reply then r else meaning.next
+-- a refusal changes nothing
+abbrev pub refusal_of : Plain → Refusal → Effect
+refusal_of r refusal = record { reply = Refused refusal; next = r }
+
+-- what a line means that asks for this turn; one that asks for none is refused so
+abbrev pub meant_for : Plain → Refusal → Option Turn → Effect
+meant_for r refusal None = refusal_of r refusal
+meant_for r refusal (Some t) = effect r t
+
+-- what a line means: a partner's request is his turn
+abbrev pub meant : Plain → List ℕ → Effect
+meant r line = if nat_lt max_line (length line) then refusal_of r TooLarge else meant_for r BadRequest (turn_for r.partners (asked_of line))
 
 -- ---- runs
 
--- the lines may have these replies, one after the other, and lead from r to end
+-- the most reads of a run
+abbrev pub max_reads : ℕ
+max_reads = 4294967295
+
+-- a run of lines
 abbrev pub LineRun : Plain → List (List ℕ) → List Reply → Plain → Type 0
-LineRun r [] [] end = end ≡ r
-LineRun r (line ∷ lines) (reply ∷ replies) end = MayReply (meant r line) reply × LineRun (left_by r (meant r line) reply) lines replies end
-LineRun r [] (reply ∷ replies) end = ⊥
-LineRun r (line ∷ lines) [] end = ⊥
+LineRun = runs.Run meant
 
 -- what is written for replies
 abbrev pub text_of : List Reply → List ℕ
@@ -81,7 +87,7 @@ AreAllLines (Some bytes) lines = lines_of bytes ≡ lines
 -- ---- what the calls promise
 
 -- the bytes are a reply line of what is meant, and the repository is what that reply leaves
-pub record Answers (old new : Plain) (meaning : Outcome) (bytes : List ℕ) : Type 0 where
+pub record Answers (old new : Plain) (meaning : Effect) (bytes : List ℕ) : Type 0 where
   pub reply : Reply
   pub may : MayReply meaning reply
   pub content : new ≡ left_by old meaning reply

@@ -1,17 +1,22 @@
 //! One line, one reply.
-ghost use Rattle.std.specs.Prelude.{◌≡◌, ℕ, List, IfSome, IfNone, Some};
+ghost use Rattle.std.specs.Prelude.{◌≡◌, ◌<◌, ℕ, List, length, IfSome, IfNone, MatchOption, Some, None};
 ghost use Rattle.rp_io.specs.Lines.{Holds};
+ghost use Rattle.rp_plain.specs.Turns.{effect};
+ghost use Rattle.rp_core.specs.Held.{partner_at, turn, made};
 ghost use Rattle.rp_wire.specs.Asks.{asked_of};
 ghost use Rattle.rp_wire.specs.Replies.{line_of_reply};
-ghost use Rattle.rp_repo.specs.LineRuns.{meant, meant_for, Answers};
+ghost use Rattle.rp_repo.specs.Ready.{IsReady};
+ghost use Rattle.rp_repo.specs.LineRuns.{caller_of, turn_for, meant_for, meant, Answers};
 
-use rp_core::Repository;
+use crate::repository::{Caller, Repository};
+use plain_data::Text;
+use rp_core::Pending;
 use rp_io::Room;
-use rp_plain::messages::{Refusal, Reply};
+use rp_plain::messages::{Refusal, Reply, Request};
 use rp_wire::{Asked, Unread, reply_line, request_of};
 use std::alloc::Global;
 
-/// The reply line of a line, of which this was kept; nothing where memory is wanting.
+/// The reply line of a line, of which this was kept; nothing where memory was refused.
 ///
 /// The bytes of the reply are made before the change, so that nothing is changed where there are none.
 pub fn answer(
@@ -39,7 +44,8 @@ fn refused(alloc: Global, refusal: Refusal) -> Option<Vec<u8>>
 
 fn answer_kept(alloc: Global, repository: &mut Repository, line: &[u8]) -> Option<Vec<u8>>
     ensures made { IfSome result (λ bytes.
-        Answers repository.old.content repository.new.content (meant_for repository.old.content (asked_of line.now)) bytes.items) }
+        let old = repository.old.content in
+        Answers old repository.new.content (meant_for old Refusal.BadRequest (turn_for old.partners (asked_of line.now))) bytes.items) }
     ensures refused { IfNone result (repository.new.content ≡ repository.old.content) }
 {
     match request_of(alloc, line) {
@@ -51,17 +57,52 @@ fn answer_kept(alloc: Global, repository: &mut Repository, line: &[u8]) -> Optio
 
 fn answer_asked(alloc: Global, repository: &mut Repository, asked: Asked) -> Option<Vec<u8>>
     ensures made { IfSome result (λ bytes.
-        Answers repository.old.content repository.new.content (meant_for repository.old.content (Some asked)) bytes.items) }
+        let old = repository.old.content in
+        Answers old repository.new.content (meant_for old Refusal.BadRequest (turn_for old.partners (Some asked))) bytes.items) }
     ensures refused { IfNone result (repository.new.content ≡ repository.old.content) }
 {
     let Asked { caller, request } = asked;
-    let Some(partner) = repository.caller(&caller) else {
-        return refused(alloc, Refusal::BadRequest);
-    };
+    match partner_of(repository, caller) {
+        Some(partner) => answer_turn(alloc, repository, partner, request),
+        None => refused(alloc, Refusal::BadRequest),
+    }
+}
+
+/// The partner whom a line names. A line has to name one.
+fn partner_of(repository: &Repository, name: Option<Text>) -> Option<Caller>
+    ensures { let old = repository.now.content in
+        MatchOption result (caller_of old.partners name ≡ None)
+        (λ place. (place < length old.partners) × (caller_of old.partners name ≡ Some (partner_at old place))) }
+{
+    let name = name?;
+    repository.caller(&name)
+}
+
+/// One turn of a partner.
+fn answer_turn(
+    alloc: Global,
+    repository: &mut Repository,
+    partner: Caller,
+    request: Request,
+) -> Option<Vec<u8>>
+    requires { partner < length repository.old.content.partners }
+    ensures made { IfSome result (λ bytes.
+        let old = repository.old.content in
+        Answers old repository.new.content (effect old (turn old partner request)) bytes.items) }
+    ensures refused { IfNone result (repository.new.content ≡ repository.old.content) }
+{
     let pending = repository.prepare(alloc, partner, request);
-    let Ok(bytes) = reply_line(alloc, pending.reply()) else {
-        return None;
-    };
+    answer_prepared(alloc, repository, pending)
+}
+
+/// Makes the bytes of the reply, and then the change.
+fn answer_prepared(alloc: Global, repository: &mut Repository, pending: Pending) -> Option<Vec<u8>>
+    requires { IsReady repository.old pending }
+    ensures made { IfSome result (λ bytes. bytes.items ≡ line_of_reply pending.reply) }
+    ensures changed { IfSome result (λ _. repository.new.content ≡ made pending.steps repository.old.content) }
+    ensures refused { IfNone result (repository.new.content ≡ repository.old.content) }
+{
+    let bytes = reply_line(alloc, pending.reply()).ok()?;
     let _ = repository.commit(pending);
     Some(bytes)
 }

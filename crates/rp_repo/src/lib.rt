@@ -4,12 +4,14 @@
 
 pub mod answer;
 pub mod laws;
+pub mod repository;
 pub mod run;
 
 pub use ex_check::SchemaFault;
 pub use ex_types::Schema;
 pub use plain_data::{Rows, Text};
-pub use rp_core::{Call, Caller, Pending, Repository};
+pub use repository::{Call, Caller, Repository};
+pub use rp_core::Pending;
 pub use rp_io::{DeviceFault, FromReader, Sink, Source, ToWriter};
 pub use rp_plain::messages::{NewFault, Refusal, Reply, Request};
 pub use rp_wire::{Asked, Unread, reply_bytes, request_of};

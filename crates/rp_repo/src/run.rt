@@ -2,10 +2,11 @@
 ghost use Rattle.std.specs.Prelude.{◌≡◌, ◌≢◌, ◌⊎◌, ℕ, List, IfOk, IsErrOf, OnOk, OnErr, is_ok};
 ghost use Rattle.rp_io.specs.Lines.{Holds};
 ghost use Rattle.rp_io.specs.Held.{HasAtLeast};
-ghost use Rattle.rp_repo.specs.LineRuns.{Serves, IsWholeRun, IsFirstRun, IsCutRun};
+ghost use Rattle.rp_plain.specs.Valid.{IsValid};
+ghost use Rattle.rp_repo.specs.LineRuns.{max_reads, Serves, IsWholeRun, IsFirstRun, IsCutRun};
 
 use crate::answer::answer;
-use rp_core::Repository;
+use crate::repository::Repository;
 use rp_io::{Chunk, DeviceFault, Room, Sink, Source, Taken, next_line, write_all};
 use rp_wire::no_memory_line;
 use std::alloc::Global;
@@ -43,7 +44,8 @@ fn serve<W: Sink>(
 /// Answers the number of lines.
 ///
 /// A line is a request in JSON, and its reply is a line of JSON. A last line without its line feed
-/// counts. Of a line over 16 MiB the rest is skipped.
+/// counts. Of a line over 16 MiB the rest is skipped. A line that names no partner in `as` is a bad
+/// request.
 pub fn run_lines<R: Source, W: Sink>(
     alloc: Global,
     repository: &mut Repository,
@@ -57,17 +59,21 @@ pub fn run_lines<R: Source, W: Sink>(
     ensures first { IsErrOf result RunFault.ReadFault →
         IsFirstRun repository.old.content repository.new.content (R.remaining reader.old) (W.contents writer.old) (W.contents writer.new) }
     ensures read_failed { IsErrOf result RunFault.ReadFault →
-        (R.read_failures reader.new ≢ R.read_failures reader.old) ⊎ HasAtLeast (R.remaining reader.old) READS }
+        (R.read_failures reader.new ≢ R.read_failures reader.old) ⊎ HasAtLeast (R.remaining reader.old) max_reads }
 
     // After a write that failed, they are but for the last.
     ensures cut { IsErrOf result RunFault.WriteFault →
         IsCutRun repository.old.content repository.new.content (R.remaining reader.old) (W.contents writer.old) (W.contents writer.new) }
     ensures write_failed { IsErrOf result RunFault.WriteFault → W.write_failures writer.new ≢ W.write_failures writer.old }
+
+    // However it ended.
+    ensures valid { IsValid repository.new.content }
 {
     let mut chunk = Chunk::new(READS);
     let mut line = Vec::new(alloc);
     let mut count = 0u64;
     'lines: loop {
+        repository.is_valid();
         let Ok(taken) = next_line(&mut chunk, reader, &mut line) else {
             return Err(RunFault::ReadFault);
         };
@@ -75,6 +81,7 @@ pub fn run_lines<R: Source, W: Sink>(
             return Ok(count);
         };
         if serve(alloc, repository, writer, room, &line).is_err() {
+            repository.is_valid();
             return Err(RunFault::WriteFault);
         }
         count += 1;

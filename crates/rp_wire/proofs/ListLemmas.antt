@@ -16,6 +16,12 @@ items_tokens-map make (x ∷ xs) = ap (λ ts. tokens_of (make x) ++ ts) (items_t
 pub joined : (before first between second after : List Token) → between ≡ before ++ first → after ≡ between ++ second → after ≡ before ++ (first ++ second)
 joined before first between second after e f = f ∙ ap (λ ts. ts ++ second) e ∙ append_assoc before first second
 
+-- what stands between the brackets of two objects: a list, a key and a list
+pub two_lists : (first second : List Token) (between end : Token) → (first ++ between ∷ second) ++ end ∷ end ∷ [] ≡ (first ++ between ∷ (second ++ end ∷ [])) ++ end ∷ []
+two_lists first second between end =
+    append_assoc first (between ∷ second) (end ∷ end ∷ []) ∙ ap (λ ts. first ++ between ∷ ts) (sym (append_assoc second (end ∷ []) (end ∷ [])))
+    ∙ sym (append_assoc first (between ∷ (second ++ end ∷ [])) (end ∷ []))
+
 -- a list, once its brackets are written
 pub listed : {A : Type 0} (make : A → Data) (xs : List A) (n : ℕ) (before begun within after : List Token) → begun ≡ before ++ begin_array ∷ []
     → within ≡ begun ++ flat_map (λ x. tokens_of (make x)) (take n xs) → length xs ≤ n → after ≡ within ++ end_array ∷ []

@@ -2,13 +2,14 @@
 use Rattle.std.specs.Prelude.{ℕ, ◌&&◌, List, [], ◌∷◌, Bool, true, false, codes, unwrap_or, if◌then◌else◌, Option, Some, None, option_map, option_and_then}
 use Rattle.std.specs.List.{list_any}
 use Rattle.std.specs.Str.{bytes_eq, is_utf8}
-use Rattle.serde_json.specs.Data.{Members, no_members, member}
+use Rattle.serde_json.specs.Data.{Data, Members, no_members, member}
 use Rattle.serde_json.specs.Find.{get_member, as_str, as_object}
 use Rattle.serde_json.specs.Read.{read}
+use Rattle.rp_rows.specs.declared.rows.Level.{Level}
+use Rattle.rp_rows.specs.declared.rows.Level.TheVariants.{Read, Write}
+use Rattle.rp_rows.specs.Rows.{Key}
 use Rattle.rp_plain.specs.declared.messages.Request.{Request}
 use Rattle.rp_plain.specs.declared.messages.Request.TheVariants.{CreateModel, DeleteModel, Put, Names, ListItems, GrantModel, RevokeModel, Schemas, CheckSchema}
-use Rattle.rp_plain.specs.declared.rows.Level.{Level}
-use Rattle.rp_plain.specs.declared.rows.Level.TheVariants.{Read, Write}
 use Rattle.rp_wire.specs.declared.asks.Asked.{Asked}
 
 -- ---- the members of an object
@@ -27,6 +28,11 @@ without key (member k d ms) = if bytes_eq key k then ms else member k d (without
 abbrev pub text_in : List ℕ → Members → Option (List ℕ)
 text_in key ms = option_and_then as_str (get_member key ms)
 
+-- the string of a member, if there is one: of a member that is no string, nothing
+abbrev pub text_if_any : Option Data → Option (Option (List ℕ))
+text_if_any None = Some None
+text_if_any (Some d) = option_map Some (as_str d)
+
 -- what is made of the string at this key, and nothing where no string stands there
 abbrev pub with_text : {A : Type 0} → List ℕ → Members → (List ℕ → Option A) → Option A
 with_text key ms make = option_and_then make (text_in key ms)
@@ -36,11 +42,15 @@ with_text key ms make = option_and_then make (text_in key ms)
 abbrev pub create_model_of : Members → Option Request
 create_model_of ms = if has_only (codes "name" ∷ codes "schema" ∷ []) ms then with_text (codes "name") ms (λ name. with_text (codes "schema") ms (λ schema. Some (CreateModel name schema))) else None
 
+-- the owner and the name of a model
+abbrev pub model_in : Members → Option Key
+model_in ms = with_text (codes "owner") ms (λ owner. with_text (codes "model") ms (λ name. Some (owner, name)))
+
 abbrev pub put_of : Members → Option Request
-put_of ms = if has_only (codes "file" ∷ codes "model" ∷ codes "owner" ∷ []) ms then with_text (codes "owner") ms (λ owner. with_text (codes "model") ms (λ model. with_text (codes "file") ms (λ file. Some (Put owner model file)))) else None
+put_of ms = if has_only (codes "file" ∷ codes "model" ∷ codes "owner" ∷ []) ms then option_and_then (λ model. with_text (codes "file") ms (λ file. Some (Put model file))) (model_in ms) else None
 
 abbrev pub names_of : Members → Option Request
-names_of ms = if has_only (codes "model" ∷ codes "owner" ∷ []) ms then with_text (codes "owner") ms (λ owner. with_text (codes "model") ms (λ model. Some (Names owner model))) else None
+names_of ms = if has_only (codes "model" ∷ codes "owner" ∷ []) ms then option_map Names (model_in ms) else None
 
 abbrev pub delete_model_of : Members → Option Request
 delete_model_of ms = if has_only (codes "name" ∷ []) ms then with_text (codes "name") ms (λ name. Some (DeleteModel name)) else None
@@ -85,9 +95,9 @@ request_for word ms =
 abbrev pub request_in : Members → Option Request
 request_in ms = with_text (codes "do") ms (λ word. request_for word (without (codes "do") ms))
 
--- `as` has the caller
+-- `as` has the caller, if it stands there
 abbrev pub asked_in : Members → Option Asked
-asked_in ms = with_text (codes "as") ms (λ caller. option_map (λ request. record { caller = caller; request = request }) (request_in (without (codes "as") ms)))
+asked_in ms = option_and_then (λ caller. option_map (λ request. record { caller = caller; request = request }) (request_in (without (codes "as") ms))) (text_if_any (get_member (codes "as") ms))
 
 -- The request of a line: an object in UTF-8. Of equal keys the last one stands.
 abbrev pub asked_of : List ℕ → Option Asked

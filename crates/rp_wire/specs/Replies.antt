@@ -1,17 +1,16 @@
 -- The bytes of a reply.
 use Rattle.std.specs.Prelude.{ℕ, List, [], ◌∷◌, ◌++◌, map, codes}
-use Rattle.serde_json.specs.Data.{Data, number, unsigned, string, array, object, no_items, Members, no_members, member}
+use Rattle.serde_json.specs.Data.{Data, number, unsigned, string, array, object, Members, no_members, member}
 use Rattle.serde_json.specs.View.{items_of}
 use Rattle.serde_json.specs.Written.{compact_text}
 use Rattle.p21_tree.specs.declared.fault.FaultKind.{FaultKind}
 use Rattle.p21_tree.specs.declared.fault.FaultKind.TheVariants.{Token, Open, Escape, Page, Code, Utf8, Number, Syntax, Sections, Deep}
 use Rattle.p21_tree.specs.declared.fault.InstanceFaultKind.{InstanceFaultKind}
 use Rattle.p21_tree.specs.declared.fault.InstanceFaultKind.TheVariants.{Twice, UnknownEntity, IllegalCombination, WrongCount, NotDerived, WrongKind, Undefined}
-use Rattle.rp_plain.specs.declared.rows.Level.TheVariants.{Read, Group, Write}
-use Rattle.rp_plain.specs.declared.rows.Right.{Right}
-use Rattle.rp_plain.specs.declared.rows.Right.TheVariants.{Owner, Granted}
-use Rattle.rp_plain.specs.declared.rows.Item.{Item}
-use Rattle.rp_plain.specs.declared.rows.NamedType.{NamedType}
+use Rattle.rp_rows.specs.declared.rows.Right.{Right}
+use Rattle.rp_rows.specs.declared.rows.Right.TheVariants.{Unseen, Reads, Groups, Writes, Owns}
+use Rattle.rp_plain.specs.declared.lists.Item.{Item}
+use Rattle.rp_plain.specs.declared.lists.NamedType.{NamedType}
 use Rattle.rp_plain.specs.declared.messages.Refusal.{Refusal}
 use Rattle.rp_plain.specs.declared.messages.Refusal.TheVariants.{BadRequest, TooLarge, BadName, UnknownPartner, UnknownSchema, Exists, NoSuchItem, NoRight, WrongSchema, FileFault, InstanceFault, TooMany, NoMemory}
 use Rattle.rp_plain.specs.declared.messages.Reply.{Reply}
@@ -83,10 +82,11 @@ abbrev pub named_type_data : NamedType → Data
 named_type_data t = object (with_number (codes "name") t.name (with_string (codes "type") t.type_name no_members))
 
 abbrev pub level_word : Right → List ℕ
-level_word Owner = codes "owner"
-level_word (Granted Read) = codes "read"
-level_word (Granted Group) = codes "group"
-level_word (Granted Write) = codes "write"
+level_word Unseen = codes "none"
+level_word Reads = codes "read"
+level_word Groups = codes "group"
+level_word Writes = codes "write"
+level_word Owns = codes "owner"
 
 abbrev pub item_data : Item → Data
 item_data i = object (with_string (codes "level") (level_word i.right) (with_string (codes "name") i.name (with_string (codes "owner") i.owner (with_string (codes "schema") i.schema no_members))))
@@ -108,7 +108,7 @@ abbrev pub reply_data : Reply → Data
 reply_data Done = only (codes "ok") (object no_members)
 reply_data (Stored n) = only (codes "ok") (only (codes "instances") (number (unsigned n)))
 reply_data (Names names) = only (codes "ok") (only (codes "names") (list_of named_type_data names))
-reply_data (Listed items) = only (codes "ok") (object (member (codes "groups") (array no_items) (member (codes "models") (list_of item_data items) no_members)))
+reply_data (Listed groups models) = only (codes "ok") (object (member (codes "groups") (list_of item_data groups) (member (codes "models") (list_of item_data models) no_members)))
 reply_data (Schemas names) = only (codes "ok") (only (codes "schemas") (list_of string names))
 reply_data (Checked schema warnings) = only (codes "ok") (object (with_string (codes "schema") schema (member (codes "warnings") (list_of warning_data warnings) no_members)))
 reply_data (Faulty fault) = only (codes "ok") (only (codes "fault") (fault_data fault))

@@ -4,33 +4,33 @@ ghost use Rattle.std.specs.Prelude.{◌≡◌, ℕ, List, false, codes, IfOk, Is
 ghost use Rattle.std.specs.Str.{bytes_eq};
 ghost use Rattle.serde_json.specs.View.{view, members_view};
 ghost use Rattle.serde_json.specs.Find.{as_object};
-ghost use Rattle.rp_wire.specs.Asks.{create_model_of, put_of, names_of, delete_model_of, list_of, level_of, is_model_kind, grant_of, revoke_of, schemas_of, check_schema_of, text_in, request_for, request_in, asked_in, asked_of};
+ghost use Rattle.rp_wire.specs.Asks.{create_model_of, model_in, put_of, names_of, delete_model_of, list_of, level_of, is_model_kind, grant_of, revoke_of, schemas_of, check_schema_of, text_in, request_for, request_in, asked_in, asked_of};
 
-use crate::members::{Members, has_only_keys, take_text};
+use crate::members::{Members, has_only_keys, take_text, take_text_if_any};
 use plain_data::Text;
 use rp_plain::messages::Request;
-use rp_plain::rows::Level;
+use rp_rows::rows::{Key, Level};
 use serde_json::Value;
 use std::alloc::{AllocError, Global};
 
 /// A request, and who asks.
 #[derive(Drop)]
 pub struct Asked {
-    /// What the line says; whether there is such a partner isn't known here.
-    pub caller: Text,
+    /// What the bytes say, if they say it; whether there is such a partner isn't known here.
+    pub caller: Option<Text>,
     pub request: Request,
 }
 
-/// Why a line gives no request.
+/// Why bytes give no request.
 #[derive(Clone, Copy, PartialEq, Eq)]
 pub enum Unread {
-    /// The line is no request.
+    /// The bytes are no request.
     BadRequest,
     NoMemory,
 }
 
-/// The request of a line, which stands without its line feed. A string of the line is copied once,
-/// out of the line.
+/// The request of a line, which stands without its line feed, or of a body. A string of it is copied
+/// once, out of the bytes.
 pub fn request_of(alloc: Global, line: &[u8]) -> Result<Asked, Unread>
     ensures ok { IfOk result (λ asked. asked_of line.now ≡ Some asked) }
     ensures bad { IsErrOf result Unread.BadRequest → asked_of line.now ≡ None }
@@ -59,7 +59,7 @@ fn asked_from(value: Value) -> Option<Asked>
 fn asked_in(mut members: Members) -> Option<Asked>
     ensures { result ≡ asked_in (members_view members.entries) }
 {
-    let caller = take_text(&mut members, "as")?;
+    let caller = take_text_if_any(&mut members, "as")?;
     let request = request_in(members)?;
     Some(Asked { caller, request })
 }
@@ -99,16 +99,27 @@ fn create_model(mut members: Members) -> Option<Request>
     Some(Request::CreateModel { name, schema })
 }
 
+/// Takes out the owner and the name of a model.
+fn take_model(members: &mut Members) -> Option<Key>
+    ensures model { result ≡ model_in (members_view members.old.entries) }
+    ensures others { (other : List ℕ) → bytes_eq (codes "owner") other ≡ false → bytes_eq (codes "model") other ≡ false
+        → text_in other (members_view members.new.entries)
+        ≡ text_in other (members_view members.old.entries) }
+{
+    let owner = take_text(members, "owner")?;
+    let name = take_text(members, "model")?;
+    Some((owner, name))
+}
+
 fn put(mut members: Members) -> Option<Request>
     ensures { result ≡ put_of (members_view members.entries) }
 {
     if !has_only_keys(&members, &["file", "model", "owner"]) {
         return None;
     }
-    let owner = take_text(&mut members, "owner")?;
-    let model = take_text(&mut members, "model")?;
+    let model = take_model(&mut members)?;
     let file = take_text(&mut members, "file")?;
-    Some(Request::Put { owner, model, file })
+    Some(Request::Put { model, file })
 }
 
 fn names(mut members: Members) -> Option<Request>
@@ -117,9 +128,8 @@ fn names(mut members: Members) -> Option<Request>
     if !has_only_keys(&members, &["model", "owner"]) {
         return None;
     }
-    let owner = take_text(&mut members, "owner")?;
-    let model = take_text(&mut members, "model")?;
-    Some(Request::Names { owner, model })
+    let model = take_model(&mut members)?;
+    Some(Request::Names { model })
 }
 
 fn delete_model(mut members: Members) -> Option<Request>

@@ -1,6 +1,7 @@
 //! The lists of replies.
 
-ghost use Rattle.std.specs.Prelude.{◌≡◌, ◌++◌, OnOk};
+ghost use Rattle.std.specs.Prelude.{◌≡◌, ◌∷◌, ◌++◌, OnOk};
+ghost use Rattle.json.specs.Token.{key as key_token};
 ghost use Rattle.rp_wire.specs.Replies.{named_type_data, level_word, item_data, warning_data, list_of};
 ghost use Rattle.rp_wire.specs.Tokens.{tokens_of};
 ghost use Rattle.serde_json.specs.Data.{string};
@@ -8,7 +9,8 @@ ghost use Rattle.serde_json.specs.Data.{string};
 use crate::writing::{number_at, place_of_kind, string_at};
 use json::Writer;
 use plain_data::Text;
-use rp_plain::rows::{Item, Level, NamedType, Right};
+use rp_plain::lists::{Item, NamedType};
+use rp_rows::rows::Right;
 use std::alloc::AllocError;
 
 pub(crate) fn write_named_types(out: &mut Writer, names: &[NamedType]) -> Result<(), AllocError>
@@ -32,7 +34,15 @@ fn write_named_type(out: &mut Writer, named: &NamedType) -> Result<(), AllocErro
     out.end_object()
 }
 
-pub(crate) fn write_items(out: &mut Writer, items: &[Item]) -> Result<(), AllocError>
+pub(crate) fn write_items_at(out: &mut Writer, key: &str, items: &[Item]) -> Result<(), AllocError>
+    ensures ok { OnOk result (out.new.tokens ≡ out.old.tokens ++ key_token key.now ∷ tokens_of (list_of item_data items.now)) }
+    ensures before { out.new.before ≡ out.old.before }
+{
+    out.key(key)?;
+    write_items(out, items)
+}
+
+fn write_items(out: &mut Writer, items: &[Item]) -> Result<(), AllocError>
     ensures ok { OnOk result (out.new.tokens ≡ out.old.tokens ++ tokens_of (list_of item_data items.now)) }
     ensures before { out.new.before ≡ out.old.before }
 {
@@ -59,10 +69,11 @@ fn word_of(right: Right) -> &'static str
     ensures { result.now ≡ level_word right }
 {
     match right {
-        Right::Owner => "owner",
-        Right::Granted(Level::Read) => "read",
-        Right::Granted(Level::Group) => "group",
-        Right::Granted(Level::Write) => "write",
+        Right::Unseen => "none",
+        Right::Reads => "read",
+        Right::Groups => "group",
+        Right::Writes => "write",
+        Right::Owns => "owner",
     }
 }
 

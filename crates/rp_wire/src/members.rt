@@ -1,12 +1,12 @@
 //! The members of a JSON object, taken out one after another.
 
-ghost use Rattle.std.specs.Prelude.{◌≡◌, false, map, List, ℕ, string_bytes};
+ghost use Rattle.std.specs.Prelude.{◌≡◌, false, map, List, ℕ, option_map, string_bytes};
 ghost use Rattle.std.specs.List.{list_all, list_any};
 ghost use Rattle.std.specs.Str.{bytes_eq};
 ghost use Rattle.std.specs.BTreeMap.{keys as map_keys};
 ghost use Rattle.serde_json.specs.View.{view, members_view};
-ghost use Rattle.serde_json.specs.Find.{as_str};
-ghost use Rattle.rp_wire.specs.Asks.{has_only, without, text_in};
+ghost use Rattle.serde_json.specs.Find.{get_member, as_str};
+ghost use Rattle.rp_wire.specs.Asks.{has_only, without, text_in, text_if_any};
 
 use plain_data::Text;
 use serde_json::{Map, Value};
@@ -23,6 +23,25 @@ pub(crate) fn take_text(members: &mut Members, key: &str) -> Option<Text>
         ≡ text_in other (members_view members.old.entries) }
 {
     members.remove(key).and_then(text_of)
+}
+
+/// Takes out the string at this key, if the key stands there. A member that is no string goes too,
+/// and gives nothing.
+pub(crate) fn take_text_if_any(members: &mut Members, key: &str) -> Option<Option<Text>>
+    ensures text { result ≡ text_if_any (get_member key.now (members_view members.old.entries)) }
+    ensures rest { members_view members.new.entries
+        ≡ without key.now (members_view members.old.entries) }
+{
+    text_if_any(members.remove(key))
+}
+
+fn text_if_any(member: Option<Value>) -> Option<Option<Text>>
+    ensures { result ≡ text_if_any (option_map view member) }
+{
+    match member {
+        Some(value) => Some(Some(text_of(value)?)),
+        None => Some(None),
+    }
 }
 
 fn text_of(value: Value) -> Option<Text>

@@ -4,14 +4,14 @@ ghost use Rattle.std.specs.Prelude.{◌≡◌, ◌++◌, IfOk, OnOk};
 ghost use Rattle.rp_wire.specs.Replies.{reply_data, reply_text, line_of_reply};
 ghost use Rattle.rp_wire.specs.Tokens.{tokens_of};
 
-use crate::lists::{write_items, write_named_types, write_texts, write_warnings};
+use crate::lists::{write_items_at, write_named_types, write_texts, write_warnings};
 use crate::refusals::write_refusal;
 use crate::writing::{close, number_at, open, place_of_kind, string_at};
 use ex_check::SchemaFault;
 use json::Writer;
 use plain_data::Text;
+use rp_plain::lists::{Item, NamedType};
 use rp_plain::messages::{Refusal, Reply};
-use rp_plain::rows::{Item, NamedType};
 use std::alloc::{AllocError, Global};
 
 /// The bytes of a reply: JSON without blanks, its keys in byte order.
@@ -47,7 +47,7 @@ fn write_reply(out: &mut Writer, reply: &Reply) -> Result<(), AllocError>
         Reply::Done => write_done(out),
         Reply::Stored(count) => write_stored(out, *count),
         Reply::Names(names) => write_names(out, names.as_slice()),
-        Reply::Listed(items) => write_listed(out, items.as_slice()),
+        Reply::Listed(groups, models) => write_listed(out, groups.as_slice(), models.as_slice()),
         Reply::Schemas(names) => write_schemas(out, names.as_slice()),
         Reply::Checked { schema, warnings } => write_checked(out, schema, warnings.as_slice()),
         Reply::Faulty(fault) => write_faulty(out, *fault),
@@ -82,16 +82,13 @@ fn write_names(out: &mut Writer, names: &[NamedType]) -> Result<(), AllocError>
     close(out)
 }
 
-fn write_listed(out: &mut Writer, items: &[Item]) -> Result<(), AllocError>
-    ensures ok { OnOk result (out.new.tokens ≡ out.old.tokens ++ tokens_of (reply_data (Reply.Listed items.now))) }
+fn write_listed(out: &mut Writer, groups: &[Item], models: &[Item]) -> Result<(), AllocError>
+    ensures ok { OnOk result (out.new.tokens ≡ out.old.tokens ++ tokens_of (reply_data (Reply.Listed groups.now models.now))) }
     ensures before { out.new.before ≡ out.old.before }
 {
     open(out, "ok")?;
-    out.key("groups")?;
-    out.begin_array()?;
-    out.end_array()?;
-    out.key("models")?;
-    write_items(out, items)?;
+    write_items_at(out, "groups", groups)?;
+    write_items_at(out, "models", models)?;
     close(out)
 }
 

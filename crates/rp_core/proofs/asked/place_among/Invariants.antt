@@ -1,5 +1,5 @@
 use Rattle.std.proofs.Common.{◌≡◌, take, false}
-use Rattle.rp_plain.specs.Plain.{has_text}
+use Rattle.rp_plain.specs.Meaning.{has_text}
 use Rattle.rp_core.proofs.asked.place_among.Given as goal
 
 abbrev pub invariant-loop-i : goal.invariant-loop-i

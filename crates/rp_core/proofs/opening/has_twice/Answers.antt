@@ -7,7 +7,7 @@ use Rattle.std.specs.Str.{bytes_eq}
 use Rattle.std.proofs.Math.Seq.{take-suc}
 use Rattle.std.proofs.lemmas.List.Folds.{list_any_more}
 use Rattle.std.proofs.lemmas.Map.Text.{is_eq-slice_cmp}
-use Rattle.rp_plain.specs.Plain.{has_text}
+use Rattle.rp_plain.specs.Meaning.{has_text}
 use Rattle.rp_core.proofs.Repeats.{not_false, not_true, bytes_eq_swap, has_twice_more, has_twice_found, either_way}
 use Rattle.rp_core.proofs.opening.has_twice.Goals as goal
 

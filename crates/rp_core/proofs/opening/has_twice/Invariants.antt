@@ -2,7 +2,7 @@ use Rattle.std.proofs.Common.{◌≡◌, ℕ, Bor, List, take, false}
 use Rattle.std.specs.Cmp.Lexicographic.{slice_cmp}
 use Rattle.std.specs.Ordering.{nat_cmp}
 use Rattle.std.specs.BTreeSet as sorted
-use Rattle.rp_plain.specs.Plain.{has_text}
+use Rattle.rp_plain.specs.Meaning.{has_text}
 use Rattle.rp_plain.specs.Opening.{has_twice}
 use Rattle.rp_core.proofs.opening.has_twice.Given as goal
 

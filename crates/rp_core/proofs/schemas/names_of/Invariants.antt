@@ -1,5 +1,5 @@
 use Rattle.std.proofs.Common.{◌≡◌, map, take}
-use Rattle.rp_plain.specs.Plain.{schema_name}
+use Rattle.rp_plain.specs.Meaning.{schema_name}
 use Rattle.rp_core.proofs.schemas.names_of.Given as goal
 
 abbrev pub invariant-loop-schema : goal.invariant-loop-schema

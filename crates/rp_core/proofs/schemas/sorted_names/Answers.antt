@@ -1,6 +1,6 @@
 use Rattle.std.proofs.Common.{rules, ◌∙◌, ap}
 use Rattle.p21_instances.specs.Instances.{in_order}
-use Rattle.rp_plain.specs.Plain.{is_below}
+use Rattle.rp_plain.specs.Lists.{is_below}
 use Rattle.rp_core.proofs.SchemaNames.{texts_sorted}
 use Rattle.rp_core.proofs.schemas.sorted_names.Goals as goal
 

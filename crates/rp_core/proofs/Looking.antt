@@ -1,0 +1,17 @@
+-- What is found under a key, if it is seen.
+use Rattle.std.proofs.Common.{◌≡◌, Bool, ◌&&◌, true, false, List, Option, Some, None, refl, sym, ◌∙◌, ap}
+use Rattle.std.specs.List.{find}
+use Rattle.sorted_tables.specs.Table.{IsAscending}
+use Rattle.sorted_tables.proofs.Searching.{found_passing, chosen}
+use Rattle.rp_rows.specs.Rows.{Key, key_cmp, Row, row_key, is_row}
+use Rattle.rp_rows.proofs.Keys.{key_total}
+
+-- what was found at the key, which is seen or not
+pub seen_found : {A : Type 0} (k : Key) (p : Row A → Bool) (rows : List (Row A)) (found : Option (Row A)) → IsAscending key_cmp row_key rows → found ≡ find (is_row k) rows → chosen p found ≡ find (λ x. is_row k x && p x) rows
+seen_found k p rows found order is = ap (chosen p) is ∙ sym (found_passing key_cmp row_key key_total p k rows order)
+
+pub chosen_seen : {X : Type 0} (p : X → Bool) (x : X) → p x ≡ true → chosen p (Some x) ≡ Some x
+chosen_seen p x h = rw h refl
+
+pub chosen_unseen : {X : Type 0} (p : X → Bool) (x : X) → p x ≡ false → chosen p (Some x) ≡ None
+chosen_unseen p x h = rw h refl

@@ -1,0 +1,33 @@
+use Rattle.std.proofs.Common.{◌≡◌, ◌<◌, [], length, get_or, ◌∙◌, ap}
+use Rattle.std.proofs.lemmas.List.{get_or_read}
+use Rattle.rp_plain.specs.Plain.{Plain}
+use Rattle.rp_core.specs.Held.{partner_at, turn}
+use Rattle.rp_core.specs.Told.{told}
+use Rattle.rp_core.proofs.Preparing.{prepared_from, refused_from, wanting}
+use Rattle.rp_core.proofs.holdings.Holdings.prepare.Goals as goal
+use Rattle.rp_core.proofs.holdings.Holdings.prepare.Goals.{in-Ok-of_plan, in-Err-of_plan}
+
+pub returns-in-Err-clause-prepared : goal.returns-in-Err-clause-prepared
+unfolding told
+returns-in-Err-clause-prepared c =
+    let read : Plain = record { schemas = c.deref.result.now; partners = c.deref-2.result.now; models = c.self.inside.models.rows; groups = c.self.inside.groups.rows } in
+    let same : read ≡ c.args.self.now.content = cc in
+    let partners : c.self.inside.partners.items ≡ c.args.self.now.content.partners = ap (λ h. h.content.partners) c.self.view_is in
+    let within : c.args.place < length c.self.inside.partners.items = rw partners c.requires in
+    let at = get_or_read c.self.inside.partners.items c.args.place c.index.result.now within c.index.ensures [] in
+    let who : c.index.result.now ≡ partner_at c.args.self.now.content c.args.place = at ∙ ap (λ xs. get_or xs c.args.place []) partners in
+    refused_from c.args.self.now.content (partner_at c.args.self.now.content c.args.place) read c.index.result.now c.args.request c.in-Err.refusal c.refused.result same who c.in-Err.ensures c.refused.ensures
+
+pub returns-after-of_plan-clause-prepared : goal.returns-after-of_plan-clause-prepared
+unfolding told
+returns-after-of_plan-clause-prepared c =
+    let read : Plain = record { schemas = c.deref.result.now; partners = c.deref-2.result.now; models = c.self.inside.models.rows; groups = c.self.inside.groups.rows } in
+    let same : read ≡ c.args.self.now.content = cc in
+    let partners : c.self.inside.partners.items ≡ c.args.self.now.content.partners = ap (λ h. h.content.partners) c.self.view_is in
+    let within : c.args.place < length c.self.inside.partners.items = rw partners c.requires in
+    let at = get_or_read c.self.inside.partners.items c.args.place c.index.result.now within c.index.ensures [] in
+    let who : c.index.result.now ≡ partner_at c.args.self.now.content c.args.place = at ∙ ap (λ xs. get_or xs c.args.place []) partners in
+    elim c.match-of_plan.branch [
+      | in-Ok-of_plan w ↦ prepared_from c.args.self.now.content (partner_at c.args.self.now.content c.args.place) read c.index.result.now c.args.request c.in-Ok.plan c.match-of_plan.result same who c.in-Ok.ensures (w.result-is ∙ w.in-Ok-of_plan.ensures.pending)
+      | in-Err-of_plan w ↦ wanting c.args.self.now.content (turn c.args.self.now.content c.args.place c.args.request) w.into.result c.match-of_plan.result w.into.ensures (w.result-is ∙ w.refused-in-Err-of_plan.ensures)
+    ]

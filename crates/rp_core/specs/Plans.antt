@@ -1,0 +1,39 @@
+-- What a plan keeps, and what it is to give.
+use Rattle.std.specs.Prelude.{◌≡◌, ◌≢◌, List, [], ◌∷◌, Some, None, Result, MatchResult}
+use Rattle.rp_rows.specs.Rows.{Text}
+use Rattle.rp_rows.specs.Alterations.{Alteration, Holds, Grants as GrantAltered}
+use Rattle.rp_plain.specs.declared.messages.Request.{Request}
+use Rattle.rp_plain.specs.declared.messages.Refusal.{Refusal}
+use Rattle.rp_plain.specs.declared.messages.Refusal.TheVariants.{NoMemory}
+use Rattle.rp_plain.specs.Edits.{Edit, EditModel}
+use Rattle.rp_plain.specs.Asked.{Asked}
+use Rattle.rp_plain.specs.Meaning.{first_some}
+use Rattle.rp_plain.specs.Step.{meaning}
+use Rattle.rp_core.specs.declared.edits.Change.{Change}
+use Rattle.rp_core.specs.declared.edits.Change.TheVariants.{Hold, Remove, Grants}
+use Rattle.rp_core.specs.declared.edits.Edits.{Edits}
+use Rattle.rp_core.specs.declared.edits.Edits.TheVariants.{Nothing, OfModel}
+use Rattle.rp_core.specs.declared.edits.Plan.{Plan}
+
+abbrev pub alteration_of : {A : Type 0} → Change A → Alteration A
+alteration_of (Hold a) = Holds (Some a)
+alteration_of Remove = Holds None
+alteration_of (Grants to l) = GrantAltered to l
+
+-- the edits that these are
+abbrev pub edits_of : Edits → List Edit
+edits_of Nothing = []
+edits_of (OfModel k change) = EditModel k (alteration_of change) ∷ []
+
+-- c's request is not refused, and this is its reply and its edits
+pub record IsAnswer (a : Asked) (c : Text) (q : Request) (plan : Plan) : Type 0 where
+  pub passes : first_some (meaning a c q).tests ≡ None
+  pub replies : plan.reply ≡ (meaning a c q).reply
+  pub edits : edits_of plan.edits ≡ (meaning a c q).edits
+
+-- c's request is refused so, or memory is wanting
+abbrev pub IsRefusal : Asked → Text → Request → Refusal → Type 0
+IsRefusal a c q refusal = refusal ≢ NoMemory → first_some (meaning a c q).tests ≡ Some refusal
+
+abbrev pub Plans : Asked → Text → Request → Result Plan Refusal → Type 0
+Plans a c q result = MatchResult result (IsAnswer a c q) (IsRefusal a c q)

@@ -1,0 +1,28 @@
+//! What a plan keeps of a change.
+
+use plain_data::Text;
+use rp_plain::messages::Reply;
+use rp_rows::rows::{Content, Key, Level};
+
+/// What is done to what stands under a key.
+#[derive(Drop)]
+pub enum Change<A> {
+    Hold(A),
+    Remove,
+    /// One partner's grant.
+    Grants(Text, Option<Level>),
+}
+
+/// What a request changes.
+#[derive(Drop)]
+pub enum Edits {
+    Nothing,
+    OfModel(Key, Change<Content>),
+}
+
+/// A request's reply, and what it changes.
+#[derive(Drop)]
+pub struct Plan {
+    pub reply: Reply,
+    pub edits: Edits,
+}

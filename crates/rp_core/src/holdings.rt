@@ -1,0 +1,120 @@
+//! What a repository holds, and the two halves of a turn.
+#![tactic(auto, unfolding(crate::specs::Held::Fits))]
+
+use crate::asked::{Asking, place_among};
+use crate::opening::may_open;
+use crate::plans::plan;
+use crate::steps::{Pending, make_steps};
+use crate::table::Table;
+use ex_types::Schema;
+use plain_data::Text;
+use rp_plain::messages::{NewFault, Reply, Request};
+use rp_rows::rows::{Content, Listing};
+use std::alloc::Global;
+use std::marker::Model;
+
+/// What a repository holds, in memory.
+#[derive(Drop)]
+pub struct Holdings {
+    schemas: Vec<Schema>,
+    partners: Vec<Text>,
+    models: Table<Content>,
+    groups: Table<Listing>,
+}
+
+impl Model for Holdings {
+    ghost use Rattle.rp_core.specs.Held.{Kept};
+
+    ghost Value = { Kept };
+
+    ghost use Rattle.std.specs.Coded.{codes};
+    ghost use Rattle.ex_types.specs.contracts.schema.Schema as schema_type;
+    ghost use Rattle.rp_rows.specs.contracts.rows.Content as content_type;
+
+    ghost coded = { Prim.hlevel (codes, schema_type.the_row.coded, content_type.the_row.coded) };
+
+    ghost view = { λ h. record {
+      content = record { schemas = h.schemas.items; partners = h.partners.items; models = h.models.rows; groups = h.groups.rows };
+      models = h.models;
+      groups = h.groups;
+    } };
+}
+
+impl Holdings {
+    ghost use Rattle.std.specs.Prelude.{◌≡◌, ◌≢◌, ◌<◌, false, length, Some, None, IfOk, IfErr, MatchOption};
+    ghost use Rattle.rp_plain.specs.Meaning.{has_text};
+    ghost use Rattle.rp_plain.specs.Opening.{new_fault, opened};
+    ghost use Rattle.rp_plain.specs.Valid.{IsOrdered};
+    ghost use Rattle.rp_core.specs.Held.{partner_at, turn, made, Fits, IsPrepared};
+
+    /// Nothing but these schemas and partners.
+    ///
+    /// # Errors
+    ///
+    /// The first that holds of `TwoSchemas`, `TwoPartners`, `BadName` and `TooMany`; or `NoMemory`.
+    pub fn new(alloc: Global, schemas: Vec<Schema>, partners: Vec<Text>) -> Result<Self, NewFault>
+        ensures ok { IfOk result (λ _. new_fault schemas.items partners.items ≡ None) }
+        ensures content { IfOk result (λ holdings. holdings.content ≡ opened schemas.items partners.items) }
+        ensures err { IfErr result (λ fault. fault ≢ NewFault.NoMemory → new_fault schemas.items partners.items ≡ Some fault) }
+    {
+        may_open(alloc, &schemas, &partners)?;
+        Ok(Holdings {
+            schemas,
+            partners,
+            models: Table::new(alloc),
+            groups: Table::new(alloc),
+        })
+    }
+
+    /// Where the partner of this name stands among the partners.
+    pub fn place_of_partner(&self, name: &Text) -> Option<usize>
+        ensures { MatchOption result (has_text self.now.content.partners name.now ≡ false)
+            (λ place. (place < length self.now.content.partners) × (partner_at self.now.content place ≡ name.now)) }
+    {
+        place_among(&self.partners, name)
+    }
+
+    /// Models and groups stand in the order of owner and name, each name once.
+    pub fn is_ordered(&self)
+        ensures { IsOrdered self.now.content }
+    {
+        let _ = self.models.len();
+        let _ = self.groups.len();
+    }
+
+    /// The reply to a request of the partner at this place, and what is still to be done. Nothing
+    /// that is held is changed, and room is made for what is to be done. Where memory is wanting,
+    /// the reply is that, with nothing to be done.
+    pub fn prepare(&mut self, alloc: Global, place: usize, request: Request) -> Pending
+        requires { place < length self.old.content.partners }
+        ensures content { self.new.content ≡ self.old.content }
+        ensures prepared { IsPrepared self.old.content (turn self.old.content place request) result }
+        ensures fits { Fits self.new result }
+    {
+        let asked = Asking {
+            schemas: &self.schemas,
+            partners: &self.partners,
+            models: &self.models,
+            groups: &self.groups,
+            caller: &self.partners[place],
+        };
+        match plan(alloc, &asked, request) {
+            Err(refusal) => Pending::refused(refusal),
+            Ok(plan) => match Pending::of_plan(alloc, &mut self.models, plan) {
+                Ok(pending) => pending,
+                Err(error) => Pending::refused(error.into()),
+            },
+        }
+    }
+
+    /// Does what was prepared, and gives the reply. It takes no memory.
+    pub fn commit(&mut self, pending: Pending) -> Reply
+        requires { Fits self.old pending }
+        ensures reply { result ≡ pending.reply }
+        ensures content { self.new.content ≡ made pending.steps self.old.content }
+    {
+        let Pending { reply, steps } = pending;
+        make_steps(&mut self.models, steps);
+        reply
+    }
+}

@@ -1,0 +1,196 @@
+//! What stands under keys, in the order of owner and name.
+
+ghost use Rattle.std.specs.Prelude.{◌≡◌, ◌<◌, ◌≤◌, ◌+◌, [], Some, None, length, filter, not, is_some, get_or, OnOk, IfOk, MatchResult, option_copied, option_map};
+ghost use Rattle.std.specs.List.{find};
+ghost use Rattle.std.specs.Ordering.{is_lt, is_eq, is_gt};
+ghost use Rattle.std.specs.Str.{bytes_eq};
+ghost use Rattle.sorted_tables.specs.Table.{with_row};
+ghost use Rattle.rp_rows.specs.Rows.{text_cmp, key_cmp};
+ghost use Rattle.rp_core.specs.Entries.{entry_key, is_entry, place_in, IsThere, IsAbsent, with_value, standing};
+
+use plain_data::Text;
+use rp_rows::rows::Key;
+use std::alloc::{AllocError, Global};
+use std::marker::Model;
+
+/// What stands under a key.
+#[derive(Drop)]
+pub struct Entry<B> {
+    pub key: Key,
+    pub value: B,
+}
+
+/// Entries in the order of their keys, each key once.
+#[derive(Drop)]
+pub struct Keyed<B> {
+    entries: Vec<Entry<B>>,
+}
+
+impl<B> Model for Keyed<B> {
+    ghost use Rattle.std.specs.Prelude.{◌-◌, vec_len};
+    ghost use Rattle.std.specs.Vec.{vec_capacity};
+    ghost use Rattle.sorted_tables.specs.Table.{IsAscending};
+    ghost use Rattle.rp_rows.specs.Rows.{key_cmp};
+    ghost use Rattle.rp_core.specs.Entries.{Entries, entry_key};
+
+    ghost Value = { Entries B };
+
+    ghost view = { λ k. record {
+      entries = k.entries.items;
+      room = vec_capacity k.entries - vec_len k.entries;
+    } };
+
+    ghost invariant = { λ k. IsAscending key_cmp entry_key k.entries.items };
+}
+
+fn is_key(key: &Key, other: &Key) -> bool
+    ensures { result ≡ is_eq (key_cmp other.now key.now) }
+{
+    other.0.order(&key.0).then(other.1.order(&key.1)).is_eq()
+}
+
+fn is_before_key(key: &Key, other: &Key) -> bool
+    ensures { result ≡ is_lt (key_cmp other.now key.now) }
+{
+    other.0.order(&key.0).then(other.1.order(&key.1)).is_lt()
+}
+
+fn is_of_earlier(owner: &Text, key: &Key) -> bool
+    ensures { result ≡ is_lt (text_cmp key.now.0 owner.now) }
+{
+    key.0.order(owner).is_lt()
+}
+
+fn is_not_of_later(owner: &Text, key: &Key) -> bool
+    ensures { result ≡ not (is_gt (text_cmp key.now.0 owner.now)) }
+{
+    key.0.order(owner).is_le()
+}
+
+impl<B> Keyed<B> {
+    pub fn new(alloc: Global) -> Keyed<B>
+        ensures { result.entries ≡ [] }
+    {
+        Keyed {
+            entries: Vec::new(alloc),
+        }
+    }
+
+    pub fn len(&self) -> usize
+        ensures { result ≡ length self.now.entries }
+    {
+        self.entries.len()
+    }
+
+    pub fn entry(&self, place: usize) -> &Entry<B>
+        requires { place < length self.now.entries }
+        ensures { result.now ≡ get_or self.now.entries place result.now }
+    {
+        &self.entries[place]
+    }
+
+    /// How many keys stand before this one.
+    fn place(&self, key: &Key) -> usize
+        ensures { result ≡ place_in key.now self.now.entries }
+    {
+        self.entries
+            .partition_point(|entry| is_before_key(key, &entry.key))
+    }
+
+    /// Where the key stands, or where it is to stand.
+    fn search(&self, key: &Key) -> Result<usize, usize>
+        ensures { MatchResult result (IsThere key.now self.now.entries) (IsAbsent key.now self.now.entries) }
+    {
+        let place = self.place(key);
+        if place >= self.entries.len() {
+            return Err(place);
+        }
+        if is_key(key, &self.entries[place].key) {
+            Ok(place)
+        } else {
+            Err(place)
+        }
+    }
+
+    /// What stands under the key.
+    pub fn find(&self, key: &Key) -> Option<&Entry<B>>
+        ensures { option_copied result ≡ find (is_entry key.now) self.now.entries }
+    {
+        match self.search(key) {
+            Ok(place) => Some(&self.entries[place]),
+            Err(_) => None,
+        }
+    }
+
+    /// How many keys are of owners before this one.
+    fn first_place(&self, owner: &Text) -> usize
+        ensures { result ≡ length (filter (λ x. is_lt (text_cmp x.key.0 owner.now)) self.now.entries) }
+    {
+        self.entries
+            .partition_point(|entry| is_of_earlier(owner, &entry.key))
+    }
+
+    /// How many keys are of owners before this one, or his own.
+    fn last_place(&self, owner: &Text) -> usize
+        ensures { result ≡ length (filter (λ x. not (is_gt (text_cmp x.key.0 owner.now))) self.now.entries) }
+    {
+        self.entries
+            .partition_point(|entry| is_not_of_later(owner, &entry.key))
+    }
+
+    /// How many keys are the owner's. Those of others aren't walked over.
+    pub fn count_of(&self, owner: &Text) -> usize
+        ensures { result ≡ length (filter (λ x. bytes_eq x.key.0 owner.now) self.now.entries) }
+    {
+        self.last_place(owner) - self.first_place(owner)
+    }
+}
+
+impl<B: Drop> Keyed<B> {
+    /// Makes room for one more entry.
+    pub fn reserve(&mut self) -> Result<(), AllocError>
+        ensures entries { self.new.entries ≡ self.old.entries }
+        ensures room { OnOk result (0 < self.new.room) }
+    {
+        self.entries.reserve(1)
+    }
+
+    /// This stands under the key from now on.
+    pub fn put(&mut self, key: Key, value: B)
+        requires { 0 < self.old.room }
+        ensures { self.new.entries ≡ with_row key_cmp entry_key key (Some (record { key = key; value = value })) self.old.entries }
+    {
+        match self.search(&key) {
+            Ok(place) => self.entries[place] = Entry { key, value },
+            Err(place) => self.entries.insert(place, Entry { key, value }).unwrap(),
+        }
+    }
+
+    /// This stands under the key from now on, unless something stands there.
+    pub fn add(&mut self, key: Key, value: B)
+        requires { 0 < self.old.room }
+        ensures { self.new.entries ≡ with_row key_cmp entry_key key (Some (standing key value (find (is_entry key) self.old.entries))) self.old.entries }
+    {
+        if let Err(place) = self.search(&key) {
+            self.entries.insert(place, Entry { key, value }).unwrap();
+        }
+    }
+
+    /// This stands under the key from now on, if something stands there.
+    pub fn replace(&mut self, key: &Key, value: B)
+        ensures { self.new.entries ≡ with_row key_cmp entry_key key.now (option_map (with_value value) (find (is_entry key.now) self.old.entries)) self.old.entries }
+    {
+        if let Ok(place) = self.search(key) {
+            self.entries[place].value = value;
+        }
+    }
+
+    /// Nothing stands under the key from now on.
+    pub fn remove(&mut self, key: &Key)
+        ensures { self.new.entries ≡ with_row key_cmp entry_key key.now None self.old.entries }
+    {
+        if let Ok(place) = self.search(key) {
+            let _ = self.entries.remove(place);
+        }
+    }
+}

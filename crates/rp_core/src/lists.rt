@@ -1,0 +1,77 @@
+//! Lists of what there is.
+
+ghost use Rattle.std.specs.Prelude.{◌≡◌, map, IfOk};
+ghost use Rattle.rp_plain.specs.Lists.{named, instances_of as InstancesOf};
+ghost use Rattle.rp_core.specs.Told.{told};
+ghost use Rattle.rp_core.specs.Plans.{Plans};
+
+use crate::asked::Asking;
+use crate::edits::{Edits, Plan};
+use crate::faults::{first, is_no_partner, key_fault, unseen};
+use p21_instances::type_of;
+use p21_tree::Instance;
+use plain_data::Rows;
+use rp_plain::lists::NamedType;
+use rp_plain::messages::{Refusal, Reply, Request};
+use rp_rows::rows::Key;
+use std::alloc::{AllocError, Global};
+
+fn instances_of<'a>(asked: &Asking<'a>, key: &Key) -> &'a [Instance]
+    ensures { result.now ≡ InstancesOf ((told asked.now).content key.now) }
+{
+    match asked.content(key) {
+        Some(content) => content.instances.as_slice(),
+        None => &[],
+    }
+}
+
+/// The names of the instances, with their types.
+fn named_types(alloc: Global, instances: &[Instance]) -> Result<Rows<NamedType>, AllocError>
+    ensures { IfOk result (λ rows. rows ≡ map named instances.now) }
+{
+    let mut rows = Vec::with_capacity(alloc, instances.len())?;
+    for instance in instances {
+        let type_name = type_of(alloc, &instance.mapping)?;
+        rows.push(NamedType {
+            name: instance.name,
+            type_name,
+        })?;
+    }
+    Ok(Rows::from_vec(rows))
+}
+
+pub fn plan_names(alloc: Global, asked: &Asking<'_>, key: &Key) -> Result<Plan, Refusal>
+    ensures { Plans (told asked.now) asked.now.caller.now (Request.Names key.now) result }
+{
+    let tests = [
+        key_fault(key),
+        is_no_partner(asked, &key.0),
+        unseen(asked.model_right(key)),
+    ];
+    if let Some(refusal) = first(&tests) {
+        return Err(refusal);
+    }
+    Ok(Plan {
+        reply: Reply::Names(named_types(alloc, instances_of(asked, key))?),
+        edits: Edits::Nothing,
+    })
+}
+
+pub fn plan_list(alloc: Global, asked: &Asking<'_>) -> Result<Plan, Refusal>
+    ensures { Plans (told asked.now) asked.now.caller.now Request.ListItems result }
+{
+    let groups = asked.group_items(alloc)?;
+    Ok(Plan {
+        reply: Reply::Listed(groups, asked.model_items(alloc)?),
+        edits: Edits::Nothing,
+    })
+}
+
+pub fn plan_schemas(alloc: Global, asked: &Asking<'_>) -> Result<Plan, Refusal>
+    ensures { Plans (told asked.now) asked.now.caller.now Request.Schemas result }
+{
+    Ok(Plan {
+        reply: Reply::Schemas(asked.schema_names(alloc)?),
+        edits: Edits::Nothing,
+    })
+}

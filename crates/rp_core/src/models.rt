@@ -1,0 +1,81 @@
+//! Models that are created and deleted.
+
+ghost use Rattle.std.specs.Prelude.{◌≡◌, [], IfOk};
+ghost use Rattle.p21_read.specs.Defaults as defaults;
+ghost use Rattle.rp_core.specs.Told.{told};
+ghost use Rattle.rp_core.specs.Plans.{Plans};
+
+use crate::asked::Asking;
+use crate::edits::{Change, Edits, Plan};
+use crate::faults::{first, name_fault, unseen, when};
+use crate::sight::at_least;
+use p21_read::default_header;
+use plain_data::{Rows, Text};
+use rp_plain::messages::{Refusal, Reply, Request};
+use rp_rows::rows::{Content, Key, Right};
+use std::alloc::{AllocError, Global};
+
+/// The caller's own name.
+pub fn own(alloc: Global, asked: &Asking<'_>, name: Text) -> Result<Key, AllocError>
+    ensures { IfOk result (λ key. key ≡ (asked.now.caller.now, name)) }
+{
+    let owner = asked.caller.copy(alloc)?;
+    Ok((owner, name))
+}
+
+/// What a model holds as it is created. The schema is in upper case.
+fn new_content(alloc: Global, schema: Text) -> Result<Content, AllocError>
+    ensures { IfOk result (λ h. h ≡ record { schema = schema; header = defaults.default_header; greatest = 0; instances = []; links = [] }) }
+{
+    let header = default_header(alloc)?;
+    Ok(Content {
+        schema,
+        header,
+        greatest: 0,
+        instances: Rows::new(alloc),
+        links: Rows::new(alloc),
+    })
+}
+
+pub fn plan_create(
+    alloc: Global,
+    asked: &Asking<'_>,
+    name: Text,
+    mut schema: Text,
+) -> Result<Plan, Refusal>
+    ensures { Plans (told asked.now) asked.now.caller.now (Request.CreateModel name schema) result }
+{
+    let key = own(alloc, asked, name)?;
+    schema.make_ascii_uppercase();
+    let tests = [
+        name_fault(&key.1),
+        when(!asked.has_schema(&schema), Refusal::UnknownSchema),
+        when(
+            at_least(Right::Reads, asked.model_right(&key)),
+            Refusal::Exists,
+        ),
+        when(asked.model_count() >= 100, Refusal::TooMany),
+    ];
+    if let Some(refusal) = first(&tests) {
+        return Err(refusal);
+    }
+    let content = new_content(alloc, schema)?;
+    Ok(Plan {
+        reply: Reply::Done,
+        edits: Edits::OfModel(key, Change::Hold(content)),
+    })
+}
+
+pub fn plan_delete(alloc: Global, asked: &Asking<'_>, name: Text) -> Result<Plan, Refusal>
+    ensures { Plans (told asked.now) asked.now.caller.now (Request.DeleteModel name) result }
+{
+    let key = own(alloc, asked, name)?;
+    let tests = [name_fault(&key.1), unseen(asked.model_right(&key))];
+    if let Some(refusal) = first(&tests) {
+        return Err(refusal);
+    }
+    Ok(Plan {
+        reply: Reply::Done,
+        edits: Edits::OfModel(key, Change::Remove),
+    })
+}

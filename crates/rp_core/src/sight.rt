@@ -1,0 +1,146 @@
+//! What a partner may do with a row, and what he sees.
+
+ghost use Rattle.std.specs.Prelude.{◌≡◌, option_copied};
+ghost use Rattle.std.specs.List.{list_any, find};
+ghost use Rattle.rp_rows.specs.Sight as sight;
+ghost use Rattle.rp_rows.specs.Rows.{same_key};
+ghost use Rattle.rp_core.specs.Stored.{row_of};
+
+use crate::table::{RowRef, Table};
+use plain_data::Text;
+use rp_rows::rows::{Content, Grant, Key, Level, Listing, Right};
+
+fn owns<A>(caller: &Text, row: &RowRef<'_, A>) -> bool
+    ensures { result ≡ sight.owns caller.now (row_of row.now) }
+{
+    row.key.0.is(caller)
+}
+
+fn grant_to<'a>(caller: &Text, grants: &'a [Grant]) -> Option<&'a Grant>
+    ensures { option_copied result ≡ find (sight.is_grant_to caller.now) grants.now }
+{
+    grants.iter().find(|grant| grant.partner.is(caller))
+}
+
+fn is_granted(caller: &Text, grants: &[Grant]) -> bool
+    ensures { result ≡ list_any (sight.is_grant_to caller.now) grants.now }
+{
+    grants.iter().any(|grant| grant.partner.is(caller))
+}
+
+pub fn sees_group(caller: &Text, group: &RowRef<'_, Listing>) -> bool
+    ensures { result ≡ sight.sees_group caller.now (row_of group.now) }
+{
+    owns(caller, group) || is_granted(caller, group.grants)
+}
+
+pub fn group_right(caller: &Text, group: &RowRef<'_, Listing>) -> Right
+    ensures { result ≡ sight.group_right caller.now (row_of group.now) }
+{
+    if owns(caller, group) {
+        Right::Owns
+    } else if is_granted(caller, group.grants) {
+        Right::Reads
+    } else {
+        Right::Unseen
+    }
+}
+
+fn is_same_key(key: &Key, other: &Key) -> bool
+    ensures { result ≡ same_key key.now other.now }
+{
+    other.0.is(&key.0) && other.1.is(&key.1)
+}
+
+fn has_key(key: &Key, keys: &[Key]) -> bool
+    ensures { result ≡ list_any (same_key key.now) keys.now }
+{
+    keys.iter().any(|other| is_same_key(key, other))
+}
+
+fn is_group_level(level: Level) -> bool
+    ensures { result ≡ sight.is_group_level level }
+{
+    match level {
+        Level::Read => false,
+        Level::Group | Level::Write => true,
+    }
+}
+
+fn is_granted_group(partner: &Text, grants: &[Grant]) -> bool
+    ensures { result ≡ list_any (sight.is_group_grant partner.now) grants.now }
+{
+    grants.iter().any(|grant| grant.partner.is(partner) && is_group_level(grant.level))
+}
+
+fn may_group(partner: &Text, model: &RowRef<'_, Content>) -> bool
+    ensures { result ≡ sight.may_group partner.now (row_of model.now) }
+{
+    owns(partner, model) || is_granted_group(partner, model.grants)
+}
+
+fn counts(model: &RowRef<'_, Content>, group: &RowRef<'_, Listing>) -> bool
+    ensures { result ≡ sight.counts (row_of model.now) (row_of group.now) }
+{
+    has_key(model.key, group.holds.members.as_slice())
+        && model.holds.schema.is(&group.holds.schema)
+        && may_group(&group.key.0, model)
+}
+
+fn is_counted(groups: &Table<Listing>, caller: &Text, model: &RowRef<'_, Content>) -> bool
+    ensures { result ≡ sight.is_counted groups.now.rows caller.now (row_of model.now) }
+{
+    for i in 0..groups.len() {
+        let group = groups.row(i);
+        if sees_group(caller, &group) && counts(model, &group) {
+            return true;
+        }
+    }
+    false
+}
+
+fn right_of(level: Level) -> Right
+    ensures { result ≡ sight.right_of level }
+{
+    match level {
+        Level::Read => Right::Reads,
+        Level::Group => Right::Groups,
+        Level::Write => Right::Writes,
+    }
+}
+
+pub fn level(groups: &Table<Listing>, caller: &Text, model: &RowRef<'_, Content>) -> Right
+    ensures { result ≡ sight.level groups.now.rows caller.now (row_of model.now) }
+{
+    if owns(caller, model) {
+        return Right::Owns;
+    }
+    match grant_to(caller, model.grants) {
+        Some(grant) => right_of(grant.level),
+        None => {
+            if is_counted(groups, caller, model) {
+                Right::Reads
+            } else {
+                Right::Unseen
+            }
+        }
+    }
+}
+
+fn rank(right: Right) -> usize
+    ensures { result ≡ sight.rank right }
+{
+    match right {
+        Right::Unseen => 0,
+        Right::Reads => 1,
+        Right::Groups => 2,
+        Right::Writes => 3,
+        Right::Owns => 4,
+    }
+}
+
+pub fn at_least(needed: Right, right: Right) -> bool
+    ensures { result ≡ sight.at_least needed right }
+{
+    rank(needed) <= rank(right)
+}

@@ -1,0 +1,141 @@
+//! What a prepared request is still to do. No step takes memory.
+
+ghost use Rattle.std.specs.Prelude.{◌≡◌, IfOk};
+ghost use Rattle.std.specs.List.{find};
+ghost use Rattle.rp_rows.specs.Rows.{is_row};
+ghost use Rattle.rp_core.specs.Held.{step_of, steps_of, stepped, made_models, StepFits, StepsFit};
+
+use crate::edits::{Change, Edits, Plan};
+use crate::regranted::regranted_for;
+use crate::table::Table;
+use plain_data::Rows;
+use rp_plain::messages::{Refusal, Reply};
+use rp_rows::rows::{Content, Grant, Key};
+use std::alloc::{AllocError, Global};
+
+/// What is done to what stands under a key.
+#[derive(Drop)]
+pub enum Step<A> {
+    /// The key once more, and what is held there.
+    Put(Key, A),
+    Remove,
+    /// All the grants on it.
+    Regrant(Rows<Grant>),
+}
+
+#[derive(Drop)]
+pub enum Steps {
+    Nothing,
+    OfModel(Key, Step<Content>),
+}
+
+/// A request's reply, and what is still to be done. Dropped, it changes nothing.
+#[derive(Drop)]
+pub struct Pending {
+    pub(crate) reply: Reply,
+    pub(crate) steps: Steps,
+}
+
+fn copy_key(alloc: Global, key: &Key) -> Result<Key, AllocError>
+    ensures { IfOk result (λ copy. copy ≡ key.now) }
+{
+    let owner = key.0.copy(alloc)?;
+    let name = key.1.copy(alloc)?;
+    Ok((owner, name))
+}
+
+/// The step that a change comes to, with room for it.
+fn step_for<A: Drop>(
+    alloc: Global,
+    table: &mut Table<A>,
+    key: &Key,
+    change: Change<A>,
+) -> Result<Step<A>, AllocError>
+    ensures rows { table.new.rows ≡ table.old.rows }
+    ensures fits { IfOk result (λ step. StepFits key.now step table.new) }
+    ensures step { IfOk result (λ step. step ≡ step_of key.now (find (is_row key.now) table.old.rows) change) }
+{
+    match change {
+        Change::Hold(holds) => {
+            let again = copy_key(alloc, key)?;
+            table.reserve()?;
+            Ok(Step::Put(again, holds))
+        }
+        Change::Remove => Ok(Step::Remove),
+        Change::Grants(to, level) => {
+            let grants = regranted_for(alloc, to, level, table.grants_at(key))?;
+            Ok(Step::Regrant(grants))
+        }
+    }
+}
+
+/// The steps that edits come to, with room for them.
+fn steps_for(alloc: Global, models: &mut Table<Content>, edits: Edits) -> Result<Steps, AllocError>
+    ensures models { models.new.rows ≡ models.old.rows }
+    ensures fits { IfOk result (λ steps. StepsFit models.new steps) }
+    ensures steps { IfOk result (λ steps. steps ≡ steps_of models.old.rows edits) }
+{
+    match edits {
+        Edits::Nothing => Ok(Steps::Nothing),
+        Edits::OfModel(key, change) => {
+            let step = step_for(alloc, models, &key, change)?;
+            Ok(Steps::OfModel(key, step))
+        }
+    }
+}
+
+fn make_step<A: Drop>(table: &mut Table<A>, key: Key, step: Step<A>)
+    requires { StepFits key step table.old }
+    ensures { table.new.rows ≡ stepped key step table.old.rows }
+{
+    match step {
+        Step::Put(again, holds) => table.put(key, again, holds),
+        Step::Remove => table.remove(&key),
+        Step::Regrant(grants) => table.regrant(&key, grants),
+    }
+}
+
+/// Makes the steps. It takes no memory.
+pub fn make_steps(models: &mut Table<Content>, steps: Steps)
+    requires { StepsFit models.old steps }
+    ensures { models.new.rows ≡ made_models steps models.old.rows }
+{
+    match steps {
+        Steps::Nothing => {}
+        Steps::OfModel(key, step) => make_step(models, key, step),
+    }
+}
+
+impl Pending {
+    /// A refusal, with nothing to be done.
+    pub(crate) fn refused(refusal: Refusal) -> Pending
+        ensures { result ≡ record { reply = Reply.Refused refusal; steps = Steps.Nothing } }
+    {
+        Pending {
+            reply: Reply::Refused(refusal),
+            steps: Steps::Nothing,
+        }
+    }
+
+    /// What is pending of a plan, with room for it.
+    pub(crate) fn of_plan(
+        alloc: Global,
+        models: &mut Table<Content>,
+        plan: Plan,
+    ) -> Result<Pending, AllocError>
+        ensures models { models.new.rows ≡ models.old.rows }
+        ensures fits { IfOk result (λ pending. StepsFit models.new pending.steps) }
+        ensures pending { IfOk result (λ pending. pending ≡ record { reply = plan.reply; steps = steps_of models.old.rows plan.edits }) }
+    {
+        let Plan { reply, edits } = plan;
+        let steps = steps_for(alloc, models, edits)?;
+        Ok(Pending { reply, steps })
+    }
+
+    /// What the request is answered, once the steps are made.
+    pub fn reply(&self) -> &Reply
+        ensures { result.now ≡ self.now.reply }
+    {
+        &self.reply
+    }
+}

@@ -1,0 +1,29 @@
+-- The requests that grant and revoke.
+use Rattle.std.specs.Prelude.{List, [], ◌∷◌, Some, None, if◌then◌else◌}
+use Rattle.std.specs.Str.{bytes_eq}
+use Rattle.rp_rows.specs.declared.rows.Level.{Level}
+use Rattle.rp_rows.specs.Rows.{Text}
+use Rattle.rp_rows.specs.Alterations.{Grants}
+use Rattle.rp_plain.specs.declared.messages.Reply.TheVariants.{Done}
+use Rattle.rp_plain.specs.Asked.{Asked}
+use Rattle.rp_plain.specs.Edits.{Edit, EditModel}
+use Rattle.rp_plain.specs.Meaning.{Meaning, names_fault, is_no_partner, unseen}
+
+-- a grant to the owner changes nothing
+abbrev pub unless_own : Text → Text → Edit → List Edit
+unless_own c to e = if bytes_eq to c then [] else e ∷ []
+
+-- it replaces the former level
+abbrev pub grant_model : Asked → Text → Text → Text → Level → Meaning
+grant_model a c name to l = record {
+  tests = names_fault name to ∷ is_no_partner a to ∷ unseen (a.model_right (c, name)) ∷ [];
+  reply = Done;
+  edits = unless_own c to (EditModel (c, name) (Grants to (Some l)));
+}
+
+abbrev pub revoke_model : Asked → Text → Text → Text → Meaning
+revoke_model a c name to = record {
+  tests = names_fault name to ∷ is_no_partner a to ∷ unseen (a.model_right (c, name)) ∷ [];
+  reply = Done;
+  edits = EditModel (c, name) (Grants to None) ∷ [];
+}

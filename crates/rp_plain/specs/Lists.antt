@@ -1,0 +1,41 @@
+-- The requests that list what there is.
+use Rattle.std.specs.Prelude.{Bool, List, [], ◌∷◌, map, Option, Some, None}
+use Rattle.std.specs.Ordering.{is_lt}
+use Rattle.p21_tree.specs.declared.instance.Instance.{Instance}
+use Rattle.p21_instances.specs.Instances.{in_order, type_of}
+use Rattle.ex_types.specs.Checked.{Checked}
+use Rattle.rp_rows.specs.declared.rows.Content.{Content}
+use Rattle.rp_rows.specs.Rows.{Text, text_cmp, Key}
+use Rattle.rp_plain.specs.declared.lists.NamedType.{NamedType}
+use Rattle.rp_plain.specs.declared.messages.Reply.TheVariants as reply
+use Rattle.rp_plain.specs.Asked.{Asked}
+use Rattle.rp_plain.specs.Meaning.{Meaning, schema_name, key_fault, is_no_partner, unseen}
+
+abbrev pub instances_of : Option Content → List Instance
+instances_of None = []
+instances_of (Some h) = h.instances
+
+abbrev pub named : Instance → NamedType
+named i = record { name = i.name; type_name = type_of i.mapping }
+
+-- the names of a model's instances, with their types
+abbrev pub names : Asked → Key → Meaning
+names a k = record {
+  tests = key_fault k ∷ is_no_partner a k.0 ∷ unseen (a.model_right k) ∷ [];
+  reply = reply.Names (map named (instances_of (a.content k)));
+  edits = [];
+}
+
+-- the groups and models that the caller sees
+abbrev pub list_items : Asked → Meaning
+list_items a = record { tests = []; reply = reply.Listed a.groups a.models; edits = [] }
+
+abbrev pub is_below : Text → Text → Bool
+is_below s t = is_lt (text_cmp s t)
+
+-- the names of the schemas, in byte order
+abbrev pub schema_names : List Checked → List Text
+schema_names schemas = in_order is_below (map schema_name schemas)
+
+abbrev pub schemas : Asked → Meaning
+schemas a = record { tests = []; reply = reply.Schemas (schema_names a.schemas); edits = [] }

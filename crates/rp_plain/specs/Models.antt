@@ -1,0 +1,36 @@
+-- The requests that create and delete models.
+use Rattle.std.specs.Prelude.{ℕ, nat_le, [], ◌∷◌, Some, None}
+use Rattle.std.specs.Str.{str_to_ascii_uppercase}
+use Rattle.p21_read.specs.Defaults.{default_header}
+use Rattle.rp_rows.specs.declared.rows.Content.{Content}
+use Rattle.rp_rows.specs.declared.rows.Right.TheVariants.{Reads}
+use Rattle.rp_rows.specs.Rows.{Text}
+use Rattle.rp_rows.specs.Sight.{at_least}
+use Rattle.rp_rows.specs.Alterations.{Holds}
+use Rattle.rp_plain.specs.declared.messages.Refusal.TheVariants.{Exists, TooMany}
+use Rattle.rp_plain.specs.declared.messages.Reply.TheVariants.{Done}
+use Rattle.rp_plain.specs.Asked.{Asked}
+use Rattle.rp_plain.specs.Edits.{EditModel}
+use Rattle.rp_plain.specs.Meaning.{Meaning, when, name_fault, is_no_schema, unseen}
+
+-- the models of one owner
+abbrev pub max_models : ℕ
+max_models = 100
+
+-- a model as it is created
+abbrev pub new_content : Text → Content
+new_content schema = record { schema = str_to_ascii_uppercase schema; header = default_header; greatest = 0; instances = []; links = [] }
+
+abbrev pub create_model : Asked → Text → Text → Text → Meaning
+create_model a c name schema = record {
+  tests = name_fault name ∷ is_no_schema a schema ∷ when (at_least Reads (a.model_right (c, name))) Exists ∷ when (nat_le max_models a.model_count) TooMany ∷ [];
+  reply = Done;
+  edits = EditModel (c, name) (Holds (Some (new_content schema))) ∷ [];
+}
+
+abbrev pub delete_model : Asked → Text → Text → Meaning
+delete_model a c name = record {
+  tests = name_fault name ∷ unseen (a.model_right (c, name)) ∷ [];
+  reply = Done;
+  edits = EditModel (c, name) (Holds None) ∷ [];
+}

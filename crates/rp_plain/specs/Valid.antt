@@ -1,0 +1,136 @@
+-- Which repositories there can be: they are valid when they are opened, and steps keep them so.
+use Rattle.std.specs.Prelude.{◌≡◌, ◌≤◌, ◌⊎◌, ℕ, true, false, List, [], ◌∷◌, ◌++◌, map, None, length, filter, Ok}
+use Rattle.std.specs.List.{list_all, AllByRecursion}
+use Rattle.std.specs.Str.{bytes_eq}
+use Rattle.std.specs.Ordering.{nat_cmp}
+use Rattle.ex_types.specs.Checked.{Checked}
+use Rattle.p21_tree.specs.declared.header.Header.{Header}
+use Rattle.p21_tree.specs.declared.instance.Instance.{Instance}
+use Rattle.p21_tree.specs.declared.raw.Raw.{Raw}
+use Rattle.p21_read.specs.File.{file_of}
+use Rattle.p21_read.specs.Defaults.{default_header}
+use Rattle.p21_instances.specs.Instances.{names, greatest_name, keywords, references_of, is_among, has_twice}
+use Rattle.sorted_tables.specs.Table.{IsAscending}
+use Rattle.rp_rows.specs.declared.rows.Level.TheVariants.{Read}
+use Rattle.rp_rows.specs.declared.rows.Grant.{Grant}
+use Rattle.rp_rows.specs.declared.rows.Link.{Link}
+use Rattle.rp_rows.specs.declared.rows.Content.{Content}
+use Rattle.rp_rows.specs.Names.{is_name}
+use Rattle.rp_rows.specs.Rows.{text_cmp, Key, key_cmp, grant_key, Row, row_key, Model, GroupRow}
+use Rattle.rp_rows.specs.Sight.{owns}
+use Rattle.rp_plain.specs.Plain.{Plain}
+use Rattle.rp_plain.specs.Opening.{new_fault}
+use Rattle.rp_plain.specs.Meaning.{has_text, has_schema}
+use Rattle.rp_plain.specs.Models.{max_models}
+use Rattle.rp_plain.specs.Files.{max_instances}
+
+-- ---- rows
+
+-- another partner has the grant
+pub record IsValidGrant (partners : List (List ℕ)) (owner : List ℕ) (g : Grant) : Type 0 where
+  pub partner : has_text partners g.partner ≡ true
+  pub other : bytes_eq owner g.partner ≡ false
+
+-- a partner owns it, it has a name, and its grants are others', each partner's once
+pub record IsValidRow {A : Type 0} (partners : List (List ℕ)) (x : Row A) : Type 0 where
+  pub owner : has_text partners x.owner ≡ true
+  pub name : is_name x.name ≡ true
+  pub grants : IsAscending text_cmp grant_key x.grants
+  pub grantees : AllByRecursion (IsValidGrant partners x.owner) x.grants
+
+-- ---- what models hold
+
+-- a file has this header
+pub record IsHeaderOfFile (header : Header) : Type 0 where
+  pub file : List ℕ
+  pub raw : Raw
+  pub reads : file_of file ≡ Ok raw
+  pub is : header ≡ raw.header
+
+-- a file has this instance
+pub record IsInstanceOfFile (i : Instance) : Type 0 where
+  pub file : List ℕ
+  pub raw : Raw
+  pub reads : file_of file ≡ Ok raw
+  pub before : List Instance
+  pub behind : List Instance
+  pub stands : raw.instances ≡ before ++ i ∷ behind
+
+abbrev pub link_names : List Link → List ℕ
+link_names = map (λ l. l.name)
+
+-- no type stands twice in the instance, and each name that it refers to is an instance or a link of the model
+pub record IsSound (h : Content) (i : Instance) : Type 0 where
+  pub types : has_twice bytes_eq (keywords i.mapping) ≡ false
+  pub references : list_all (is_among (names h.instances ++ link_names h.links)) (references_of i.mapping) ≡ true
+
+abbrev pub instance_name : Instance → ℕ
+instance_name i = i.name
+
+-- the greatest name of an instance: 18 digits
+abbrev pub max_name : ℕ
+max_name = 999999999999999999
+
+pub record IsValidContent (schemas : List Checked) (h : Content) : Type 0 where
+  pub schema : has_schema schemas h.schema ≡ true
+  pub header : (h.header ≡ default_header) ⊎ IsHeaderOfFile h.header
+  -- each name once, in order
+  pub instances : IsAscending nat_cmp instance_name h.instances
+  pub spelled : AllByRecursion IsInstanceOfFile h.instances
+  pub sound : AllByRecursion (IsSound h) h.instances
+  pub few : length h.instances ≤ max_instances
+  -- the greatest name is no less than those in use
+  pub in_use : greatest_name 0 h.instances ≤ h.greatest
+  pub greatest : h.greatest ≤ max_name
+  -- a file brings no links
+  pub links : h.links ≡ []
+
+pub record IsValidModel (schemas : List Checked) (partners : List (List ℕ)) (m : Model) : Type 0 where
+  pub row : IsValidRow partners m
+  pub content : IsValidContent schemas m.holds
+
+-- ---- what groups hold
+
+-- a partner owns the member, and it has a name
+pub record IsValidMember (partners : List (List ℕ)) (k : Key) : Type 0 where
+  pub owner : has_text partners k.0 ≡ true
+  pub name : is_name k.1 ≡ true
+
+-- the members of a group
+abbrev pub max_members : ℕ
+max_members = 50
+
+abbrev pub IsRead : Grant → Type 0
+IsRead g = g.level ≡ Read
+
+abbrev pub itself : Key → Key
+itself k = k
+
+pub record IsValidGroup (schemas : List Checked) (partners : List (List ℕ)) (g : GroupRow) : Type 0 where
+  pub row : IsValidRow partners g
+  pub levels : AllByRecursion IsRead g.grants
+  pub schema : has_schema schemas g.holds.schema ≡ true
+  pub members : AllByRecursion (IsValidMember partners) g.holds.members
+  -- each once, in order
+  pub order : IsAscending key_cmp itself g.holds.members
+  pub few : length g.holds.members ≤ max_members
+
+-- ---- repositories
+
+-- models and groups stand in the order of owner and name, each name once
+pub record IsOrdered (r : Plain) : Type 0 where
+  pub models : IsAscending key_cmp row_key r.models
+  pub groups : IsAscending key_cmp row_key r.groups
+
+-- the groups of one owner
+abbrev pub max_groups : ℕ
+max_groups = 100
+
+pub record IsValid (r : Plain) : Type 0 where
+  -- names of schemas and of partners stand once, partners have names, and neither are too many
+  pub opens : new_fault r.schemas r.partners ≡ None
+  pub order : IsOrdered r
+  pub models : AllByRecursion (IsValidModel r.schemas r.partners) r.models
+  pub groups : AllByRecursion (IsValidGroup r.schemas r.partners) r.groups
+  pub few_models : (owner : List ℕ) → length (filter (owns owner) r.models) ≤ max_models
+  pub few_groups : (owner : List ℕ) → length (filter (owns owner) r.groups) ≤ max_groups

@@ -1,0 +1,20 @@
+//! What lists have in them.
+
+use plain_data::Text;
+use rp_rows::rows::Right;
+
+/// A model or a group in a list.
+#[derive(Drop)]
+pub struct Item {
+    pub owner: Text,
+    pub name: Text,
+    pub schema: Text,
+    pub right: Right,
+}
+
+/// An instance's name, and its type as it is told.
+#[derive(Drop)]
+pub struct NamedType {
+    pub name: u64,
+    pub type_name: Text,
+}

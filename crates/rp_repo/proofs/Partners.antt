@@ -1,0 +1,58 @@
+-- Turns leave the partners as they are, and a valid repository valid.
+use Rattle.std.proofs.Common.{◌≡◌, ℕ, zero, suc, ◌<◌, Bool, true, false, ◌||◌, List, [], ◌∷◌, length, refl, sym, ◌∙◌, ap, subst, arith}
+use Rattle.std.specs.Prelude.{if◌then◌else◌, slice_index_or}
+use Rattle.std.specs.List.{list_any}
+use Rattle.std.specs.Str.{bytes_eq}
+use Rattle.std.proofs.lemmas.Slice.Eq.{bytes_eq-Decides}
+use Rattle.rp_rows.specs.Rows.{Text}
+use Rattle.rp_plain.specs.declared.messages.Request.{Request}
+use Rattle.rp_plain.specs.declared.messages.Reply.{Reply}
+use Rattle.rp_plain.specs.Plain.{Plain}
+use Rattle.rp_plain.specs.Edits.{Edit, EditModel, EditGroup, edited_by, changed}
+use Rattle.rp_plain.specs.Asked.{asked}
+use Rattle.rp_plain.specs.Meaning.{has_text}
+use Rattle.rp_plain.specs.Step.{answer, next}
+use Rattle.rp_plain.specs.Runs.{Effect, is_no_memory, left_by}
+use Rattle.rp_plain.specs.Turns.{Turn, effect, after}
+use Rattle.rp_plain.specs.Valid.{IsValid}
+use Rattle.rp_laws.specs.Laws.{KeepsValid}
+use Rattle.rp_core.specs.Held.{Kept, partner_at, turn, made, Fits, IsPrepared}
+use Rattle.rp_core.specs.declared.steps.Pending.{Pending}
+use Rattle.rp_repo.specs.Ready.{IsReady}
+
+changed_partners : (es : List Edit) (r : Plain) → (changed es r).partners ≡ r.partners
+changed_partners [] r = refl
+changed_partners (EditModel k a ∷ es) r = changed_partners es (edited_by (EditModel k a) r)
+changed_partners (EditGroup k a ∷ es) r = changed_partners es (edited_by (EditGroup k a) r)
+
+pub next_partners : (r : Plain) (c : Text) (q : Request) → (next r c q).partners ≡ r.partners
+next_partners r c q = changed_partners (answer (asked r c) c q).edits r
+
+pub left_partners : (r : Plain) (e : Effect) (reply : Reply) → e.next.partners ≡ r.partners → (left_by r e reply).partners ≡ r.partners
+left_partners r e reply same = elim (is_no_memory reply) as (λ b. (if b then r else e.next).partners ≡ r.partners) [ true ↦ refl | false ↦ same ]
+
+pub partners_after : (r : Plain) (t : Turn) (reply : Reply) → (after r t reply).partners ≡ r.partners
+partners_after r t reply = left_partners r (effect r t) reply (next_partners r t.caller t.request)
+
+-- a text at a place is among the texts
+pub is_among : (texts : List Text) (i : ℕ) (c : Text) → i < length texts → slice_index_or texts i [] ≡ c → has_text texts c ≡ true
+is_among [] i c within is = absurd (omega arith)
+is_among (text ∷ texts) zero c within is = ap (λ t. t || list_any (bytes_eq c) texts) ((bytes_eq-Decides c text).1 (sym is))
+is_among (text ∷ texts) (suc i) c within is = or_true (bytes_eq c text) (is_among texts i c (omega arith) is)
+  where
+    or_true : (a : Bool) {b : Bool} → b ≡ true → (a || b) ≡ true
+    or_true true e = refl
+    or_true false e = e
+
+pub valid_after : KeepsValid → (r : Plain) (place : ℕ) (q : Request) (reply : Reply) → place < length r.partners → IsValid r → IsValid (after r (turn r place q) reply)
+valid_after keeps r place q reply within valid =
+    let c = partner_at r place in
+    elim (is_no_memory reply) as (λ b. IsValid (if b then r else next r c q)) [ true ↦ valid | false ↦ keeps r c q (is_among r.partners place c within refl) valid ]
+
+-- what was prepared of a valid repository may be committed to one that holds the same
+pub ready : KeepsValid → (old new : Kept) (place : ℕ) (q : Request) (pending : Pending) → place < length old.content.partners → IsValid old.content
+    → new.content ≡ old.content → IsPrepared old.content (turn old.content place q) pending → Fits new pending → IsReady new pending
+ready keeps old new place q pending within valid same prepared fits = record {
+  fits = fits;
+  valid = subst IsValid (sym (ap (made pending.steps) same ∙ prepared.changes)) (valid_after keeps old.content place q pending.reply within valid);
+}

@@ -1,0 +1,12 @@
+use Rattle.std.proofs.Common.{◌<◌, length, sym, subst}
+use Rattle.rp_plain.specs.Valid.{IsValid}
+use Rattle.rp_repo.proofs.Partners.{ready}
+use Rattle.rp_repo.proofs.repository.Repository.prepare.Goals as goal
+
+pub invariant_of-self : goal.invariant_of-self
+invariant_of-self c = subst IsValid (sym c.prepare.ensures.content) c.self.invariant
+
+pub returns-clause-ready : goal.returns-clause-ready
+returns-clause-ready c =
+    let within : c.caller.inside.place < length c.self.inside.holdings.content.partners = rw (c.self.view_is, c.caller.view_is) c.requires in
+    ready c.step_keeps_validity.ensures.step c.self.inside.holdings c.prepare.new.self c.caller.inside.place c.args.request c.prepare.result within c.self.invariant c.prepare.ensures.content c.prepare.ensures.prepared c.prepare.ensures.fits

@@ -1,0 +1,166 @@
+//! The repository, whose requests are turns of its partners.
+
+use ex_types::Schema;
+use plain_data::Text;
+use rp_core::{Holdings, Pending};
+use rp_laws::{one_run, step_keeps_validity};
+use rp_plain::messages::{NewFault, Reply, Request};
+use std::alloc::{AllocError, Global};
+use std::marker::Model;
+
+/// A partner, by his place in the partner table.
+#[derive(Clone, Copy)]
+pub struct Caller {
+    place: usize,
+}
+
+impl Model for Caller {
+    ghost use Rattle.std.specs.Prelude.{ℕ};
+
+    ghost Value = { ℕ };
+
+    ghost view = { λ c. c.place };
+
+    ghost inverse = { λ n. record { place = n } };
+}
+
+/// A request with the partner who makes it.
+#[derive(Drop)]
+pub struct Call {
+    pub caller: Caller,
+    pub request: Request,
+}
+
+/// Schemas, partners, models and groups. What is held is valid at all times.
+#[derive(Drop)]
+pub struct Repository {
+    holdings: Holdings,
+}
+
+impl Model for Repository {
+    ghost use Rattle.rp_plain.specs.Valid.{IsValid};
+    ghost use Rattle.rp_core.specs.Held.{Kept};
+
+    ghost Value = { Kept };
+
+    ghost use Rattle.rp_core.specs.contracts.holdings.Holdings as holdings_type;
+
+    ghost coded = { holdings_type.the_row.coded };
+
+    ghost view = { λ r. r.holdings };
+
+    ghost invariant = { λ r. IsValid r.holdings.content };
+}
+
+impl Repository {
+    ghost use Rattle.std.specs.Prelude.{◌≡◌, ◌≢◌, ◌<◌, ℕ, List, false, length, Some, None, IfOk, IfErr, OnErr, MatchOption};
+    ghost use Rattle.std.specs.List.{AllByRecursion};
+    ghost use Rattle.rp_plain.specs.Plain.{part};
+    ghost use Rattle.rp_plain.specs.Meaning.{has_text};
+    ghost use Rattle.rp_plain.specs.Opening.{new_fault, opened};
+    ghost use Rattle.rp_plain.specs.Runs.{MayReply};
+    ghost use Rattle.rp_plain.specs.Turns.{effect, after, Run, OthersOutside, replies_to, requests_of, alone, alone_end};
+    ghost use Rattle.rp_plain.specs.Valid.{IsValid};
+    ghost use Rattle.rp_core.specs.Held.{partner_at, turn, made, IsPrepared};
+    ghost use Rattle.rp_repo.specs.Calls.{turns_of};
+    ghost use Rattle.rp_repo.specs.Ready.{IsReady};
+
+    /// The empty repository of these schemas and partners.
+    ///
+    /// # Errors
+    ///
+    /// The first that holds of `TwoSchemas`, `TwoPartners`, `BadName` and `TooMany`; or `NoMemory`.
+    pub fn new(alloc: Global, schemas: Vec<Schema>, partners: Vec<Text>) -> Result<Self, NewFault>
+        ensures ok { IfOk result (λ _. new_fault schemas.items partners.items ≡ None) }
+        ensures content { IfOk result (λ repository. repository.content ≡ opened schemas.items partners.items) }
+        ensures valid { IfOk result (λ repository. IsValid repository.content) }
+        ensures err { IfErr result (λ fault. fault ≢ NewFault.NoMemory → new_fault schemas.items partners.items ≡ Some fault) }
+    {
+        step_keeps_validity();
+        let holdings = Holdings::new(alloc, schemas, partners)?;
+        Ok(Repository { holdings })
+    }
+
+    /// What is held is valid, and in order.
+    pub fn is_valid(&self)
+        ensures { IsValid self.now.content }
+    {
+        // A look at the field gives the proof what holds of it.
+        let _holdings = &self.holdings;
+    }
+
+    /// The partner of this name.
+    pub fn caller(&self, name: &Text) -> Option<Caller>
+        ensures { MatchOption result (has_text self.now.content.partners name.now ≡ false)
+            (λ place. (place < length self.now.content.partners) × (partner_at self.now.content place ≡ name.now)) }
+    {
+        match self.holdings.place_of_partner(name) {
+            Some(place) => Some(Caller { place }),
+            None => None,
+        }
+    }
+
+    /// The reply to a request, and what is still to be done. Nothing that is seen is changed, and
+    /// room is made. Where memory is wanting, the reply is that, with nothing to be done.
+    pub fn prepare(&mut self, alloc: Global, caller: Caller, request: Request) -> Pending
+        requires { caller < length self.old.content.partners }
+        ensures content { self.new.content ≡ self.old.content }
+        ensures prepared { IsPrepared self.old.content (turn self.old.content caller request) result }
+        ensures ready { IsReady self.new result }
+    {
+        step_keeps_validity();
+        self.holdings.prepare(alloc, caller.place, request)
+    }
+
+    /// Does what was prepared, and gives the reply. It takes no memory.
+    pub fn commit(&mut self, pending: Pending) -> Reply
+        requires { IsReady self.old pending }
+        ensures reply { result ≡ pending.reply }
+        ensures content { self.new.content ≡ made pending.steps self.old.content }
+        ensures valid { IsValid self.new.content }
+    {
+        self.holdings.commit(pending)
+    }
+
+    /// One turn of a partner.
+    pub fn handle(&mut self, alloc: Global, caller: Caller, request: Request) -> Reply
+        requires { caller < length self.old.content.partners }
+        ensures reply { MayReply (effect self.old.content (turn self.old.content caller request)) result }
+        ensures content { self.new.content ≡ after self.old.content (turn self.old.content caller request) result }
+        ensures partners { self.new.content.partners ≡ self.old.content.partners }
+        ensures valid { IsValid self.new.content }
+    {
+        let pending = self.prepare(alloc, caller, request);
+        self.commit(pending)
+    }
+
+    /// The requests, one turn after another, with a reply to each.
+    ///
+    /// # Errors
+    ///
+    /// There is no memory for the list of replies, and no request was made.
+    pub fn run(&mut self, alloc: Global, calls: Vec<Call>) -> Result<Vec<Reply>, AllocError>
+        requires { AllByRecursion (λ call. call.caller < length self.old.content.partners) calls.items }
+        ensures run { IfOk result (λ replies.
+            Run self.old.content (turns_of self.old.content calls.items) replies.items self.new.content) }
+        ensures partners { self.new.content.partners ≡ self.old.content.partners }
+        ensures valid { IsValid self.new.content }
+        // Where the turns of others are outside of what a partner reaches, his replies are those that he gets alone.
+        ensures alone { IfOk result (λ replies. (c : List ℕ) → let turns = turns_of self.old.content calls.items in
+            OthersOutside self.old.content c turns replies.items →
+            replies_to c turns replies.items ≡ alone (part self.old.content c) c (requests_of c turns)) }
+        ensures left { IfOk result (λ replies. (c : List ℕ) → let turns = turns_of self.old.content calls.items in
+            OthersOutside self.old.content c turns replies.items →
+            part self.new.content c ≡ part (alone_end (part self.old.content c) c (requests_of c turns)) c) }
+        ensures err { OnErr result (self.new.content ≡ self.old.content) }
+    {
+        one_run();
+        self.is_valid();
+        let mut replies = Vec::with_capacity(alloc, calls.len())?;
+        for call in calls {
+            let Call { caller, request } = call;
+            replies.push_reserved(self.handle(alloc, caller, request));
+        }
+        Ok(replies)
+    }
+}

@@ -1,0 +1,4 @@
+pub mod Names
+pub mod Rows
+pub mod Sight
+pub mod Alterations
