@@ -55,12 +55,16 @@ def processor_seconds(process):
         return int(it.read().split()[0]) / 1e9
 
 
+# The number of the system call write on x86-64, as /proc tells it.
+WRITE = "1 "
+
+
 def waits_to_write(process):
     with open(f"/proc/{process.pid}/wchan", encoding="ascii") as it:
         if "pipe" in it.read():
             return True
     with open(f"/proc/{process.pid}/syscall", encoding="ascii") as it:
-        return it.read().startswith("1 ")
+        return it.read().startswith(WRITE)
 
 
 def full_pipe():
@@ -120,8 +124,9 @@ class Folder:
         reader, writer = full_pipe()
         with subprocess.Popen([self.program, *CHECK], cwd=self.path, stdin=subprocess.DEVNULL, stdout=writer) as process:
             os.close(writer)
-            while not waits_to_write(process):
+            while process.poll() is None and not waits_to_write(process):
                 time.sleep(0.005)
+            expect_success(process.returncode or 0)
             memory = most_memory(process)
             with open(reader, "rb") as it:
                 it.read()

@@ -175,7 +175,6 @@ class Model:
     owner: str
     name: str
     schema: str
-    greatest: int = 0
     grants: dict = field(default_factory=dict)
     instances: list = field(default_factory=list)
 
@@ -264,7 +263,6 @@ class Repository:
         def fill():
             rows = [(it.name, "+".join(sorted(upper(keyword) for keyword in it.keywords))) for it in found.instances]
             target.instances = sorted(rows)
-            target.greatest = max([target.greatest, *(name for name, _ in rows)])
 
         return {"instances": len(found.instances)}, fill
 

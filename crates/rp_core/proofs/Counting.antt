@@ -1,7 +1,6 @@
 -- How many keys are an owner's.
-use Rattle.std.proofs.Common.{◌≡◌, ℕ, zero, suc, ◌+◌, ◌<◌, true, false, List, [], ◌∷◌, length, get_or, refl, sym, ◌∙◌, ap, arith}
+use Rattle.std.proofs.Common.{◌≡◌, ◌+◌, true, false, List, [], ◌∷◌, length, refl, sym, ◌∙◌, ap, arith}
 use Rattle.std.specs.Prelude.{Bool, filter, not}
-use Rattle.std.specs.List.{AllByRecursion}
 use Rattle.std.specs.List.Sorted.{IsPartitionedBy}
 use Rattle.std.specs.Str.{bytes_eq}
 use Rattle.std.specs.declared.cmp.Ordering.{Ordering}
@@ -11,35 +10,12 @@ use Rattle.std.specs.Cmp.{IsTotalOrder}
 use Rattle.std.proofs.lemmas.Cmp.{alike_right, nat_list_cmp_total}
 use Rattle.std.proofs.lemmas.Map.Text.{is_eq-slice_cmp}
 use Rattle.sorted_tables.specs.Table.{is_after, IsAscending}
+use Rattle.sorted_tables.proofs.Searching.{partitioned, down_lt}
 use Rattle.rp_rows.specs.Rows.{Text, text_cmp, key_cmp}
 use Rattle.rp_core.specs.declared.keyed.Entry.{Entry}
 use Rattle.rp_core.specs.Entries.{entry_key}
 
-all_at : {X : Type 0} (P : X → Type 0) (xs : List X) → AllByRecursion P xs → (j : ℕ) (d : X) → j < length xs → P (get_or xs j d)
-all_at P [] all j d h = absurd (omega arith)
-all_at P (x ∷ xs) all zero d h = all.0
-all_at P (x ∷ xs) all (suc j) d h = all_at P xs all.1 j d (omega arith)
-
--- in a list in order, what a test that passes from later rows to earlier ones says splits it
-partitioned : {K X : Type 0} (cmp : K → K → Ordering) (key : X → K) (p : X → Bool) (down : (x y : X) → is_after cmp key (key x) y ≡ true → p y ≡ true → p x ≡ true) (xs : List X) → IsAscending cmp key xs → IsPartitionedBy p xs
-partitioned cmp key p down [] order i j d le h t = absurd (omega arith)
-partitioned cmp key p down (x ∷ xs) order zero zero d le h t = t
-partitioned cmp key p down (x ∷ xs) order zero (suc j) d le h t = down x (get_or xs j d) (all_at (λ y. is_after cmp key (key x) y ≡ true) xs order.0 j d (omega arith)) t
-partitioned cmp key p down (x ∷ xs) order (suc i) zero d le h t = absurd (omega arith)
-partitioned cmp key p down (x ∷ xs) order (suc i) (suc j) d le h t = partitioned cmp key p down xs order.1 i j d (omega arith) (omega arith) t
-
-is_lt-true : (t : Ordering) → is_lt t ≡ true → t ≡ Less
-is_lt-true Less h = refl
-is_lt-true Equal h = cc
-is_lt-true Greater h = cc
-
 module _ {K : Type 0} (cmp : K → K → Ordering) (total : IsTotalOrder cmp) where
-  -- x is at most y, and y less than k
-  down_lt : (x y k : K) (t : Ordering) → cmp y x ≡ t → is_lt t ≡ false → is_lt (cmp y k) ≡ true → is_lt (cmp x k) ≡ true
-  down_lt x y k Less e high low = cc
-  down_lt x y k Equal e high low = rw (← total.congr y x k e) low
-  down_lt x y k Greater e high low = ap is_lt (total.trans x y k (total.antisymm x y ∙ ap ordering_reverse e) (is_lt-true (cmp y k) low))
-
   -- x is at most y, and y at most k
   down_le : (x y k : K) (t : Ordering) → cmp y x ≡ t → is_lt t ≡ false → not (is_gt (cmp y k)) ≡ true → not (is_gt (cmp x k)) ≡ true
   down_le x y k Less e high low = cc

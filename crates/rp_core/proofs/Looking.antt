@@ -3,7 +3,11 @@ use Rattle.std.proofs.Common.{◌≡◌, Bool, ◌&&◌, true, false, List, Opti
 use Rattle.std.specs.List.{find}
 use Rattle.sorted_tables.specs.Table.{IsAscending}
 use Rattle.sorted_tables.proofs.Searching.{found_passing, chosen}
-use Rattle.rp_rows.specs.Rows.{Key, key_cmp, Row, row_key, is_row}
+use Rattle.rp_rows.specs.declared.rows.Right.{Right}
+use Rattle.rp_rows.specs.declared.rows.Right.TheVariants.{Unseen, Reads, Groups, Writes, Owns}
+use Rattle.rp_rows.specs.Rows.{Text, Key, key_cmp, Row, row_key, is_row, Model, GroupRow}
+use Rattle.rp_rows.specs.Sight.{at_least, level, sees}
+use Rattle.rp_plain.specs.Asked.{right_at}
 use Rattle.rp_rows.proofs.Keys.{key_total}
 
 -- what was found at the key, which is seen or not
@@ -15,3 +19,19 @@ chosen_seen p x h = rw h refl
 
 pub chosen_unseen : {X : Type 0} (p : X → Bool) (x : X) → p x ≡ false → chosen p (Some x) ≡ None
 chosen_unseen p x h = rw h refl
+
+-- a level that is less than Reads is none
+too_low : (t : Right) → at_least Reads t ≡ false → Unseen ≡ t
+too_low Unseen h = refl
+too_low Reads h = cc
+too_low Groups h = cc
+too_low Writes h = cc
+too_low Owns h = cc
+
+-- the level on what is seen is the level on what is there
+pub right_there : (gs : List GroupRow) (c : Text) (m : Model) → right_at gs c (chosen (sees gs c) (Some m)) ≡ level gs c m
+right_there gs c m = by (sees gs c m) refl
+  where
+    by : (t : Bool) → sees gs c m ≡ t → right_at gs c (chosen (sees gs c) (Some m)) ≡ level gs c m
+    by true e = rw e refl
+    by false e = rw e (too_low (level gs c m) e)

@@ -76,7 +76,7 @@ impl<'a> Asking<'a> {
     pub fn model_right(&self, key: &Key) -> Right
         ensures { result ≡ (told self.now).model_right key.now }
     {
-        match self.model(key) {
+        match self.models.find(key) {
             Some(model) => level(self.groups, self.caller, &model),
             None => Right::Unseen,
         }

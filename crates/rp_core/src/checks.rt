@@ -39,6 +39,7 @@ fn told_of_schema(alloc: Global, schema: &Schema) -> Result<Reply, AllocError>
     })
 }
 
+/// What there is to tell of an EXPRESS text.
 pub fn plan_check(alloc: Global, asked: &Asking<'_>, text: &Text) -> Result<Plan, Refusal>
     ensures { Plans (told asked.now) asked.now.caller.now (Request.CheckSchema text.now) result }
 {

@@ -19,6 +19,9 @@ use rp_rows::rows::{Content, Key, Right};
 use std::alloc::{AllocError, Global};
 use text_forms::Failure;
 
+/// The most instances of a model.
+const MAX_INSTANCES: usize = 200_000;
+
 /// Why a put is refused without a look into its file.
 fn cheap_fault(asked: &Asking<'_>, key: &Key, file: &Text) -> Option<Refusal>
     ensures { result ≡ first_some (cheap_tests (told asked.now) key.now file.now) }
@@ -56,7 +59,7 @@ fn read_file(alloc: Global, content: &Option<&Content>, file: &Text) -> Result<R
     if let Some(fault) = first_fault(alloc, raw.instances.as_slice())? {
         return Err(Refusal::InstanceFault(fault));
     }
-    if raw.instances.len() > 200_000 {
+    if raw.instances.len() > MAX_INSTANCES {
         return Err(Refusal::TooMany);
     }
     Ok(raw)
@@ -101,6 +104,7 @@ fn filling(
     }
 }
 
+/// A model's content is replaced by that of a file.
 pub fn plan_put(alloc: Global, asked: &Asking<'_>, key: Key, file: &Text) -> Result<Plan, Refusal>
     ensures { Plans (told asked.now) asked.now.caller.now (Request.Put key file.now) result }
 {

@@ -12,6 +12,7 @@ use rp_plain::messages::{Refusal, Reply, Request};
 use rp_rows::rows::Level;
 use std::alloc::Global;
 
+/// A partner's level on a model of the caller's.
 pub fn plan_grant(
     alloc: Global,
     asked: &Asking<'_>,
@@ -41,6 +42,7 @@ pub fn plan_grant(
     })
 }
 
+/// No level of a partner on a model of the caller's.
 pub fn plan_revoke(alloc: Global, asked: &Asking<'_>, name: Text, to: Text) -> Result<Plan, Refusal>
     ensures { Plans (told asked.now) asked.now.caller.now (Request.RevokeModel name to) result }
 {

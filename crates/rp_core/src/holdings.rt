@@ -44,7 +44,6 @@ impl Holdings {
     ghost use Rattle.std.specs.Prelude.{◌≡◌, ◌≢◌, ◌<◌, false, length, Some, None, IfOk, IfErr, MatchOption};
     ghost use Rattle.rp_plain.specs.Meaning.{has_text};
     ghost use Rattle.rp_plain.specs.Opening.{new_fault, opened};
-    ghost use Rattle.rp_plain.specs.Valid.{IsOrdered};
     ghost use Rattle.rp_core.specs.Held.{partner_at, turn, made, Fits, IsPrepared};
 
     /// Nothing but these schemas and partners.
@@ -72,14 +71,6 @@ impl Holdings {
             (λ place. (place < length self.now.content.partners) × (partner_at self.now.content place ≡ name.now)) }
     {
         place_among(&self.partners, name)
-    }
-
-    /// Models and groups stand in the order of owner and name, each name once.
-    pub fn is_ordered(&self)
-        ensures { IsOrdered self.now.content }
-    {
-        let _ = self.models.len();
-        let _ = self.groups.len();
     }
 
     /// The reply to a request of the partner at this place, and what is still to be done. Nothing

@@ -40,6 +40,7 @@ fn named_types(alloc: Global, instances: &[Instance]) -> Result<Rows<NamedType>,
     Ok(Rows::from_vec(rows))
 }
 
+/// The names of a model's instances, with their types.
 pub fn plan_names(alloc: Global, asked: &Asking<'_>, key: &Key) -> Result<Plan, Refusal>
     ensures { Plans (told asked.now) asked.now.caller.now (Request.Names key.now) result }
 {
@@ -57,16 +58,21 @@ pub fn plan_names(alloc: Global, asked: &Asking<'_>, key: &Key) -> Result<Plan, 
     })
 }
 
+/// The groups and the models that the caller sees.
 pub fn plan_list(alloc: Global, asked: &Asking<'_>) -> Result<Plan, Refusal>
     ensures { Plans (told asked.now) asked.now.caller.now Request.ListItems result }
 {
     let groups = asked.group_items(alloc)?;
     Ok(Plan {
-        reply: Reply::Listed(groups, asked.model_items(alloc)?),
+        reply: Reply::Listed {
+            groups,
+            models: asked.model_items(alloc)?,
+        },
         edits: Edits::Nothing,
     })
 }
 
+/// The names of the schemas.
 pub fn plan_schemas(alloc: Global, asked: &Asking<'_>) -> Result<Plan, Refusal>
     ensures { Plans (told asked.now) asked.now.caller.now Request.Schemas result }
 {

@@ -15,6 +15,9 @@ use rp_plain::messages::{Refusal, Reply, Request};
 use rp_rows::rows::{Content, Key, Right};
 use std::alloc::{AllocError, Global};
 
+/// The most models of one owner.
+const MAX_MODELS: usize = 100;
+
 /// The caller's own name.
 pub fn own(alloc: Global, asked: &Asking<'_>, name: Text) -> Result<Key, AllocError>
     ensures { IfOk result (λ key. key ≡ (asked.now.caller.now, name)) }
@@ -37,6 +40,7 @@ fn new_content(alloc: Global, schema: Text) -> Result<Content, AllocError>
     })
 }
 
+/// An empty model of the caller's.
 pub fn plan_create(
     alloc: Global,
     asked: &Asking<'_>,
@@ -54,7 +58,7 @@ pub fn plan_create(
             at_least(Right::Reads, asked.model_right(&key)),
             Refusal::Exists,
         ),
-        when(asked.model_count() >= 100, Refusal::TooMany),
+        when(asked.model_count() >= MAX_MODELS, Refusal::TooMany),
     ];
     if let Some(refusal) = first(&tests) {
         return Err(refusal);
@@ -66,6 +70,7 @@ pub fn plan_create(
     })
 }
 
+/// A model of the caller's is gone, with its grants.
 pub fn plan_delete(alloc: Global, asked: &Asking<'_>, name: Text) -> Result<Plan, Refusal>
     ensures { Plans (told asked.now) asked.now.caller.now (Request.DeleteModel name) result }
 {

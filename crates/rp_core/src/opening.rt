@@ -13,6 +13,11 @@ use rp_rows::names::is_valid_name;
 use std::alloc::{AllocError, Global};
 use std::collections::BTreeSet;
 
+/// The most schemas and partners of a repository.
+const MAX_SCHEMAS: usize = 100;
+
+const MAX_PARTNERS: usize = 1_000;
+
 /// Tests the schemas and partners of a repository that is to be opened.
 ///
 /// # Errors
@@ -31,7 +36,7 @@ pub fn may_open(alloc: Global, schemas: &[Schema], partners: &[Text]) -> Result<
     if !are_names(partners) {
         return Err(NewFault::BadName);
     }
-    if schemas.len() > 100 || partners.len() > 1000 {
+    if schemas.len() > MAX_SCHEMAS || partners.len() > MAX_PARTNERS {
         return Err(NewFault::TooMany);
     }
     Ok(())

@@ -13,7 +13,7 @@ use rp_plain::messages::{Refusal, Reply};
 use rp_rows::rows::{Content, Grant, Key};
 use std::alloc::{AllocError, Global};
 
-/// What is done to what stands under a key.
+/// A change of what stands under a key, with all the memory that it needs.
 #[derive(Drop)]
 pub enum Step<A> {
     /// The key once more, and what is held there.
@@ -23,6 +23,7 @@ pub enum Step<A> {
     Regrant(Rows<Grant>),
 }
 
+/// The changes that a request comes to, with all the memory that they need.
 #[derive(Drop)]
 pub enum Steps {
     Nothing,

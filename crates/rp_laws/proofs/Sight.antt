@@ -146,10 +146,6 @@ grant_kept gs c k (x ∷ xs) = by (grant_kept gs c k xs) (is_grant_to c x) refl
     by rest true e = rw (e, e) refl
     by rest false e = rw e (hidden rest e (is_group_level x.level && is_shared_by gs c k x.partner))
 
-pub granted_kept : (gs : List GroupRow) (c : Text) (k : Key) (xs : List Grant) → list_any (is_grant_to c) (map (shown_grant c) (filter (is_shown gs c k) xs)) ≡ list_any (is_grant_to c) xs
-granted_kept gs c k [] = refl
-granted_kept gs c k (x ∷ xs) = grind (arith, granted_kept gs c k xs)
-
 -- the right of a partner who shares the model, and c's, are kept
 group_grant_kept : (gs : List GroupRow) (c p : Text) (k : Key) (shares : (x : Grant) → is_grant_to p x ≡ true → (is_grant_to c x || is_shared_by gs c k x.partner) ≡ true) (xs : List Grant) → list_any (is_group_grant p) (map (shown_grant c) (filter (is_shown gs c k) xs)) ≡ list_any (is_group_grant p) xs
 group_grant_kept gs c p k shares [] = refl

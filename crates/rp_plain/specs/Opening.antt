@@ -18,13 +18,19 @@ abbrev pub when : Bool → NewFault → Option NewFault
 when true fault = Some fault
 when false fault = None
 
+abbrev pub max_schemas : ℕ
+max_schemas = 100
+
+abbrev pub max_partners : ℕ
+max_partners = 1000
+
 -- why there is no repository of these schemas and partners, the first that holds
 abbrev pub new_fault : List Checked → List (List ℕ) → Option NewFault
 new_fault schemas partners = first_some (
     when (has_twice (map schema_name schemas)) TwoSchemas
     ∷ when (has_twice partners) TwoPartners
     ∷ when (not (list_all is_name partners)) BadName
-    ∷ when (nat_lt 100 (length schemas) || nat_lt 1000 (length partners)) TooMany
+    ∷ when (nat_lt max_schemas (length schemas) || nat_lt max_partners (length partners)) TooMany
     ∷ [])
 
 abbrev pub opened : List Checked → List (List ℕ) → Plain

@@ -98,12 +98,18 @@ pub enum Reply {
     /// So many instances were put.
     Stored(usize),
     Names(Rows<NamedType>),
-    /// The groups, and the models.
-    Listed(Rows<Item>, Rows<Item>),
+    /// The groups and the models that the caller sees.
+    Listed {
+        groups: Rows<Item>,
+        models: Rows<Item>,
+    },
     /// The names of the schemas, in byte order.
     Schemas(Rows<Text>),
     /// The text is this schema, with warnings at these bytes.
-    Checked { schema: Text, warnings: Rows<usize> },
+    Checked {
+        schema: Text,
+        warnings: Rows<usize>,
+    },
     /// The text is no schema: this is its first fault.
     Faulty(SchemaFault),
     Refused(Refusal),

@@ -13,7 +13,7 @@ use Rattle.rp_plain.specs.Asked.{asked}
 use Rattle.rp_plain.specs.Meaning.{has_text}
 use Rattle.rp_plain.specs.Step.{answer, next}
 use Rattle.rp_plain.specs.Runs.{Effect, is_no_memory, left_by}
-use Rattle.rp_plain.specs.Turns.{Turn, effect, after}
+use Rattle.rp_plain.specs.Turns.{after}
 use Rattle.rp_plain.specs.Valid.{IsValid}
 use Rattle.rp_laws.specs.Laws.{KeepsValid}
 use Rattle.rp_core.specs.Held.{Kept, partner_at, turn, made, Fits, IsPrepared}
@@ -30,9 +30,6 @@ next_partners r c q = changed_partners (answer (asked r c) c q).edits r
 
 pub left_partners : (r : Plain) (e : Effect) (reply : Reply) → e.next.partners ≡ r.partners → (left_by r e reply).partners ≡ r.partners
 left_partners r e reply same = elim (is_no_memory reply) as (λ b. (if b then r else e.next).partners ≡ r.partners) [ true ↦ refl | false ↦ same ]
-
-pub partners_after : (r : Plain) (t : Turn) (reply : Reply) → (after r t reply).partners ≡ r.partners
-partners_after r t reply = left_partners r (effect r t) reply (next_partners r t.caller t.request)
 
 -- a text at a place is among the texts
 pub is_among : (texts : List Text) (i : ℕ) (c : Text) → i < length texts → slice_index_or texts i [] ≡ c → has_text texts c ≡ true

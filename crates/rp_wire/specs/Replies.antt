@@ -81,6 +81,7 @@ refusal_members NoMemory = coded 18 (codes "NoMemory")
 abbrev pub named_type_data : NamedType → Data
 named_type_data t = object (with_number (codes "name") t.name (with_string (codes "type") t.type_name no_members))
 
+-- what isn't seen stands in no list
 abbrev pub level_word : Right → List ℕ
 level_word Unseen = codes "none"
 level_word Reads = codes "read"

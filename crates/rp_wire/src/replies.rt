@@ -47,7 +47,7 @@ fn write_reply(out: &mut Writer, reply: &Reply) -> Result<(), AllocError>
         Reply::Done => write_done(out),
         Reply::Stored(count) => write_stored(out, *count),
         Reply::Names(names) => write_names(out, names.as_slice()),
-        Reply::Listed(groups, models) => write_listed(out, groups.as_slice(), models.as_slice()),
+        Reply::Listed { groups, models } => write_listed(out, groups.as_slice(), models.as_slice()),
         Reply::Schemas(names) => write_schemas(out, names.as_slice()),
         Reply::Checked { schema, warnings } => write_checked(out, schema, warnings.as_slice()),
         Reply::Faulty(fault) => write_faulty(out, *fault),
