@@ -1,9 +1,9 @@
 -- Names that are looked for in one entity after the other.
 use Rattle.std.proofs.Common.{◌≡◌, ℕ, suc, ◌+◌, ◌-◌, ◌<◌, List, [], ◌∷◌, ◌++◌, length, drop, get_or, refl, sym, ◌∙◌, ap, arith}
 use Rattle.std.proofs.Math.Seq.{drop-cons}
-use Rattle.ex_lineage.specs.Lineage.{numbers_from}
+use Rattle.lineage.specs.Lineage.{numbers_from}
 use Rattle.ex_kinds.specs.Kinds.{Kinds}
-use Rattle.ex_kinds.specs.declared.kind.Kind.{Kind}
+use Rattle.ex_kinds.specs.declared.kind.ValueKind.{ValueKind}
 use Rattle.ex_attributes.specs.Attributes.{Attributes, entities_among, entities_at, found_after, with_attributes, named_attributes}
 use Rattle.ex_attributes.specs.declared.found.Found.{Found}
 
@@ -13,7 +13,7 @@ found_after_append schema name found [] ys = refl
 found_after_append schema name found (x ∷ xs) ys = found_after_append schema name (with_attributes schema found x (named_attributes schema x name)) xs ys
 
 -- one kind after the other
-pub found_after_kind : (schema : Attributes) (name : List ℕ) (found next : Found) (kinds : Kinds) (i : ℕ) (none : Kind) → i < length kinds
+pub found_after_kind : (schema : Attributes) (name : List ℕ) (found next : Found) (kinds : Kinds) (i : ℕ) (none : ValueKind) → i < length kinds
     → next ≡ found_after schema name found (entities_at schema (get_or kinds i none).depth (get_or kinds i none).sort)
     → found_after schema name next (entities_among schema (drop (i + 1) kinds)) ≡ found_after schema name found (entities_among schema (drop i kinds))
 found_after_kind schema name found next kinds i none within is =

@@ -12,13 +12,15 @@ use Rattle.ex_named.specs.declared.declaration.NamedEntity.{NamedEntity}
 use Rattle.ex_named.specs.declared.declaration.NamedExplicit.{NamedExplicit}
 use Rattle.ex_named.specs.declared.declaration.NamedInverse.{NamedInverse}
 use Rattle.ex_named.specs.declared.declaration.NamedRedeclaration.{NamedRedeclaration}
+use Rattle.ex_named.specs.declared.reference.AttributeMeaning.{AttributeMeaning}
+use Rattle.ex_named.specs.declared.reference.AttributeMeaning.TheVariants as m
 use Rattle.ex_named.specs.declared.reference.AttributePlace.{AttributePlace}
 use Rattle.ex_named.specs.declared.reference.AttributeSort.{AttributeSort}
 use Rattle.ex_named.specs.declared.reference.AttributeSort.TheVariants.{Explicit, Derived, Inverse}
 use Rattle.ex_named.specs.declared.reference.AttributeUse.{AttributeUse}
 use Rattle.ex_named.specs.Scopes.{is_among, and_then}
-use Rattle.ex_lineage.specs.Numbered.{numbered}
-use Rattle.ex_lineage.specs.Lineage.{family, numbers_from}
+use Rattle.lineage.specs.Numbered.{numbered}
+use Rattle.lineage.specs.Lineage.{family, numbers_from}
 use Rattle.ex_kinds.specs.declared.fault.TypeFaultKind.TheVariants.{Qualifier, Ambiguous}
 use Rattle.ex_kinds.specs.declared.kind.Sort.{Sort}
 use Rattle.ex_kinds.specs.declared.kind.Sort.TheVariants as k
@@ -46,9 +48,9 @@ redeclaration (na.Own n) = None
 redeclaration (na.Redeclared r) = Some r
 
 -- the declaration that a name means, if it means one
-abbrev pub meant : List AttributePlace → Option AttributePlace
-meant (place ∷ []) = Some place
-meant _ = None
+abbrev pub meant : AttributeMeaning → Option AttributePlace
+meant (m.One place) = Some place
+meant m.Several = None
 
 -- a plain inverse attribute is the one user
 abbrev pub inverse_kinds : Option InverseAggregate → ℕ → Kinds
@@ -72,7 +74,7 @@ declared_by number e = placed number Explicit (flat_map explicit_names e.explici
     ++ placed number Inverse (map inverse_name e.inverse)
 
 abbrev pub redeclared_as : Kinds → NamedAttribute → Option Redeclared
-redeclared_as kinds a = option_map (λ place. record { place = place; kinds = kinds }) (and_then (redeclaration a) (λ r. meant r.attribute.declarations))
+redeclared_as kinds a = option_map (λ place. record { place = place; kinds = kinds }) (and_then (redeclaration a) (λ r. meant r.attribute.meaning))
 
 abbrev pub redeclared_by : NamedEntity → List Redeclared
 redeclared_by e = flat_map (λ x. filter_map (redeclared_as (of_type x.data_type)) x.attributes) e.explicit
@@ -149,13 +151,12 @@ module _ (schema : Attributes) where
 
   -- ---- `SELF.a` by its name alone
 
-  abbrev pub used_by : ℕ → ℕ → List AttributePlace → Typed
-  used_by entity at [] = fine []
-  used_by entity at (place ∷ []) = fine (kinds_at place entity)
-  used_by entity at (place ∷ other ∷ others) = refused Ambiguous at
+  abbrev pub used_by : ℕ → ℕ → AttributeMeaning → Typed
+  used_by entity at (m.One place) = fine (kinds_at place entity)
+  used_by entity at m.Several = refused Ambiguous at
 
   unfoldable pub used : ℕ → AttributeUse → Typed
-  used entity name = used_by entity name.at name.declarations
+  used entity name = used_by entity name.at name.meaning
 
   -- ---- `x.a`
 

@@ -1,15 +1,15 @@
 //! The attributes of a schema's entities.
 
 ghost use Rattle.std.specs.Prelude.{◌≡◌, map, length, IfOk};
-ghost use Rattle.ex_lineage.specs.Numbered.{numbered};
-ghost use Rattle.ex_lineage.specs.Lineage as lineage;
+ghost use Rattle.lineage.specs.Numbered.{numbered};
+ghost use Rattle.lineage.specs.Lineage as lineage;
 ghost use Rattle.ex_attributes.specs.Attributes as spec;
 
 use crate::attribute::{Attribute, EntityAttributes, Redeclared};
 use crate::declared_attributes::declared_by;
 use crate::redeclarations::redeclared_by;
-use ex_lineage::family;
 use ex_named::NamedEntity;
+use lineage::family;
 use plain_data::Rows;
 use std::alloc::{AllocError, Global};
 use std::marker::Model;

@@ -3,7 +3,7 @@
 ghost use Rattle.std.specs.Prelude.{◌≡◌, ℕ, ◌==◌, ◌&&◌, ◌||◌, not, ◌++◌, [], IfOk, OnOk};
 ghost use Rattle.std.specs.List.{find};
 ghost use Rattle.std.specs.Option.{option_copied};
-ghost use Rattle.ex_lineage.specs.Lineage.{family};
+ghost use Rattle.lineage.specs.Lineage.{family};
 ghost use Rattle.ex_named.specs.Scopes.{is_among};
 ghost use Rattle.ex_attributes.specs.Attributes as spec;
 ghost use Rattle.ex_attributes.specs.Steps.{read};
@@ -11,7 +11,7 @@ ghost use Rattle.ex_attributes.specs.Steps.{read};
 use crate::attribute::Attribute;
 use crate::attributes::Attributes;
 use ex_kinds::{Kinds, TypeFaultKind, Typed, copied, join};
-use ex_named::{AttributePlace, AttributeUse};
+use ex_named::{AttributeMeaning, AttributePlace, AttributeUse};
 use plain_data::Rows;
 use std::alloc::{AllocError, Global};
 use std::collections::BTreeSet;
@@ -159,10 +159,13 @@ impl Attributes {
     ) -> Result<Typed, AllocError>
         ensures { IfOk result (λ typed. typed ≡ spec.used self.now entity name.now) }
     {
-        match name.declarations.as_slice() {
-            [] => Ok(Typed::fine(Rows::new(alloc))),
-            [place] => Ok(Typed::fine(self.kinds_at(alloc, *place, entity)?)),
-            _ => Ok(Typed::refused(alloc, TypeFaultKind::Ambiguous, name.at)),
+        match name.meaning {
+            AttributeMeaning::One(place) => {
+                Ok(Typed::fine(self.kinds_at(alloc, place, entity)?))
+            }
+            AttributeMeaning::Several => {
+                Ok(Typed::refused(alloc, TypeFaultKind::Ambiguous, name.at))
+            }
         }
     }
 }

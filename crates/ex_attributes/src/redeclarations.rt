@@ -9,29 +9,28 @@ ghost use Rattle.ex_attributes.specs.Attributes as spec;
 use crate::attribute::Redeclared;
 use ex_kinds::kinds_of;
 use ex_named::{
-    AttributePlace, NamedAttribute, NamedDataType, NamedDerived, NamedEntity, NamedExplicit,
+    AttributeMeaning, AttributePlace, NamedAttribute, NamedDataType, NamedDerived, NamedEntity,
+    NamedExplicit,
 };
 use plain_data::Rows;
 use std::alloc::{AllocError, Global};
 
 /// The declaration that a name means, if it means one.
-fn meant(declarations: &[AttributePlace]) -> Option<AttributePlace>
-    ensures { result ≡ spec.meant declarations.now }
+fn meant(meaning: AttributeMeaning) -> Option<AttributePlace>
+    ensures { result ≡ spec.meant meaning }
 {
-    match declarations {
-        [place] => Some(*place),
-        _ => None,
+    match meaning {
+        AttributeMeaning::One(place) => Some(place),
+        AttributeMeaning::Several => None,
     }
 }
 
 /// The declaration that is redeclared.
 fn redeclared_place(attribute: &NamedAttribute) -> Option<AttributePlace>
-    ensures { result ≡ and_then (spec.redeclaration attribute.now) (λ r. spec.meant r.attribute.declarations) }
+    ensures { result ≡ and_then (spec.redeclaration attribute.now) (λ r. spec.meant r.attribute.meaning) }
 {
     match attribute {
-        NamedAttribute::Redeclared(redeclaration) => {
-            meant(redeclaration.attribute.declarations.as_slice())
-        }
+        NamedAttribute::Redeclared(redeclaration) => { meant(redeclaration.attribute.meaning) }
         NamedAttribute::Own(_) => None,
     }
 }

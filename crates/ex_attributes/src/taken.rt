@@ -2,13 +2,13 @@
 
 ghost use Rattle.std.specs.Prelude.{◌≡◌, ◌++◌, map, filter, length, IfOk, OnOk};
 ghost use Rattle.std.specs.Str.{bytes_eq};
-ghost use Rattle.ex_lineage.specs.Lineage.{numbers_from};
+ghost use Rattle.lineage.specs.Lineage.{numbers_from};
 ghost use Rattle.ex_attributes.specs.Attributes as spec;
 
 use crate::attribute::Attribute;
 use crate::attributes::Attributes;
 use crate::found::Found;
-use ex_kinds::{Kind, Sort, Typed, join};
+use ex_kinds::{Sort, Typed, ValueKind, join};
 use ex_tree::Name;
 use plain_data::Text;
 use std::alloc::{AllocError, Global};
@@ -87,7 +87,7 @@ impl Attributes {
         &self,
         alloc: Global,
         found: &mut Found,
-        kind: Kind,
+        kind: ValueKind,
         name: &Text,
     ) -> Result<(), AllocError>
         ensures { OnOk result (found.new ≡ spec.found_after self.now name.now found.old (spec.entities_at self.now kind.depth kind.sort)) }
@@ -103,7 +103,12 @@ impl Attributes {
     }
 
     /// What is found of the name among the entities that an instance of these kinds may be of.
-    fn found_among(&self, alloc: Global, kinds: &[Kind], name: &Text) -> Result<Found, AllocError>
+    fn found_among(
+        &self,
+        alloc: Global,
+        kinds: &[ValueKind],
+        name: &Text,
+    ) -> Result<Found, AllocError>
         ensures { IfOk result (λ found. found ≡ spec.found_among self.now kinds.now name.now) }
     {
         let mut found = Found::nothing(alloc);
@@ -118,7 +123,7 @@ impl Attributes {
     pub fn taken(
         &self,
         alloc: Global,
-        kinds: &[Kind],
+        kinds: &[ValueKind],
         dot: usize,
         name: &Name,
     ) -> Result<Typed, AllocError>

@@ -3,7 +3,7 @@
 ghost use Rattle.std.specs.Prelude.{◌≡◌, IfOk};
 
 use ex_tree::{Literal, Name, StringToken};
-use sqlite_items::Items;
+use plain_data::Items;
 use std::alloc::{AllocError, Global};
 
 pub fn copy_name(alloc: Global, name: &Name) -> Result<Name, AllocError>

@@ -14,7 +14,7 @@ use ex_named::{
 };
 use ex_scopes::{Declarations, Scope};
 use ex_tree::{Expression, Interval, Name, Operation, Qualifier, Query, UnaryOperator};
-use sqlite_items::{Boxed, Items};
+use plain_data::{Boxed, Items};
 use std::alloc::Global;
 
 /// An expression with its names bound.
@@ -66,7 +66,7 @@ fn expressions(
 ) -> Binding<Items<NamedExpression>>
     ensures { Binds result (trees.expressions declarations.now scope.now list.now) }
 {
-    let mut gathered = Gathered::new(alloc);
+    let mut gathered = Gathered::new(alloc, list.len())?;
     for tree in list {
         gathered.push(expression(alloc, declarations, scope, tree))?;
     }
@@ -84,7 +84,7 @@ fn call(
 ) -> Binding<NamedExpression>
     ensures { Binds result (trees.call declarations.now scope.now name.now arguments.now) }
 {
-    let function = declarations.function(scope, name);
+    let function = declarations.function(alloc, scope, name);
     let arguments = expressions(alloc, declarations, scope, arguments);
     let (function, arguments) = both(function, arguments)?;
     Ok(NamedExpression::Call(function, name.at, arguments))
@@ -102,7 +102,7 @@ fn qualified(
     ensures { Binds result (trees.qualified declarations.now scope.now base.now taken.now) }
 {
     if let Some((first, others)) = taken.split_first() {
-        if let Some(item) = item(declarations, scope, base, first).transpose() {
+        if let Some(item) = item(alloc, declarations, scope, base, first).transpose() {
             if others.is_empty() {
                 return item;
             }
@@ -124,7 +124,7 @@ fn qualifiers(
 ) -> Binding<Items<NamedQualifier>>
     ensures { Binds result (trees.qualifiers declarations.now scope.now list.now) }
 {
-    let mut gathered = Gathered::new(alloc);
+    let mut gathered = Gathered::new(alloc, list.len())?;
     for tree in list {
         gathered.push(qualifier(alloc, declarations, scope, tree))?;
     }
@@ -224,7 +224,7 @@ fn operations(
 ) -> Binding<Items<NamedOperation>>
     ensures { Binds result (trees.operations declarations.now scope.now list.now) }
 {
-    let mut gathered = Gathered::new(alloc);
+    let mut gathered = Gathered::new(alloc, list.len())?;
     for tree in list {
         gathered.push(operation(alloc, declarations, scope, tree))?;
     }

@@ -9,12 +9,13 @@ ghost use Rattle.ex_bind.specs.Trees as spec;
 use ex_named::{Binding, NamedExpression, NamedQualifier, both};
 use ex_scopes::{Declarations, Scope};
 use ex_tree::{Expression, Qualifier};
-use sqlite_items::{Boxed, Items};
+use plain_data::{Boxed, Items};
 use std::alloc::Global;
 
 /// What `type.item` means, if the base is the name of a type.
 #[tactic(auto, unfolding(ex_named::specs::Expressions::bound_expression, crate::specs::Trees::bound_qualifier))]
 pub fn item(
+    alloc: Global,
     declarations: &Declarations<'_>,
     scope: &Scope<'_>,
     base: &Expression,
@@ -24,7 +25,7 @@ pub fn item(
 {
     match (base, first) {
         (Expression::Name(type_name), Qualifier::Attribute(_, item)) => {
-            declarations.item_of(scope, type_name, item)
+            declarations.item_of(alloc, scope, type_name, item)
         },
         _ => Ok(None),
     }

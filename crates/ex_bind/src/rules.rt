@@ -8,7 +8,7 @@ use crate::expressions::expression;
 use ex_named::{Binding, Gathered, NamedDomainRule};
 use ex_scopes::{Declarations, Scope};
 use ex_tree::DomainRule;
-use sqlite_items::Items;
+use plain_data::Items;
 use std::alloc::Global;
 
 /// The rules of a WHERE clause with their names bound, in order.
@@ -20,7 +20,7 @@ pub fn domain_rules(
 ) -> Binding<Items<NamedDomainRule>>
     ensures { Binds result (spec.domain_rules declarations.now scope.now rules.now) }
 {
-    let mut found = Gathered::new(alloc);
+    let mut found = Gathered::new(alloc, rules.len())?;
     for rule in rules {
         found.push(domain_rule(alloc, declarations, scope, rule))?;
     }

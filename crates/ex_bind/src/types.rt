@@ -6,7 +6,7 @@ ghost use Rattle.ex_named.specs.DataTypes as spec;
 use ex_named::{Binding, NamedDataType};
 use ex_scopes::Declarations;
 use ex_tree::DataType;
-use sqlite_items::Boxed;
+use plain_data::Boxed;
 use std::alloc::Global;
 
 /// A type with its names bound.

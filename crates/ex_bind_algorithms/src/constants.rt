@@ -5,11 +5,12 @@ ghost use Rattle.ex_named.specs.Outcomes.{Binds};
 ghost use Rattle.ex_bind_algorithms.specs.Algorithms as spec;
 
 use crate::variables::frame_of;
+use descent::Family;
 use ex_bind::{copy_name, data_type, expression};
 use ex_named::{Binding, NamedConstant, both};
-use ex_names::SortedNames;
 use ex_scopes::{Declarations, Scope};
 use ex_tree::Constant;
+use name_tables::SortedNames;
 use std::alloc::Global;
 use std::collections::BTreeSet;
 
@@ -36,7 +37,8 @@ fn constant_over(
     ensures { Binds result (spec.constant declarations.now constant.now) }
 {
     let none = BTreeSet::new(alloc);
-    let scope = Scope::new(alloc, no_variables, false, &none, &none);
+    let nobody = Family::nobody();
+    let scope = Scope::new(alloc, no_variables, false, &nobody, &none);
     let data_type = data_type(alloc, declarations, &constant.data_type);
     let value = expression(alloc, declarations, &scope, &constant.value);
     let (data_type, value) = both(data_type, value)?;

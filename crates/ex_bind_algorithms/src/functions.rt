@@ -7,13 +7,14 @@ ghost use Rattle.ex_bind_algorithms.specs.Algorithms as spec;
 use crate::variables::{
     frame_of, local_variables, parameters, push_local_names, push_parameter_names,
 };
+use descent::Family;
 use ex_bind::{copy_name, data_type};
 use ex_bind_statements::statements;
 use ex_declarations::once;
 use ex_named::{Binding, NamedFunction, both};
-use ex_names::SortedNames;
 use ex_scopes::{Declarations, Scope};
 use ex_tree::{Function, Name};
+use name_tables::SortedNames;
 use std::alloc::{AllocError, Global};
 use std::collections::BTreeSet;
 
@@ -53,7 +54,8 @@ fn function_over(
     ensures { Binds result (spec.function_in declarations.now (record { nested = []; frame = frame.now; has_self = false; family = []; populations = [] }) function.now) }
 {
     let none = BTreeSet::new(alloc);
-    let scope = Scope::new(alloc, frame, false, &none, &none);
+    let nobody = Family::nobody();
+    let scope = Scope::new(alloc, frame, false, &nobody, &none);
     function_in(alloc, declarations, &scope, function)
 }
 

@@ -8,14 +8,15 @@ ghost use Rattle.ex_named.specs.Scopes.{entity as entity_named, is_among};
 ghost use Rattle.ex_bind_algorithms.specs.Algorithms as spec;
 
 use crate::variables::{frame_of, local_variables, push_labels, push_local_names};
+use descent::Family;
 use ex_bind::{copy_name, domain_rules};
 use ex_bind_statements::statements;
 use ex_declarations::once;
 use ex_named::{Binding, Gathered, NamedRule, both};
-use ex_names::SortedNames;
 use ex_scopes::{Declarations, Scope};
 use ex_tree::{Name, Rule};
-use sqlite_items::Items;
+use name_tables::SortedNames;
+use plain_data::Items;
 use std::alloc::{AllocError, Global};
 use std::collections::BTreeSet;
 use text_forms::Failure;
@@ -46,8 +47,8 @@ fn rule_over(
 ) -> Binding<NamedRule>
     ensures { Binds result (spec.rule_in declarations.now (record { nested = []; frame = frame.now; has_self = false; family = []; populations = populations.now.keys }) rule.now) }
 {
-    let no_family = BTreeSet::new(alloc);
-    let scope = Scope::new(alloc, frame, false, &no_family, populations);
+    let nobody = Family::nobody();
+    let scope = Scope::new(alloc, frame, false, &nobody, populations);
     rule_in(alloc, declarations, &scope, rule)
 }
 
@@ -80,7 +81,7 @@ fn rule_in(
 fn entities(alloc: Global, declarations: &Declarations<'_>, names: &[Name]) -> Binding<Items<usize>>
     ensures { Binds result (each (entity_named declarations.now) names.now) }
 {
-    let mut found = Gathered::new(alloc);
+    let mut found = Gathered::new(alloc, names.len())?;
     for name in names {
         found.push(declarations.entity(name))?;
     }

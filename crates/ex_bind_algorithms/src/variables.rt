@@ -8,10 +8,10 @@ ghost use Rattle.ex_bind.specs.Rules.{labels};
 
 use ex_bind::{copy_names, data_type, expression};
 use ex_named::{Binding, Gathered, NamedExpression, NamedLocal, NamedParameter, both};
-use ex_names::{NameTable, SortedNames};
 use ex_scopes::{Declarations, Scope};
 use ex_tree::{DomainRule, Expression, LocalVariable, Name, Parameter};
-use sqlite_items::Items;
+use name_tables::{NameTable, SortedNames};
+use plain_data::Items;
 use std::alloc::{AllocError, Global};
 
 fn push_names<'a>(names: &mut Vec<&'a Name>, more: &'a [Name]) -> Result<(), AllocError>
@@ -83,7 +83,7 @@ pub(crate) fn parameters(
 ) -> Binding<Items<NamedParameter>>
     ensures { Binds result (each (spec.parameter declarations.now) parameters.now) }
 {
-    let mut found = Gathered::new(alloc);
+    let mut found = Gathered::new(alloc, parameters.len())?;
     for item in parameters {
         found.push(parameter(alloc, declarations, item))?;
     }
@@ -114,7 +114,7 @@ pub(crate) fn local_variables(
 ) -> Binding<Items<NamedLocal>>
     ensures { Binds result (each (spec.local_variable declarations.now scope.now) locals.now) }
 {
-    let mut found = Gathered::new(alloc);
+    let mut found = Gathered::new(alloc, locals.len())?;
     for local in locals {
         found.push(local_variable(alloc, declarations, scope, local))?;
     }

@@ -1,7 +1,7 @@
 -- Entities and types with their names bound (ISO 10303-11:1994, 9.1 and 9.2).
 use Rattle.std.specs.Prelude.{ℕ, Bool, true, false, ◌||◌, ◌==◌, List, [], ◌∷◌, ◌++◌, map, Option, Some, None, if◌then◌else◌, Ok, Err}
 use Rattle.std.specs.List.{filter_map, flat_map, list_any}
-use Rattle.ex_names.specs.Names.{named}
+use Rattle.name_tables.specs.Names.{named}
 use Rattle.ex_tree.specs.declared.expression.Name.{Name}
 use Rattle.ex_tree.specs.declared.declaration.AttributeDeclaration.{AttributeDeclaration}
 use Rattle.ex_tree.specs.declared.declaration.AttributeDeclaration.TheVariants as a
@@ -39,17 +39,19 @@ use Rattle.ex_named.specs.declared.expression.NamedDataType.{NamedDataType}
 use Rattle.ex_named.specs.declared.expression.NamedDataType.TheVariants as nd
 use Rattle.ex_named.specs.declared.fault.NameFaultKind.{NameFaultKind}
 use Rattle.ex_named.specs.declared.fault.NameFaultKind.TheVariants.{CyclicSubtype, CyclicType, DeclaredTwice, NotAnAttribute}
+use Rattle.ex_named.specs.declared.reference.AttributeMeaning.{AttributeMeaning}
 use Rattle.ex_named.specs.declared.reference.AttributePlace.{AttributePlace}
 use Rattle.ex_named.specs.declared.reference.AttributeSort.{AttributeSort}
-use Rattle.ex_named.specs.declared.reference.AttributeSort.TheVariants.{Explicit, Derived, Inverse}
 use Rattle.ex_named.specs.declared.reference.AttributeUse.{AttributeUse}
 use Rattle.ex_named.specs.declared.reference.TypeName.TheVariants as tn
 use Rattle.ex_named.specs.Outcomes.{Outcome, refused, given, both, each, optional}
 use Rattle.ex_named.specs.Scopes.{Declarations, and_then, declared, as_defined, or_undeclared, attributes_of, entity, type_name}
 use Rattle.ex_named.specs.DataTypes.{data_type}
 use Rattle.ex_named.specs.Expressions.{expression}
+use Rattle.ex_scopes.specs.Attributes.{meaning_if}
+use Rattle.ex_scopes.specs.Sorts.{any_sort, explicit_alone, explicit_or_derived}
 use Rattle.ex_bind.specs.Rules.{domain_rules, labels, scope_of}
-use Rattle.ex_lineage.specs.Lineage.{family, is_ancestor}
+use Rattle.lineage.specs.Lineage.{family, is_ancestor}
 use Rattle.ex_declarations.specs.Declared.{once, explicit_names, derived_names, inverse_names}
 
 abbrev pub next : {A B : Type 0} → Outcome A → (A → Outcome B) → Outcome B
@@ -58,39 +60,24 @@ next (Err fault) bind = Err fault
 
 -- ---- attributes that are named, and not declared
 
-abbrev pub any_sort : AttributeSort → Bool
-any_sort sort = true
+abbrev pub used_as : ℕ → Option AttributeMeaning → Outcome AttributeUse
+used_as at None = refused NotAnAttribute at
+used_as at (Some meaning) = Ok (record { at = at; meaning = meaning })
 
-abbrev pub explicit_alone : AttributeSort → Bool
-explicit_alone Explicit = true
-explicit_alone Derived = false
-explicit_alone Inverse = false
-
-abbrev pub explicit_or_derived : AttributeSort → Bool
-explicit_or_derived Explicit = true
-explicit_or_derived Derived = true
-explicit_or_derived Inverse = false
-
--- what a name can mean there: all declarations of it, if one of them is of a sort that can stand there
+-- what a name means there, if one of its declarations is of a sort that can stand there
 abbrev pub use_of : (AttributeSort → Bool) → ℕ → List AttributePlace → Outcome AttributeUse
-use_of can_stand at places =
-    if list_any (λ p. can_stand p.sort) places then Ok (record { at = at; declarations = places }) else refused NotAnAttribute at
+use_of can_stand at places = used_as at (meaning_if can_stand places)
 
--- the entities that declare the attribute that is redeclared, if it is one
-abbrev pub entities_meant : Outcome NamedRedeclaration → List ℕ
-entities_meant (Ok found) = map (λ p. p.entity) found.attribute.declarations
-entities_meant (Err fault) = []
-
-module _ (schema : Declarations) (subtypes : List (List ℕ)) where
+module _ (schema : Declarations) (supertypes : List (List ℕ)) where
   -- the attribute of this name that an entity has
   abbrev pub attribute_of : (AttributeSort → Bool) → ℕ → Name → Outcome AttributeUse
-  attribute_of can_stand e n = use_of can_stand n.at (attributes_of schema (family subtypes e) n.text)
+  attribute_of can_stand e n = use_of can_stand n.at (attributes_of schema (family supertypes e) n.text)
 
   -- ---- redeclared attributes: of an ancestor
 
   abbrev pub redeclaration_in : (AttributeSort → Bool) → ℕ → QualifiedAttribute → ℕ → Outcome NamedRedeclaration
   redeclaration_in can_stand e q ancestor =
-      if is_ancestor subtypes e ancestor
+      if is_ancestor supertypes e ancestor
       then given (λ found. record { entity = ancestor; attribute = found }) (attribute_of can_stand ancestor q.attribute)
       else refused NotAnAttribute q.attribute.at
 
@@ -103,10 +90,15 @@ module _ (schema : Declarations) (subtypes : List (List ℕ)) where
 
   -- ---- an attribute that is redeclared twice
 
+  -- the entities that declare the attribute of this name that is redeclared, if it is one
+  abbrev pub entities_meant : Name → Outcome NamedRedeclaration → List ℕ
+  entities_meant n (Ok found) = map (λ p. p.entity) (attributes_of schema (family supertypes found.entity) n.text)
+  entities_meant n (Err fault) = []
+
   -- the attribute's name with its first byte, and the entities that declare it
   abbrev pub redeclared : (AttributeSort → Bool) → ℕ → AttributeDeclaration → Option (Name × List ℕ)
   redeclared can_stand e (a.Own n) = None
-  redeclared can_stand e (a.Qualified q) = Some (q.attribute, entities_meant (redeclaration can_stand e q))
+  redeclared can_stand e (a.Qualified q) = Some (q.attribute, entities_meant q.attribute (redeclaration can_stand e q))
 
   abbrev pub all_redeclared : ℕ → EntityBody → List (Name × List ℕ)
   all_redeclared e body =
@@ -135,7 +127,7 @@ module _ (schema : Declarations) (subtypes : List (List ℕ)) where
 
   unfoldable pub derived_attribute : ℕ → DerivedAttribute → Outcome NamedDerived
   derived_attribute e x = given (λ p. record { attribute = p.0.0; data_type = p.0.1; value = p.1 })
-      (both (both (attribute explicit_or_derived e x.attribute) (data_type schema x.data_type)) (expression schema (scope_of true (family subtypes e)) x.value))
+      (both (both (attribute explicit_or_derived e x.attribute) (data_type schema x.data_type)) (expression schema (scope_of true (family supertypes e)) x.value))
 
   -- the named entity's attribute, which has to be an explicit one
   abbrev pub inverse_of : InverseAttribute → ℕ → Outcome NamedInverse
@@ -150,7 +142,7 @@ module _ (schema : Declarations) (subtypes : List (List ℕ)) where
   -- the attribute of this entity or of an ancestor
   abbrev pub unique_in : ℕ → QualifiedAttribute → ℕ → Outcome AttributeUse
   unique_in e q f =
-      if f == e || is_ancestor subtypes e f
+      if f == e || is_ancestor supertypes e f
       then attribute_of any_sort f q.attribute
       else refused NotAnAttribute q.attribute.at
 
@@ -183,14 +175,14 @@ module _ (schema : Declarations) (subtypes : List (List ℕ)) where
   not_cyclic kind graph k n = if is_ancestor graph k k then refused kind n.at else Ok (tt {0})
 
   unfoldable pub entity_head : ℕ → Entity → Outcome (Option NamedSupertype × List ℕ)
-  entity_head k e = given (λ p. p.1) (both (not_cyclic CyclicSubtype subtypes k e.head.name)
+  entity_head k e = given (λ p. p.1) (both (not_cyclic CyclicSubtype supertypes k e.head.name)
       (both (optional supertype e.head.constraint) (each (entity schema) e.head.supertypes)))
 
   unfoldable pub entity_attributes : ℕ → EntityBody → Outcome ((List NamedExplicit × List NamedDerived) × List NamedInverse)
   entity_attributes k body = both (both (each (explicit_attribute k) body.explicit) (each (derived_attribute k) body.derived)) (each inverse_attribute body.inverse)
 
   unfoldable pub entity_rules : ℕ → EntityBody → Outcome (List NamedUniqueRule × List NamedDomainRule)
-  entity_rules k body = both (each (unique_rule k) body.unique_rules) (domain_rules schema (scope_of true (family subtypes k)) body.domain_rules)
+  entity_rules k body = both (each (unique_rule k) body.unique_rules) (domain_rules schema (scope_of true (family supertypes k)) body.domain_rules)
 
   unfoldable pub entity_names : ℕ → EntityBody → Outcome (Unit {0})
   entity_names k body = given (λ p. tt {0}) (both (once (entity_scope body)) (once_redeclared k body))

@@ -1,4 +1,3 @@
 pub mod Entities
 pub mod Inherited
-pub mod Sorts
 pub mod Wholes

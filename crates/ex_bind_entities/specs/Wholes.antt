@@ -23,7 +23,7 @@ type_names is_cyclic x = given (λ p. tt {0}) (both (if is_cyclic then refused C
 module _ (schema : Declarations) where
   -- what an entity is made of, but for whether names are declared once
   unfoldable pub entity_parts : List (List ℕ) → ℕ → Entity → Outcome ((Option NamedSupertype × List ℕ) × (((List NamedExplicit × List NamedDerived) × List NamedInverse) × (List NamedUniqueRule × List NamedDomainRule)))
-  entity_parts subtypes k e = both (entity_head schema subtypes k e) (both (entity_attributes schema subtypes k e.body) (entity_rules schema subtypes k e.body))
+  entity_parts supertypes k e = both (entity_head schema supertypes k e) (both (entity_attributes schema supertypes k e.body) (entity_rules schema supertypes k e.body))
 
   unfoldable pub type_parts : TypeDeclaration → Outcome (NamedUnderlying × List NamedDomainRule)
   type_parts x = both (underlying schema [] x.underlying) (domain_rules schema (scope_of true []) x.domain_rules)

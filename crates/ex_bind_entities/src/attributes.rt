@@ -3,22 +3,22 @@
 ghost use Rattle.std.specs.Prelude.{◌≡◌, true};
 ghost use Rattle.ex_named.specs.Outcomes.{Binds, each};
 ghost use Rattle.ex_bind.specs.Rules.{scope_of};
-ghost use Rattle.ex_lineage.specs.Lineage.{family};
+ghost use Rattle.lineage.specs.Lineage.{family};
 ghost use Rattle.ex_bind_entities.specs.Entities as spec;
-ghost use Rattle.ex_bind_entities.specs.Sorts.{admitted};
+ghost use Rattle.ex_scopes.specs.Sorts.{admitted};
 
-use crate::attribute_uses::{Sorts, attribute_of};
+use crate::attribute_uses::attribute_of;
 use crate::families::EntityContext;
 use crate::redeclarations::attribute;
 use ex_bind::{copy_name, data_type, expression};
 use ex_named::{
     Binding, Gathered, NamedAttribute, NamedDerived, NamedExplicit, NamedInverse, both,
 };
-use ex_scopes::Scope;
+use ex_scopes::{Scope, Sorts};
 use ex_tree::{
     AttributeDeclaration, DerivedAttribute, EntityBody, ExplicitAttribute, InverseAttribute,
 };
-use sqlite_items::Items;
+use plain_data::Items;
 use std::alloc::Global;
 
 /// The explicit, derived and inverse ones.
@@ -34,9 +34,9 @@ fn attributes(
     sorts: Sorts,
     declarations: &[AttributeDeclaration],
 ) -> Binding<Items<NamedAttribute>>
-    ensures { Binds result (each (spec.attribute context.now.declarations.now context.now.subtypes.now (admitted sorts) context.now.entity) declarations.now) }
+    ensures { Binds result (each (spec.attribute context.now.declarations.now context.now.supertypes.now (admitted sorts) context.now.entity) declarations.now) }
 {
-    let mut found = Gathered::new(alloc);
+    let mut found = Gathered::new(alloc, declarations.len())?;
     for declaration in declarations {
         found.push(attribute(alloc, context, sorts, declaration))?;
     }
@@ -49,7 +49,7 @@ fn explicit_attribute(
     context: &EntityContext<'_, '_, '_>,
     explicit: &ExplicitAttribute,
 ) -> Binding<NamedExplicit>
-    ensures { Binds result (spec.explicit_attribute context.now.declarations.now context.now.subtypes.now context.now.entity explicit.now) }
+    ensures { Binds result (spec.explicit_attribute context.now.declarations.now context.now.supertypes.now context.now.entity explicit.now) }
 {
     let list = explicit.attributes.as_slice();
     let attributes = attributes(alloc, context, Sorts::Explicit, list);
@@ -68,9 +68,9 @@ fn explicit_attributes(
     context: &EntityContext<'_, '_, '_>,
     list: &[ExplicitAttribute],
 ) -> Binding<Items<NamedExplicit>>
-    ensures { Binds result (each (spec.explicit_attribute context.now.declarations.now context.now.subtypes.now context.now.entity) list.now) }
+    ensures { Binds result (each (spec.explicit_attribute context.now.declarations.now context.now.supertypes.now context.now.entity) list.now) }
 {
-    let mut found = Gathered::new(alloc);
+    let mut found = Gathered::new(alloc, list.len())?;
     for explicit in list {
         found.push(explicit_attribute(alloc, context, explicit))?;
     }
@@ -84,8 +84,8 @@ fn derived_attribute(
     scope: &Scope<'_>,
     derived: &DerivedAttribute,
 ) -> Binding<NamedDerived>
-    requires { scope.now ≡ scope_of true (family context.now.subtypes.now context.now.entity) }
-    ensures { Binds result (spec.derived_attribute context.now.declarations.now context.now.subtypes.now context.now.entity derived.now) }
+    requires { scope.now ≡ scope_of true (family context.now.supertypes.now context.now.entity) }
+    ensures { Binds result (spec.derived_attribute context.now.declarations.now context.now.supertypes.now context.now.entity derived.now) }
 {
     let attribute = attribute(alloc, context, Sorts::ExplicitOrDerived, &derived.attribute);
     let data_type = data_type(alloc, context.declarations, &derived.data_type);
@@ -105,10 +105,10 @@ fn derived_attributes(
     scope: &Scope<'_>,
     list: &[DerivedAttribute],
 ) -> Binding<Items<NamedDerived>>
-    requires { scope.now ≡ scope_of true (family context.now.subtypes.now context.now.entity) }
-    ensures { Binds result (each (spec.derived_attribute context.now.declarations.now context.now.subtypes.now context.now.entity) list.now) }
+    requires { scope.now ≡ scope_of true (family context.now.supertypes.now context.now.entity) }
+    ensures { Binds result (each (spec.derived_attribute context.now.declarations.now context.now.supertypes.now context.now.entity) list.now) }
 {
-    let mut found = Gathered::new(alloc);
+    let mut found = Gathered::new(alloc, list.len())?;
     for derived in list {
         found.push(derived_attribute(alloc, context, scope, derived))?;
     }
@@ -121,7 +121,7 @@ fn inverse_attribute(
     context: &EntityContext<'_, '_, '_>,
     inverse: &InverseAttribute,
 ) -> Binding<NamedInverse>
-    ensures { Binds result (spec.inverse_attribute context.now.declarations.now context.now.subtypes.now inverse.now) }
+    ensures { Binds result (spec.inverse_attribute context.now.declarations.now context.now.supertypes.now inverse.now) }
 {
     let entity = context.declarations.entity(&inverse.entity)?;
     let attribute = attribute_of(alloc, context, entity, Sorts::Explicit, &inverse.attribute)?;
@@ -139,9 +139,9 @@ fn inverse_attributes(
     context: &EntityContext<'_, '_, '_>,
     list: &[InverseAttribute],
 ) -> Binding<Items<NamedInverse>>
-    ensures { Binds result (each (spec.inverse_attribute context.now.declarations.now context.now.subtypes.now) list.now) }
+    ensures { Binds result (each (spec.inverse_attribute context.now.declarations.now context.now.supertypes.now) list.now) }
 {
-    let mut found = Gathered::new(alloc);
+    let mut found = Gathered::new(alloc, list.len())?;
     for inverse in list {
         found.push(inverse_attribute(alloc, context, inverse))?;
     }
@@ -156,8 +156,8 @@ pub fn entity_attributes(
     scope: &Scope<'_>,
     body: &EntityBody,
 ) -> Binding<EntityAttributes>
-    requires { scope.now ≡ scope_of true (family context.now.subtypes.now context.now.entity) }
-    ensures { Binds result (spec.entity_attributes context.now.declarations.now context.now.subtypes.now context.now.entity body.now) }
+    requires { scope.now ≡ scope_of true (family context.now.supertypes.now context.now.entity) }
+    ensures { Binds result (spec.entity_attributes context.now.declarations.now context.now.supertypes.now context.now.entity body.now) }
 {
     let explicit = explicit_attributes(alloc, context, body.explicit.as_slice());
     let derived = derived_attributes(alloc, context, scope, body.derived.as_slice());

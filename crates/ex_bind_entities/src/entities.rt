@@ -6,7 +6,7 @@ ghost use Rattle.ex_named.specs.Outcomes.{Binds, each, optional};
 ghost use Rattle.ex_named.specs.Outcomes as outcomes;
 ghost use Rattle.ex_named.specs.Scopes as scopes;
 ghost use Rattle.ex_bind.specs.Rules.{scope_of};
-ghost use Rattle.ex_lineage.specs.Lineage.{family, is_ancestor};
+ghost use Rattle.lineage.specs.Lineage.{family, is_ancestor};
 ghost use Rattle.ex_bind_entities.specs.Entities as spec;
 ghost use Rattle.ex_bind_entities.specs.Wholes as parts;
 
@@ -16,17 +16,17 @@ use crate::repeated::once_redeclared;
 use crate::scope_names::{no_variables, scope_names};
 use crate::supertypes::supertype;
 use crate::unique_rules::unique_rules;
+use descent::Descent;
 use ex_bind::{copy_name, domain_rules};
 use ex_declarations::once;
 use ex_named::{
     Binding, Gathered, NameFaultKind, NamedDomainRule, NamedEntity, NamedSupertype,
     NamedUniqueRule, both, refused,
 };
-use ex_names::SortedNames;
 use ex_scopes::{Declarations, Scope};
 use ex_tree::{Entity, EntityBody, Name, SupertypeExpression};
-use plain_data::Rows;
-use sqlite_items::Items;
+use name_tables::SortedNames;
+use plain_data::Items;
 use std::alloc::Global;
 use std::collections::BTreeSet;
 
@@ -66,7 +66,7 @@ fn entities_named(
 ) -> Binding<Items<usize>>
     ensures { Binds result (each (scopes.entity declarations.now) names.now) }
 {
-    let mut found = Gathered::new(alloc);
+    let mut found = Gathered::new(alloc, names.len())?;
     for name in names {
         found.push(declarations.entity(name))?;
     }
@@ -79,7 +79,7 @@ fn entity_head(
     context: &EntityContext<'_, '_, '_>,
     entity: &Entity,
 ) -> Binding<EntityHead>
-    ensures { Binds result (spec.entity_head context.now.declarations.now context.now.subtypes.now context.now.entity entity.now) }
+    ensures { Binds result (spec.entity_head context.now.declarations.now context.now.supertypes.now context.now.entity entity.now) }
 {
     let head = &entity.head;
     let not_cyclic = not_cyclic(NameFaultKind::CyclicSubtype, context.is_cyclic, &head.name);
@@ -96,8 +96,8 @@ fn entity_rules(
     scope: &Scope<'_>,
     body: &EntityBody,
 ) -> Binding<EntityRules>
-    requires { scope.now ≡ scope_of true (family context.now.subtypes.now context.now.entity) }
-    ensures { Binds result (spec.entity_rules context.now.declarations.now context.now.subtypes.now context.now.entity body.now) }
+    requires { scope.now ≡ scope_of true (family context.now.supertypes.now context.now.entity) }
+    ensures { Binds result (spec.entity_rules context.now.declarations.now context.now.supertypes.now context.now.entity body.now) }
 {
     let unique_rules = unique_rules(alloc, context, body.unique_rules.as_slice());
     let domain_rules = domain_rules(
@@ -116,7 +116,7 @@ fn entity_names(
     context: &EntityContext<'_, '_, '_>,
     body: &EntityBody,
 ) -> Binding<()>
-    ensures { Binds result (spec.entity_names context.now.declarations.now context.now.subtypes.now context.now.entity body.now) }
+    ensures { Binds result (spec.entity_names context.now.declarations.now context.now.supertypes.now context.now.entity body.now) }
 {
     let names = scope_names(alloc, body)?;
     let once = once(alloc, &names);
@@ -133,8 +133,8 @@ fn entity_parts(
     scope: &Scope<'_>,
     entity: &Entity,
 ) -> Binding<(EntityHead, (EntityAttributes, EntityRules))>
-    requires { scope.now ≡ scope_of true (family context.now.subtypes.now context.now.entity) }
-    ensures { Binds result (parts.entity_parts context.now.declarations.now context.now.subtypes.now context.now.entity entity.now) }
+    requires { scope.now ≡ scope_of true (family context.now.supertypes.now context.now.entity) }
+    ensures { Binds result (parts.entity_parts context.now.declarations.now context.now.supertypes.now context.now.entity entity.now) }
 {
     let head = entity_head(alloc, context, entity);
     let attributes = entity_attributes(alloc, context, scope, &entity.body);
@@ -148,8 +148,8 @@ fn entity_in(
     scope: &Scope<'_>,
     entity: &Entity,
 ) -> Binding<NamedEntity>
-    requires { scope.now ≡ scope_of true (family context.now.subtypes.now context.now.entity) }
-    ensures { Binds result (spec.named_entity context.now.declarations.now context.now.subtypes.now context.now.entity entity.now) }
+    requires { scope.now ≡ scope_of true (family context.now.supertypes.now context.now.entity) }
+    ensures { Binds result (spec.named_entity context.now.declarations.now context.now.supertypes.now context.now.entity entity.now) }
 {
     let name = copy_name(alloc, &entity.head.name)?;
     let names = entity_names(alloc, context, &entity.body);
@@ -179,26 +179,26 @@ fn entity_over<'a>(
     entity: &Entity,
 ) -> Binding<NamedEntity>
     requires { no_variables.now ≡ [] }
-    ensures { Binds result (spec.named_entity context.now.declarations.now context.now.subtypes.now context.now.entity entity.now) }
+    ensures { Binds result (spec.named_entity context.now.declarations.now context.now.supertypes.now context.now.entity entity.now) }
 {
     let no_populations = BTreeSet::new(alloc);
     let scope = Scope::new(alloc, no_variables, true, &context.family, &no_populations);
     entity_in(alloc, context, &scope, entity)
 }
 
-/// An entity with its names bound. Of each entity `subtypes` has the entities that its SUBTYPE OF lists.
+/// An entity with its names bound. Of each entity `supertypes` has the entities that its SUBTYPE OF lists.
 pub fn named_entity(
     alloc: Global,
     declarations: &Declarations<'_>,
-    subtypes: &[Rows<usize>],
+    supertypes: &Descent<'_>,
     number: usize,
     is_cyclic: bool,
     entity: &Entity,
 ) -> Binding<NamedEntity>
-    requires { is_cyclic ≡ is_ancestor subtypes.now number number }
-    ensures { Binds result (spec.named_entity declarations.now subtypes.now number entity.now) }
+    requires { is_cyclic ≡ is_ancestor supertypes.now number number }
+    ensures { Binds result (spec.named_entity declarations.now supertypes.now number entity.now) }
 {
-    let context = EntityContext::new(alloc, declarations, subtypes, number, is_cyclic)?;
+    let context = EntityContext::new(declarations, supertypes, number, is_cyclic);
     let no_variables = no_variables(alloc)?;
     entity_over(alloc, &context, &no_variables, entity)
 }

@@ -2,12 +2,13 @@
 
 ghost use Rattle.ex_named.specs.Outcomes.{Binds};
 ghost use Rattle.ex_bind_entities.specs.Entities as spec;
-ghost use Rattle.ex_bind_entities.specs.Sorts.{admitted};
+ghost use Rattle.ex_scopes.specs.Sorts.{admitted};
 
-use crate::attribute_uses::{Sorts, attribute_of};
+use crate::attribute_uses::attribute_of;
 use crate::families::EntityContext;
 use ex_bind::copy_name;
 use ex_named::{Binding, NameFaultKind, NamedAttribute, NamedRedeclaration, refused};
+use ex_scopes::Sorts;
 use ex_tree::{AttributeDeclaration, QualifiedAttribute};
 use std::alloc::Global;
 
@@ -18,10 +19,10 @@ pub fn redeclaration(
     sorts: Sorts,
     inherited: &QualifiedAttribute,
 ) -> Binding<NamedRedeclaration>
-    ensures { Binds result (spec.redeclaration context.now.declarations.now context.now.subtypes.now (admitted sorts) context.now.entity inherited.now) }
+    ensures { Binds result (spec.redeclaration context.now.declarations.now context.now.supertypes.now (admitted sorts) context.now.entity inherited.now) }
 {
     let entity = context.declarations.entity(&inherited.entity)?;
-    if !context.is_ancestor(entity) {
+    if !context.is_ancestor(alloc, entity)? {
         return refused(NameFaultKind::NotAnAttribute, inherited.attribute.at);
     }
     let attribute = attribute_of(alloc, context, entity, sorts, &inherited.attribute)?;
@@ -36,7 +37,7 @@ pub fn attribute(
     sorts: Sorts,
     declaration: &AttributeDeclaration,
 ) -> Binding<NamedAttribute>
-    ensures { Binds result (spec.attribute context.now.declarations.now context.now.subtypes.now (admitted sorts) context.now.entity declaration.now) }
+    ensures { Binds result (spec.attribute context.now.declarations.now context.now.supertypes.now (admitted sorts) context.now.entity declaration.now) }
 {
     match declaration {
         AttributeDeclaration::Own(name) => Ok(NamedAttribute::Own(copy_name(alloc, name)?)),

@@ -6,15 +6,18 @@ ghost use Rattle.ex_named.specs.declared.declaration.NamedRedeclaration.{NamedRe
 ghost use Rattle.ex_named.specs.declared.fault.NameFaultKind.TheVariants.{DeclaredTwice};
 ghost use Rattle.ex_named.specs.Outcomes.{Binds, Outcome};
 ghost use Rattle.ex_named.specs.Outcomes as outcomes;
+ghost use Rattle.ex_named.specs.Scopes.{attributes_of};
+ghost use Rattle.lineage.specs.Lineage.{family};
 ghost use Rattle.ex_bind_entities.specs.Entities as spec;
 ghost use Rattle.ex_bind_entities.specs.Inherited as parts;
 
-use crate::attribute_uses::Sorts;
 use crate::families::EntityContext;
 use crate::redeclarations::redeclaration;
+use descent::Family;
 use ex_named::{Binding, Gathered, NameFaultKind, NamedRedeclaration, refused};
-use ex_names::NameRows;
+use ex_scopes::Sorts;
 use ex_tree::{AttributeDeclaration, EntityBody, ExplicitAttribute, Name, QualifiedAttribute};
+use name_tables::NameRows;
 use std::alloc::{AllocError, Global};
 use text_forms::Failure;
 
@@ -62,18 +65,33 @@ fn inherited_attributes<'a>(
     Ok(found)
 }
 
-/// The entities that declare the attribute, if it is one.
-fn declaring(alloc: Global, found: Binding<NamedRedeclaration>) -> Result<Vec<usize>, AllocError>
-    ensures { (o : Outcome NamedRedeclaration) → Binds found o → IfOk result (λ entities. entities.items ≡ spec.entities_meant o) }
+/// The entities that declare an attribute of this name in the family of an entity.
+fn declaring_in(
+    alloc: Global,
+    context: &EntityContext<'_, '_, '_>,
+    entity: usize,
+    name: &Name,
+) -> Result<Vec<usize>, AllocError>
+    ensures { IfOk result (λ entities. entities.items ≡ map (λ p. p.entity) (attributes_of context.now.declarations.now (family context.now.supertypes.now entity) name.now.text)) }
+{
+    let family = Family::of(context.supertypes, entity);
+    let places = context
+        .declarations
+        .attributes_of(alloc, &family, name.text.as_bytes())?;
+    places.iter().map(|place| place.entity).collect(alloc)
+}
+
+/// The entities that declare the attribute of this name, if it is one that can be declared again.
+fn declaring(
+    alloc: Global,
+    context: &EntityContext<'_, '_, '_>,
+    name: &Name,
+    found: Binding<NamedRedeclaration>,
+) -> Result<Vec<usize>, AllocError>
+    ensures { (o : Outcome NamedRedeclaration) → Binds found o → IfOk result (λ entities. entities.items ≡ spec.entities_meant context.now.declarations.now context.now.supertypes.now name.now o) }
 {
     match found {
-        Ok(found) => found
-            .attribute
-            .declarations
-            .as_slice()
-            .iter()
-            .map(|place| place.entity)
-            .collect(alloc),
+        Ok(found) => declaring_in(alloc, context, found.entity, name),
         Err(Failure::Fault(_)) => Ok(Vec::new(alloc)),
         Err(Failure::NoMemory) => Err(AllocError),
     }
@@ -115,11 +133,12 @@ fn is_repeated<'a>(
     sorts: Sorts,
     inherited: &'a QualifiedAttribute,
 ) -> Result<bool, AllocError>
-    ensures told { IfOk result (λ repeated. repeated ≡ spec.stands_before context.now.declarations.now context.now.subtypes.now before.old (parts.redeclared_of context.now.declarations.now context.now.subtypes.now context.now.entity (sorts, inherited.now))) }
-    ensures put { OnOk result (before.new ≡ before.old ++ map (λ e. (inherited.now.attribute.text, e)) (parts.declaring context.now.declarations.now context.now.subtypes.now context.now.entity sorts inherited.now)) }
+    ensures told { IfOk result (λ repeated. repeated ≡ spec.stands_before context.now.declarations.now context.now.supertypes.now before.old (parts.redeclared_of context.now.declarations.now context.now.supertypes.now context.now.entity (sorts, inherited.now))) }
+    ensures put { OnOk result (before.new ≡ before.old ++ map (λ e. (inherited.now.attribute.text, e)) (parts.declaring context.now.declarations.now context.now.supertypes.now context.now.entity sorts inherited.now)) }
 {
-    let entities = declaring(alloc, redeclaration(alloc, context, sorts, inherited))?;
     let name = &inherited.attribute;
+    let found = redeclaration(alloc, context, sorts, inherited);
+    let entities = declaring(alloc, context, name, found)?;
     let repeated = is_any_among(before.get(name.text.as_bytes()), &entities);
     push_all(before, name, &entities)?;
     Ok(repeated)
@@ -142,10 +161,10 @@ fn all_once(
     context: &EntityContext<'_, '_, '_>,
     list: &[(Sorts, &QualifiedAttribute)],
 ) -> Binding<()>
-    ensures { Binds result (spec.once_redeclared_after context.now.declarations.now context.now.subtypes.now [] (Ok (tt {0})) (map (parts.redeclared_of context.now.declarations.now context.now.subtypes.now context.now.entity) (parts.read list.now))) }
+    ensures { Binds result (spec.once_redeclared_after context.now.declarations.now context.now.supertypes.now [] (Ok (tt {0})) (map (parts.redeclared_of context.now.declarations.now context.now.supertypes.now context.now.entity) (parts.read list.now))) }
 {
     let mut before = NameRows::new(alloc);
-    let mut found = Gathered::new(alloc);
+    let mut found = Gathered::new(alloc, list.len())?;
     for (sorts, inherited) in list {
         let repeated = is_repeated(alloc, context, &mut before, *sorts, inherited)?;
         found.push(unless_repeated(repeated, &inherited.attribute))?;
@@ -160,7 +179,7 @@ pub fn once_redeclared(
     context: &EntityContext<'_, '_, '_>,
     body: &EntityBody,
 ) -> Binding<()>
-    ensures { Binds result (spec.once_redeclared context.now.declarations.now context.now.subtypes.now context.now.entity body.now) }
+    ensures { Binds result (spec.once_redeclared context.now.declarations.now context.now.supertypes.now context.now.entity body.now) }
 {
     let list = inherited_attributes(alloc, body)?;
     all_once(alloc, context, &list)

@@ -8,11 +8,11 @@ ghost use Rattle.ex_named.specs.Outcomes.{Binds};
 
 use ex_declarations::once;
 use ex_named::Binding;
-use ex_names::{NameTable, SortedNames};
 use ex_tree::{
     AttributeDeclaration, DerivedAttribute, DomainRule, EntityBody, ExplicitAttribute,
     InverseAttribute, Name, UniqueRule,
 };
+use name_tables::{NameTable, SortedNames};
 use std::alloc::{AllocError, Global};
 
 /// Puts the names that attributes are declared by behind others. One that is declared again has none of its own.

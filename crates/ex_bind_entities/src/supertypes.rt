@@ -7,7 +7,7 @@ ghost use Rattle.ex_bind_entities.specs.Entities as spec;
 use ex_named::{Binding, Gathered, NamedSupertype};
 use ex_scopes::Declarations;
 use ex_tree::SupertypeExpression;
-use sqlite_items::Items;
+use plain_data::Items;
 use std::alloc::Global;
 
 /// A supertype expression with its names bound. What is a supertype of what plays no part in it.
@@ -48,7 +48,7 @@ fn supertypes(
 ) -> Binding<Items<NamedSupertype>>
     ensures { Binds result (each (spec.supertype declarations.now []) trees.now) }
 {
-    let mut gathered = Gathered::new(alloc);
+    let mut gathered = Gathered::new(alloc, trees.len())?;
     for tree in trees {
         gathered.push(supertype(alloc, declarations, tree))?;
     }

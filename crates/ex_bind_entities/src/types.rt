@@ -4,21 +4,22 @@ ghost use Rattle.std.specs.Prelude.{◌≡◌, ℕ, List, [], true};
 ghost use Rattle.ex_named.specs.Outcomes.{Binds, each};
 ghost use Rattle.ex_named.specs.Scopes as scopes;
 ghost use Rattle.ex_bind.specs.Rules.{scope_of};
-ghost use Rattle.ex_lineage.specs.Lineage.{is_ancestor};
+ghost use Rattle.lineage.specs.Lineage.{is_ancestor};
 ghost use Rattle.ex_bind_entities.specs.Entities as spec;
 ghost use Rattle.ex_bind_entities.specs.Wholes as parts;
 
 use crate::entities::not_cyclic;
 use crate::scope_names::{labels_once, names_once, no_variables};
+use descent::Family;
 use ex_bind::{copy_name, copy_names, data_type, domain_rules};
 use ex_named::{
     Binding, Declared, Gathered, NameFaultKind, NamedDataType, NamedDomainRule, NamedType,
     NamedUnderlying, TypeName, both, refused,
 };
-use ex_names::SortedNames;
 use ex_scopes::{Declarations, Scope};
 use ex_tree::{DataType, Name, TypeDeclaration, UnderlyingType};
-use sqlite_items::Items;
+use name_tables::SortedNames;
+use plain_data::Items;
 use std::alloc::Global;
 use std::collections::BTreeSet;
 
@@ -53,7 +54,7 @@ fn selected(
 ) -> Binding<Items<TypeName>>
     ensures { Binds result (each (scopes.type_name declarations.now) names.now) }
 {
-    let mut found = Gathered::new(alloc);
+    let mut found = Gathered::new(alloc, names.len())?;
     for name in names {
         found.push(declarations.type_name(name))?;
     }
@@ -146,8 +147,9 @@ fn type_over(
     requires { no_variables.now ≡ [] }
     ensures { (held : List (List ℕ)) → is_cyclic ≡ is_ancestor held number number → Binds result (spec.named_type declarations.now [] held number type_declaration.now) }
 {
+    let nobody = Family::nobody();
     let none = BTreeSet::new(alloc);
-    let scope = Scope::new(alloc, no_variables, true, &none, &none);
+    let scope = Scope::new(alloc, no_variables, true, &nobody, &none);
     type_in(
         alloc,
         declarations,

@@ -2,14 +2,16 @@
 
 ghost use Rattle.ex_named.specs.Outcomes.{Binds, each};
 ghost use Rattle.ex_named.specs.Scopes as scopes;
+ghost use Rattle.ex_scopes.specs.Sorts.{any_sort};
 ghost use Rattle.ex_bind_entities.specs.Entities as spec;
 
-use crate::attribute_uses::{Sorts, attribute_in, attribute_of};
+use crate::attribute_uses::{attribute_in, attribute_of};
 use crate::families::EntityContext;
 use ex_bind::copy_label;
 use ex_named::{AttributeUse, Binding, Gathered, NameFaultKind, NamedUniqueRule, refused};
+use ex_scopes::Sorts;
 use ex_tree::{AttributeDeclaration, Name, QualifiedAttribute, UniqueRule};
-use sqlite_items::Items;
+use plain_data::Items;
 use std::alloc::Global;
 
 /// An attribute that a rule names with the entity that has it.
@@ -19,10 +21,10 @@ fn qualified(
     context: &EntityContext<'_, '_, '_>,
     named: &QualifiedAttribute,
 ) -> Binding<AttributeUse>
-    ensures { Binds result (spec.next (scopes.entity context.now.declarations.now named.now.entity) (spec.unique_in context.now.declarations.now context.now.subtypes.now context.now.entity named.now)) }
+    ensures { Binds result (spec.next (scopes.entity context.now.declarations.now named.now.entity) (spec.unique_in context.now.declarations.now context.now.supertypes.now context.now.entity named.now)) }
 {
     let entity = context.declarations.entity(&named.entity)?;
-    if !context.is_in_family(entity) {
+    if !context.is_in_family(alloc, entity)? {
         return refused(NameFaultKind::NotAnAttribute, named.attribute.at);
     }
     attribute_of(alloc, context, entity, Sorts::Any, &named.attribute)
@@ -30,7 +32,7 @@ fn qualified(
 
 /// An attribute of the entity at hand.
 fn own(alloc: Global, context: &EntityContext<'_, '_, '_>, name: &Name) -> Binding<AttributeUse>
-    ensures { Binds result (spec.attribute_of context.now.declarations.now context.now.subtypes.now spec.any_sort context.now.entity name.now) }
+    ensures { Binds result (spec.attribute_of context.now.declarations.now context.now.supertypes.now any_sort context.now.entity name.now) }
 {
     attribute_in(
         alloc,
@@ -47,7 +49,7 @@ fn unique_attribute(
     context: &EntityContext<'_, '_, '_>,
     named: &AttributeDeclaration,
 ) -> Binding<AttributeUse>
-    ensures { Binds result (spec.unique_attribute context.now.declarations.now context.now.subtypes.now context.now.entity named.now) }
+    ensures { Binds result (spec.unique_attribute context.now.declarations.now context.now.supertypes.now context.now.entity named.now) }
 {
     match named {
         AttributeDeclaration::Own(name) => own(alloc, context, name),
@@ -60,9 +62,9 @@ fn unique_attributes(
     context: &EntityContext<'_, '_, '_>,
     list: &[AttributeDeclaration],
 ) -> Binding<Items<AttributeUse>>
-    ensures { Binds result (each (spec.unique_attribute context.now.declarations.now context.now.subtypes.now context.now.entity) list.now) }
+    ensures { Binds result (each (spec.unique_attribute context.now.declarations.now context.now.supertypes.now context.now.entity) list.now) }
 {
-    let mut found = Gathered::new(alloc);
+    let mut found = Gathered::new(alloc, list.len())?;
     for named in list {
         found.push(unique_attribute(alloc, context, named))?;
     }
@@ -75,7 +77,7 @@ fn unique_rule(
     context: &EntityContext<'_, '_, '_>,
     rule: &UniqueRule,
 ) -> Binding<NamedUniqueRule>
-    ensures { Binds result (spec.unique_rule context.now.declarations.now context.now.subtypes.now context.now.entity rule.now) }
+    ensures { Binds result (spec.unique_rule context.now.declarations.now context.now.supertypes.now context.now.entity rule.now) }
 {
     let attributes = unique_attributes(alloc, context, rule.attributes.as_slice())?;
     Ok(NamedUniqueRule {
@@ -90,9 +92,9 @@ pub fn unique_rules(
     context: &EntityContext<'_, '_, '_>,
     rules: &[UniqueRule],
 ) -> Binding<Items<NamedUniqueRule>>
-    ensures { Binds result (each (spec.unique_rule context.now.declarations.now context.now.subtypes.now context.now.entity) rules.now) }
+    ensures { Binds result (each (spec.unique_rule context.now.declarations.now context.now.supertypes.now context.now.entity) rules.now) }
 {
-    let mut found = Gathered::new(alloc);
+    let mut found = Gathered::new(alloc, rules.len())?;
     for rule in rules {
         found.push(unique_rule(alloc, context, rule))?;
     }

@@ -14,7 +14,7 @@ use ex_named::{
 };
 use ex_scopes::{Declarations, Scope};
 use ex_tree::{Case, CaseAction, Expression, Name, RepeatControl, Statement};
-use sqlite_items::{Boxed, Items};
+use plain_data::{Boxed, Items};
 use std::alloc::Global;
 
 /// Statements with their names bound, in order.
@@ -38,7 +38,7 @@ fn sequence(
 ) -> Binding<Items<NamedStatement>>
     ensures { Binds result (parts.sequence declarations.now scope.now statements.now) }
 {
-    let mut found = Gathered::new(alloc);
+    let mut found = Gathered::new(alloc, statements.len())?;
     for item in statements {
         found.push(statement(alloc, declarations, scope, item))?;
     }
@@ -128,7 +128,7 @@ fn case_actions(
 ) -> Binding<Items<NamedCaseAction>>
     ensures { Binds result (parts.case_actions declarations.now scope.now actions.now) }
 {
-    let mut found = Gathered::new(alloc);
+    let mut found = Gathered::new(alloc, actions.len())?;
     for action in actions {
         found.push(case_action(alloc, declarations, scope, action))?;
     }
@@ -159,7 +159,7 @@ fn labels(
 ) -> Binding<Items<NamedExpression>>
     ensures { Binds result (each (bound declarations.now scope.now) labels.now) }
 {
-    let mut found = Gathered::new(alloc);
+    let mut found = Gathered::new(alloc, labels.len())?;
     for label in labels {
         found.push(expression(alloc, declarations, scope, label))?;
     }

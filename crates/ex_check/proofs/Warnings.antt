@@ -45,12 +45,12 @@ strings_rise lexed schema rise is =
 
 -- ---- they are handed on
 
-handed : (schema : Schema) (parts : Outcome (Unit {0} × SchemaParts)) (subtypes : List (List ℕ)) (r : Resolved)
-    → given (λ found. record { schema = found; subtypes = subtypes }) (given (make_schema schema) parts) ≡ Ok r → schema.strings ≡ r.schema.strings
-handed schema (Ok parts) subtypes r is =
-    let made : Resolved = record { schema = make_schema schema parts; subtypes = subtypes } in
+handed : (schema : Schema) (parts : Outcome (Unit {0} × SchemaParts)) (supertypes : List (List ℕ)) (r : Resolved)
+    → given (λ found. record { schema = found; supertypes = supertypes }) (given (make_schema schema) parts) ≡ Ok r → schema.strings ≡ r.schema.strings
+handed schema (Ok parts) supertypes r is =
+    let made : Resolved = record { schema = make_schema schema parts; supertypes = supertypes } in
     let same : made ≡ r = cc in ap (λ x. x.schema.strings) same
-handed schema (Err fault) subtypes r is = cc
+handed schema (Err fault) supertypes r is = cc
 
 -- the string literals of a schema with its names bound
 pub named_rise : (schema : Schema) (r : Resolved) → Rise 0 (map (λ s. s.at) schema.strings) → resolved schema ≡ Ok r → Rise 0 (map (λ s. s.at) r.schema.strings)

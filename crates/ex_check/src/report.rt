@@ -10,7 +10,7 @@ ghost use Rattle.ex_check.specs.Check as spec;
 use crate::fault::SchemaFault;
 use crate::place::Position;
 use crate::schema::schema_of;
-use ex_types::Schema;
+use ex_types::CheckedSchema;
 use rp_io::{Sink, write_all};
 use std::alloc::{AllocError, Global};
 use text_forms::Failure;
@@ -91,7 +91,7 @@ fn push_warnings(
     Ok(())
 }
 
-fn accepted(alloc: Global, text: &[u8], schema: &Schema) -> Result<String, AllocError>
+fn accepted(alloc: Global, text: &[u8], schema: &CheckedSchema) -> Result<String, AllocError>
     ensures { IfOk result (λ told. string_bytes told ≡ spec.told_of_schema text.now schema.now) }
 {
     let mut told = format!(in alloc; "{}: ok\n", schema.name().as_str())?;

@@ -11,7 +11,7 @@ use ex_lex::tokens;
 use ex_resolve::{Named, resolve};
 use ex_syntax::parse;
 use ex_tree::Schema as Tree;
-use ex_types::{Schema, check};
+use ex_types::{CheckedSchema, check};
 use std::alloc::Global;
 use text_forms::Failure;
 
@@ -51,7 +51,7 @@ fn named_of(alloc: Global, text: &[u8]) -> Result<Named, Failure<SchemaFault>>
 /// The schema of a text, whose warnings stand in the text's order; else the first fault of its tokens, or else of its
 /// syntax, or else of its names, or else of its types.
 #[tactic(auto, unfolding(crate::specs::Check::schema), using(crate::proofs::Warnings::warnings_rise))]
-pub fn schema_of(alloc: Global, text: &[u8]) -> Result<Schema, Failure<SchemaFault>>
+pub fn schema_of(alloc: Global, text: &[u8]) -> Result<CheckedSchema, Failure<SchemaFault>>
     ensures value { Gives (λ schema. schema) result (spec.schema text.now) }
     ensures ascending { IfOk result (λ schema. IsStrictlyIncreasing schema.warnings) }
 {

@@ -1,8 +1,8 @@
 -- What a schema declares (ISO 10303-11:1994, clause 9 and 10).
 use Rattle.std.specs.Prelude.{ℕ, zero, suc, Bool, true, false, List, [], ◌∷◌, ◌++◌, map, Option, Some, None, is_some, if◌then◌else◌, Ok}
 use Rattle.std.specs.List.{filter_map, flat_map}
-use Rattle.ex_lineage.specs.Numbered.{numbered}
-use Rattle.ex_names.specs.Names.{place_of}
+use Rattle.lineage.specs.Numbered.{numbered}
+use Rattle.name_tables.specs.Names.{place_of}
 use Rattle.ex_tree.specs.declared.expression.Name.{Name}
 use Rattle.ex_tree.specs.declared.data_type.DataType.{DataType}
 use Rattle.ex_tree.specs.declared.data_type.DataType.TheFolds.{fold-DataType}
@@ -123,8 +123,8 @@ declarations schema = record {
 -- ---- what reaches what
 
 -- of each entity the entities that SUBTYPE OF lists
-unfoldable pub subtype_graph : Declarations → List Entity → List (List ℕ)
-subtype_graph schema = map (λ e. filter_map (λ n. and_then (declared schema n.text) (as_entity schema)) e.head.supertypes)
+unfoldable pub supertype_graph : Declarations → List Entity → List (List ℕ)
+supertype_graph schema = map (λ e. filter_map (λ n. and_then (declared schema n.text) (as_entity schema)) e.head.supertypes)
 
 -- the types that a type names other than through an entity
 module _ (schema : Declarations) where

@@ -47,13 +47,13 @@ fn entities_of(
 }
 
 /// Of each entity the entities that its SUBTYPE OF lists.
-#[tactic(auto, unfolding(crate::specs::Declared::subtype_graph))]
-pub fn subtype_graph(
+#[tactic(auto, unfolding(crate::specs::Declared::supertype_graph))]
+pub fn supertype_graph(
     alloc: Global,
     declarations: &Declarations<'_>,
     entities: &[&Entity],
 ) -> Result<Rows<Rows<usize>>, AllocError>
-    ensures { IfOk result (λ graph. graph ≡ spec.subtype_graph declarations.now (map (λ e. e.now) entities.now)) }
+    ensures { IfOk result (λ graph. graph ≡ spec.supertype_graph declarations.now (map (λ e. e.now) entities.now)) }
 {
     let mut graph = Rows::new(alloc);
     for entity in entities {

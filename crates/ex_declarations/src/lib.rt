@@ -9,7 +9,7 @@ mod sorts;
 mod uniqueness;
 
 pub use collected::declarations;
-pub use graphs::{subtype_graph, type_graph};
+pub use graphs::{supertype_graph, type_graph};
 pub use own_names::declared_names;
 pub use sorts::{entities, functions, rules, types};
 pub use uniqueness::once;

@@ -6,8 +6,8 @@ ghost use Rattle.ex_declarations.specs.Declared as spec;
 ghost use Rattle.ex_declarations.specs.Steps.{told};
 
 use ex_named::{Binding, NameFault, NameFaultKind};
-use ex_names::NameTable;
 use ex_tree::Name;
+use name_tables::NameTable;
 use std::alloc::Global;
 use text_forms::Failure;
 

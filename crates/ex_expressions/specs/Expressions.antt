@@ -2,8 +2,8 @@
 use Rattle.std.specs.Prelude.{ℕ, zero, suc, Bool, ◌&&◌, ◌||◌, if◌then◌else◌, List, [], ◌∷◌, Option, Some, None, Ok}
 use Rattle.std.specs.List.{list_any}
 use Rattle.text_forms.specs.Forms.{◌>>=◌, ◌>>◌, ◌<$>◌, pure}
-use Rattle.ex_tree.specs.declared.kind.Kind.{Kind}
-use Rattle.ex_tree.specs.declared.kind.Kind.TheVariants as k
+use Rattle.ex_tree.specs.declared.kind.TokenKind.{TokenKind}
+use Rattle.ex_tree.specs.declared.kind.TokenKind.TheVariants as k
 use Rattle.ex_tree.specs.declared.expression.Name.{Name}
 use Rattle.ex_tree.specs.declared.expression.BuiltInFunction.{BuiltInFunction}
 use Rattle.ex_tree.specs.declared.expression.BuiltInFunction.TheVariants as f
@@ -23,7 +23,7 @@ use Rattle.ex_expressions.specs.Levels.{Level}
 
 -- ---- the tokens that choose
 
-abbrev pub built_in_function : Kind → Option BuiltInFunction
+abbrev pub built_in_function : TokenKind → Option BuiltInFunction
 built_in_function k.Abs = Some f.Abs
 built_in_function k.BLength = Some f.BLength
 built_in_function k.Exists = Some f.Exists
@@ -39,7 +39,7 @@ built_in_function k.ValueIn = Some f.ValueIn
 built_in_function _ = None
 
 -- the tokens that begin an expression
-abbrev pub first_tokens : List Kind
+abbrev pub first_tokens : List TokenKind
 first_tokens = k.Identifier ∷ k.IntegerLiteral ∷ k.RealLiteral ∷ k.SimpleStringLiteral ∷ k.EncodedStringLiteral ∷ k.BinaryLiteral
     ∷ k.True ∷ k.False ∷ k.Unknown ∷ k.Itself ∷ k.QuestionMark ∷ k.OpenParenthesis ∷ k.OpenBracket ∷ k.OpenBrace ∷ k.Query
     ∷ k.Plus ∷ k.Minus ∷ k.Not ∷ k.Abs ∷ k.BLength ∷ k.Exists ∷ k.HiIndex ∷ k.Length ∷ k.LoIndex ∷ k.Nvl ∷ k.Odd ∷ k.SizeOf
@@ -60,7 +60,7 @@ begins_qualifier s = sees k.Point s || sees k.Backslash s || sees k.OpenBracket 
 -- ---- forms that nest nothing
 
 -- `<` or `<=`, and where it stands
-abbrev pub interval_op_by : Kind → Option IntervalOperator → Parser (IntervalOperator × ℕ)
+abbrev pub interval_op_by : TokenKind → Option IntervalOperator → Parser (IntervalOperator × ℕ)
 interval_op_by token None = refuse
 interval_op_by token (Some operator) = (λ t. (operator, t.at)) <$> expect token
 
@@ -105,7 +105,7 @@ module _ (levels : ℕ) (below : Level) where
     expect k.CloseBracket
     pure (indexed t.at first last)
 
-  abbrev pub qualifier_by : Kind → Parser Qualifier
+  abbrev pub qualifier_by : TokenKind → Parser Qualifier
   qualifier_by k.Point = attribute_qualifier
   qualifier_by k.Backslash = group_qualifier
   qualifier_by k.OpenBracket = index_qualifier
@@ -129,7 +129,7 @@ module _ (levels : ℕ) (below : Level) where
     is_call ← next_is k.OpenParenthesis
     if is_call then e.Call called <$> actual_parameter_list else pure (e.Name called)
 
-  abbrev pub built_in_call_by : Kind → Option BuiltInFunction → Parser Expression
+  abbrev pub built_in_call_by : TokenKind → Option BuiltInFunction → Parser Expression
   built_in_call_by word None = refuse
   built_in_call_by word (Some function) = do
     t ← expect word
@@ -140,7 +140,7 @@ module _ (levels : ℕ) (below : Level) where
   unfoldable pub built_in_call : Parser Expression
   built_in_call = peek >>= (λ k. built_in_call_by k (built_in_function k))
 
-  abbrev pub qualifiable_factor_by : Kind → Parser Expression
+  abbrev pub qualifiable_factor_by : TokenKind → Parser Expression
   qualifiable_factor_by k.Identifier = named
   qualifiable_factor_by k.Itself = (λ t. e.Itself t.at) <$> expect k.Itself
   qualifiable_factor_by k.QuestionMark = expect k.QuestionMark >> pure e.Indeterminate
@@ -176,7 +176,7 @@ module _ (levels : ℕ) (below : Level) where
   unfoldable pub unary_operand : Parser Expression
   unary_operand = λ s. if begins_sign s then (e.Literal <$> signed_real) s else operand s
 
-  abbrev pub unary_by : Kind → Option UnaryOperator → Parser Expression
+  abbrev pub unary_by : TokenKind → Option UnaryOperator → Parser Expression
   unary_by token None = operand
   unary_by token (Some operator) = do
     t ← expect token
@@ -235,7 +235,7 @@ module _ (levels : ℕ) (below : Level) where
     expect k.CloseParenthesis
     pure (e.Query (roll-Query (record { at = t.at; variable = variable; source = source; condition = condition })))
 
-  abbrev pub simple_factor_by : Kind → Parser Expression
+  abbrev pub simple_factor_by : TokenKind → Parser Expression
   simple_factor_by k.OpenBracket = aggregate_initializer
   simple_factor_by k.OpenBrace = interval
   simple_factor_by k.Query = query_expression

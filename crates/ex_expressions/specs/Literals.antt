@@ -4,13 +4,13 @@ use Rattle.std.specs.List.{list_any}
 use Rattle.std.specs.Result.{result_ok}
 use Rattle.std.specs.Str.{encode_utf8_all}
 use Rattle.text_forms.specs.Forms.{◌>>=◌, ◌>>◌, ◌<$>◌, pure}
-use Rattle.rp_value.specs.Decimals.{Decimal, negated}
-use Rattle.rp_value.specs.Spelling.{parse}
-use Rattle.rp_value.specs.declared.Logical.{Logical}
-use Rattle.rp_value.specs.declared.Logical.TheVariants.{False, Unknown, True}
+use Rattle.rp_numbers.specs.Decimals.{Decimal, negated}
+use Rattle.rp_numbers.specs.Spelling.{parse}
+use Rattle.rp_numbers.specs.declared.Logical.{Logical}
+use Rattle.rp_numbers.specs.declared.Logical.TheVariants.{False, Unknown, True}
 use Rattle.ex_lex.specs.Strings.{characters}
-use Rattle.ex_tree.specs.declared.kind.Kind.{Kind}
-use Rattle.ex_tree.specs.declared.kind.Kind.TheVariants as k
+use Rattle.ex_tree.specs.declared.kind.TokenKind.{TokenKind}
+use Rattle.ex_tree.specs.declared.kind.TokenKind.TheVariants as k
 use Rattle.ex_tree.specs.declared.expression.Literal.{Literal}
 use Rattle.ex_tree.specs.declared.expression.Literal.TheVariants as l
 use Rattle.ex_forms.specs.Input.{Parser, Lexemes, same_kind, kind, peek, expect, eat, refuse, spelled, whole, utf8}
@@ -44,7 +44,7 @@ real_value token = result_ok (parse token)
 
 -- ---- literals
 
-abbrev pub literal_tokens : List Kind
+abbrev pub literal_tokens : List TokenKind
 literal_tokens = k.IntegerLiteral ∷ k.RealLiteral ∷ k.SimpleStringLiteral ∷ k.EncodedStringLiteral ∷ k.BinaryLiteral ∷ k.True ∷ k.False ∷ k.Unknown ∷ []
 
 abbrev pub begins_literal : Lexemes → Bool
@@ -79,10 +79,10 @@ binary = do
   text ← spelled t (bits t.text)
   pure (l.Binary text)
 
-abbrev pub logical : Kind → Logical → Parser Literal
+abbrev pub logical : TokenKind → Logical → Parser Literal
 logical word value = expect word >> pure (l.Logical value)
 
-abbrev pub literal_by : Kind → Parser Literal
+abbrev pub literal_by : TokenKind → Parser Literal
 literal_by k.IntegerLiteral = l.Integer <$> whole
 literal_by k.RealLiteral = l.Real <$> real
 literal_by k.SimpleStringLiteral = simple_string

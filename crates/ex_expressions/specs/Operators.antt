@@ -1,8 +1,8 @@
 -- Operators and the operands between which they stand (ISO 10303-11:1994, 12.1 to 12.4).
 use Rattle.std.specs.Prelude.{ℕ, Bool, if◌then◌else◌, List, [], ◌∷◌, Option, Some, None, is_some, Ok}
 use Rattle.text_forms.specs.Forms.{◌>>=◌, ◌<$>◌, pure}
-use Rattle.ex_tree.specs.declared.kind.Kind.{Kind}
-use Rattle.ex_tree.specs.declared.kind.Kind.TheVariants as k
+use Rattle.ex_tree.specs.declared.kind.TokenKind.{TokenKind}
+use Rattle.ex_tree.specs.declared.kind.TokenKind.TheVariants as k
 use Rattle.ex_tree.specs.declared.expression.BinaryOperator.{BinaryOperator}
 use Rattle.ex_tree.specs.declared.expression.BinaryOperator.TheVariants as op
 use Rattle.ex_tree.specs.declared.expression.UnaryOperator.{UnaryOperator}
@@ -18,11 +18,11 @@ use Rattle.ex_expressions.specs.declared.operators.Rank.TheVariants as rank
 
 -- ---- the operators, by how tightly they bind
 
-abbrev pub powering : Kind → Option BinaryOperator
+abbrev pub powering : TokenKind → Option BinaryOperator
 powering k.Power = Some op.Power
 powering _ = None
 
-abbrev pub multiplication_like : Kind → Option BinaryOperator
+abbrev pub multiplication_like : TokenKind → Option BinaryOperator
 multiplication_like k.Star = Some op.Multiply
 multiplication_like k.Slash = Some op.Divide
 multiplication_like k.Div = Some op.Div
@@ -30,14 +30,14 @@ multiplication_like k.Mod = Some op.Mod
 multiplication_like k.And = Some op.And
 multiplication_like _ = None
 
-abbrev pub add_like : Kind → Option BinaryOperator
+abbrev pub add_like : TokenKind → Option BinaryOperator
 add_like k.Plus = Some op.Add
 add_like k.Minus = Some op.Subtract
 add_like k.Or = Some op.Or
 add_like k.Xor = Some op.Xor
 add_like _ = None
 
-abbrev pub relation : Kind → Option BinaryOperator
+abbrev pub relation : TokenKind → Option BinaryOperator
 relation k.Less = Some op.Less
 relation k.Greater = Some op.Greater
 relation k.LessEqual = Some op.LessEqual
@@ -49,19 +49,19 @@ relation k.InstanceEqual = Some op.InstanceEqual
 relation k.In = Some op.In
 relation _ = None
 
-abbrev pub operator_of : Rank → Kind → Option BinaryOperator
+abbrev pub operator_of : Rank → TokenKind → Option BinaryOperator
 operator_of rank.Powering = powering
 operator_of rank.Multiplying = multiplication_like
 operator_of rank.Adding = add_like
 operator_of rank.Relating = relation
 
-abbrev pub unary_operator : Kind → Option UnaryOperator
+abbrev pub unary_operator : TokenKind → Option UnaryOperator
 unary_operator k.Plus = Some unary.Plus
 unary_operator k.Minus = Some unary.Minus
 unary_operator k.Not = Some unary.Not
 unary_operator _ = None
 
-abbrev pub interval_operator : Kind → Option IntervalOperator
+abbrev pub interval_operator : TokenKind → Option IntervalOperator
 interval_operator k.Less = Some interval.Less
 interval_operator k.LessEqual = Some interval.LessEqual
 interval_operator _ = None
@@ -72,7 +72,7 @@ interval_operator _ = None
 abbrev pub continues : Rank → Lexemes → Bool
 continues rank s = is_some (operator_of rank (kind s))
 
-abbrev pub operation_by : Parser Expression → Kind → Option BinaryOperator → Parser Operation
+abbrev pub operation_by : Parser Expression → TokenKind → Option BinaryOperator → Parser Operation
 operation_by operand token None = refuse
 operation_by operand token (Some operator) = do
   t ← expect token

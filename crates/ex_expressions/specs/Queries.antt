@@ -1,7 +1,7 @@
 -- How a QUERY begins (ISO 10303-11:1994, 12.6.7).
 use Rattle.std.specs.Prelude.{ℕ}
 use Rattle.text_forms.specs.Forms.{◌>>=◌, ◌>>◌, pure}
-use Rattle.ex_tree.specs.declared.kind.Kind.TheVariants as k
+use Rattle.ex_tree.specs.declared.kind.TokenKind.TheVariants as k
 use Rattle.ex_forms.specs.Input.{Parser, expect, enter}
 
 -- `QUERY(`, and the first byte of its word

@@ -2,12 +2,12 @@
 use Rattle.std.specs.Prelude.{ℕ, List, Option, None, option_map}
 use Rattle.std.specs.List.{filter_map}
 use Rattle.ex_lex.specs.Lexeme.{Lexeme}
-use Rattle.ex_tree.specs.declared.kind.Kind.{Kind}
-use Rattle.ex_tree.specs.declared.kind.Kind.TheVariants as k
+use Rattle.ex_tree.specs.declared.kind.TokenKind.{TokenKind}
+use Rattle.ex_tree.specs.declared.kind.TokenKind.TheVariants as k
 use Rattle.ex_tree.specs.declared.declaration.StringToken.{StringToken}
 use Rattle.ex_expressions.specs.Literals.{simple_value, encoded_value}
 
-abbrev pub value_by : Kind → List ℕ → Option (List ℕ)
+abbrev pub value_by : TokenKind → List ℕ → Option (List ℕ)
 value_by k.SimpleStringLiteral token = simple_value token
 value_by k.EncodedStringLiteral token = encoded_value token
 value_by _ token = None

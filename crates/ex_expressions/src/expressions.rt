@@ -7,7 +7,7 @@ ghost use Rattle.ex_expressions.specs.Nests.{NestsBoth};
 
 use crate::grammar::Grammar;
 use crate::operators::{Rank, chain, once};
-use ex_forms::{Begins, Cursor, Form, Kind, Read};
+use ex_forms::{Begins, Cursor, Form, Read, TokenKind};
 use ex_tree::Expression;
 use std::alloc::Global;
 
@@ -52,16 +52,17 @@ impl<
 struct SimpleFactor<'g, E, S>(&'g Grammar<E, S>);
 
 impl<
+    't,
     E: Fn(Global, &mut Cursor<'_>, u8) -> Read<Expression>,
     S: Fn(Global, &mut Cursor<'_>, u8) -> Read<Expression>,
-> Form for SimpleFactor<'_, E, S> {
+> Form<Cursor<'t>> for SimpleFactor<'_, E, S> {
     type Tree = Expression;
 
     ghost form = { λ f. spec.simple_factor f.0.now.levels (spec.below f.0.now.levels) };
 
     ghost can_read = { λ f. NestsBoth f.0.now.levels (E.pre f.0.now.expression) (E.post f.0.now.expression) (S.pre f.0.now.simple_expression) (S.post f.0.now.simple_expression) };
 
-    fn read(&self, _alloc: Global, cursor: &mut Cursor<'_>) -> Read<Expression> {
+    fn read(&self, _alloc: Global, cursor: &mut Cursor<'t>) -> Read<Expression> {
         self.0.simple_factor(cursor)
     }
 }
@@ -70,16 +71,17 @@ impl<
 struct Factor<'g, E, S>(&'g Grammar<E, S>);
 
 impl<
+    't,
     E: Fn(Global, &mut Cursor<'_>, u8) -> Read<Expression>,
     S: Fn(Global, &mut Cursor<'_>, u8) -> Read<Expression>,
-> Form for Factor<'_, E, S> {
+> Form<Cursor<'t>> for Factor<'_, E, S> {
     type Tree = Expression;
 
     ghost form = { λ f. spec.factor f.0.now.levels (spec.below f.0.now.levels) };
 
     ghost can_read = { λ f. NestsBoth f.0.now.levels (E.pre f.0.now.expression) (E.post f.0.now.expression) (S.pre f.0.now.simple_expression) (S.post f.0.now.simple_expression) };
 
-    fn read(&self, _alloc: Global, cursor: &mut Cursor<'_>) -> Read<Expression> {
+    fn read(&self, _alloc: Global, cursor: &mut Cursor<'t>) -> Read<Expression> {
         self.0.factor(cursor)
     }
 }
@@ -88,16 +90,17 @@ impl<
 struct Term<'g, E, S>(&'g Grammar<E, S>);
 
 impl<
+    't,
     E: Fn(Global, &mut Cursor<'_>, u8) -> Read<Expression>,
     S: Fn(Global, &mut Cursor<'_>, u8) -> Read<Expression>,
-> Form for Term<'_, E, S> {
+> Form<Cursor<'t>> for Term<'_, E, S> {
     type Tree = Expression;
 
     ghost form = { λ f. spec.term f.0.now.levels (spec.below f.0.now.levels) };
 
     ghost can_read = { λ f. NestsBoth f.0.now.levels (E.pre f.0.now.expression) (E.post f.0.now.expression) (S.pre f.0.now.simple_expression) (S.post f.0.now.simple_expression) };
 
-    fn read(&self, _alloc: Global, cursor: &mut Cursor<'_>) -> Read<Expression> {
+    fn read(&self, _alloc: Global, cursor: &mut Cursor<'t>) -> Read<Expression> {
         self.0.term(cursor)
     }
 }
@@ -106,16 +109,17 @@ impl<
 struct Simple<'g, E, S>(&'g Grammar<E, S>);
 
 impl<
+    't,
     E: Fn(Global, &mut Cursor<'_>, u8) -> Read<Expression>,
     S: Fn(Global, &mut Cursor<'_>, u8) -> Read<Expression>,
-> Form for Simple<'_, E, S> {
+> Form<Cursor<'t>> for Simple<'_, E, S> {
     type Tree = Expression;
 
     ghost form = { λ f. spec.simple_expression_with f.0.now.levels (spec.below f.0.now.levels) };
 
     ghost can_read = { λ f. NestsBoth f.0.now.levels (E.pre f.0.now.expression) (E.post f.0.now.expression) (S.pre f.0.now.simple_expression) (S.post f.0.now.simple_expression) };
 
-    fn read(&self, _alloc: Global, cursor: &mut Cursor<'_>) -> Read<Expression> {
+    fn read(&self, _alloc: Global, cursor: &mut Cursor<'t>) -> Read<Expression> {
         self.0.simple_expression(cursor)
     }
 }
@@ -155,37 +159,37 @@ pub fn simple_expression(alloc: Global, cursor: &mut Cursor<'_>, levels: u8) -> 
 pub fn begins_expression(cursor: &Cursor<'_>) -> bool
     ensures { result ≡ spec.begins_expression cursor.now }
 {
-    const FIRST_TOKENS: [Kind; 30] = [
-        Kind::Identifier,
-        Kind::IntegerLiteral,
-        Kind::RealLiteral,
-        Kind::SimpleStringLiteral,
-        Kind::EncodedStringLiteral,
-        Kind::BinaryLiteral,
-        Kind::True,
-        Kind::False,
-        Kind::Unknown,
-        Kind::Itself,
-        Kind::QuestionMark,
-        Kind::OpenParenthesis,
-        Kind::OpenBracket,
-        Kind::OpenBrace,
-        Kind::Query,
-        Kind::Plus,
-        Kind::Minus,
-        Kind::Not,
-        Kind::Abs,
-        Kind::BLength,
-        Kind::Exists,
-        Kind::HiIndex,
-        Kind::Length,
-        Kind::LoIndex,
-        Kind::Nvl,
-        Kind::Odd,
-        Kind::SizeOf,
-        Kind::TypeOf,
-        Kind::UsedIn,
-        Kind::ValueIn,
+    const FIRST_TOKENS: [TokenKind; 30] = [
+        TokenKind::Identifier,
+        TokenKind::IntegerLiteral,
+        TokenKind::RealLiteral,
+        TokenKind::SimpleStringLiteral,
+        TokenKind::EncodedStringLiteral,
+        TokenKind::BinaryLiteral,
+        TokenKind::True,
+        TokenKind::False,
+        TokenKind::Unknown,
+        TokenKind::Itself,
+        TokenKind::QuestionMark,
+        TokenKind::OpenParenthesis,
+        TokenKind::OpenBracket,
+        TokenKind::OpenBrace,
+        TokenKind::Query,
+        TokenKind::Plus,
+        TokenKind::Minus,
+        TokenKind::Not,
+        TokenKind::Abs,
+        TokenKind::BLength,
+        TokenKind::Exists,
+        TokenKind::HiIndex,
+        TokenKind::Length,
+        TokenKind::LoIndex,
+        TokenKind::Nvl,
+        TokenKind::Odd,
+        TokenKind::SizeOf,
+        TokenKind::TypeOf,
+        TokenKind::UsedIn,
+        TokenKind::ValueIn,
     ];
     FIRST_TOKENS.iter().any(|first| cursor.sees(*first))
 }
@@ -196,22 +200,22 @@ pub struct ExpressionForm {
     pub levels: u8,
 }
 
-impl Form for ExpressionForm {
+impl<'t> Form<Cursor<'t>> for ExpressionForm {
     type Tree = Expression;
 
     ghost form = { λ f. spec.expression f.levels };
 
     ghost can_read = { λ f. Unit {0} };
 
-    fn read(&self, alloc: Global, cursor: &mut Cursor<'_>) -> Read<Expression> {
+    fn read(&self, alloc: Global, cursor: &mut Cursor<'t>) -> Read<Expression> {
         expression(alloc, cursor, self.levels)
     }
 }
 
-impl Begins for ExpressionForm {
+impl<'t> Begins<Cursor<'t>> for ExpressionForm {
     ghost begins = { λ f. spec.begins_expression };
 
-    fn begins(&self, cursor: &Cursor<'_>) -> bool {
+    fn begins(&self, cursor: &Cursor<'t>) -> bool {
         begins_expression(cursor)
     }
 }

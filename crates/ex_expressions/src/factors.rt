@@ -9,22 +9,22 @@ ghost use Rattle.ex_expressions.specs.Queries as queries;
 use crate::grammar::Grammar;
 use crate::literals::signed_real;
 use crate::operators::{interval_operator, unary_operator};
-use ex_forms::{Cursor, Kind, Read, name};
+use ex_forms::{Cursor, Read, TokenKind, name};
 use ex_tree::{Expression, Interval, IntervalOperator, Query};
-use sqlite_items::{Boxed, Items};
+use plain_data::{Boxed, Items};
 use std::alloc::Global;
 use text_forms::Failure;
 
 fn begins_sign(cursor: &Cursor<'_>) -> bool
     ensures { result ≡ spec.begins_sign cursor.now }
 {
-    cursor.sees(Kind::Plus) || cursor.sees(Kind::Minus)
+    cursor.sees(TokenKind::Plus) || cursor.sees(TokenKind::Minus)
 }
 
 fn begins_signed_real(cursor: &Cursor<'_>) -> bool
     ensures { result ≡ spec.begins_signed_real cursor.now }
 {
-    begins_sign(cursor) && cursor.sees_second(Kind::RealLiteral)
+    begins_sign(cursor) && cursor.sees_second(TokenKind::RealLiteral)
 }
 
 /// `<` or `<=`, and where it stands.
@@ -48,8 +48,8 @@ fn query_word(cursor: &mut Cursor<'_>, levels: u8) -> Read<usize>
     ensures takes { Takes result cursor.old cursor.new }
     ensures deeper { IsOk result → 0 < levels }
 {
-    let word = cursor.expect(Kind::Query)?;
-    cursor.enter(levels, Kind::OpenParenthesis)?;
+    let word = cursor.expect(TokenKind::Query)?;
+    cursor.enter(levels, TokenKind::OpenParenthesis)?;
     Ok(word.at)
 }
 
@@ -63,9 +63,9 @@ impl<
         ensures reads { Reads (spec.parenthesized self.now.levels (spec.below self.now.levels) cursor.old) result cursor.new }
         ensures takes { Takes result cursor.old cursor.new }
     {
-        cursor.enter(self.levels, Kind::OpenParenthesis)?;
+        cursor.enter(self.levels, TokenKind::OpenParenthesis)?;
         let inside = self.inner(cursor)?;
-        cursor.expect(Kind::CloseParenthesis)?;
+        cursor.expect(TokenKind::CloseParenthesis)?;
         Ok(inside)
     }
 
@@ -75,7 +75,7 @@ impl<
         ensures reads { Reads (spec.operand self.now.levels (spec.below self.now.levels) cursor.old) result cursor.new }
         ensures takes { Takes result cursor.old cursor.new }
     {
-        if cursor.sees(Kind::OpenParenthesis) {
+        if cursor.sees(TokenKind::OpenParenthesis) {
             self.parenthesized(cursor)
         } else {
             self.primary(cursor)
@@ -131,7 +131,7 @@ impl<
         ensures reads { Reads (spec.elements self.now.levels (spec.below self.now.levels) cursor.old) result cursor.new }
         ensures keeps { Keeps result cursor.old cursor.new }
     {
-        if cursor.sees(Kind::CloseBracket) {
+        if cursor.sees(TokenKind::CloseBracket) {
             Ok(Items::new(self.alloc))
         } else {
             self.inner_list(cursor)
@@ -145,9 +145,9 @@ impl<
         ensures reads { Reads (spec.aggregate_initializer self.now.levels (spec.below self.now.levels) cursor.old) result cursor.new }
         ensures takes { Takes result cursor.old cursor.new }
     {
-        cursor.enter(self.levels, Kind::OpenBracket)?;
+        cursor.enter(self.levels, TokenKind::OpenBracket)?;
         let found = self.elements(cursor)?;
-        cursor.expect(Kind::CloseBracket)?;
+        cursor.expect(TokenKind::CloseBracket)?;
         Ok(Expression::Initializer(found))
     }
 
@@ -158,13 +158,13 @@ impl<
         ensures reads { Reads (spec.interval self.now.levels (spec.below self.now.levels) cursor.old) result cursor.new }
         ensures takes { Takes result cursor.old cursor.new }
     {
-        cursor.enter(self.levels, Kind::OpenBrace)?;
+        cursor.enter(self.levels, TokenKind::OpenBrace)?;
         let low = self.inner_simple(cursor)?;
         let (low_operator, low_at) = interval_op(cursor)?;
         let item = self.inner_simple(cursor)?;
         let (high_operator, high_at) = interval_op(cursor)?;
         let high = self.inner_simple(cursor)?;
-        cursor.expect(Kind::CloseBrace)?;
+        cursor.expect(TokenKind::CloseBrace)?;
         let interval = Interval {
             low,
             low_operator,
@@ -186,11 +186,11 @@ impl<
     {
         let at = query_word(cursor, self.levels)?;
         let variable = name(self.alloc, cursor)?;
-        cursor.expect(Kind::QuerySource)?;
+        cursor.expect(TokenKind::QuerySource)?;
         let source = self.inner_simple(cursor)?;
-        cursor.expect(Kind::Bar)?;
+        cursor.expect(TokenKind::Bar)?;
         let condition = self.inner(cursor)?;
-        cursor.expect(Kind::CloseParenthesis)?;
+        cursor.expect(TokenKind::CloseParenthesis)?;
         let query = Query {
             at,
             variable,
@@ -207,9 +207,9 @@ impl<
         ensures takes { Takes result cursor.old cursor.new }
     {
         match cursor.kind() {
-            Kind::OpenBracket => self.aggregate_initializer(cursor),
-            Kind::OpenBrace => self.interval(cursor),
-            Kind::Query => self.query_expression(cursor),
+            TokenKind::OpenBracket => self.aggregate_initializer(cursor),
+            TokenKind::OpenBrace => self.interval(cursor),
+            TokenKind::Query => self.query_expression(cursor),
             _ => self.signed(cursor),
         }
     }

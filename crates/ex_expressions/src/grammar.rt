@@ -3,13 +3,13 @@
 ghost use Rattle.std.specs.Prelude.{◌≡◌, ◌<◌};
 ghost use Rattle.text_forms.specs.Gives.{Reads, Takes};
 ghost use Rattle.ex_forms.specs.Input as input;
-ghost use Rattle.ex_tree.specs.declared.kind.Kind.TheVariants as k;
+ghost use Rattle.ex_tree.specs.declared.kind.TokenKind.TheVariants as k;
 ghost use Rattle.ex_expressions.specs.Expressions as spec;
 ghost use Rattle.ex_expressions.specs.Nests.{NestsBoth};
 
-use ex_forms::{Cursor, Form, Kind, Read, separated};
+use ex_forms::{Cursor, Form, Read, TokenKind, separated};
 use ex_tree::Expression;
-use sqlite_items::Items;
+use plain_data::Items;
 use std::alloc::Global;
 
 #[derive(Clone, Copy)]
@@ -52,7 +52,7 @@ impl<
         ensures reads { Reads (input.separated k.Comma (spec.below self.now.levels).expression cursor.old) result cursor.new }
         ensures takes { Takes result cursor.old cursor.new }
     {
-        separated(self.alloc, cursor, Kind::Comma, &Inner(self))
+        separated(self.alloc, cursor, TokenKind::Comma, &Inner(self))
     }
 }
 
@@ -60,16 +60,17 @@ impl<
 struct Inner<'g, E, S>(&'g Grammar<E, S>);
 
 impl<
+    't,
     E: Fn(Global, &mut Cursor<'_>, u8) -> Read<Expression>,
     S: Fn(Global, &mut Cursor<'_>, u8) -> Read<Expression>,
-> Form for Inner<'_, E, S> {
+> Form<Cursor<'t>> for Inner<'_, E, S> {
     type Tree = Expression;
 
     ghost form = { λ f. (spec.below f.0.now.levels).expression };
 
     ghost can_read = { λ f. (0 < f.0.now.levels) × NestsBoth f.0.now.levels (E.pre f.0.now.expression) (E.post f.0.now.expression) (S.pre f.0.now.simple_expression) (S.post f.0.now.simple_expression) };
 
-    fn read(&self, _alloc: Global, cursor: &mut Cursor<'_>) -> Read<Expression> {
+    fn read(&self, _alloc: Global, cursor: &mut Cursor<'t>) -> Read<Expression> {
         self.0.inner(cursor)
     }
 }

@@ -9,9 +9,9 @@ ghost use Rattle.ex_expressions.specs.Literals as spec;
 
 use ex_forms::{Cursor, Read, whole};
 use ex_lex::character;
-use ex_tree::{Kind, Literal};
+use ex_tree::{Literal, TokenKind};
 use plain_data::Text;
-use rp_value::{Decimal, Logical};
+use rp_numbers::{Decimal, Logical};
 use std::alloc::{AllocError, Global};
 use text_forms::Failure;
 
@@ -66,7 +66,7 @@ fn real(cursor: &mut Cursor<'_>) -> Read<Decimal>
     ensures takes { Takes result cursor.old cursor.new }
 {
     let refusal = cursor.refusal();
-    let token = cursor.expect(Kind::RealLiteral)?;
+    let token = cursor.expect(TokenKind::RealLiteral)?;
     match Decimal::parse(token.text) {
         Ok(value) => Ok(value),
         Err(_) => Err(Failure::Fault(refusal)),
@@ -79,10 +79,10 @@ pub fn signed_real(cursor: &mut Cursor<'_>) -> Read<Literal>
     ensures reads { Reads (spec.signed_real cursor.old) result cursor.new }
     ensures takes { Takes result cursor.old cursor.new }
 {
-    if cursor.eat(Kind::Minus) {
+    if cursor.eat(TokenKind::Minus) {
         return Ok(Literal::Real(real(cursor)?.negate()));
     }
-    cursor.expect(Kind::Plus)?;
+    cursor.expect(TokenKind::Plus)?;
     Ok(Literal::Real(real(cursor)?))
 }
 
@@ -100,7 +100,7 @@ fn simple_string(alloc: Global, cursor: &mut Cursor<'_>) -> Read<Literal>
     ensures takes { Takes result cursor.old cursor.new }
 {
     let refusal = cursor.refusal();
-    let token = cursor.expect(Kind::SimpleStringLiteral)?;
+    let token = cursor.expect(TokenKind::SimpleStringLiteral)?;
     let Some(text) = simple_value(alloc, token.text)? else {
         return Err(Failure::Fault(refusal));
     };
@@ -140,7 +140,7 @@ fn encoded_string(alloc: Global, cursor: &mut Cursor<'_>) -> Read<Literal>
     ensures takes { Takes result cursor.old cursor.new }
 {
     let refusal = cursor.refusal();
-    let token = cursor.expect(Kind::EncodedStringLiteral)?;
+    let token = cursor.expect(TokenKind::EncodedStringLiteral)?;
     let Some(text) = encoded_value(alloc, token.text)? else {
         return Err(Failure::Fault(refusal));
     };
@@ -153,7 +153,7 @@ fn binary(alloc: Global, cursor: &mut Cursor<'_>) -> Read<Literal>
     ensures takes { Takes result cursor.old cursor.new }
 {
     let refusal = cursor.refusal();
-    let token = cursor.expect(Kind::BinaryLiteral)?;
+    let token = cursor.expect(TokenKind::BinaryLiteral)?;
     let bits = match token.text {
         [_, bits @ ..] => bits,
         [] => &[],
@@ -168,20 +168,20 @@ fn binary(alloc: Global, cursor: &mut Cursor<'_>) -> Read<Literal>
 pub fn begins_literal(cursor: &Cursor<'_>) -> bool
     ensures { result ≡ spec.begins_literal cursor.now }
 {
-    const LITERAL_TOKENS: [Kind; 8] = [
-        Kind::IntegerLiteral,
-        Kind::RealLiteral,
-        Kind::SimpleStringLiteral,
-        Kind::EncodedStringLiteral,
-        Kind::BinaryLiteral,
-        Kind::True,
-        Kind::False,
-        Kind::Unknown,
+    const LITERAL_TOKENS: [TokenKind; 8] = [
+        TokenKind::IntegerLiteral,
+        TokenKind::RealLiteral,
+        TokenKind::SimpleStringLiteral,
+        TokenKind::EncodedStringLiteral,
+        TokenKind::BinaryLiteral,
+        TokenKind::True,
+        TokenKind::False,
+        TokenKind::Unknown,
     ];
     LITERAL_TOKENS.iter().any(|literal| cursor.sees(*literal))
 }
 
-fn logical(cursor: &mut Cursor<'_>, word: Kind, value: Logical) -> Read<Literal>
+fn logical(cursor: &mut Cursor<'_>, word: TokenKind, value: Logical) -> Read<Literal>
     ensures reads { Reads (spec.logical word value cursor.old) result cursor.new }
     ensures takes { Takes result cursor.old cursor.new }
 {
@@ -195,14 +195,14 @@ pub fn literal(alloc: Global, cursor: &mut Cursor<'_>) -> Read<Literal>
     ensures takes { Takes result cursor.old cursor.new }
 {
     match cursor.kind() {
-        Kind::IntegerLiteral => Ok(Literal::Integer(whole(cursor)?)),
-        Kind::RealLiteral => Ok(Literal::Real(real(cursor)?)),
-        Kind::SimpleStringLiteral => simple_string(alloc, cursor),
-        Kind::EncodedStringLiteral => encoded_string(alloc, cursor),
-        Kind::BinaryLiteral => binary(alloc, cursor),
-        Kind::False => logical(cursor, Kind::False, Logical::False),
-        Kind::Unknown => logical(cursor, Kind::Unknown, Logical::Unknown),
-        Kind::True => logical(cursor, Kind::True, Logical::True),
+        TokenKind::IntegerLiteral => Ok(Literal::Integer(whole(cursor)?)),
+        TokenKind::RealLiteral => Ok(Literal::Real(real(cursor)?)),
+        TokenKind::SimpleStringLiteral => simple_string(alloc, cursor),
+        TokenKind::EncodedStringLiteral => encoded_string(alloc, cursor),
+        TokenKind::BinaryLiteral => binary(alloc, cursor),
+        TokenKind::False => logical(cursor, TokenKind::False, Logical::False),
+        TokenKind::Unknown => logical(cursor, TokenKind::Unknown, Logical::Unknown),
+        TokenKind::True => logical(cursor, TokenKind::True, Logical::True),
         _ => Err(Failure::Fault(cursor.refusal())),
     }
 }

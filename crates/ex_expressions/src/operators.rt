@@ -5,8 +5,8 @@ ghost use Rattle.text_forms.specs.Gives.{Reads, Takes};
 ghost use Rattle.ex_expressions.specs.Operators as spec;
 
 use ex_forms::{Begins, Cursor, Form, Read, many};
-use ex_tree::{BinaryOperator, Expression, IntervalOperator, Kind, Operation, UnaryOperator};
-use sqlite_items::{Boxed, Items};
+use ex_tree::{BinaryOperator, Expression, IntervalOperator, Operation, TokenKind, UnaryOperator};
+use plain_data::{Boxed, Items};
 use std::alloc::{AllocError, Global};
 use text_forms::Failure;
 
@@ -21,58 +21,58 @@ pub enum Rank {
     Relating,
 }
 
-fn powering(kind: Kind) -> Option<BinaryOperator>
+fn powering(kind: TokenKind) -> Option<BinaryOperator>
     ensures { result ≡ spec.powering kind }
 {
     match kind {
-        Kind::Power => Some(BinaryOperator::Power),
+        TokenKind::Power => Some(BinaryOperator::Power),
         _ => None,
     }
 }
 
-fn multiplication_like(kind: Kind) -> Option<BinaryOperator>
+fn multiplication_like(kind: TokenKind) -> Option<BinaryOperator>
     ensures { result ≡ spec.multiplication_like kind }
 {
     match kind {
-        Kind::Star => Some(BinaryOperator::Multiply),
-        Kind::Slash => Some(BinaryOperator::Divide),
-        Kind::Div => Some(BinaryOperator::Div),
-        Kind::Mod => Some(BinaryOperator::Mod),
-        Kind::And => Some(BinaryOperator::And),
+        TokenKind::Star => Some(BinaryOperator::Multiply),
+        TokenKind::Slash => Some(BinaryOperator::Divide),
+        TokenKind::Div => Some(BinaryOperator::Div),
+        TokenKind::Mod => Some(BinaryOperator::Mod),
+        TokenKind::And => Some(BinaryOperator::And),
         _ => None,
     }
 }
 
-fn add_like(kind: Kind) -> Option<BinaryOperator>
+fn add_like(kind: TokenKind) -> Option<BinaryOperator>
     ensures { result ≡ spec.add_like kind }
 {
     match kind {
-        Kind::Plus => Some(BinaryOperator::Add),
-        Kind::Minus => Some(BinaryOperator::Subtract),
-        Kind::Or => Some(BinaryOperator::Or),
-        Kind::Xor => Some(BinaryOperator::Xor),
+        TokenKind::Plus => Some(BinaryOperator::Add),
+        TokenKind::Minus => Some(BinaryOperator::Subtract),
+        TokenKind::Or => Some(BinaryOperator::Or),
+        TokenKind::Xor => Some(BinaryOperator::Xor),
         _ => None,
     }
 }
 
-fn relation(kind: Kind) -> Option<BinaryOperator>
+fn relation(kind: TokenKind) -> Option<BinaryOperator>
     ensures { result ≡ spec.relation kind }
 {
     match kind {
-        Kind::Less => Some(BinaryOperator::Less),
-        Kind::Greater => Some(BinaryOperator::Greater),
-        Kind::LessEqual => Some(BinaryOperator::LessEqual),
-        Kind::GreaterEqual => Some(BinaryOperator::GreaterEqual),
-        Kind::NotEqual => Some(BinaryOperator::NotEqual),
-        Kind::Equals => Some(BinaryOperator::Equal),
-        Kind::InstanceNotEqual => Some(BinaryOperator::InstanceNotEqual),
-        Kind::InstanceEqual => Some(BinaryOperator::InstanceEqual),
-        Kind::In => Some(BinaryOperator::In),
+        TokenKind::Less => Some(BinaryOperator::Less),
+        TokenKind::Greater => Some(BinaryOperator::Greater),
+        TokenKind::LessEqual => Some(BinaryOperator::LessEqual),
+        TokenKind::GreaterEqual => Some(BinaryOperator::GreaterEqual),
+        TokenKind::NotEqual => Some(BinaryOperator::NotEqual),
+        TokenKind::Equals => Some(BinaryOperator::Equal),
+        TokenKind::InstanceNotEqual => Some(BinaryOperator::InstanceNotEqual),
+        TokenKind::InstanceEqual => Some(BinaryOperator::InstanceEqual),
+        TokenKind::In => Some(BinaryOperator::In),
         _ => None,
     }
 }
 
-fn operator_of(rank: Rank, kind: Kind) -> Option<BinaryOperator>
+fn operator_of(rank: Rank, kind: TokenKind) -> Option<BinaryOperator>
     ensures { result ≡ spec.operator_of rank kind }
 {
     match rank {
@@ -83,23 +83,23 @@ fn operator_of(rank: Rank, kind: Kind) -> Option<BinaryOperator>
     }
 }
 
-pub fn unary_operator(kind: Kind) -> Option<UnaryOperator>
+pub fn unary_operator(kind: TokenKind) -> Option<UnaryOperator>
     ensures { result ≡ spec.unary_operator kind }
 {
     match kind {
-        Kind::Plus => Some(UnaryOperator::Plus),
-        Kind::Minus => Some(UnaryOperator::Minus),
-        Kind::Not => Some(UnaryOperator::Not),
+        TokenKind::Plus => Some(UnaryOperator::Plus),
+        TokenKind::Minus => Some(UnaryOperator::Minus),
+        TokenKind::Not => Some(UnaryOperator::Not),
         _ => None,
     }
 }
 
-pub fn interval_operator(kind: Kind) -> Option<IntervalOperator>
+pub fn interval_operator(kind: TokenKind) -> Option<IntervalOperator>
     ensures { result ≡ spec.interval_operator kind }
 {
     match kind {
-        Kind::Less => Some(IntervalOperator::Less),
-        Kind::LessEqual => Some(IntervalOperator::LessEqual),
+        TokenKind::Less => Some(IntervalOperator::Less),
+        TokenKind::LessEqual => Some(IntervalOperator::LessEqual),
         _ => None,
     }
 }
@@ -113,9 +113,9 @@ fn continues(rank: Rank, cursor: &Cursor<'_>) -> bool
 
 /// An operator of this rank, which comes next, and the operand on its right.
 #[tactic(auto, unfolding(crate::specs::Operators::operation))]
-fn operation<F: Form<Tree = Expression>>(
+fn operation<'t, F: Form<Cursor<'t>, Tree = Expression>>(
     alloc: Global,
-    cursor: &mut Cursor<'_>,
+    cursor: &mut Cursor<'t>,
     rank: Rank,
     operand: &F,
 ) -> Read<Operation>
@@ -142,22 +142,22 @@ struct OperationForm<'f, F> {
     operand: &'f F,
 }
 
-impl<F: Form<Tree = Expression>> Form for OperationForm<'_, F> {
+impl<'t, F: Form<Cursor<'t>, Tree = Expression>> Form<Cursor<'t>> for OperationForm<'_, F> {
     type Tree = Operation;
 
     ghost form = { λ f. spec.operation f.rank (F.form f.operand.now) };
 
     ghost can_read = { λ f. F.can_read f.operand.now };
 
-    fn read(&self, alloc: Global, cursor: &mut Cursor<'_>) -> Read<Operation> {
+    fn read(&self, alloc: Global, cursor: &mut Cursor<'t>) -> Read<Operation> {
         operation(alloc, cursor, self.rank, self.operand)
     }
 }
 
-impl<F: Form<Tree = Expression>> Begins for OperationForm<'_, F> {
+impl<'t, F: Form<Cursor<'t>, Tree = Expression>> Begins<Cursor<'t>> for OperationForm<'_, F> {
     ghost begins = { λ f. spec.continues f.rank };
 
-    fn begins(&self, cursor: &Cursor<'_>) -> bool {
+    fn begins(&self, cursor: &Cursor<'t>) -> bool {
         continues(self.rank, cursor)
     }
 }
@@ -177,9 +177,9 @@ fn chained(
 
 /// Operands with operators of one rank between, from left to right.
 #[tactic(auto, unfolding(crate::specs::Operators::chain))]
-pub fn chain<F: Form<Tree = Expression>>(
+pub fn chain<'t, F: Form<Cursor<'t>, Tree = Expression>>(
     alloc: Global,
-    cursor: &mut Cursor<'_>,
+    cursor: &mut Cursor<'t>,
     rank: Rank,
     operand: &F,
 ) -> Read<Expression>
@@ -202,9 +202,9 @@ fn only(alloc: Global, item: Operation) -> Result<Items<Operation>, AllocError>
 
 /// One operand, or two with an operator of this rank between.
 #[tactic(auto, unfolding(crate::specs::Operators::once))]
-pub fn once<F: Form<Tree = Expression>>(
+pub fn once<'t, F: Form<Cursor<'t>, Tree = Expression>>(
     alloc: Global,
-    cursor: &mut Cursor<'_>,
+    cursor: &mut Cursor<'t>,
     rank: Rank,
     operand: &F,
 ) -> Read<Expression>

@@ -2,35 +2,35 @@
 
 ghost use Rattle.std.specs.Prelude.{◌≡◌, ◌<◌, IfOk};
 ghost use Rattle.text_forms.specs.Gives.{Reads, Takes};
-ghost use Rattle.ex_tree.specs.declared.kind.Kind.TheVariants as k;
+ghost use Rattle.ex_tree.specs.declared.kind.TokenKind.TheVariants as k;
 ghost use Rattle.ex_forms.specs.Input as input;
 ghost use Rattle.ex_expressions.specs.Expressions as spec;
 ghost use Rattle.ex_expressions.specs.Nests.{NestsBoth};
 
 use crate::grammar::Grammar;
 use crate::literals::{begins_literal, literal};
-use ex_forms::{Begins, Cursor, Form, Kind, Read, many, name, optional};
+use ex_forms::{Begins, Cursor, Form, Read, TokenKind, many, name, optional};
 use ex_tree::{BuiltInFunction, Expression, Qualifier};
-use sqlite_items::{Boxed, Items};
+use plain_data::{Boxed, Items};
 use std::alloc::{AllocError, Global};
 use text_forms::Failure;
 
-fn built_in_function(kind: Kind) -> Option<BuiltInFunction>
+fn built_in_function(kind: TokenKind) -> Option<BuiltInFunction>
     ensures { result ≡ spec.built_in_function kind }
 {
     match kind {
-        Kind::Abs => Some(BuiltInFunction::Abs),
-        Kind::BLength => Some(BuiltInFunction::BLength),
-        Kind::Exists => Some(BuiltInFunction::Exists),
-        Kind::HiIndex => Some(BuiltInFunction::HiIndex),
-        Kind::Length => Some(BuiltInFunction::Length),
-        Kind::LoIndex => Some(BuiltInFunction::LoIndex),
-        Kind::Nvl => Some(BuiltInFunction::Nvl),
-        Kind::Odd => Some(BuiltInFunction::Odd),
-        Kind::SizeOf => Some(BuiltInFunction::SizeOf),
-        Kind::TypeOf => Some(BuiltInFunction::TypeOf),
-        Kind::UsedIn => Some(BuiltInFunction::UsedIn),
-        Kind::ValueIn => Some(BuiltInFunction::ValueIn),
+        TokenKind::Abs => Some(BuiltInFunction::Abs),
+        TokenKind::BLength => Some(BuiltInFunction::BLength),
+        TokenKind::Exists => Some(BuiltInFunction::Exists),
+        TokenKind::HiIndex => Some(BuiltInFunction::HiIndex),
+        TokenKind::Length => Some(BuiltInFunction::Length),
+        TokenKind::LoIndex => Some(BuiltInFunction::LoIndex),
+        TokenKind::Nvl => Some(BuiltInFunction::Nvl),
+        TokenKind::Odd => Some(BuiltInFunction::Odd),
+        TokenKind::SizeOf => Some(BuiltInFunction::SizeOf),
+        TokenKind::TypeOf => Some(BuiltInFunction::TypeOf),
+        TokenKind::UsedIn => Some(BuiltInFunction::UsedIn),
+        TokenKind::ValueIn => Some(BuiltInFunction::ValueIn),
         _ => None,
     }
 }
@@ -38,7 +38,9 @@ fn built_in_function(kind: Kind) -> Option<BuiltInFunction>
 fn begins_qualifier(cursor: &Cursor<'_>) -> bool
     ensures { result ≡ spec.begins_qualifier cursor.now }
 {
-    cursor.sees(Kind::Point) || cursor.sees(Kind::Backslash) || cursor.sees(Kind::OpenBracket)
+    cursor.sees(TokenKind::Point)
+        || cursor.sees(TokenKind::Backslash)
+        || cursor.sees(TokenKind::OpenBracket)
 }
 
 /// `.attribute`
@@ -47,7 +49,7 @@ fn attribute_qualifier(alloc: Global, cursor: &mut Cursor<'_>) -> Read<Qualifier
     ensures reads { Reads (spec.attribute_qualifier cursor.old) result cursor.new }
     ensures takes { Takes result cursor.old cursor.new }
 {
-    let point = cursor.expect(Kind::Point)?;
+    let point = cursor.expect(TokenKind::Point)?;
     Ok(Qualifier::Attribute(point.at, name(alloc, cursor)?))
 }
 
@@ -57,7 +59,7 @@ fn group_qualifier(alloc: Global, cursor: &mut Cursor<'_>) -> Read<Qualifier>
     ensures reads { Reads (spec.group_qualifier cursor.old) result cursor.new }
     ensures takes { Takes result cursor.old cursor.new }
 {
-    let backslash = cursor.expect(Kind::Backslash)?;
+    let backslash = cursor.expect(TokenKind::Backslash)?;
     Ok(Qualifier::Group(backslash.at, name(alloc, cursor)?))
 }
 
@@ -94,7 +96,7 @@ impl<
         ensures reads { Reads (spec.index_2 self.now.levels (spec.below self.now.levels) cursor.old) result cursor.new }
         ensures takes { Takes result cursor.old cursor.new }
     {
-        cursor.expect(Kind::Colon)?;
+        cursor.expect(TokenKind::Colon)?;
         self.inner_simple(cursor)
     }
 
@@ -105,10 +107,10 @@ impl<
         ensures reads { Reads (spec.index_qualifier self.now.levels (spec.below self.now.levels) cursor.old) result cursor.new }
         ensures takes { Takes result cursor.old cursor.new }
     {
-        let bracket = cursor.enter(self.levels, Kind::OpenBracket)?;
+        let bracket = cursor.enter(self.levels, TokenKind::OpenBracket)?;
         let first = self.inner_simple(cursor)?;
         let last = optional(self.alloc, cursor, &Index2(self))?;
-        cursor.expect(Kind::CloseBracket)?;
+        cursor.expect(TokenKind::CloseBracket)?;
         Ok(indexed(bracket.at, first, last))
     }
 
@@ -119,9 +121,9 @@ impl<
         ensures takes { Takes result cursor.old cursor.new }
     {
         match cursor.kind() {
-            Kind::Point => attribute_qualifier(self.alloc, cursor),
-            Kind::Backslash => group_qualifier(self.alloc, cursor),
-            Kind::OpenBracket => self.index_qualifier(cursor),
+            TokenKind::Point => attribute_qualifier(self.alloc, cursor),
+            TokenKind::Backslash => group_qualifier(self.alloc, cursor),
+            TokenKind::OpenBracket => self.index_qualifier(cursor),
             _ => Err(Failure::Fault(cursor.refusal())),
         }
     }
@@ -133,9 +135,9 @@ impl<
         ensures reads { Reads (spec.actual_parameter_list self.now.levels (spec.below self.now.levels) cursor.old) result cursor.new }
         ensures takes { Takes result cursor.old cursor.new }
     {
-        cursor.enter(self.levels, Kind::OpenParenthesis)?;
+        cursor.enter(self.levels, TokenKind::OpenParenthesis)?;
         let parameters = self.inner_list(cursor)?;
-        cursor.expect(Kind::CloseParenthesis)?;
+        cursor.expect(TokenKind::CloseParenthesis)?;
         Ok(parameters)
     }
 
@@ -147,7 +149,7 @@ impl<
         ensures takes { Takes result cursor.old cursor.new }
     {
         let called = name(self.alloc, cursor)?;
-        if cursor.sees(Kind::OpenParenthesis) {
+        if cursor.sees(TokenKind::OpenParenthesis) {
             Ok(Expression::Call(called, self.actual_parameter_list(cursor)?))
         } else {
             Ok(Expression::Name(called))
@@ -166,7 +168,7 @@ impl<
             return Err(Failure::Fault(cursor.refusal()));
         };
         let word = cursor.expect(kind)?;
-        let parameters = if cursor.sees(Kind::OpenParenthesis) {
+        let parameters = if cursor.sees(TokenKind::OpenParenthesis) {
             self.actual_parameter_list(cursor)?
         } else {
             Items::new(self.alloc)
@@ -181,10 +183,10 @@ impl<
         ensures takes { Takes result cursor.old cursor.new }
     {
         match cursor.kind() {
-            Kind::Identifier => self.named(cursor),
-            Kind::Itself => Ok(Expression::Itself(cursor.expect(Kind::Itself)?.at)),
-            Kind::QuestionMark => {
-                cursor.expect(Kind::QuestionMark)?;
+            TokenKind::Identifier => self.named(cursor),
+            TokenKind::Itself => Ok(Expression::Itself(cursor.expect(TokenKind::Itself)?.at)),
+            TokenKind::QuestionMark => {
+                cursor.expect(TokenKind::QuestionMark)?;
                 Ok(Expression::Indeterminate)
             }
             _ => self.built_in_call(cursor),
@@ -220,25 +222,26 @@ impl<
 struct Index2<'g, E, S>(&'g Grammar<E, S>);
 
 impl<
+    't,
     E: Fn(Global, &mut Cursor<'_>, u8) -> Read<Expression>,
     S: Fn(Global, &mut Cursor<'_>, u8) -> Read<Expression>,
-> Form for Index2<'_, E, S> {
+> Form<Cursor<'t>> for Index2<'_, E, S> {
     type Tree = Expression;
 
     ghost form = { λ f. spec.index_2 f.0.now.levels (spec.below f.0.now.levels) };
 
     ghost can_read = { λ f. (0 < f.0.now.levels) × NestsBoth f.0.now.levels (E.pre f.0.now.expression) (E.post f.0.now.expression) (S.pre f.0.now.simple_expression) (S.post f.0.now.simple_expression) };
 
-    fn read(&self, _alloc: Global, cursor: &mut Cursor<'_>) -> Read<Expression> {
+    fn read(&self, _alloc: Global, cursor: &mut Cursor<'t>) -> Read<Expression> {
         self.0.index_2(cursor)
     }
 }
 
-impl<E, S> Begins for Index2<'_, E, S> {
+impl<'t, E, S> Begins<Cursor<'t>> for Index2<'_, E, S> {
     ghost begins = { λ f. input.sees k.Colon };
 
-    fn begins(&self, cursor: &Cursor<'_>) -> bool {
-        cursor.sees(Kind::Colon)
+    fn begins(&self, cursor: &Cursor<'t>) -> bool {
+        cursor.sees(TokenKind::Colon)
     }
 }
 
@@ -246,24 +249,25 @@ impl<E, S> Begins for Index2<'_, E, S> {
 struct QualifierForm<'g, E, S>(&'g Grammar<E, S>);
 
 impl<
+    't,
     E: Fn(Global, &mut Cursor<'_>, u8) -> Read<Expression>,
     S: Fn(Global, &mut Cursor<'_>, u8) -> Read<Expression>,
-> Form for QualifierForm<'_, E, S> {
+> Form<Cursor<'t>> for QualifierForm<'_, E, S> {
     type Tree = Qualifier;
 
     ghost form = { λ f. spec.qualifier f.0.now.levels (spec.below f.0.now.levels) };
 
     ghost can_read = { λ f. NestsBoth f.0.now.levels (E.pre f.0.now.expression) (E.post f.0.now.expression) (S.pre f.0.now.simple_expression) (S.post f.0.now.simple_expression) };
 
-    fn read(&self, _alloc: Global, cursor: &mut Cursor<'_>) -> Read<Qualifier> {
+    fn read(&self, _alloc: Global, cursor: &mut Cursor<'t>) -> Read<Qualifier> {
         self.0.qualifier(cursor)
     }
 }
 
-impl<E, S> Begins for QualifierForm<'_, E, S> {
+impl<'t, E, S> Begins<Cursor<'t>> for QualifierForm<'_, E, S> {
     ghost begins = { λ f. spec.begins_qualifier };
 
-    fn begins(&self, cursor: &Cursor<'_>) -> bool {
+    fn begins(&self, cursor: &Cursor<'t>) -> bool {
         begins_qualifier(cursor)
     }
 }

@@ -5,9 +5,8 @@ ghost use Rattle.ex_lex.specs.Lexeme.{lexeme};
 ghost use Rattle.ex_expressions.specs.Strings as spec;
 
 use crate::literals::{encoded_value, simple_value};
-use ex_tree::{Kind, StringToken, Token};
-use plain_data::Text;
-use sqlite_items::Items;
+use ex_tree::{StringToken, Token, TokenKind};
+use plain_data::{Items, Text};
 use std::alloc::{AllocError, Global};
 
 /// The value of a token that is a string literal.
@@ -15,8 +14,8 @@ fn string_value(alloc: Global, token: &Token<'_>) -> Result<Option<Text>, AllocE
     ensures { IfOk result (λ value. value ≡ spec.string_value (lexeme token.now)) }
 {
     match token.kind {
-        Kind::SimpleStringLiteral => simple_value(alloc, token.text),
-        Kind::EncodedStringLiteral => encoded_value(alloc, token.text),
+        TokenKind::SimpleStringLiteral => simple_value(alloc, token.text),
+        TokenKind::EncodedStringLiteral => encoded_value(alloc, token.text),
         _ => Ok(None),
     }
 }

@@ -1,20 +1,20 @@
 -- What a form of the grammar reads from, and the forms that have no tree of their own.
-use Rattle.std.specs.Prelude.{ℕ, zero, suc, Bool, false, ◌&&◌, ◌||◌, List, [], ◌∷◌, map, codes, Option, Some, None, option_map, Result, Ok, Err, if◌then◌else◌}
+use Rattle.std.specs.Prelude.{ℕ, zero, suc, Bool, ◌&&◌, ◌||◌, List, [], ◌∷◌, codes, Option, Some, None, option_map, Ok, Err, if◌then◌else◌}
 use Rattle.std.specs.List.{list_any}
 use Rattle.std.specs.Str.{str_eq_ignore_ascii_case, str_to_ascii_uppercase}
 use Rattle.std.specs.Str.{is_utf8}
 use denote.Enum.Bare.{sameb}
 use Rattle.text_forms.specs.Forms as forms
-use Rattle.text_forms.specs.Forms.{Stream, and_then, pure, ◌>>=◌, ◌>>◌, ◌<$>◌, repeat}
+use Rattle.text_forms.specs.Forms.{Stream, pure, ◌>>=◌}
+pub use Rattle.text_forms.specs.Forms.{many, some, optional}
 use Rattle.ex_lex.specs.Lexeme.{Lexeme, Lexed}
-use Rattle.ex_tree.specs.contracts.kind.Kind.{the_type}
-use Rattle.ex_tree.specs.declared.kind.Kind.{Kind}
-use Rattle.ex_tree.specs.declared.kind.Kind.TheVariants as k
-use Rattle.ex_tree.specs.declared.fault.ParseFaultKind.{ParseFaultKind}
+use Rattle.ex_tree.specs.contracts.kind.TokenKind.{the_type}
+use Rattle.ex_tree.specs.declared.kind.TokenKind.{TokenKind}
+use Rattle.ex_tree.specs.declared.kind.TokenKind.TheVariants as k
 use Rattle.ex_tree.specs.declared.fault.ParseFaultKind.TheVariants.{Syntax, TooDeep, OutOfProfile}
 use Rattle.ex_tree.specs.declared.fault.ParseFault.{ParseFault}
 use Rattle.ex_tree.specs.declared.expression.Name.{Name}
-use Rattle.rp_value.specs.Whole.{whole_number}
+use Rattle.rp_numbers.specs.Whole.{whole_number}
 
 abbrev pub Lexemes : Type 0
 Lexemes = Stream Lexeme ParseFault
@@ -24,38 +24,38 @@ abbrev pub stream : Lexed → Lexemes
 stream t = record { tokens = t.lexemes; end = record { kind = Syntax; at = t.length } }
 
 abbrev pub Parser : Type 0 → Type 0
-Parser A = forms.Form Lexeme ParseFault A
+Parser A = forms.Form Lexemes ParseFault A
 
 -- ---- the next token
 
-unfoldable pub same_kind : Kind → Kind → Bool
+unfoldable pub same_kind : TokenKind → TokenKind → Bool
 same_kind = sameb the_type
 
-abbrev pub kind_of : List Lexeme → Kind
+abbrev pub kind_of : List Lexeme → TokenKind
 kind_of [] = k.Finish
 kind_of (t ∷ ts) = t.kind
 
-abbrev pub kind : Lexemes → Kind
+abbrev pub kind : Lexemes → TokenKind
 kind s = kind_of s.tokens
 
-abbrev pub kind_after : List Lexeme → Kind
+abbrev pub kind_after : List Lexeme → TokenKind
 kind_after [] = k.Finish
 kind_after (t ∷ ts) = kind_of ts
 
 -- the kind of the token after the next
-abbrev pub second_kind : Lexemes → Kind
+abbrev pub second_kind : Lexemes → TokenKind
 second_kind s = kind_after s.tokens
 
-abbrev pub sees : Kind → Lexemes → Bool
+abbrev pub sees : TokenKind → Lexemes → Bool
 sees k s = same_kind (kind s) k
 
-abbrev pub sees_second : Kind → Lexemes → Bool
+abbrev pub sees_second : TokenKind → Lexemes → Bool
 sees_second k s = same_kind (second_kind s) k
 
 -- ---- faults
 
 -- words of the language, and a symbol, that no text of this profile has in these places
-abbrev pub left_out : List Kind
+abbrev pub left_out : List TokenKind
 left_out = k.Acos ∷ k.Aggregate ∷ k.Alias ∷ k.Asin ∷ k.Atan ∷ k.Concatenate ∷ k.ConstE ∷ k.Cos ∷ k.Exp ∷ k.Format ∷ k.Generic
     ∷ k.HiBound ∷ k.Insert ∷ k.Like ∷ k.LoBound ∷ k.Log ∷ k.Log10 ∷ k.Log2 ∷ k.Pi ∷ k.Procedure ∷ k.Reference ∷ k.Remove
     ∷ k.RolesOf ∷ k.Sin ∷ k.Sqrt ∷ k.Tan ∷ k.Use ∷ k.Value ∷ k.ValueUnique ∷ []
@@ -83,29 +83,29 @@ too_deep s = forms.refusal (λ t. record { kind = TooDeep; at = t.at }) s
 
 -- ---- forms of one token
 
-abbrev pub peek : Parser Kind
+abbrev pub peek : Parser TokenKind
 peek = λ s. Ok (kind s, s)
 
-abbrev pub peek_second : Parser Kind
+abbrev pub peek_second : Parser TokenKind
 peek_second = λ s. Ok (second_kind s, s)
 
-abbrev pub next_is : Kind → Parser Bool
+abbrev pub next_is : TokenKind → Parser Bool
 next_is k = λ s. Ok (sees k s, s)
 
-abbrev pub taken : Lexemes → forms.Outcome Lexeme ParseFault Lexeme
+abbrev pub taken : Parser Lexeme
 taken s = elim (s.tokens) [ [] ↦ Err s.end | t ∷ ts ↦ Ok (t, record s { tokens = ts }) ]
 
 -- a token of this kind
-unfoldable pub expect : Kind → Parser Lexeme
+unfoldable pub expect : TokenKind → Parser Lexeme
 expect k = λ s. if sees k s then taken s else Err (refusal s)
 
 -- a token of this kind, which opens a level: so many are left
-unfoldable pub enter : ℕ → Kind → Parser Lexeme
+unfoldable pub enter : ℕ → TokenKind → Parser Lexeme
 enter zero k = λ s. if sees k s then Err (too_deep s) else Err (refusal s)
 enter (suc n) k = expect k
 
 -- whether a token of this kind came next, and was taken
-unfoldable pub eat : Kind → Parser Bool
+unfoldable pub eat : TokenKind → Parser Bool
 eat k = λ s. Ok (sees k s, if sees k s then forms.rest s else s)
 
 -- no token
@@ -139,18 +139,6 @@ whole = do
 
 -- ---- repetition
 
--- items as long as one begins
-abbrev pub many : {A : Type 0} → (Lexemes → Bool) → Parser A → Parser (List A)
-many begins item = repeat begins item []
-
--- one item or more, as long as one begins
-abbrev pub some : {A : Type 0} → (Lexemes → Bool) → Parser A → Parser (List A)
-some begins item = item >>= (λ first. repeat begins item (first ∷ []))
-
 -- one item or more, with such tokens between
-abbrev pub separated : {A : Type 0} → Kind → Parser A → Parser (List A)
-separated k item = item >>= (λ first. repeat (sees k) (expect k >> item) (first ∷ []))
-
--- the item, if one begins
-abbrev pub optional : {A : Type 0} → (Lexemes → Bool) → Parser A → Parser (Option A)
-optional begins item = λ s. if begins s then (Some <$> item) s else Ok (None, s)
+abbrev pub separated : {A : Type 0} → TokenKind → Parser A → Parser (List A)
+separated k item = forms.separated (sees k) (expect k) item

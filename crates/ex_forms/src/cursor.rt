@@ -8,10 +8,10 @@ ghost use Rattle.text_forms.specs.Gives.{Reads, ReadsAs, Takes};
 ghost use Rattle.ex_lex.specs.Lexeme.{lexeme};
 ghost use Rattle.ex_forms.specs.Input as spec;
 
-use ex_lex::Tokens;
-use ex_tree::{Kind, ParseFault, ParseFaultKind, Token};
+use ex_lex::TokenList;
+use ex_tree::{ParseFault, ParseFaultKind, Token, TokenKind};
 use std::marker::Model;
-use text_forms::Failure;
+use text_forms::{Failure, TokenSource};
 
 /// What reads a form: its tree; else the fault, or want of memory.
 pub type Read<T> = Result<T, Failure<ParseFault>>;
@@ -34,7 +34,7 @@ impl<'t> Model for Cursor<'t> {
 }
 
 impl<'t> Cursor<'t> {
-    pub fn new(tokens: &'t Tokens<'t>) -> Cursor<'t>
+    pub fn new(tokens: &'t TokenList<'t>) -> Cursor<'t>
         ensures { result ≡ spec.stream tokens.now }
     {
         Cursor {
@@ -44,34 +44,34 @@ impl<'t> Cursor<'t> {
     }
 
     /// What the next token is.
-    pub fn kind(&self) -> Kind
+    pub fn kind(&self) -> TokenKind
         ensures { result ≡ spec.kind self.now }
     {
         match self.rest {
             [token, ..] => token.kind,
-            [] => Kind::Finish,
+            [] => TokenKind::Finish,
         }
     }
 
     /// What the token after the next is.
-    pub fn second_kind(&self) -> Kind
+    pub fn second_kind(&self) -> TokenKind
         ensures { result ≡ spec.second_kind self.now }
     {
         match self.rest {
             [_, second, ..] => second.kind,
-            _ => Kind::Finish,
+            _ => TokenKind::Finish,
         }
     }
 
     /// Whether the next token is of this kind.
-    pub fn sees(&self, kind: Kind) -> bool
+    pub fn sees(&self, kind: TokenKind) -> bool
         ensures { result ≡ spec.sees kind self.now }
     {
         same_kind(self.kind(), kind)
     }
 
     /// Whether the token after the next is of this kind.
-    pub fn sees_second(&self, kind: Kind) -> bool
+    pub fn sees_second(&self, kind: TokenKind) -> bool
         ensures { result ≡ spec.sees_second kind self.now }
     {
         same_kind(self.second_kind(), kind)
@@ -108,7 +108,7 @@ impl<'t> Cursor<'t> {
 
     /// Takes the next token if it is of this kind.
     #[tactic(auto, unfolding(crate::specs::Input::eat))]
-    pub fn eat(&mut self, kind: Kind) -> bool
+    pub fn eat(&mut self, kind: TokenKind) -> bool
         ensures reads { spec.eat kind self.old ≡ Ok (result, self.new) }
         ensures keeps { turns self.new ≤ turns self.old }
     {
@@ -121,7 +121,7 @@ impl<'t> Cursor<'t> {
 
     /// Takes the next token, which has to be of this kind.
     #[tactic(auto, unfolding(crate::specs::Input::expect))]
-    pub fn expect(&mut self, kind: Kind) -> Read<Token<'t>>
+    pub fn expect(&mut self, kind: TokenKind) -> Read<Token<'t>>
         ensures reads { ReadsAs lexeme (spec.expect kind self.old) result self.new }
         ensures takes { Takes result self.old self.new }
     {
@@ -139,7 +139,7 @@ impl<'t> Cursor<'t> {
 
     /// Takes the next token, which has to be of this kind and opens a level, where so many are left.
     #[tactic(auto, unfolding(crate::specs::Input::enter))]
-    pub fn enter(&mut self, levels: u8, kind: Kind) -> Read<Token<'t>>
+    pub fn enter(&mut self, levels: u8, kind: TokenKind) -> Read<Token<'t>>
         ensures reads { ReadsAs lexeme (spec.enter levels kind self.old) result self.new }
         ensures takes { Takes result self.old self.new }
         ensures deeper { IsOk result → 0 < levels }
@@ -166,7 +166,35 @@ impl<'t> Cursor<'t> {
     }
 }
 
-pub fn same_kind(a: Kind, b: Kind) -> bool
+impl<'t> TokenSource for Cursor<'t> {
+    type Kind = TokenKind;
+
+    type Token = Token<'t>;
+
+    type Fault = ParseFault;
+
+    ghost turns = { turns };
+
+    ghost use Rattle.ex_lex.specs.Lexeme.{Lexeme};
+
+    ghost Seen = { Lexeme };
+
+    ghost seen = { lexeme };
+
+    ghost sees = { spec.sees };
+
+    ghost expect = { spec.expect };
+
+    fn sees(&self, kind: TokenKind) -> bool {
+        Cursor::sees(self, kind)
+    }
+
+    fn expect(&mut self, kind: TokenKind) -> Read<Token<'t>> {
+        Cursor::expect(self, kind)
+    }
+}
+
+pub fn same_kind(a: TokenKind, b: TokenKind) -> bool
     ensures value { result ≡ spec.same_kind a b }
     ensures same { result ≡ true → a ≡ b }
 {
@@ -189,43 +217,43 @@ pub fn refused(token: &Token<'_>) -> ParseFault
 fn is_constraint_word(token: &Token<'_>) -> bool
     ensures { result ≡ spec.is_constraint_word (lexeme token.now) }
 {
-    same_kind(token.kind, Kind::Identifier)
+    same_kind(token.kind, TokenKind::Identifier)
         && token.text.eq_ignore_ascii_case(b"SUBTYPE_CONSTRAINT")
 }
 
-fn is_left_out(kind: Kind) -> bool
+fn is_left_out(kind: TokenKind) -> bool
     ensures { result ≡ list_any (spec.same_kind kind) spec.left_out }
 {
-    const LEFT_OUT: [Kind; 29] = [
-        Kind::Acos,
-        Kind::Aggregate,
-        Kind::Alias,
-        Kind::Asin,
-        Kind::Atan,
-        Kind::Concatenate,
-        Kind::ConstE,
-        Kind::Cos,
-        Kind::Exp,
-        Kind::Format,
-        Kind::Generic,
-        Kind::HiBound,
-        Kind::Insert,
-        Kind::Like,
-        Kind::LoBound,
-        Kind::Log,
-        Kind::Log10,
-        Kind::Log2,
-        Kind::Pi,
-        Kind::Procedure,
-        Kind::Reference,
-        Kind::Remove,
-        Kind::RolesOf,
-        Kind::Sin,
-        Kind::Sqrt,
-        Kind::Tan,
-        Kind::Use,
-        Kind::Value,
-        Kind::ValueUnique,
+    const LEFT_OUT: [TokenKind; 29] = [
+        TokenKind::Acos,
+        TokenKind::Aggregate,
+        TokenKind::Alias,
+        TokenKind::Asin,
+        TokenKind::Atan,
+        TokenKind::Concatenate,
+        TokenKind::ConstE,
+        TokenKind::Cos,
+        TokenKind::Exp,
+        TokenKind::Format,
+        TokenKind::Generic,
+        TokenKind::HiBound,
+        TokenKind::Insert,
+        TokenKind::Like,
+        TokenKind::LoBound,
+        TokenKind::Log,
+        TokenKind::Log10,
+        TokenKind::Log2,
+        TokenKind::Pi,
+        TokenKind::Procedure,
+        TokenKind::Reference,
+        TokenKind::Remove,
+        TokenKind::RolesOf,
+        TokenKind::Sin,
+        TokenKind::Sqrt,
+        TokenKind::Tan,
+        TokenKind::Use,
+        TokenKind::Value,
+        TokenKind::ValueUnique,
     ];
     LEFT_OUT.iter().any(|left_out| same_kind(kind, *left_out))
 }

@@ -1,12 +1,11 @@
-//! What the parsers of EXPRESS are made of: a cursor over tokens, forms of one token, and forms of several items.
+//! What the parsers of EXPRESS are made of: a cursor over tokens, and forms of one token.
 #![tactic(auto)]
 
 mod cursor;
-mod form;
 mod forms;
 
 pub use cursor::{Cursor, Read};
-pub use ex_lex::Tokens;
-pub use ex_tree::{Kind, ParseFault, ParseFaultKind, Token};
-pub use form::{Begins, Form};
-pub use forms::{many, name, optional, separated, some, whole};
+pub use ex_lex::TokenList;
+pub use ex_tree::{ParseFault, ParseFaultKind, Token, TokenKind};
+pub use forms::{name, whole};
+pub use text_forms::{Begins, Form, many, optional, separated, some};

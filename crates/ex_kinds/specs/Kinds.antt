@@ -10,19 +10,19 @@ use Rattle.ex_named.specs.declared.expression.NamedDataType.TheFolds.{fold-Named
 use Rattle.ex_named.specs.declared.expression.NamedDataType.TheOpen.{NamedDataType-F}
 use Rattle.ex_named.specs.declared.reference.TypeName.{TypeName}
 use Rattle.ex_named.specs.declared.reference.TypeName.TheVariants as t
-use Rattle.ex_kinds.specs.declared.kind.Kind.{Kind}
+use Rattle.ex_kinds.specs.declared.kind.ValueKind.{ValueKind}
 use Rattle.ex_kinds.specs.declared.kind.Sort.{Sort}
 use Rattle.ex_kinds.specs.declared.kind.Sort.TheVariants as k
 
 abbrev pub Kinds : Type 0
-Kinds = List Kind
+Kinds = List ValueKind
 
 -- what the value itself may be
-abbrev pub itself : Sort → Kind
+abbrev pub itself : Sort → ValueKind
 itself sort = record { depth = zero; sort = sort }
 
 -- what the elements of an aggregate may be
-abbrev pub deeper : Kind → Kind
+abbrev pub deeper : ValueKind → ValueKind
 deeper kind = record { depth = suc kind.depth; sort = kind.sort }
 
 abbrev pub aggregate_of : Kinds → Kinds
@@ -40,7 +40,7 @@ of_simple s.Number = itself k.Integer ∷ itself k.Real ∷ []
 of_simple s.Real = itself k.Real ∷ []
 of_simple (s.String width) = itself k.String ∷ []
 
-abbrev pub of_name : TypeName → Kind
+abbrev pub of_name : TypeName → ValueKind
 of_name (t.Entity n) = itself (k.Entity n)
 of_name (t.Defined n) = itself (k.Defined n)
 
@@ -74,10 +74,10 @@ same_sort k.Instance k.Instance = true
 same_sort k.Generic k.Generic = true
 same_sort _ _ = false
 
-abbrev pub same : Kind → Kind → Bool
+abbrev pub same : ValueKind → ValueKind → Bool
 same a b = (a.depth == b.depth) && same_sort a.sort b.sort
 
-abbrev pub with_kind : Kinds → Kind → Kinds
+abbrev pub with_kind : Kinds → ValueKind → Kinds
 with_kind kinds kind = if list_any (λ other. same other kind) kinds then kinds else kinds ++ kind ∷ []
 
 -- those of the first, and those of the second that are not yet there
@@ -87,12 +87,12 @@ joined kinds (kind ∷ others) = joined (with_kind kinds kind) others
 
 -- ---- elements
 
-abbrev pub shallower_at : ℕ → Sort → Option Kind
+abbrev pub shallower_at : ℕ → Sort → Option ValueKind
 shallower_at (suc depth) sort = Some (record { depth = depth; sort = sort })
 shallower_at zero k.Generic = Some (itself k.Generic)
 shallower_at zero _ = None
 
-abbrev pub shallower : Kind → Option Kind
+abbrev pub shallower : ValueKind → Option ValueKind
 shallower kind = shallower_at kind.depth kind.sort
 
 -- what the elements may be, where it is an aggregate

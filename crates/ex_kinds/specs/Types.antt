@@ -1,16 +1,18 @@
 -- What the defined types of a schema stand for, and what a value may be in the end.
-use Rattle.std.specs.Prelude.{ℕ, zero, suc, Bool, true, false, ◌||◌, List, [], ◌∷◌, ◌++◌, map, filter, Option, Some, None, slice_index_or}
+use Rattle.std.specs.Prelude.{ℕ, zero, suc, Bool, true, false, ◌||◌, ◌&&◌, ◌==◌, nat_lt, length, is_some, List, [], ◌∷◌, ◌++◌, map, filter, Option, Some, None, slice_index_or}
 use Rattle.std.specs.List.{list_any, flat_map, filter_map}
 use Rattle.ex_named.specs.declared.declaration.NamedType.{NamedType}
 use Rattle.ex_named.specs.declared.declaration.NamedUnderlying.{NamedUnderlying}
 use Rattle.ex_named.specs.declared.declaration.NamedUnderlying.TheVariants as u
-use Rattle.ex_lineage.specs.Numbered.{numbered}
-use Rattle.ex_lineage.specs.Lineage.{family}
-use Rattle.ex_kinds.specs.declared.kind.Kind.{Kind}
+use Rattle.lineage.specs.Numbered.{numbered}
+use Rattle.lineage.specs.Lineage.{family}
+use Rattle.ex_kinds.specs.declared.kind.ValueKind.{ValueKind}
 use Rattle.ex_kinds.specs.declared.kind.Sort.{Sort}
 use Rattle.ex_kinds.specs.declared.kind.Sort.TheVariants as k
-use Rattle.ex_kinds.specs.declared.possible.Possible.{Possible}
-use Rattle.ex_kinds.specs.Kinds.{Kinds, itself, of_name, of_type}
+use Rattle.ex_kinds.specs.declared.kind.PlainSort.{PlainSort}
+use Rattle.ex_kinds.specs.declared.kind.PlainSort.TheVariants as p
+use Rattle.ex_kinds.specs.Kinds.{Kinds, itself, of_name, of_type, shallower}
+use Rattle.ex_kinds.specs.Leading.{is_marked, leading}
 
 -- ---- defined types
 
@@ -33,11 +35,11 @@ alternative_at zero sort = defined_of sort
 alternative_at (suc depth) sort = None
 
 -- the type that the value itself is of
-abbrev pub alternative : Kind → Option ℕ
+abbrev pub alternative : ValueKind → Option ℕ
 alternative kind = alternative_at kind.depth kind.sort
 
 -- the type that the value or its elements, at any depth, are of
-abbrev pub mentioned : Kind → Option ℕ
+abbrev pub mentioned : ValueKind → Option ℕ
 mentioned kind = defined_of kind.sort
 
 -- of each type the types that it is, by renaming or by selection
@@ -48,19 +50,31 @@ alternatives types = map (filter_map alternative) types
 abbrev pub held : List Kinds → List (List ℕ)
 held types = map (filter_map mentioned) types
 
-abbrev pub stays : Option ℕ → Bool
-stays None = true
-stays (Some n) = false
-
--- those that are of no defined type themselves
-abbrev pub own : Kinds → Kinds
-own = filter (λ kind. stays (alternative kind))
-
 abbrev pub is_instance : Sort → Bool
 is_instance (k.Entity n) = true
 is_instance k.Instance = true
 is_instance k.Generic = true
 is_instance _ = false
+
+abbrev pub stays : Option ℕ → Bool
+stays None = true
+stays (Some n) = false
+
+-- whether one that is of no defined type itself passes
+abbrev pub declares : (ValueKind → Bool) → Kinds → Bool
+declares test = list_any (λ kind. stays (alternative kind) && test kind)
+
+-- whether it has elements
+abbrev pub has_elements : ValueKind → Bool
+has_elements kind = is_some (shallower kind)
+
+-- whether one of them is an instance of an entity
+abbrev pub has_instance : Kinds → Bool
+has_instance = list_any (λ kind. is_instance kind.sort)
+
+-- those that are of no defined type themselves
+abbrev pub own : Kinds → Kinds
+own = filter (λ kind. stays (alternative kind))
 
 module _ (types : List Kinds) where
   abbrev pub declared : ℕ → Kinds
@@ -68,11 +82,11 @@ module _ (types : List Kinds) where
 
   -- ---- what a value may be in the end
 
-  abbrev pub meanings_by : Kind → Option ℕ → Kinds
+  abbrev pub meanings_by : ValueKind → Option ℕ → Kinds
   meanings_by kind None = kind ∷ []
   meanings_by kind (Some n) = flat_map (λ m. own (declared m)) (family (alternatives types) n)
 
-  abbrev pub meanings : Kind → Kinds
+  abbrev pub meanings : ValueKind → Kinds
   meanings kind = meanings_by kind (alternative kind)
 
   -- the kinds, where each defined type that the value itself may be of stands for what it is
@@ -82,45 +96,111 @@ module _ (types : List Kinds) where
   -- ---- instances of entities at any depth
 
   abbrev pub declared_instance : ℕ → Bool
-  declared_instance n = list_any (λ kind. is_instance kind.sort) (declared n)
+  declared_instance n = has_instance (declared n)
 
   abbrev pub type_holds_instance : Option ℕ → Bool
   type_holds_instance None = false
   type_holds_instance (Some n) = list_any declared_instance (family (held types) n)
 
-  abbrev pub kind_holds_instance : Kind → Bool
+  abbrev pub kind_holds_instance : ValueKind → Bool
   kind_holds_instance kind = is_instance kind.sort || type_holds_instance (mentioned kind)
+
+  -- of which types a value may hold an instance of an entity at any depth
+  unfoldable pub holding : List Bool
+  holding = leading (held types) (map has_instance types)
 
   -- whether a value may hold an instance of an entity at any depth
   unfoldable pub may_hold_instance : Kinds → Bool
   may_hold_instance = list_any kind_holds_instance
 
+-- ---- tests on what a value may be in the end
+
+-- whether a value may hold an instance of an entity at any depth, given the types that do
+abbrev pub holds_at : List Bool → Sort → Option ℕ → Bool
+holds_at marks sort None = is_instance sort
+holds_at marks sort (Some n) = is_marked marks n
+
+abbrev pub holds_by : List Bool → ValueKind → Bool
+holds_by marks kind = holds_at marks kind.sort (mentioned kind)
+
+-- the sorts in their order
+abbrev pub all_sorts : List PlainSort
+all_sorts = p.Integer ∷ p.Real ∷ p.String ∷ p.Binary ∷ p.Logical ∷ p.Enumeration ∷ p.Instance ∷ p.Aggregate ∷ p.Generic ∷ []
+
+module _ (types : List Kinds) where
+  -- whether a type, or one that it is by renaming or by selection, declares a kind that passes
+  unfoldable pub meeting : (ValueKind → Bool) → List Bool
+  meeting test = leading (alternatives types) (map (declares test) types)
+
+  -- whether one of what a kind stands for passes
+  unfoldable pub some_meaning : (ValueKind → Bool) → ValueKind → Bool
+  some_meaning test kind = list_any test (meanings types kind)
+
+  -- whether one of what kinds stand for passes
+  unfoldable pub some_plain : (ValueKind → Bool) → Kinds → Bool
+  some_plain test kinds = list_any test (plain types kinds)
+
 -- ---- what is possible
 
-abbrev pub impossible : Possible
-impossible = record { integer = false; real = false; string = false; binary = false; logical = false; instance = false; aggregate = false; generic = false; enumerations = [] }
+-- Which kinds a value may be of, defined types aside, and the types of its enumerations.
+pub record Possible : Type 0 where
+  pub integer : Bool
+  pub real : Bool
+  pub string : Bool
+  pub binary : Bool
+  pub logical : Bool
+  pub instance : Bool
+  pub aggregate : Bool
+  pub generic : Bool
+  pub enumerations : List ℕ
 
-abbrev pub with_sort : Possible → Sort → Possible
-with_sort p k.Integer = record p { integer = true }
-with_sort p k.Real = record p { real = true }
-with_sort p k.String = record p { string = true }
-with_sort p k.Binary = record p { binary = true }
-with_sort p k.Logical = record p { logical = true }
-with_sort p (k.Enumeration n) = record p { enumerations = p.enumerations ++ n ∷ [] }
-with_sort p (k.Defined n) = p
-with_sort p (k.Entity n) = record p { instance = true }
-with_sort p k.Instance = record p { instance = true }
-with_sort p k.Aggregate = record p { aggregate = true }
-with_sort p k.Generic = record p { generic = true }
+abbrev pub is_sort : PlainSort → Sort → Bool
+is_sort p.Integer k.Integer = true
+is_sort p.Real k.Real = true
+is_sort p.String k.String = true
+is_sort p.Binary k.Binary = true
+is_sort p.Logical k.Logical = true
+is_sort p.Enumeration (k.Enumeration n) = true
+is_sort p.Instance (k.Entity n) = true
+is_sort p.Instance k.Instance = true
+is_sort p.Aggregate k.Aggregate = true
+is_sort p.Generic k.Generic = true
+is_sort _ _ = false
 
-abbrev pub with_kind_at : Possible → ℕ → Sort → Possible
-with_kind_at p zero sort = with_sort p sort
-with_kind_at p (suc depth) sort = p
+-- whether the value itself is of the sort
+abbrev pub is_value : PlainSort → ValueKind → Bool
+is_value sort kind = (kind.depth == zero) && is_sort sort kind.sort
 
-abbrev pub possible_after : Possible → Kinds → Possible
-possible_after p [] = p
-possible_after p (kind ∷ others) = possible_after (with_kind_at p kind.depth kind.sort) others
+abbrev pub enumeration_at : ℕ → Sort → Option ℕ
+enumeration_at zero (k.Enumeration n) = Some n
+enumeration_at _ _ = None
 
--- what the value itself may be, defined types aside
-abbrev pub possible : Kinds → Possible
-possible = possible_after impossible
+-- the enumeration that the value itself is of
+abbrev pub enumeration : ValueKind → Option ℕ
+enumeration kind = enumeration_at kind.depth kind.sort
+
+-- what the value itself may be, of these kinds, which are plain
+unfoldable pub possible : Kinds → Possible
+possible kinds = record {
+  integer = list_any (is_value p.Integer) kinds;
+  real = list_any (is_value p.Real) kinds;
+  string = list_any (is_value p.String) kinds;
+  binary = list_any (is_value p.Binary) kinds;
+  logical = list_any (is_value p.Logical) kinds;
+  instance = list_any (is_value p.Instance) kinds;
+  aggregate = list_any (is_value p.Aggregate) kinds;
+  generic = list_any (is_value p.Generic) kinds;
+  enumerations = filter_map enumeration kinds;
+}
+
+-- whether a value of the sort is possible
+abbrev pub can_be : Possible → PlainSort → Bool
+can_be found p.Integer = found.integer
+can_be found p.Real = found.real
+can_be found p.String = found.string
+can_be found p.Binary = found.binary
+can_be found p.Logical = found.logical
+can_be found p.Enumeration = nat_lt zero (length found.enumerations)
+can_be found p.Instance = found.instance
+can_be found p.Aggregate = found.aggregate
+can_be found p.Generic = found.generic

@@ -3,21 +3,21 @@
 ghost use Rattle.std.specs.Prelude.{◌≡◌, ◌∷◌, [], IfOk};
 ghost use Rattle.ex_kinds.specs.Kinds as spec;
 
-use crate::kind::{Kind, Kinds, Sort};
+use crate::kind::{Kinds, Sort, ValueKind};
 use ex_named::{NamedDataType, TypeName};
 use ex_tree::SimpleType;
 use plain_data::Rows;
 use std::alloc::{AllocError, Global};
 
 /// What the value itself may be.
-fn itself(sort: Sort) -> Kind
+fn itself(sort: Sort) -> ValueKind
     ensures { result ≡ spec.itself sort }
 {
-    Kind { depth: 0, sort }
+    ValueKind { depth: 0, sort }
 }
 
 /// The one kind.
-fn single(alloc: Global, kind: Kind) -> Result<Kinds, AllocError>
+fn single(alloc: Global, kind: ValueKind) -> Result<Kinds, AllocError>
     ensures { IfOk result (λ kinds. kinds ≡ kind ∷ []) }
 {
     let mut kinds = Rows::new(alloc);
@@ -33,11 +33,11 @@ pub fn kinds_of_one(alloc: Global, sort: Sort) -> Result<Kinds, AllocError>
 }
 
 /// What the elements of an aggregate may be, or their elements.
-fn deeper(kind: Kind) -> Result<Kind, AllocError>
+fn deeper(kind: ValueKind) -> Result<ValueKind, AllocError>
     ensures { IfOk result (λ found. found ≡ spec.deeper kind) }
 {
     match kind.depth.checked_add(1) {
-        Some(depth) => Ok(Kind {
+        Some(depth) => Ok(ValueKind {
             depth,
             sort: kind.sort,
         }),
@@ -47,7 +47,7 @@ fn deeper(kind: Kind) -> Result<Kind, AllocError>
 }
 
 /// What an aggregate may be, of what its elements may be.
-pub fn aggregate_of(alloc: Global, elements: &[Kind]) -> Result<Kinds, AllocError>
+pub fn aggregate_of(alloc: Global, elements: &[ValueKind]) -> Result<Kinds, AllocError>
     ensures { IfOk result (λ kinds. kinds ≡ spec.aggregate_of elements.now) }
 {
     let mut kinds = kinds_of_one(alloc, Sort::Aggregate)?;
@@ -76,7 +76,7 @@ fn kinds_of_simple(alloc: Global, simple: SimpleType) -> Result<Kinds, AllocErro
 }
 
 /// What a value of the type of this name may be.
-pub(crate) fn kind_of_name(name: TypeName) -> Kind
+pub(crate) fn kind_of_name(name: TypeName) -> ValueKind
     ensures { result ≡ spec.of_name name }
 {
     match name {

@@ -23,12 +23,29 @@ pub enum Sort {
     Generic,
 }
 
+/// What a value may be in the end, where no number tells which.
+#[derive(Clone, Copy)]
+pub enum PlainSort {
+    Integer,
+    Real,
+    String,
+    Binary,
+    Logical,
+    /// An item of some enumeration.
+    Enumeration,
+    /// An instance of some entity.
+    Instance,
+    Aggregate,
+    /// Whatever there is.
+    Generic,
+}
+
 /// What a value may be, where the depth is 0; what its elements may be, where it is 1; their elements, where it is 2.
 #[derive(Clone, Copy, PartialEq, Eq)]
-pub struct Kind {
+pub struct ValueKind {
     pub depth: usize,
     pub sort: Sort,
 }
 
 /// What a value may be: one of these. `?` has none.
-pub type Kinds = Rows<Kind>;
+pub type Kinds = Rows<ValueKind>;

@@ -4,19 +4,19 @@ ghost use Rattle.std.specs.Prelude.{◌≡◌, IfOk, OnOk};
 ghost use Rattle.std.specs.List.{list_any};
 ghost use Rattle.ex_kinds.specs.Kinds as spec;
 
-use crate::kind::{Kind, Kinds, Sort};
+use crate::kind::{Kinds, Sort, ValueKind};
 use plain_data::Rows;
 use std::alloc::{AllocError, Global};
 
 /// Whether this kind is one of those.
-fn is_among(kinds: &[Kind], kind: Kind) -> bool
+fn is_among(kinds: &[ValueKind], kind: ValueKind) -> bool
     ensures { result ≡ list_any (λ other. spec.same other kind) kinds.now }
 {
     kinds.iter().any(|other| *other == kind)
 }
 
 /// Puts the kind behind the others, if it is not yet there.
-fn add(kinds: &mut Kinds, kind: Kind) -> Result<(), AllocError>
+fn add(kinds: &mut Kinds, kind: ValueKind) -> Result<(), AllocError>
     ensures { OnOk result (kinds.new ≡ spec.with_kind kinds.old kind) }
 {
     if is_among(kinds.as_slice(), kind) {
@@ -27,7 +27,7 @@ fn add(kinds: &mut Kinds, kind: Kind) -> Result<(), AllocError>
 }
 
 /// Puts those behind the others that are not yet there.
-pub fn join(kinds: &mut Kinds, more: &[Kind]) -> Result<(), AllocError>
+pub fn join(kinds: &mut Kinds, more: &[ValueKind]) -> Result<(), AllocError>
     ensures { OnOk result (kinds.new ≡ spec.joined kinds.old more.now) }
 {
     for kind in more {
@@ -37,11 +37,11 @@ pub fn join(kinds: &mut Kinds, more: &[Kind]) -> Result<(), AllocError>
 }
 
 /// What the elements may be, if this is of an aggregate or of whatever there is.
-fn shallower(kind: Kind) -> Option<Kind>
+pub(crate) fn shallower(kind: ValueKind) -> Option<ValueKind>
     ensures { result ≡ spec.shallower kind }
 {
     match kind.depth.checked_sub(1) {
-        Some(depth) => Some(Kind {
+        Some(depth) => Some(ValueKind {
             depth,
             sort: kind.sort,
         }),
@@ -53,10 +53,10 @@ fn shallower(kind: Kind) -> Option<Kind>
 }
 
 /// What the elements may be, where it is an aggregate.
-pub fn elements(alloc: Global, kinds: &[Kind]) -> Result<Kinds, AllocError>
+pub fn elements(alloc: Global, kinds: &[ValueKind]) -> Result<Kinds, AllocError>
     ensures { IfOk result (λ found. found ≡ spec.elements kinds.now) }
 {
-    let found: Vec<Kind> = kinds.iter().copied().filter_map(shallower).collect(alloc)?;
+    let found: Vec<ValueKind> = kinds.iter().copied().filter_map(shallower).collect(alloc)?;
     // Each once: a value may have its elements on many ways, and each way again.
     let mut elements = Rows::new(alloc);
     join(&mut elements, &found)?;
@@ -64,7 +64,7 @@ pub fn elements(alloc: Global, kinds: &[Kind]) -> Result<Kinds, AllocError>
 }
 
 /// Whether the value itself is of this kind, and no aggregate.
-fn is_element(kind: Kind) -> bool
+fn is_element(kind: ValueKind) -> bool
     ensures { result ≡ spec.is_element_at kind.depth kind.sort }
 {
     match kind.sort {
@@ -74,7 +74,7 @@ fn is_element(kind: Kind) -> bool
 }
 
 /// What it may be where it is no aggregate.
-pub fn apart(alloc: Global, kinds: &[Kind]) -> Result<Kinds, AllocError>
+pub fn apart(alloc: Global, kinds: &[ValueKind]) -> Result<Kinds, AllocError>
     ensures { IfOk result (λ found. found ≡ spec.apart kinds.now) }
 {
     let found = kinds
@@ -86,7 +86,7 @@ pub fn apart(alloc: Global, kinds: &[Kind]) -> Result<Kinds, AllocError>
 }
 
 /// The same kinds once more.
-pub fn copied(alloc: Global, kinds: &[Kind]) -> Result<Kinds, AllocError>
+pub fn copied(alloc: Global, kinds: &[ValueKind]) -> Result<Kinds, AllocError>
     ensures { IfOk result (λ found. found ≡ kinds.now) }
 {
     Ok(Rows::from_vec(Vec::from_slice(alloc, kinds)?))

@@ -1,31 +1,59 @@
 //! The defined types of a schema.
 
-ghost use Rattle.std.specs.Prelude.{◌≡◌, ◌++◌, map, Some, IfOk, OnOk};
+ghost use Rattle.std.specs.Prelude.{◌≡◌, ◌++◌, map, IfOk, OnOk};
 ghost use Rattle.std.specs.List.{filter_map, flat_map, list_any};
-ghost use Rattle.ex_lineage.specs.Lineage as lineage;
+ghost use Rattle.lineage.specs.Lineage as lineage;
 ghost use Rattle.ex_kinds.specs.Kinds.{of_name};
 ghost use Rattle.ex_kinds.specs.Types as spec;
 
 use crate::data_type::{kind_of_name, kinds_of, kinds_of_one};
-use crate::kind::{Kind, Kinds, Sort};
-use ex_lineage::family;
+use crate::kind::{Kinds, PlainSort, Sort, ValueKind};
+use crate::leading::is_marked;
+use crate::meeting::{
+    all_holding, any_holds_instance, has_elements, holds_instance, is_value, met, place_of,
+};
 use ex_named::{NamedType, NamedUnderlying, TypeName};
+use lineage::family;
 use plain_data::Rows;
 use std::alloc::{AllocError, Global};
 use std::marker::Model;
 
 /// The defined types of a schema: of each what a value of it may be by its declaration.
-#[derive(Drop)]
 pub struct Types {
     kinds: Vec<Kinds>,
     /// Of each type the types that it is, by renaming or by selection.
     alternatives: Vec<Rows<usize>>,
-    /// Of each type the types that it is or that its elements are, at any depth.
-    held: Vec<Rows<usize>>,
+    /// Of each sort, in their order, of which types a value may be of it in the end.
+    sorts: Vec<Rows<bool>>,
+    /// Of which types a value may have elements.
+    with_elements: Vec<bool>,
+    /// Of which types a value may hold an instance of an entity, where it is of no defined type itself.
+    with_instances: Vec<bool>,
+    /// Of which types a value may hold an instance of an entity at any depth.
+    holding: Vec<bool>,
+}
+
+impl Drop for Types {
+    fn drop(self) {
+        let Types {
+            kinds,
+            alternatives,
+            sorts,
+            with_elements,
+            with_instances,
+            holding,
+        } = self;
+        drop(kinds);
+        drop(alternatives);
+        drop(sorts);
+        drop(with_elements);
+        drop(with_instances);
+        drop(holding);
+    }
 }
 
 impl Model for Types {
-    ghost use Rattle.std.specs.Prelude.{◌≡◌, List};
+    ghost use Rattle.std.specs.Prelude.{◌≡◌, List, map};
     ghost use Rattle.ex_kinds.specs.Kinds.{Kinds};
     ghost use Rattle.ex_kinds.specs.Types as spec;
 
@@ -33,7 +61,11 @@ impl Model for Types {
 
     ghost view = { λ t. t.kinds.items };
 
-    ghost invariant = { λ t. (t.alternatives.items ≡ spec.alternatives t.kinds.items) × (t.held.items ≡ spec.held t.kinds.items) };
+    ghost invariant = { λ t. (t.alternatives.items ≡ spec.alternatives t.kinds.items)
+        × ((t.sorts.items ≡ map (λ sort. spec.meeting t.kinds.items (spec.is_value sort)) spec.all_sorts)
+        × ((t.with_elements.items ≡ spec.meeting t.kinds.items spec.has_elements)
+        × ((t.with_instances.items ≡ spec.meeting t.kinds.items (spec.holds_by (spec.holding t.kinds.items)))
+        × (t.holding.items ≡ spec.holding t.kinds.items)))) };
 }
 
 impl Types {
@@ -42,15 +74,92 @@ impl Types {
         ensures { IfOk result (λ found. found ≡ spec.of_types types.now) }
     {
         let kinds = declared_kinds(alloc, types)?;
+        let holding = all_holding(alloc, kinds.as_slice())?;
+        let alternatives = alternatives(alloc, kinds.as_slice())?;
+        let (sorts, with_elements, with_instances) = met(
+            alloc,
+            kinds.as_slice(),
+            &alternatives,
+            &holding,
+        )?;
         Ok(Types {
-            alternatives: alternatives(alloc, kinds.as_slice())?,
-            held: held(alloc, kinds.as_slice())?,
             kinds,
+            alternatives,
+            sorts,
+            with_elements,
+            with_instances,
+            holding,
         })
     }
 
+    /// Of which types a value may be of this sort.
+    fn of_sort(&self, sort: PlainSort) -> &[bool]
+        ensures { result.now ≡ spec.meeting self.now (spec.is_value sort) }
+    {
+        match self.sorts.get(place_of(sort)) {
+            Some(marks) => marks.as_slice(),
+            None => &[],
+        }
+    }
+
+    /// Whether a value of the kind may be of this sort in the end.
+    fn can_be_of(&self, kind: ValueKind, sort: PlainSort) -> bool
+        ensures { result ≡ spec.some_meaning self.now (spec.is_value sort) kind }
+    {
+        match alternative(kind) {
+            Some(number) => is_marked(self.of_sort(sort), number),
+            None => is_value(sort, kind),
+        }
+    }
+
+    /// Whether a value of these kinds may be of this sort in the end.
+    pub fn can_be(&self, kinds: &[ValueKind], sort: PlainSort) -> bool
+        ensures { result ≡ spec.some_plain self.now (spec.is_value sort) kinds.now }
+    {
+        any_of_sort(self, kinds, sort)
+    }
+
+    fn has_elements_of(&self, kind: ValueKind) -> bool
+        ensures { result ≡ spec.some_meaning self.now spec.has_elements kind }
+    {
+        match alternative(kind) {
+            Some(number) => is_marked(&self.with_elements, number),
+            None => has_elements(kind),
+        }
+    }
+
+    /// Whether a value of these kinds may have elements.
+    pub fn can_have_elements(&self, kinds: &[ValueKind]) -> bool
+        ensures { result ≡ spec.some_plain self.now spec.has_elements kinds.now }
+    {
+        any_with_elements(self, kinds)
+    }
+
+    fn holds_instance_plainly(&self, kind: ValueKind) -> bool
+        ensures { result ≡ spec.some_meaning self.now (spec.holds_by (spec.holding self.now)) kind }
+    {
+        match alternative(kind) {
+            Some(number) => is_marked(&self.with_instances, number),
+            None => holds_instance(&self.holding, kind),
+        }
+    }
+
+    /// Whether a value of what these kinds stand for may hold an instance of an entity at any depth.
+    pub fn may_hold_instance_plainly(&self, kinds: &[ValueKind]) -> bool
+        ensures { result ≡ spec.may_hold_instance self.now (spec.plain self.now kinds.now) }
+    {
+        any_with_instances(self, kinds)
+    }
+
+    /// Whether a value may hold an instance of an entity at any depth.
+    pub fn may_hold_instance(&self, kinds: &[ValueKind]) -> bool
+        ensures { result ≡ spec.may_hold_instance self.now kinds.now }
+    {
+        any_holds_instance(&self.holding, kinds)
+    }
+
     /// What a value of a type may be by its declaration.
-    fn declared(&self, number: usize) -> &[Kind]
+    fn declared(&self, number: usize) -> &[ValueKind]
         ensures { result.now ≡ spec.declared self.now number }
     {
         match self.kinds.get(number) {
@@ -72,7 +181,7 @@ impl Types {
 
     /// The kinds, where each defined type that the value itself may be of stands for what it is.
     #[tactic(auto, unfolding(crate::specs::Types::plain))]
-    pub fn plain(&self, alloc: Global, kinds: &[Kind]) -> Result<Kinds, AllocError>
+    pub fn plain(&self, alloc: Global, kinds: &[ValueKind]) -> Result<Kinds, AllocError>
         ensures { IfOk result (λ found. found ≡ spec.plain self.now kinds.now) }
     {
         let mut found = Rows::new(alloc);
@@ -84,36 +193,27 @@ impl Types {
         }
         Ok(found)
     }
+}
 
-    /// Whether a value of the type may hold an instance of an entity at any depth.
-    fn holds_instance(&self, alloc: Global, number: usize) -> Result<bool, AllocError>
-        ensures { IfOk result (λ found. found ≡ spec.type_holds_instance self.now (Some number)) }
-    {
-        let members = members(alloc, self.held.as_slice(), number)?;
-        for member in &members {
-            if any_instance(self.declared(*member)) {
-                return Ok(true);
-            }
-        }
-        Ok(false)
-    }
+/// Whether a value of one of the kinds may be of this sort in the end.
+fn any_of_sort(types: &Types, kinds: &[ValueKind], sort: PlainSort) -> bool
+    ensures { result ≡ list_any (spec.some_meaning types.now (spec.is_value sort)) kinds.now }
+{
+    kinds.iter().any(|kind| types.can_be_of(*kind, sort))
+}
 
-    /// Whether a value may hold an instance of an entity at any depth.
-    #[tactic(auto, unfolding(crate::specs::Types::may_hold_instance))]
-    pub fn may_hold_instance(&self, alloc: Global, kinds: &[Kind]) -> Result<bool, AllocError>
-        ensures { IfOk result (λ found. found ≡ spec.may_hold_instance self.now kinds.now) }
-    {
-        for kind in kinds {
-            let holds = match kind.sort {
-                Sort::Defined(number) => self.holds_instance(alloc, number)?,
-                sort => is_instance(sort),
-            };
-            if holds {
-                return Ok(true);
-            }
-        }
-        Ok(false)
-    }
+/// Whether a value of one of the kinds may have elements.
+fn any_with_elements(types: &Types, kinds: &[ValueKind]) -> bool
+    ensures { result ≡ list_any (spec.some_meaning types.now spec.has_elements) kinds.now }
+{
+    kinds.iter().any(|kind| types.has_elements_of(*kind))
+}
+
+/// Whether a value of what one of the kinds stands for may hold an instance of an entity.
+fn any_with_instances(types: &Types, kinds: &[ValueKind]) -> bool
+    ensures { result ≡ list_any (spec.some_meaning types.now (spec.holds_by (spec.holding types.now))) kinds.now }
+{
+    kinds.iter().any(|kind| types.holds_instance_plainly(*kind))
 }
 
 /// A type and those that are reached from it, in ascending order.
@@ -159,7 +259,7 @@ fn declared_kinds(alloc: Global, types: &[NamedType]) -> Result<Vec<Kinds>, Allo
 }
 
 /// The type that the value or its elements, at any depth, are of.
-fn mentioned(kind: Kind) -> Option<usize>
+pub(crate) fn mentioned(kind: ValueKind) -> Option<usize>
     ensures { result ≡ spec.mentioned kind }
 {
     match kind.sort {
@@ -169,7 +269,7 @@ fn mentioned(kind: Kind) -> Option<usize>
 }
 
 /// The type that the value itself is of.
-fn alternative(kind: Kind) -> Option<usize>
+pub(crate) fn alternative(kind: ValueKind) -> Option<usize>
     ensures { result ≡ spec.alternative kind }
 {
     if kind.depth == 0 {
@@ -180,7 +280,7 @@ fn alternative(kind: Kind) -> Option<usize>
 }
 
 /// The types that the value itself is of.
-fn alternatives_of(alloc: Global, kinds: &[Kind]) -> Result<Rows<usize>, AllocError>
+fn alternatives_of(alloc: Global, kinds: &[ValueKind]) -> Result<Rows<usize>, AllocError>
     ensures { IfOk result (λ found. found ≡ filter_map spec.alternative kinds.now) }
 {
     let found = kinds
@@ -203,7 +303,7 @@ fn alternatives(alloc: Global, types: &[Kinds]) -> Result<Vec<Rows<usize>>, Allo
 }
 
 /// The types that the value or its elements, at any depth, are of.
-fn held_of(alloc: Global, kinds: &[Kind]) -> Result<Rows<usize>, AllocError>
+fn held_of(alloc: Global, kinds: &[ValueKind]) -> Result<Rows<usize>, AllocError>
     ensures { IfOk result (λ found. found ≡ filter_map spec.mentioned kinds.now) }
 {
     let found = kinds.iter().copied().filter_map(mentioned).collect(alloc)?;
@@ -211,7 +311,7 @@ fn held_of(alloc: Global, kinds: &[Kind]) -> Result<Rows<usize>, AllocError>
 }
 
 /// Of each type the types that it is or that its elements are, at any depth.
-fn held(alloc: Global, types: &[Kinds]) -> Result<Vec<Rows<usize>>, AllocError>
+pub(crate) fn held(alloc: Global, types: &[Kinds]) -> Result<Vec<Rows<usize>>, AllocError>
     ensures { IfOk result (λ graph. graph.items ≡ spec.held types.now) }
 {
     let mut graph = Vec::with_capacity(alloc, types.len())?;
@@ -222,7 +322,7 @@ fn held(alloc: Global, types: &[Kinds]) -> Result<Vec<Rows<usize>>, AllocError>
 }
 
 /// Puts the kinds behind the others that are of no defined type themselves.
-fn push_own(found: &mut Kinds, kinds: &[Kind]) -> Result<(), AllocError>
+fn push_own(found: &mut Kinds, kinds: &[ValueKind]) -> Result<(), AllocError>
     ensures { OnOk result (found.new ≡ found.old ++ spec.own kinds.now) }
 {
     for kind in kinds {
@@ -234,18 +334,11 @@ fn push_own(found: &mut Kinds, kinds: &[Kind]) -> Result<(), AllocError>
 }
 
 /// Whether this is an instance of an entity, or may be one.
-fn is_instance(sort: Sort) -> bool
+pub(crate) fn is_instance(sort: Sort) -> bool
     ensures { result ≡ spec.is_instance sort }
 {
     match sort {
         Sort::Entity(_) | Sort::Instance | Sort::Generic => true,
         _ => false,
     }
-}
-
-/// Whether one of these is an instance of an entity.
-fn any_instance(kinds: &[Kind]) -> bool
-    ensures { result ≡ list_any (λ kind. spec.is_instance kind.sort) kinds.now }
-{
-    kinds.iter().any(|kind| is_instance(kind.sort))
 }

@@ -1,6 +1,6 @@
 -- What the tokens of a text are, by what stands at its front.
 use Rattle.std.proofs.Common.{◌≡◌, ℕ, zero, suc, ◌+◌, ◌-◌, ◌<◌, ◌≤◌, List, [], ◌∷◌, ◌++◌, length, map, take, drop, Ok, Err, refl, sym, ap, ◌∙◌, arith, add-zero, append_assoc, rules}
-use Rattle.ex_tree.specs.declared.kind.Kind.{Kind}
+use Rattle.ex_tree.specs.declared.kind.TokenKind.{TokenKind}
 use Rattle.ex_tree.specs.declared.fault.LexFaultKind.{LexFaultKind}
 use Rattle.ex_lex.specs.declared.front.Start.TheVariants.{Blank, Token, Fault}
 use Rattle.ex_lex.specs.Lexeme.{Lexeme, lexeme}
@@ -34,7 +34,7 @@ unfolding lexemes
 lexemes-blank at n [] e some fits = absurd (omega arith)
 lexemes-blank at n (b ∷ z) e some fits = rw e (after_front n at b z some fits)
 
-pub lexemes-token : (at n : ℕ) (kind : Kind) (z : List ℕ) → front z ≡ Token kind n → 1 ≤ n → n ≤ length z
+pub lexemes-token : (at n : ℕ) (kind : TokenKind) (z : List ℕ) → front z ≡ Token kind n → 1 ≤ n → n ≤ length z
     → lexemes at z ≡ behind (record { kind = kind; at = at; text = take n z } ∷ []) (lexemes (at + n) (drop n z))
 unfolding lexemes
 lexemes-token at n kind [] e some fits = absurd (omega arith)

@@ -7,7 +7,7 @@ use Rattle.std.specs.Str.{str_eq_ignore_ascii_case}
 use Rattle.std.proofs.lemmas.Bool.{cases_Bool}
 use Rattle.std.proofs.lemmas.Bool.Decides.{nat_tests}
 use Rattle.std.proofs.Math.ListN.{take-append-drop}
-use Rattle.ex_tree.specs.declared.kind.Kind.TheVariants as k
+use Rattle.ex_tree.specs.declared.kind.TokenKind.TheVariants as k
 use Rattle.ex_lex.specs.declared.words.TheConstants.{WORDS, STARTS}
 use Rattle.ex_lex.specs.Words.{Row, reserved, kind_in, kind_of}
 

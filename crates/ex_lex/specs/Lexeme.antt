@@ -1,11 +1,11 @@
 -- Tokens as slices of a text.
 use Rattle.std.specs.Prelude.{ℕ, List}
-use Rattle.ex_tree.specs.declared.kind.Kind.{Kind}
+use Rattle.ex_tree.specs.declared.kind.TokenKind.{TokenKind}
 use Rattle.ex_tree.specs.declared.token.Token.{Token}
 
 -- a token, without where it lies in memory
 pub record Lexeme : Type 0 where
-  pub kind : Kind
+  pub kind : TokenKind
   pub at : ℕ
   pub text : List ℕ
 

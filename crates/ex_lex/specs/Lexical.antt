@@ -3,9 +3,9 @@ use Rattle.std.specs.Prelude.{◌≤◌, ℕ, ◌+◌, ◌-◌, Bool, true, fals
 use Rattle.std.specs.List.{prefix_len}
 use Rattle.std.specs.Char.{is_ascii_digit, is_ascii_alphabetic, is_ascii_alphanumeric}
 use Rattle.std.specs.Str.{is_utf8}
-use Rattle.rp_value.specs.Whole.{whole_number}
-use Rattle.rp_value.specs.Spelling.{parse}
-use Rattle.ex_tree.specs.declared.kind.Kind.TheVariants as k
+use Rattle.rp_numbers.specs.Whole.{whole_number}
+use Rattle.rp_numbers.specs.Spelling.{parse}
+use Rattle.ex_tree.specs.declared.kind.TokenKind.TheVariants as k
 use Rattle.ex_tree.specs.declared.fault.LexFaultKind.TheVariants as fault
 use Rattle.ex_lex.specs.declared.front.Start.{Start}
 use Rattle.ex_lex.specs.declared.front.Start.TheVariants.{Blank, Token, Fault}

@@ -1,14 +1,14 @@
 -- The symbols (ISO 10303-11:1994, 7.3).
 use Rattle.std.specs.Prelude.{ℕ, nat_eq, List, [], ◌∷◌, length, codes, if◌then◌else◌}
 use Rattle.std.specs.List.{starts_with}
-use Rattle.ex_tree.specs.declared.kind.Kind.{Kind}
-use Rattle.ex_tree.specs.declared.kind.Kind.TheVariants as k
+use Rattle.ex_tree.specs.declared.kind.TokenKind.{TokenKind}
+use Rattle.ex_tree.specs.declared.kind.TokenKind.TheVariants as k
 use Rattle.ex_tree.specs.declared.fault.LexFaultKind.TheVariants as fault
 use Rattle.ex_lex.specs.declared.front.Start.{Start}
 use Rattle.ex_lex.specs.declared.front.Start.TheVariants.{Token, Fault}
 
 abbrev pub Row : Type 0
-Row = List ℕ × Kind
+Row = List ℕ × TokenKind
 
 -- the longest first
 abbrev pub symbols : List Row

@@ -1,12 +1,12 @@
 -- The reserved words, and what a word is (ISO 10303-11:1994, 7.2 and 7.4).
 use Rattle.std.specs.Prelude.{ℕ, List, [], ◌∷◌, codes, if◌then◌else◌}
 use Rattle.std.specs.Str.{str_eq_ignore_ascii_case}
-use Rattle.ex_tree.specs.declared.kind.Kind.{Kind}
-use Rattle.ex_tree.specs.declared.kind.Kind.TheVariants as k
+use Rattle.ex_tree.specs.declared.kind.TokenKind.{TokenKind}
+use Rattle.ex_tree.specs.declared.kind.TokenKind.TheVariants as k
 
 -- a word in upper case, and its kind
 abbrev pub Row : Type 0
-Row = List ℕ × Kind
+Row = List ℕ × TokenKind
 
 unfoldable pub reserved : List Row
 reserved =
@@ -123,9 +123,9 @@ reserved =
     []
 
 -- the kind of the row whose word this is, in either case
-abbrev pub kind_in : List Row → List ℕ → Kind
+abbrev pub kind_in : List Row → List ℕ → TokenKind
 kind_in [] word = k.Identifier
 kind_in (row ∷ rows) word = if str_eq_ignore_ascii_case row.0 word then row.1 else kind_in rows word
 
-unfoldable pub kind_of : List ℕ → Kind
+unfoldable pub kind_of : List ℕ → TokenKind
 kind_of word = kind_in reserved word

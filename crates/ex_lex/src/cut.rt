@@ -5,7 +5,7 @@ ghost use Rattle.text_forms.specs.Gives.{Gives};
 ghost use Rattle.ex_lex.specs.Spelling as spec;
 
 use crate::front::{Start, front};
-use crate::lexed::Tokens;
+use crate::lexed::TokenList;
 use ex_tree::{LexFault, Token};
 use std::alloc::Global;
 use text_forms::Failure;
@@ -15,7 +15,7 @@ use text_forms::Failure;
 /// # Errors
 ///
 /// The first lexical fault, at the first byte of its token or remark; or want of memory.
-pub fn tokens(alloc: Global, text: &[u8]) -> Result<Tokens<'_>, Failure<LexFault>>
+pub fn tokens(alloc: Global, text: &[u8]) -> Result<TokenList<'_>, Failure<LexFault>>
     ensures value { Gives (λ t. t) result (spec.tokens text.now) }
     ensures slices { IfOk result (λ t. spec.AreSlices text.now 0 t.lexemes) }
     ensures ascending { IfOk result (λ t. spec.Rise 0 (map (λ l. l.at) t.lexemes)) }
@@ -38,5 +38,5 @@ pub fn tokens(alloc: Global, text: &[u8]) -> Result<Tokens<'_>, Failure<LexFault
             Start::Fault(kind) => return Err(Failure::Fault(LexFault { kind, at })),
         }
     }
-    Ok(Tokens::new(found, text.len()))
+    Ok(TokenList::new(found, text.len()))
 }

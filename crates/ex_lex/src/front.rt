@@ -9,7 +9,7 @@ use crate::numbers::number;
 use crate::strings::{binary, encoded_string, simple_string};
 use crate::symbols::symbol;
 use crate::words::word_kind;
-use ex_tree::{Kind, LexFaultKind};
+use ex_tree::{LexFaultKind, TokenKind};
 
 /// What stands at the front of a text.
 #[derive(Clone, Copy)]
@@ -17,7 +17,7 @@ pub enum Start {
     /// This many bytes separate tokens.
     Blank(usize),
     /// A token of this many bytes.
-    Token(Kind, usize),
+    Token(TokenKind, usize),
     Fault(LexFaultKind),
 }
 

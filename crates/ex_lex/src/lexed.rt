@@ -8,13 +8,13 @@ use std::marker::Model;
 
 /// The tokens of a text in order: slices of it, with blanks and remarks alone between them.
 #[derive(Drop)]
-pub struct Tokens<'a> {
+pub struct TokenList<'a> {
     tokens: Vec<Token<'a>>,
     /// How many bytes the text has.
     length: usize,
 }
 
-impl<'a> Model for Tokens<'a> {
+impl<'a> Model for TokenList<'a> {
     ghost use Rattle.std.specs.Prelude.{map};
     ghost use Rattle.ex_lex.specs.Lexeme.{Lexed, lexeme};
 
@@ -23,11 +23,11 @@ impl<'a> Model for Tokens<'a> {
     ghost view = { λ t. record { lexemes = map lexeme t.tokens.items; length = t.length } };
 }
 
-impl<'a> Tokens<'a> {
-    pub(crate) fn new(tokens: Vec<Token<'a>>, length: usize) -> Tokens<'a>
+impl<'a> TokenList<'a> {
+    pub(crate) fn new(tokens: Vec<Token<'a>>, length: usize) -> TokenList<'a>
         ensures { result ≡ record { lexemes = map lexeme tokens.entry.items; length = length } }
     {
-        Tokens { tokens, length }
+        TokenList { tokens, length }
     }
 
     pub fn as_slice(&self) -> &[Token<'a>]

@@ -10,7 +10,7 @@ mod symbols;
 mod words;
 
 pub use cut::tokens;
-pub use ex_tree::{Kind, LexFault, LexFaultKind, Token};
-pub use lexed::Tokens;
+pub use ex_tree::{LexFault, LexFaultKind, Token, TokenKind};
+pub use lexed::TokenList;
 pub use strings::character;
 pub use text_forms::Failure;

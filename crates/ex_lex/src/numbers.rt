@@ -2,13 +2,13 @@
 
 ghost use Rattle.std.specs.Prelude.{◌≡◌, ◌<◌, ◌≤◌, length, slice_index, true};
 ghost use Rattle.std.specs.Char.{is_ascii_digit};
-ghost use Rattle.rp_value.specs.Whole.{whole_number};
-ghost use Rattle.rp_value.specs.Spelling.{parse};
+ghost use Rattle.rp_numbers.specs.Whole.{whole_number};
+ghost use Rattle.rp_numbers.specs.Spelling.{parse};
 ghost use Rattle.ex_lex.specs.Lexical as spec;
 
 use crate::front::{Start, byte};
-use ex_tree::{Kind, LexFaultKind};
-use rp_value::{Decimal, whole_number};
+use ex_tree::{LexFaultKind, TokenKind};
+use rp_numbers::{Decimal, whole_number};
 
 fn sign_len(z: &[u8]) -> usize
     ensures value { result ≡ spec.sign_len z.now }
@@ -44,7 +44,7 @@ fn integer(digits: &[u8]) -> Start
 {
     match whole_number(digits) {
         None => Start::Fault(LexFaultKind::TooBig),
-        Some(_) => Start::Token(Kind::IntegerLiteral, digits.len()),
+        Some(_) => Start::Token(TokenKind::IntegerLiteral, digits.len()),
     }
 }
 
@@ -53,7 +53,7 @@ fn real(spelling: &[u8]) -> Start
 {
     match Decimal::parse(spelling) {
         Err(_) => Start::Fault(LexFaultKind::TooBig),
-        Ok(_) => Start::Token(Kind::RealLiteral, spelling.len()),
+        Ok(_) => Start::Token(TokenKind::RealLiteral, spelling.len()),
     }
 }
 

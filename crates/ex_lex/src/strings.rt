@@ -9,7 +9,7 @@ ghost use Rattle.ex_lex.specs.Lexical as spec;
 ghost use Rattle.ex_lex.specs.Strings as strings;
 
 use crate::front::{Start, byte};
-use ex_tree::{Kind, LexFaultKind};
+use ex_tree::{LexFaultKind, TokenKind};
 use std::str;
 
 /// The place after the apostrophe that ends a string, where `z` begins at the place 1.
@@ -50,7 +50,7 @@ pub fn simple_string(z: &[u8]) -> Start
 {
     match string_end(&z[1..]) {
         None => Start::Fault(LexFaultKind::OpenString),
-        Some(end) if is_text(&z[..end]) => Start::Token(Kind::SimpleStringLiteral, end),
+        Some(end) if is_text(&z[..end]) => Start::Token(TokenKind::SimpleStringLiteral, end),
         Some(_) => Start::Fault(LexFaultKind::Token),
     }
 }
@@ -130,7 +130,7 @@ pub fn encoded_string(z: &[u8]) -> Start
     if byte(z, 1 + len) != b'"' {
         Start::Fault(LexFaultKind::OpenString)
     } else if is_encoded(&rest[..len]) {
-        Start::Token(Kind::EncodedStringLiteral, len + 2)
+        Start::Token(TokenKind::EncodedStringLiteral, len + 2)
     } else {
         Start::Fault(LexFaultKind::BadEncoded)
     }
@@ -160,6 +160,6 @@ pub fn binary(z: &[u8]) -> Start
     if bits == 0 {
         Start::Fault(LexFaultKind::Token)
     } else {
-        Start::Token(Kind::BinaryLiteral, 1 + bits)
+        Start::Token(TokenKind::BinaryLiteral, 1 + bits)
     }
 }

@@ -5,7 +5,7 @@ ghost use Rattle.ex_lex.specs.Lexical.{Fits};
 ghost use Rattle.ex_lex.specs.Symbols as spec;
 
 use crate::front::Start;
-use ex_tree::{Kind, LexFaultKind};
+use ex_tree::{LexFaultKind, TokenKind};
 
 #[tactic(auto, unfolding(crate::specs::Symbols::symbol))]
 fn colon(z: &[u8]) -> Start
@@ -14,11 +14,11 @@ fn colon(z: &[u8]) -> Start
     ensures within { Fits result (length z.now) }
 {
     if z.starts_with(b":<>:") {
-        Start::Token(Kind::InstanceNotEqual, 4)
+        Start::Token(TokenKind::InstanceNotEqual, 4)
     } else if z.starts_with(b":=:") {
-        Start::Token(Kind::InstanceEqual, 3)
+        Start::Token(TokenKind::InstanceEqual, 3)
     } else if z.starts_with(b":=") {
-        Start::Token(Kind::Becomes, 2)
+        Start::Token(TokenKind::Becomes, 2)
     } else {
         single(b':')
     }
@@ -31,11 +31,11 @@ fn less(z: &[u8]) -> Start
     ensures within { Fits result (length z.now) }
 {
     if z.starts_with(b"<=") {
-        Start::Token(Kind::LessEqual, 2)
+        Start::Token(TokenKind::LessEqual, 2)
     } else if z.starts_with(b"<>") {
-        Start::Token(Kind::NotEqual, 2)
+        Start::Token(TokenKind::NotEqual, 2)
     } else if z.starts_with(b"<*") {
-        Start::Token(Kind::QuerySource, 2)
+        Start::Token(TokenKind::QuerySource, 2)
     } else {
         single(b'<')
     }
@@ -48,7 +48,7 @@ fn greater(z: &[u8]) -> Start
     ensures within { Fits result (length z.now) }
 {
     if z.starts_with(b">=") {
-        Start::Token(Kind::GreaterEqual, 2)
+        Start::Token(TokenKind::GreaterEqual, 2)
     } else {
         single(b'>')
     }
@@ -61,7 +61,7 @@ fn star(z: &[u8]) -> Start
     ensures within { Fits result (length z.now) }
 {
     if z.starts_with(b"**") {
-        Start::Token(Kind::Power, 2)
+        Start::Token(TokenKind::Power, 2)
     } else {
         single(b'*')
     }
@@ -74,7 +74,7 @@ fn bar(z: &[u8]) -> Start
     ensures within { Fits result (length z.now) }
 {
     if z.starts_with(b"||") {
-        Start::Token(Kind::Concatenate, 2)
+        Start::Token(TokenKind::Concatenate, 2)
     } else {
         single(b'|')
     }
@@ -87,26 +87,26 @@ fn single(b: u8) -> Start
     ensures within { (len : ℕ) → 0 < len → Fits result len }
 {
     let kind = match b {
-        b'.' => Kind::Point,
-        b',' => Kind::Comma,
-        b';' => Kind::Semicolon,
-        b':' => Kind::Colon,
-        b'*' => Kind::Star,
-        b'+' => Kind::Plus,
-        b'-' => Kind::Minus,
-        b'=' => Kind::Equals,
-        b'\\' => Kind::Backslash,
-        b'/' => Kind::Slash,
-        b'<' => Kind::Less,
-        b'>' => Kind::Greater,
-        b'[' => Kind::OpenBracket,
-        b']' => Kind::CloseBracket,
-        b'{' => Kind::OpenBrace,
-        b'}' => Kind::CloseBrace,
-        b'|' => Kind::Bar,
-        b'(' => Kind::OpenParenthesis,
-        b')' => Kind::CloseParenthesis,
-        b'?' => Kind::QuestionMark,
+        b'.' => TokenKind::Point,
+        b',' => TokenKind::Comma,
+        b';' => TokenKind::Semicolon,
+        b':' => TokenKind::Colon,
+        b'*' => TokenKind::Star,
+        b'+' => TokenKind::Plus,
+        b'-' => TokenKind::Minus,
+        b'=' => TokenKind::Equals,
+        b'\\' => TokenKind::Backslash,
+        b'/' => TokenKind::Slash,
+        b'<' => TokenKind::Less,
+        b'>' => TokenKind::Greater,
+        b'[' => TokenKind::OpenBracket,
+        b']' => TokenKind::CloseBracket,
+        b'{' => TokenKind::OpenBrace,
+        b'}' => TokenKind::CloseBrace,
+        b'|' => TokenKind::Bar,
+        b'(' => TokenKind::OpenParenthesis,
+        b')' => TokenKind::CloseParenthesis,
+        b'?' => TokenKind::QuestionMark,
         _ => return Start::Fault(LexFaultKind::Token),
     };
     Start::Token(kind, 1)

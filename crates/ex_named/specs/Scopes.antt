@@ -1,11 +1,13 @@
 -- What a name means (ISO 10303-11:1994, clause 10).
 use Rattle.std.specs.Prelude.{ℕ, suc, ◌+◌, ◌-◌, Bool, false, ◌==◌, List, [], ◌∷◌, length, filter, Option, Some, None, option_map, unwrap_or, slice_get, if◌then◌else◌, Ok}
 use Rattle.std.specs.List.{find, list_any}
-use Rattle.ex_names.specs.Names.{named, place_of}
+use Rattle.name_tables.specs.Names.{named, place_of}
 use Rattle.ex_tree.specs.declared.expression.Name.{Name}
 use Rattle.ex_named.specs.declared.expression.NamedExpression.{NamedExpression}
 use Rattle.ex_named.specs.declared.expression.NamedExpression.TheVariants as e
 use Rattle.ex_named.specs.declared.fault.NameFaultKind.TheVariants.{Undeclared}
+use Rattle.ex_named.specs.declared.reference.AttributeMeaning.{AttributeMeaning}
+use Rattle.ex_named.specs.declared.reference.AttributeMeaning.TheVariants as m
 use Rattle.ex_named.specs.declared.reference.AttributePlace.{AttributePlace}
 use Rattle.ex_named.specs.declared.reference.Declared.{Declared}
 use Rattle.ex_named.specs.declared.reference.Declared.TheVariants as d
@@ -48,6 +50,12 @@ is_among numbers k = list_any (λ n. n == k) numbers
 -- whether a number is marked in a list of marks
 abbrev pub is_marked : List Bool → ℕ → Bool
 is_marked marks k = unwrap_or (slice_get marks k) false
+
+-- what the name of an attribute means, if these are all its declarations
+abbrev pub meaning_of : List AttributePlace → Option AttributeMeaning
+meaning_of [] = None
+meaning_of (a ∷ []) = Some (m.One a)
+meaning_of (a ∷ b ∷ others) = Some m.Several
 
 -- what was found, or that the name means nothing here
 abbrev pub or_undeclared : {A : Type 0} → Name → Option A → Outcome A
@@ -120,12 +128,8 @@ module _ (schema : Declarations) where
   abbrev pub attributes_of : List ℕ → List ℕ → List AttributePlace
   attributes_of family name = filter (λ a. is_among family a.entity) (named name schema.attributes)
 
-  abbrev pub attribute_from : ℕ → List AttributePlace → Option NamedExpression
-  attribute_from at [] = None
-  attribute_from at (a ∷ others) = Some (e.Attribute (record { at = at; declarations = a ∷ others }))
-
   abbrev pub attribute : Scope → Name → Option NamedExpression
-  attribute s n = attribute_from n.at (attributes_of s.family n.text)
+  attribute s n = option_map (λ meaning. e.Attribute (record { at = n.at; meaning = meaning })) (meaning_of (attributes_of s.family n.text))
 
   -- a constant, a function without arguments, or the instances of an entity that the rule is for
   abbrev pub declared_value : Scope → ℕ → Declared → Option NamedExpression

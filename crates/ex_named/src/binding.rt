@@ -1,11 +1,11 @@
 //! What binding names gives: a tree, or the fault of least offset.
 
-ghost use Rattle.std.specs.Prelude.{◌≡◌, [], Result, Ok, Err, OnOk};
+ghost use Rattle.std.specs.Prelude.{◌≡◌, [], Result, Ok, Err, IfOk, OnOk};
 ghost use Rattle.ex_named.specs.Outcomes as spec;
 
 use crate::fault::{NameFault, NameFaultKind};
-use sqlite_items::Items;
-use std::alloc::Global;
+use plain_data::Items;
+use std::alloc::{AllocError, Global};
 use std::marker::Model;
 use text_forms::Failure;
 
@@ -58,13 +58,14 @@ impl<T> Model for Gathered<T> {
 }
 
 impl<T: Drop> Gathered<T> {
-    pub fn new(alloc: Global) -> Gathered<T>
-        ensures { result ≡ Ok [] }
+    /// With room for so many, and no more.
+    pub fn new(alloc: Global, count: usize) -> Result<Gathered<T>, AllocError>
+        ensures { IfOk result (λ gathered. gathered ≡ Ok []) }
     {
-        Gathered {
-            trees: Vec::new(alloc),
+        Ok(Gathered {
+            trees: Vec::with_capacity(alloc, count)?,
             fault: None,
-        }
+        })
     }
 
     /// Puts a tree behind the others, or keeps its fault where none so far is of lesser or equal offset.

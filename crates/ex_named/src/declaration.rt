@@ -4,7 +4,7 @@ use crate::expression::{NamedDataType, NamedExpression};
 use crate::reference::{AttributeUse, TypeName};
 use crate::statement::NamedStatement;
 use ex_tree::{InverseAggregate, Name, StringToken};
-use sqlite_items::Items;
+use plain_data::Items;
 
 #[derive(Drop)]
 pub struct NamedConstant {

@@ -5,7 +5,7 @@ use ex_tree::{
     ArrayBounds, BinaryOperator, Bounds, BuiltInFunction, IntervalOperator, Literal, Name,
     SimpleType, UnaryOperator,
 };
-use sqlite_items::{Boxed, Items};
+use plain_data::{Boxed, Items};
 
 /// A type of an attribute, a constant, a variable, a parameter or a result.
 pub enum NamedDataType {
@@ -158,8 +158,7 @@ impl Drop for NamedExpression {
             NamedExpression::Itself | NamedExpression::Indeterminate => {}
             NamedExpression::Variable(_) | NamedExpression::Constant(_) => {}
             NamedExpression::Population(_) | NamedExpression::AmbiguousItem(_) => {}
-            NamedExpression::Attribute(name) => drop(name),
-            NamedExpression::Item(_) => {}
+            NamedExpression::Attribute(_) | NamedExpression::Item(_) => {}
             NamedExpression::Call(_, _, arguments) => drop(arguments),
             NamedExpression::BuiltIn(_, _, arguments) => drop(arguments),
             NamedExpression::Qualified(base, qualifiers) => {

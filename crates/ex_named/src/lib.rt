@@ -21,7 +21,8 @@ pub use expression::{
 };
 pub use fault::{NameFault, NameFaultKind};
 pub use reference::{
-    AttributePlace, AttributeSort, AttributeUse, Declared, EnumerationItem, TypeName,
+    AttributeMeaning, AttributePlace, AttributeSort, AttributeUse, Declared, EnumerationItem,
+    TypeName,
 };
 pub use statement::{
     NamedCase, NamedCaseAction, NamedIncrement, NamedRepeatControl, NamedStatement,

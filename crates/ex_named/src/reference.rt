@@ -1,7 +1,5 @@
 //! What names stand for.
 
-use plain_data::Rows;
-
 /// What a name of the schema's own scope declares.
 #[derive(Clone, Copy, PartialEq, Eq)]
 pub enum Declared {
@@ -43,10 +41,16 @@ pub struct AttributePlace {
     pub place: usize,
 }
 
-/// The name of an attribute, its first byte, and the declarations that it may mean, in the order of the schema. Where
-/// there are two or more, the name is ambiguous.
-#[derive(Drop)]
+/// What the name of an attribute means: one declaration, or several, and then it is ambiguous.
+#[derive(Clone, Copy, PartialEq, Eq)]
+pub enum AttributeMeaning {
+    One(AttributePlace),
+    Several,
+}
+
+/// The name of an attribute: its first byte, and what it means.
+#[derive(Clone, Copy, PartialEq, Eq)]
 pub struct AttributeUse {
     pub at: usize,
-    pub declarations: Rows<AttributePlace>,
+    pub meaning: AttributeMeaning,
 }

@@ -1,7 +1,7 @@
 //! Statements.
 
 use crate::expression::NamedExpression;
-use sqlite_items::{Boxed, Items};
+use plain_data::{Boxed, Items};
 
 /// `variable := first TO last BY step`, and the variable's first byte. It has the next slot.
 #[derive(Drop)]

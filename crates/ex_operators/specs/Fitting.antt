@@ -2,9 +2,8 @@
 use Rattle.std.specs.Prelude.{nat_lt, Bool, true, false, not, ◌||◌, ◌&&◌, List, [], ◌∷◌, length}
 use Rattle.std.specs.List.{list_any}
 use Rattle.ex_named.specs.Scopes.{is_among}
-use Rattle.ex_kinds.specs.declared.possible.Possible.{Possible}
 use Rattle.ex_kinds.specs.Kinds.{Kinds}
-use Rattle.ex_kinds.specs.Types.{plain, possible}
+use Rattle.ex_kinds.specs.Types.{Possible, plain, possible}
 
 abbrev pub is_enumeration : Possible → Bool
 is_enumeration p = nat_lt 0 (length p.enumerations)
@@ -62,12 +61,18 @@ are_aggregates p q = can_be_aggregate p && can_be_aggregate q
 abbrev pub share_enumeration : Possible → Possible → Bool
 share_enumeration p q = list_any (λ n. is_among q.enumerations n) p.enumerations
 
+abbrev pub is_open_beside_enumeration : Possible → Possible → Bool
+is_open_beside_enumeration p q = (is_open p && can_be_enumeration q) || (can_be_enumeration p && is_open q)
+
 abbrev pub are_of_one_enumeration : Possible → Possible → Bool
-are_of_one_enumeration p q = (is_open p && can_be_enumeration q) || (can_be_enumeration p && is_open q) || share_enumeration p q
+are_of_one_enumeration p q = is_open_beside_enumeration p q || share_enumeration p q
+
+abbrev pub are_simply_ordered : Possible → Possible → Bool
+are_simply_ordered p q = (can_be_number p && can_be_number q) || are_strings p q || are_binaries p q || are_logicals p q
 
 -- what `<` compares: numbers, strings, binaries, logical values, items of one enumeration
 abbrev pub are_ordered : Possible → Possible → Bool
-are_ordered p q = (can_be_number p && can_be_number q) || are_strings p q || are_binaries p q || are_logicals p q || are_of_one_enumeration p q
+are_ordered p q = are_simply_ordered p q || are_of_one_enumeration p q
 
 -- what `=` compares, instances of entities aside, and what `<=` takes
 abbrev pub are_comparable : Possible → Possible → Bool
@@ -82,9 +87,13 @@ fits_number p q = (p.integer && (q.integer || q.real)) || (p.real && q.real)
 abbrev pub share_simple : Possible → Possible → Bool
 share_simple p q = (p.string && q.string) || (p.binary && q.binary) || (p.logical && q.logical)
 
--- whether a value of the first fits a place of the second: entities fit entities, aggregates aggregates
+-- entities fit entities, aggregates aggregates
+abbrev pub fits_simply : Possible → Possible → Bool
+fits_simply p q = is_open p || q.generic || fits_number p q || share_simple p q || (p.instance && q.instance) || (p.aggregate && q.aggregate)
+
+-- whether a value of the first fits a place of the second
 abbrev pub fits_place : Possible → Possible → Bool
-fits_place p q = is_open p || q.generic || fits_number p q || share_simple p q || (p.instance && q.instance) || (p.aggregate && q.aggregate) || share_enumeration p q
+fits_place p q = fits_simply p q || share_enumeration p q
 
 module _ (types : List Kinds) where
   -- what a value of these kinds may be

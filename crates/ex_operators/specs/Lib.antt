@@ -1,3 +1,4 @@
+pub mod Operands
 pub mod Fitting
 pub mod Operators
 pub mod Taken

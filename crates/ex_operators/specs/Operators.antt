@@ -11,9 +11,8 @@ use Rattle.ex_kinds.specs.declared.fault.TypeFaultKind.{TypeFaultKind}
 use Rattle.ex_kinds.specs.declared.fault.TypeFaultKind.TheVariants.{RealArithmetic, EntityComparison, Operand}
 use Rattle.ex_kinds.specs.declared.kind.Sort.{Sort}
 use Rattle.ex_kinds.specs.declared.kind.Sort.TheVariants as k
-use Rattle.ex_kinds.specs.declared.possible.Possible.{Possible}
 use Rattle.ex_kinds.specs.Kinds.{Kinds, itself, joined, elements, apart, aggregate_of}
-use Rattle.ex_kinds.specs.Types.{plain, possible, may_hold_instance}
+use Rattle.ex_kinds.specs.Types.{Possible, plain, possible, may_hold_instance}
 use Rattle.ex_operators.specs.Fitting.{is_open, can_be_integer, can_be_logical, can_be_aggregate, are_integers, are_strings, are_binaries, are_logicals, are_aggregates, are_ordered, are_comparable, possibly}
 
 -- what a rule says: the kinds of the result, or what is wrong

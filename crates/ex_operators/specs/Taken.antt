@@ -4,9 +4,8 @@ use Rattle.ex_tree.specs.declared.expression.BuiltInFunction.{BuiltInFunction}
 use Rattle.ex_tree.specs.declared.expression.BuiltInFunction.TheVariants as f
 use Rattle.ex_kinds.specs.declared.fault.TypeFaultKind.TheVariants.{EntityComparison, Operand, Arguments, Qualifier}
 use Rattle.ex_kinds.specs.declared.kind.Sort.TheVariants as k
-use Rattle.ex_kinds.specs.declared.possible.Possible.{Possible}
 use Rattle.ex_kinds.specs.Kinds.{Kinds, itself, joined, elements, aggregate_of}
-use Rattle.ex_kinds.specs.Types.{plain, may_hold_instance}
+use Rattle.ex_kinds.specs.Types.{Possible, plain, may_hold_instance}
 use Rattle.ex_operators.specs.Fitting.{can_be_integer, can_be_string, can_be_binary, can_be_instance, can_be_aggregate, is_nothing, all_fit, is_integer, possibly}
 use Rattle.ex_operators.specs.Operators.{Rule, or_else_fault, logical, kinds_if, aggregate_if}
 

@@ -6,8 +6,9 @@ ghost use Rattle.ex_kinds.specs.Types.{may_hold_instance};
 ghost use Rattle.ex_operators.specs.Fitting.{are_comparable, possibly};
 ghost use Rattle.ex_operators.specs.Operators as spec;
 
-use crate::possibilities::{are_comparable, possibly};
-use ex_kinds::{Kind, Kinds, Possible, TypeFaultKind, Types};
+use crate::operand::Operand;
+use crate::possibilities::are_comparable;
+use ex_kinds::{Kinds, TypeFaultKind, Types, ValueKind};
 use std::alloc::{AllocError, Global};
 
 /// What is wrong with a CASE of this selector and these labels.
@@ -15,44 +16,41 @@ use std::alloc::{AllocError, Global};
 pub fn case_fault(
     alloc: Global,
     types: &Types,
-    selector: &[Kind],
+    selector: &[ValueKind],
     labels: &[Kinds],
 ) -> Result<Option<TypeFaultKind>, AllocError>
     ensures { IfOk result (λ f. f ≡ spec.case_fault types.now selector.now labels.now) }
 {
-    if types.may_hold_instance(alloc, selector)? || may_any_hold_instance(alloc, types, labels)? {
+    if types.may_hold_instance(selector) || may_any_hold_instance(types, labels) {
         return Ok(Some(TypeFaultKind::EntityComparison));
     }
-    let selector = possibly(alloc, types, selector)?;
+    let selector = Operand::of(types, selector);
     if is_any_beside(alloc, types, &selector, labels)? {
         return Ok(Some(TypeFaultKind::Operand));
     }
     Ok(None)
 }
 
-fn may_any_hold_instance(alloc: Global, types: &Types, labels: &[Kinds]) -> Result<bool, AllocError>
-    ensures { IfOk result (λ b. b ≡ list_any (may_hold_instance types.now) labels.now) }
+fn may_any_hold_instance(types: &Types, labels: &[Kinds]) -> bool
+    ensures { result ≡ list_any (may_hold_instance types.now) labels.now }
 {
-    for label in labels {
-        if types.may_hold_instance(alloc, label.as_slice())? {
-            return Ok(true);
-        }
-    }
-    Ok(false)
+    labels
+        .iter()
+        .any(|label| types.may_hold_instance(label.as_slice()))
 }
 
 /// Whether one of these is not comparable with the selector.
 fn is_any_beside(
     alloc: Global,
     types: &Types,
-    selector: &Possible,
+    selector: &Operand<'_>,
     labels: &[Kinds],
 ) -> Result<bool, AllocError>
-    ensures { IfOk result (λ b. b ≡ list_any (λ label. not (are_comparable selector.now (possibly types.now label))) labels.now) }
+    ensures { IfOk result (λ b. b ≡ list_any (λ label. not (are_comparable selector.now.possible (possibly types.now label))) labels.now) }
 {
     for label in labels {
-        let label = possibly(alloc, types, label.as_slice())?;
-        if !are_comparable(selector, &label) {
+        let label = Operand::of(types, label.as_slice());
+        if !are_comparable(alloc, selector, &label)? {
             return Ok(true);
         }
     }

@@ -3,8 +3,9 @@
 ghost use Rattle.std.specs.Prelude.{◌≡◌, IfOk};
 ghost use Rattle.ex_operators.specs.Fitting as spec;
 
-use crate::possibilities::{can_be_integer, fits_place, possibly};
-use ex_kinds::{Kind, Kinds, Types};
+use crate::operand::Operand;
+use crate::possibilities::{can_be_integer, fits_place};
+use ex_kinds::{Kinds, Types, ValueKind};
 use std::alloc::{AllocError, Global};
 
 /// Whether a value of these kinds may fit such a place.
@@ -12,14 +13,14 @@ use std::alloc::{AllocError, Global};
 pub fn fits(
     alloc: Global,
     types: &Types,
-    value: &[Kind],
-    place: &[Kind],
+    value: &[ValueKind],
+    place: &[ValueKind],
 ) -> Result<bool, AllocError>
     ensures { IfOk result (λ b. b ≡ spec.fits types.now value.now place.now) }
 {
-    let value = possibly(alloc, types, value)?;
-    let place = possibly(alloc, types, place)?;
-    Ok(fits_place(&value, &place))
+    let value = Operand::of(types, value);
+    let place = Operand::of(types, place);
+    fits_place(alloc, &value, &place)
 }
 
 /// Whether each value may fit its place, and there are as many.
@@ -47,9 +48,8 @@ pub(crate) fn all_fit(
 
 /// Whether it may be an INTEGER.
 #[tactic(auto, unfolding(crate::specs::Fitting::is_integer))]
-pub fn is_integer(alloc: Global, types: &Types, kinds: &[Kind]) -> Result<bool, AllocError>
-    ensures { IfOk result (λ b. b ≡ spec.is_integer types.now kinds.now) }
+pub fn is_integer(types: &Types, kinds: &[ValueKind]) -> bool
+    ensures { result ≡ spec.is_integer types.now kinds.now }
 {
-    let kinds = possibly(alloc, types, kinds)?;
-    Ok(can_be_integer(&kinds))
+    can_be_integer(&Operand::of(types, kinds))
 }

@@ -8,12 +8,15 @@ ghost use Rattle.ex_operators.specs.Operators as rules;
 ghost use Rattle.ex_operators.specs.Taken as spec;
 
 use crate::fitting::all_fit;
+use crate::operand::Operand;
 use crate::possibilities::{
-    can_be_aggregate, can_be_binary, can_be_instance, can_be_integer, can_be_string, possibly,
+    can_be_aggregate, can_be_binary, can_be_instance, can_be_integer, can_be_string,
 };
 use crate::ruling::{Ruling, logical, or_else_fault};
 use crate::taken::elements_of;
-use ex_kinds::{Kind, Kinds, Sort, TypeFaultKind, Types, aggregate_of, copied, join, kinds_of_one};
+use ex_kinds::{
+    Kinds, Sort, TypeFaultKind, Types, ValueKind, aggregate_of, copied, join, kinds_of_one,
+};
 use ex_tree::BuiltInFunction;
 use plain_data::Rows;
 use std::alloc::{AllocError, Global};
@@ -42,7 +45,7 @@ pub fn called(
     alloc: Global,
     types: &Types,
     parameters: &[Kinds],
-    result_kinds: &[Kind],
+    result_kinds: &[ValueKind],
     arguments: &[Kinds],
 ) -> Ruling
     ensures { Gives (λ kinds. kinds) result (spec.called types.now parameters.now result_kinds.now arguments.now) }
@@ -74,10 +77,10 @@ fn aggregate_of_one(alloc: Global, sort: Sort) -> Result<Kinds, AllocError>
 
 /// A call with one argument.
 #[tactic(auto, unfolding(crate::specs::Taken::built_in))]
-fn of_one(alloc: Global, types: &Types, function: BuiltInFunction, argument: &[Kind]) -> Ruling
+fn of_one(alloc: Global, types: &Types, function: BuiltInFunction, argument: &[ValueKind]) -> Ruling
     ensures { Gives (λ kinds. kinds) result (spec.built_in types.now function (argument.now ∷ [])) }
 {
-    let possible = possibly(alloc, types, argument)?;
+    let possible = Operand::of(types, argument);
     match function {
         BuiltInFunction::Abs => integer_if(alloc, can_be_integer(&possible)),
         BuiltInFunction::BLength => integer_if(alloc, can_be_binary(&possible)),
@@ -100,8 +103,8 @@ fn of_two(
     alloc: Global,
     types: &Types,
     function: BuiltInFunction,
-    first: &[Kind],
-    second: &[Kind],
+    first: &[ValueKind],
+    second: &[ValueKind],
 ) -> Ruling
     ensures { Gives (λ kinds. kinds) result (spec.built_in types.now function (first.now ∷ second.now ∷ [])) }
 {
@@ -121,7 +124,7 @@ fn of_two(
     }
 }
 
-fn either(alloc: Global, first: &[Kind], second: &[Kind]) -> Result<Kinds, AllocError>
+fn either(alloc: Global, first: &[ValueKind], second: &[ValueKind]) -> Result<Kinds, AllocError>
     ensures { IfOk result (λ found. found ≡ kinds.joined first.now second.now) }
 {
     let mut found = copied(alloc, first)?;
@@ -129,25 +132,25 @@ fn either(alloc: Global, first: &[Kind], second: &[Kind]) -> Result<Kinds, Alloc
     Ok(found)
 }
 
-fn used_in(alloc: Global, types: &Types, first: &[Kind], second: &[Kind]) -> Ruling
+fn used_in(alloc: Global, types: &Types, first: &[ValueKind], second: &[ValueKind]) -> Ruling
     ensures { Gives (λ kinds. kinds) result (spec.used_in types.now first.now second.now) }
 {
-    let instance = possibly(alloc, types, first)?;
-    let role = possibly(alloc, types, second)?;
+    let instance = Operand::of(types, first);
+    let role = Operand::of(types, second);
     let fine = can_be_instance(&instance) && can_be_string(&role);
     let instances = aggregate_of_one(alloc, Sort::Instance)?;
     or_else_fault(fine, TypeFaultKind::Arguments, instances)
 }
 
 /// An aggregate of instances can be searched for no value by `=`.
-fn value_in(alloc: Global, types: &Types, aggregate: &[Kind]) -> Ruling
+fn value_in(alloc: Global, types: &Types, aggregate: &[ValueKind]) -> Ruling
     ensures { Gives (λ kinds. kinds) result (spec.value_in types.now aggregate.now) }
 {
     let elements = elements_of(alloc, types, aggregate)?;
-    if types.may_hold_instance(alloc, elements.as_slice())? {
+    if types.may_hold_instance(elements.as_slice()) {
         return Err(Failure::Fault(TypeFaultKind::EntityComparison));
     }
-    let possible = possibly(alloc, types, aggregate)?;
+    let possible = Operand::of(types, aggregate);
     logical_if(alloc, can_be_aggregate(&possible))
 }
 

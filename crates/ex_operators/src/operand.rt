@@ -1,26 +1,95 @@
-//! Operands.
+//! Operands, of which it is found when it is asked what they may be.
 
 ghost use Rattle.std.specs.Prelude.{◌≡◌, IfOk};
-ghost use Rattle.ex_kinds.specs.Types.{plain};
-ghost use Rattle.ex_operators.specs.Fitting.{possibly};
+ghost use Rattle.std.specs.List.{filter_map};
+ghost use Rattle.ex_kinds.specs.Kinds as kinds;
+ghost use Rattle.ex_kinds.specs.Types.{can_be as can_be_in, enumeration as enumeration_in, may_hold_instance as may_hold_instance_in};
+ghost use Rattle.ex_operators.specs.Operands as spec;
 
-use ex_kinds::{Kind, Kinds, Possible, Types};
+use ex_kinds::{Kinds, PlainSort, Sort, Types, ValueKind, apart, elements};
+use plain_data::Rows;
 use std::alloc::{AllocError, Global};
+use std::marker::Model;
 
-/// What an operand may be: its kinds, where no defined type stands for it, and which of them are among these.
+/// What an operand may be: its kinds, where no defined type stands for it, and what is among these.
 #[derive(Drop)]
-pub(crate) struct Operand {
-    pub plain: Kinds,
-    pub possible: Possible,
+pub(crate) struct Operand<'a> {
+    types: &'a Types,
+    kinds: &'a [ValueKind],
 }
 
-impl Operand {
-    pub(crate) fn of(alloc: Global, types: &Types, kinds: &[Kind]) -> Result<Operand, AllocError>
-        ensures plain { IfOk result (λ operand. operand.plain ≡ plain types.now kinds.now) }
-        ensures possible { IfOk result (λ operand. operand.possible ≡ possibly types.now kinds.now) }
+impl<'a> Model for Operand<'a> {
+    ghost use Rattle.ex_operators.specs.Operands.{operand, Operand as OperandValue};
+
+    ghost Value = { OperandValue };
+
+    ghost view = { λ o. operand o.types.now o.kinds.now };
+}
+
+impl<'a> Operand<'a> {
+    /// What is of these kinds.
+    pub(crate) fn of(types: &'a Types, kinds: &'a [ValueKind]) -> Operand<'a>
+        ensures { result ≡ spec.operand types.now kinds.now }
     {
-        let plain = types.plain(alloc, kinds)?;
-        let possible = Possible::of(alloc, plain.as_slice())?;
-        Ok(Operand { plain, possible })
+        Operand { types, kinds }
     }
+
+    /// Whether it may be of this sort.
+    pub(crate) fn can_be(&self, sort: PlainSort) -> bool
+        ensures { result ≡ can_be_in self.now.possible sort }
+    {
+        self.types.can_be(self.kinds, sort)
+    }
+
+    /// What its elements may be.
+    pub(crate) fn elements(&self, alloc: Global) -> Result<Kinds, AllocError>
+        ensures { IfOk result (λ found. found ≡ kinds.elements self.now.plain) }
+    {
+        if self.types.can_have_elements(self.kinds) {
+            let plain = self.types.plain(alloc, self.kinds)?;
+            elements(alloc, plain.as_slice())
+        } else {
+            Ok(Rows::new(alloc))
+        }
+    }
+
+    /// What it may be where it is no aggregate.
+    pub(crate) fn apart(&self, alloc: Global) -> Result<Kinds, AllocError>
+        ensures { IfOk result (λ found. found ≡ kinds.apart self.now.plain) }
+    {
+        let plain = self.types.plain(alloc, self.kinds)?;
+        apart(alloc, plain.as_slice())
+    }
+
+    /// Whether it may hold an instance of an entity at any depth.
+    pub(crate) fn may_hold_instance(&self) -> bool
+        ensures { result ≡ may_hold_instance_in self.now.types self.now.plain }
+    {
+        self.types.may_hold_instance_plainly(self.kinds)
+    }
+
+    /// The types of its enumerations.
+    pub(crate) fn enumerations(&self, alloc: Global) -> Result<Vec<usize>, AllocError>
+        ensures { IfOk result (λ found. found.items ≡ self.now.possible.enumerations) }
+    {
+        let plain = self.types.plain(alloc, self.kinds)?;
+        enumerations_of(alloc, plain.as_slice())
+    }
+}
+
+/// The enumeration that the value itself is of.
+fn enumeration(kind: ValueKind) -> Option<usize>
+    ensures { result ≡ enumeration_in kind }
+{
+    match kind.sort {
+        Sort::Enumeration(number) if kind.depth == 0 => Some(number),
+        _ => None,
+    }
+}
+
+/// The types of the enumerations among plain kinds.
+fn enumerations_of(alloc: Global, kinds: &[ValueKind]) -> Result<Vec<usize>, AllocError>
+    ensures { IfOk result (λ found. found.items ≡ filter_map enumeration_in kinds.now) }
+{
+    kinds.iter().copied().filter_map(enumeration).collect(alloc)
 }

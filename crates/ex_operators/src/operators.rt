@@ -8,10 +8,10 @@ ghost use Rattle.ex_operators.specs.Operators as spec;
 use crate::arithmetic::{difference, product, signed, sum, whole};
 use crate::operand::Operand;
 use crate::possibilities::{
-    are_comparable, are_logicals, are_ordered, can_be_aggregate, can_be_logical, possibly,
+    are_comparable, are_logicals, are_ordered, can_be_aggregate, can_be_logical,
 };
 use crate::ruling::{Ruling, logical, or_else_fault};
-use ex_kinds::{Kind, Kinds, TypeFaultKind, Types};
+use ex_kinds::{Kinds, TypeFaultKind, Types, ValueKind};
 use ex_tree::{BinaryOperator, IntervalOperator, UnaryOperator};
 use plain_data::Rows;
 use std::alloc::{AllocError, Global};
@@ -19,10 +19,10 @@ use text_forms::Failure;
 
 /// What an operator before its operand gives.
 #[tactic(auto, unfolding(crate::specs::Operators::unary))]
-pub fn unary(alloc: Global, types: &Types, operator: UnaryOperator, operand: &[Kind]) -> Ruling
+pub fn unary(alloc: Global, types: &Types, operator: UnaryOperator, operand: &[ValueKind]) -> Ruling
     ensures { Gives (λ kinds. kinds) result (spec.unary types.now operator operand.now) }
 {
-    let possible = possibly(alloc, types, operand)?;
+    let possible = Operand::of(types, operand);
     match operator {
         UnaryOperator::Plus | UnaryOperator::Minus => signed(alloc, &possible),
         UnaryOperator::Not => logical_if(alloc, can_be_logical(&possible)),
@@ -35,14 +35,14 @@ pub fn binary(
     alloc: Global,
     types: &Types,
     operator: BinaryOperator,
-    left: &[Kind],
-    right: &[Kind],
+    left: &[ValueKind],
+    right: &[ValueKind],
 ) -> Ruling
     ensures { Gives (λ kinds. kinds) result (spec.binary types.now operator left.now right.now) }
 {
-    let left = Operand::of(alloc, types, left)?;
-    let right = Operand::of(alloc, types, right)?;
-    binary_by(alloc, types, operator, &left, &right)
+    let left = Operand::of(types, left);
+    let right = Operand::of(types, right);
+    binary_by(alloc, operator, &left, &right)
 }
 
 /// Each of the two comparisons of an interval.
@@ -62,27 +62,26 @@ fn logical_if(alloc: Global, fine: bool) -> Ruling
 }
 
 /// `=` and `<>` compare no instances of entities.
-fn equality(alloc: Global, types: &Types, left: &Operand, right: &Operand) -> Ruling
-    ensures { Gives (λ kinds. kinds) result (spec.equality types.now left.now.plain right.now.plain left.now.possible right.now.possible) }
+fn equality(alloc: Global, left: &Operand<'_>, right: &Operand<'_>) -> Ruling
+    requires { right.now.types ≡ left.now.types }
+    ensures { Gives (λ kinds. kinds) result (spec.equality left.now.types left.now.plain right.now.plain left.now.possible right.now.possible) }
 {
-    if types.may_hold_instance(alloc, left.plain.as_slice())?
-        || types.may_hold_instance(alloc, right.plain.as_slice())?
-    {
+    if left.may_hold_instance() || right.may_hold_instance() {
         return Err(Failure::Fault(TypeFaultKind::EntityComparison));
     }
-    logical_if(alloc, are_comparable(&left.possible, &right.possible))
+    logical_if(alloc, are_comparable(alloc, left, right)?)
 }
 
 fn binary_by(
     alloc: Global,
-    types: &Types,
     operator: BinaryOperator,
-    left: &Operand,
-    right: &Operand,
+    left: &Operand<'_>,
+    right: &Operand<'_>,
 ) -> Ruling
-    ensures { Gives (λ kinds. kinds) result (spec.binary_by types.now operator left.now.plain right.now.plain left.now.possible right.now.possible) }
+    requires { right.now.types ≡ left.now.types }
+    ensures { Gives (λ kinds. kinds) result (spec.binary_by left.now.types operator left.now.plain right.now.plain left.now.possible right.now.possible) }
 {
-    let (first, second) = (&left.possible, &right.possible);
+    let (first, second) = (left, right);
     match operator {
         BinaryOperator::Power | BinaryOperator::Div | BinaryOperator::Mod => {
             whole(alloc, first, second)
@@ -95,12 +94,12 @@ fn binary_by(
             logical_if(alloc, are_logicals(first, second))
         }
         BinaryOperator::Less | BinaryOperator::Greater => {
-            logical_if(alloc, are_ordered(first, second))
+            logical_if(alloc, are_ordered(alloc, first, second)?)
         }
         BinaryOperator::LessEqual | BinaryOperator::GreaterEqual => {
-            logical_if(alloc, are_comparable(first, second))
+            logical_if(alloc, are_comparable(alloc, first, second)?)
         }
-        BinaryOperator::NotEqual | BinaryOperator::Equal => equality(alloc, types, left, right),
+        BinaryOperator::NotEqual | BinaryOperator::Equal => equality(alloc, left, right),
         BinaryOperator::InstanceNotEqual | BinaryOperator::InstanceEqual => Ok(logical(alloc)?),
         BinaryOperator::In => logical_if(alloc, can_be_aggregate(second)),
     }

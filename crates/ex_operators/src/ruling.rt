@@ -4,7 +4,7 @@ ghost use Rattle.std.specs.Prelude.{◌≡◌, ◌++◌, IfOk};
 ghost use Rattle.text_forms.specs.Gives.{Gives};
 ghost use Rattle.ex_operators.specs.Operators as spec;
 
-use ex_kinds::{Kind, Kinds, Sort, TypeFaultKind, aggregate_of, kinds_of_one};
+use ex_kinds::{Kinds, Sort, TypeFaultKind, ValueKind, aggregate_of, kinds_of_one};
 use plain_data::Rows;
 use std::alloc::{AllocError, Global};
 use text_forms::Failure;
@@ -44,7 +44,7 @@ pub(crate) fn kinds_if(alloc: Global, possible: bool, sort: Sort) -> Result<Kind
 pub(crate) fn aggregate_if(
     alloc: Global,
     possible: bool,
-    elements: &[Kind],
+    elements: &[ValueKind],
 ) -> Result<Kinds, AllocError>
     ensures { IfOk result (λ kinds. kinds ≡ spec.aggregate_if possible elements.now) }
 {
@@ -56,7 +56,7 @@ pub(crate) fn aggregate_if(
 }
 
 /// The kinds, and more behind them.
-pub(crate) fn with_more(kinds: Kinds, more: &[Kind]) -> Result<Kinds, AllocError>
+pub(crate) fn with_more(kinds: Kinds, more: &[ValueKind]) -> Result<Kinds, AllocError>
     ensures { IfOk result (λ all. all ≡ kinds ++ more.now) }
 {
     let mut all = kinds.into_vec();

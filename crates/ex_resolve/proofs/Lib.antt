@@ -1,2 +1,7 @@
-pub mod Numbers
+pub mod Wholes
+pub mod Accepted
 pub mod Cycles
+pub mod Distinct
+pub mod Held
+pub mod Laws
+pub mod Numbers

@@ -6,9 +6,9 @@ use Rattle.std.specs.Borrow.{Bor}
 use Rattle.ex_tree.specs.declared.declaration.Entity.{Entity}
 use Rattle.ex_tree.specs.declared.declaration.TypeDeclaration.{TypeDeclaration}
 use Rattle.ex_named.specs.Scopes.{Declarations}
-use Rattle.ex_lineage.specs.Lineage.{numbers_from}
-use Rattle.ex_declarations.specs.Declared.{subtype_graph, type_graph}
-use Rattle.ex_lineage.specs.Numbered.{numbered_from}
+use Rattle.lineage.specs.Lineage.{numbers_from}
+use Rattle.ex_declarations.specs.Declared.{supertype_graph, type_graph}
+use Rattle.lineage.specs.Numbered.{numbered_from}
 
 pub length-numbers : {A : Type 0} (f : ℕ → A) (start n : ℕ) → length (map f (numbers_from start n)) ≡ n
 length-numbers f start zero = refl
@@ -63,6 +63,6 @@ pub held_length : (schema : Declarations) (held : List (List ℕ)) (lent : List 
 unfolding type_graph
 held_length schema held lent is = ap length is ∙ length-map (map (λ t. t.now) lent) _ ∙ length-map lent _
 
-pub above_length : (schema : Declarations) (graph : List (List ℕ)) (lent : List (Bor Entity)) (entities : List Entity) → graph ≡ subtype_graph schema entities → map (λ e. e.now) lent ≡ entities → length graph ≡ length lent
-unfolding subtype_graph
+pub above_length : (schema : Declarations) (graph : List (List ℕ)) (lent : List (Bor Entity)) (entities : List Entity) → graph ≡ supertype_graph schema entities → map (λ e. e.now) lent ≡ entities → length graph ≡ length lent
+unfolding supertype_graph
 above_length schema graph lent entities is are = ap length is ∙ length-map entities _ ∙ ap length (sym are) ∙ length-map lent _

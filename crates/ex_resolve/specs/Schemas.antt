@@ -1,5 +1,5 @@
 -- A schema with its names bound, or the fault of least offset (ISO 10303-11:1994, clause 10).
-use Rattle.std.specs.Prelude.{ℕ, Bool, true, false, List, [], map, filter, Option, Some, None, option_map, slice_get}
+use Rattle.std.specs.Prelude.{◌≡◌, ℕ, Bool, true, false, List, [], map, filter, Option, Some, None, option_map, slice_get, Ok}
 use Rattle.std.specs.List.{flat_map}
 use Rattle.ex_tree.specs.declared.declaration.ExplicitAttribute.{ExplicitAttribute}
 use Rattle.ex_tree.specs.declared.declaration.Schema.{Schema}
@@ -14,9 +14,9 @@ use Rattle.ex_named.specs.declared.declaration.NamedType.{NamedType}
 use Rattle.ex_named.specs.declared.reference.AttributePlace.{AttributePlace}
 use Rattle.ex_named.specs.declared.reference.AttributeSort.TheVariants.{Explicit}
 use Rattle.ex_named.specs.Outcomes.{Outcome, given, both, each}
-use Rattle.ex_declarations.specs.Declared.{declarations, declared_names, entities, types, functions, rules, once, subtype_graph, type_graph, each_numbered}
-use Rattle.ex_lineage.specs.Numbered.{numbered}
-use Rattle.ex_lineage.specs.Lineage.{line}
+use Rattle.ex_declarations.specs.Declared.{declarations, declared_names, entities, types, functions, rules, once, supertype_graph, type_graph, each_numbered}
+use Rattle.lineage.specs.Numbered.{numbered}
+use Rattle.lineage.specs.Lineage.{line}
 use Rattle.ex_bind_entities.specs.Entities.{named_entity, named_type}
 use Rattle.ex_bind_algorithms.specs.Algorithms.{constant, named_function, named_rule}
 
@@ -24,7 +24,7 @@ unfoldable pub named_types : Schema → Outcome (List NamedType)
 named_types schema = each_numbered (named_type (declarations schema) [] (type_graph (declarations schema) (types schema))) (types schema)
 
 unfoldable pub named_entities : Schema → Outcome (List NamedEntity)
-named_entities schema = each_numbered (named_entity (declarations schema) (subtype_graph (declarations schema) (entities schema))) (entities schema)
+named_entities schema = each_numbered (named_entity (declarations schema) (supertype_graph (declarations schema) (entities schema))) (entities schema)
 
 unfoldable pub named_functions : Schema → Outcome (List NamedFunction)
 named_functions schema = each (named_function (declarations schema)) (functions schema)
@@ -52,10 +52,14 @@ named_schema schema = given (make_schema schema) (schema_parts schema)
 -- the schema, and of each of its entities the entities that SUBTYPE OF lists
 pub record Resolved : Type 0 where
   pub schema : NamedSchema
-  pub subtypes : List (List ℕ)
+  pub supertypes : List (List ℕ)
 
 unfoldable pub resolved : Schema → Outcome Resolved
-resolved schema = given (λ found. record { schema = found; subtypes = subtype_graph (declarations schema) (entities schema) }) (named_schema schema)
+resolved schema = given (λ found. record { schema = found; supertypes = supertype_graph (declarations schema) (entities schema) }) (named_schema schema)
+
+-- what names of some schema are bound to
+abbrev pub IsResolved : Resolved → Type 0
+IsResolved r = (tree : Schema) × (resolved tree ≡ Ok r)
 
 -- ---- the attributes that files write
 
@@ -80,4 +84,4 @@ explicit_of entities k = explicit_if k (slice_get entities k)
 -- Those of an entity: of the supertypes first, in the order of SUBTYPE OF, depth first, each entity's once, at its first
 -- place. They are there where no entity is an ancestor of itself.
 abbrev pub attributes : Resolved → ℕ → Option (List AttributePlace)
-attributes r entity = option_map (flat_map (explicit_of r.schema.entities)) (line r.subtypes entity)
+attributes r entity = option_map (flat_map (explicit_of r.schema.entities)) (line r.supertypes entity)

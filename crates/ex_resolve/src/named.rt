@@ -1,35 +1,35 @@
 //! A schema whose names are bound.
 
-ghost use Rattle.std.specs.Prelude.{◌≡◌, ◌↔◌, ◌++◌, ◌≤◌, ◌-◌, ℕ, IfOk, IsTrue, Some, filter, length};
+ghost use Rattle.std.specs.Prelude.{◌≡◌, ◌↔◌, ◌++◌, ◌≤◌, ◌-◌, ℕ, IfOk, IsTrue, Some, filter, length, map};
 ghost use Rattle.std.specs.List.{flat_map};
 ghost use Rattle.std.specs.List.Sorted.{IsStrictlyIncreasing};
-ghost use Rattle.ex_lineage.specs.Lineage as lineage;
-ghost use Rattle.ex_lineage.specs.Numbered.{numbered_from};
+ghost use Rattle.lineage.specs.Lineage as lineage;
+ghost use Rattle.lineage.specs.Numbered.{numbered_from};
+ghost use Rattle.ex_resolve.specs.Proved as proved;
 ghost use Rattle.ex_resolve.specs.Schemas as spec;
 
-use ex_lineage::{ancestors, line};
 use ex_named::{AttributePlace, AttributeSort, NamedAttribute, NamedEntity, NamedSchema};
+use lineage::{ancestors, line};
 use plain_data::Rows;
 use std::alloc::{AllocError, Global};
 use std::marker::Model;
 
-/// A schema whose names are bound. No entity is an ancestor of itself.
+/// A schema whose names are bound: what some tree resolves to.
 #[derive(Drop)]
 pub struct Named {
     schema: NamedSchema,
     /// Of each entity the entities that SUBTYPE OF lists.
-    subtypes: Rows<Rows<usize>>,
+    supertypes: Rows<Rows<usize>>,
 }
 
 impl Model for Named {
-    ghost use Rattle.ex_lineage.specs.Lineage.{IsAcyclic};
     ghost use Rattle.ex_resolve.specs.Schemas as spec;
 
     ghost Value = { spec.Resolved };
 
-    ghost view = { λ n. record { schema = n.schema; subtypes = n.subtypes } };
+    ghost view = { λ n. record { schema = n.schema; supertypes = n.supertypes } };
 
-    ghost invariant = { λ n. IsAcyclic n.subtypes };
+    ghost invariant = { λ n. spec.IsResolved (record { schema = n.schema; supertypes = n.supertypes }) };
 
     ghost use Rattle.std.specs.Coded.{codes};
     ghost use Rattle.ex_named.specs.contracts.expression.NamedDataType as data_type;
@@ -41,11 +41,23 @@ impl Model for Named {
 }
 
 impl Named {
-    pub(crate) fn new(schema: NamedSchema, subtypes: Rows<Rows<usize>>) -> Named
-        requires { lineage.IsAcyclic subtypes }
-        ensures { result ≡ record { schema = schema; subtypes = subtypes } }
+    pub(crate) fn new(schema: NamedSchema, supertypes: Rows<Rows<usize>>) -> Named
+        requires { spec.IsResolved (record { schema = schema; supertypes = supertypes }) }
+        ensures { result ≡ record { schema = schema; supertypes = supertypes } }
     {
-        Named { schema, subtypes }
+        Named { schema, supertypes }
+    }
+
+    /// What was proved when it was made: some tree resolves to it, its graph is what its entities list, no entity is an
+    /// ancestor of itself, each name stands for one declaration, and no type holds itself but through an entity.
+    pub fn proved(&self)
+        ensures resolved { spec.IsResolved self.now }
+        ensures listed { self.now.supertypes ≡ map (λ e. e.supertypes) self.now.schema.entities }
+        ensures acyclic { lineage.IsAcyclic self.now.supertypes }
+        ensures once { proved.DeclaresOnce self.now.schema }
+        ensures held { lineage.IsAcyclic (proved.held_types self.now.schema.types) }
+    {
+        let _ = &self.schema;
     }
 
     pub fn schema(&self) -> &NamedSchema
@@ -58,9 +70,9 @@ impl Named {
     /// each of its members.
     pub fn ancestors(&self, alloc: Global, entity: usize) -> Result<Rows<usize>, AllocError>
         ensures ascending { IfOk result (λ found. IsStrictlyIncreasing found) }
-        ensures exact { IfOk result (λ found. (a : ℕ) → IsTrue (lineage.is_among found a) ↔ lineage.IsAncestor self.now.subtypes entity a) }
+        ensures exact { IfOk result (λ found. (a : ℕ) → IsTrue (lineage.is_among found a) ↔ lineage.IsAncestor self.now.supertypes entity a) }
     {
-        ancestors(alloc, self.subtypes.as_slice(), entity)
+        ancestors(alloc, self.supertypes.as_slice(), entity)
     }
 
     /// The inherited and own explicit attributes of an entity, in the order in which files write their values:
@@ -72,7 +84,7 @@ impl Named {
     ) -> Result<Rows<AttributePlace>, AllocError>
         ensures { IfOk result (λ found. spec.attributes self.now entity ≡ Some found) }
     {
-        let line = line(alloc, self.subtypes.as_slice(), entity)?;
+        let line = line(alloc, self.supertypes.as_slice(), entity)?;
         let places = places_of(alloc, self.schema.entities.as_slice(), line.as_slice())?;
         Ok(Rows::from_vec(places))
     }

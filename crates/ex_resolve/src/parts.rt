@@ -6,20 +6,20 @@ ghost use Rattle.ex_bind_algorithms.specs.Algorithms as algorithms;
 ghost use Rattle.ex_bind_entities.specs.Entities as entities_spec;
 ghost use Rattle.ex_declarations.specs.Declared as declared;
 ghost use Rattle.ex_declarations.specs.Declared.{each_numbered};
-ghost use Rattle.ex_lineage.specs.Lineage.{is_ancestor};
+ghost use Rattle.lineage.specs.Lineage.{is_ancestor, numbers_from};
 ghost use Rattle.ex_resolve.specs.Schemas as spec;
 
+use descent::Descent;
 use ex_bind_algorithms::{constant, named_function, named_rule};
 use ex_bind_entities::{named_entity, named_type};
 use ex_declarations::type_graph;
-use ex_lineage::cyclic_marks;
 use ex_named::{
     Binding, Gathered, NamedConstant, NamedEntity, NamedFunction, NamedRule, NamedType,
 };
 use ex_scopes::Declarations;
 use ex_tree::{Constant, Entity, Function, Rule, Schema, TypeDeclaration};
-use plain_data::Rows;
-use sqlite_items::Items;
+use lineage::cyclic_marks;
+use plain_data::{Items, Rows};
 use std::alloc::Global;
 
 /// Constants with their names bound, in order.
@@ -41,7 +41,7 @@ fn each_constant(
 ) -> Binding<Items<NamedConstant>>
     ensures { Binds result (each (algorithms.constant declarations.now) constants.now) }
 {
-    let mut found = Gathered::new(alloc);
+    let mut found = Gathered::new(alloc, constants.len())?;
     for each in constants {
         found.push(constant(alloc, declarations, each))?;
     }
@@ -69,7 +69,7 @@ fn each_function(
 ) -> Binding<Items<NamedFunction>>
     ensures { Binds result (each (algorithms.named_function declarations.now) (map (λ f. f.now) functions.now)) }
 {
-    let mut found = Gathered::new(alloc);
+    let mut found = Gathered::new(alloc, functions.len())?;
     for function in functions {
         found.push(named_function(alloc, declarations, function))?;
     }
@@ -97,7 +97,7 @@ fn each_rule(
 ) -> Binding<Items<NamedRule>>
     ensures { Binds result (each (algorithms.named_rule declarations.now) (map (λ r. r.now) rules.now)) }
 {
-    let mut found = Gathered::new(alloc);
+    let mut found = Gathered::new(alloc, rules.len())?;
     for rule in rules {
         found.push(named_rule(alloc, declarations, rule))?;
     }
@@ -145,7 +145,7 @@ fn each_type(
 {
     let cyclic = cyclic_marks(alloc, held)?;
     let cyclic = cyclic.as_slice();
-    let mut found = Gathered::new(alloc);
+    let mut found = Gathered::new(alloc, types.len())?;
     for number in 0..types.len() {
         let is_cyclic = cyclic[number];
         let declaration = types[number];
@@ -159,34 +159,49 @@ fn each_type(
 pub fn entities(
     alloc: Global,
     declarations: &Declarations<'_>,
-    subtypes: &[Rows<usize>],
+    supertypes: &[Rows<usize>],
     entities: &[&Entity],
     schema: &Schema,
 ) -> Binding<Items<NamedEntity>>
     requires declared { declarations.now ≡ declared.declarations schema.now }
     requires listed { map (λ e. e.now) entities.now ≡ declared.entities schema.now }
-    requires above { subtypes.now ≡ declared.subtype_graph declarations.now (declared.entities schema.now) }
+    requires above { supertypes.now ≡ declared.supertype_graph declarations.now (declared.entities schema.now) }
     ensures { Binds result (spec.named_entities schema.now) }
 {
-    each_entity(alloc, declarations, subtypes, entities)
+    each_entity(alloc, declarations, supertypes, entities)
 }
 
 fn each_entity(
     alloc: Global,
     declarations: &Declarations<'_>,
-    subtypes: &[Rows<usize>],
+    supertypes: &[Rows<usize>],
     entities: &[&Entity],
 ) -> Binding<Items<NamedEntity>>
-    requires { length subtypes.now ≡ length entities.now }
-    ensures { Binds result (each_numbered (entities_spec.named_entity declarations.now subtypes.now) (map (λ e. e.now) entities.now)) }
+    requires { length supertypes.now ≡ length entities.now }
+    ensures { Binds result (each_numbered (entities_spec.named_entity declarations.now supertypes.now) (map (λ e. e.now) entities.now)) }
 {
-    let cyclic = cyclic_marks(alloc, subtypes)?;
-    let cyclic = cyclic.as_slice();
-    let mut found = Gathered::new(alloc);
+    let cyclic = cyclic_marks(alloc, supertypes)?;
+    let descent = Descent::of(alloc, supertypes)?;
+    entities_over(alloc, declarations, &descent, cyclic.as_slice(), entities)
+}
+
+/// Entities with their names bound, given of which it is known that they are their own ancestors.
+fn entities_over(
+    alloc: Global,
+    declarations: &Declarations<'_>,
+    supertypes: &Descent<'_>,
+    cyclic: &[bool],
+    entities: &[&Entity],
+) -> Binding<Items<NamedEntity>>
+    requires cyclic { cyclic.now ≡ map (λ k. is_ancestor supertypes.now k k) (numbers_from 0 (length supertypes.now)) }
+    requires counted { length supertypes.now ≡ length entities.now }
+    ensures { Binds result (each_numbered (entities_spec.named_entity declarations.now supertypes.now) (map (λ e. e.now) entities.now)) }
+{
+    let mut found = Gathered::new(alloc, entities.len())?;
     for number in 0..entities.len() {
         let is_cyclic = cyclic[number];
         let entity = entities[number];
-        found.push(named_entity(alloc, declarations, subtypes, number, is_cyclic, entity))?;
+        found.push(named_entity(alloc, declarations, supertypes, number, is_cyclic, entity))?;
     }
     found.finish()
 }

@@ -8,14 +8,13 @@ ghost use Rattle.ex_resolve.specs.Schemas as spec;
 use crate::named::Named;
 use crate::parts;
 use ex_bind::{copy_name, copy_strings};
-use ex_declarations::{declarations, declared_names, entities, once, subtype_graph};
+use ex_declarations::{declarations, declared_names, entities, once, supertype_graph};
 use ex_named::{
     Binding, NamedConstant, NamedEntity, NamedFunction, NamedRule, NamedSchema, NamedType, both,
 };
 use ex_scopes::Declarations;
 use ex_tree::{Entity, Schema};
-use plain_data::Rows;
-use sqlite_items::Items;
+use plain_data::{Items, Rows};
 use std::alloc::Global;
 
 type Classes = (Items<NamedType>, Items<NamedEntity>);
@@ -47,9 +46,9 @@ fn named(
     requires listed { map (λ e. e.now) entities.now ≡ declared.entities schema.now }
     ensures { Binds result (spec.resolved schema.now) }
 {
-    let subtypes = subtype_graph(alloc, declarations, entities)?;
-    let found = named_schema(alloc, declarations, subtypes.as_slice(), entities, schema)?;
-    Ok(Named::new(found, subtypes))
+    let supertypes = supertype_graph(alloc, declarations, entities)?;
+    let found = named_schema(alloc, declarations, supertypes.as_slice(), entities, schema)?;
+    Ok(Named::new(found, supertypes))
 }
 
 /// Whether the schema declares each name once.
@@ -64,17 +63,17 @@ fn names_once(alloc: Global, schema: &Schema) -> Binding<()>
 fn classes(
     alloc: Global,
     declarations: &Declarations<'_>,
-    subtypes: &[Rows<usize>],
+    supertypes: &[Rows<usize>],
     entities: &[&Entity],
     schema: &Schema,
 ) -> Binding<Classes>
     requires declared { declarations.now ≡ declared.declarations schema.now }
     requires listed { map (λ e. e.now) entities.now ≡ declared.entities schema.now }
-    requires above { subtypes.now ≡ declared.subtype_graph declarations.now (declared.entities schema.now) }
+    requires above { supertypes.now ≡ declared.supertype_graph declarations.now (declared.entities schema.now) }
     ensures { Binds result (both_of (spec.named_types schema.now) (spec.named_entities schema.now)) }
 {
     let types = parts::types(alloc, declarations, schema);
-    let entities = parts::entities(alloc, declarations, subtypes, entities, schema);
+    let entities = parts::entities(alloc, declarations, supertypes, entities, schema);
     both(types, entities)
 }
 
@@ -97,18 +96,18 @@ fn algorithms(
 fn schema_parts(
     alloc: Global,
     declarations: &Declarations<'_>,
-    subtypes: &[Rows<usize>],
+    supertypes: &[Rows<usize>],
     entities: &[&Entity],
     schema: &Schema,
 ) -> Binding<((), SchemaParts)>
     requires declared { declarations.now ≡ declared.declarations schema.now }
     requires listed { map (λ e. e.now) entities.now ≡ declared.entities schema.now }
-    requires above { subtypes.now ≡ declared.subtype_graph declarations.now (declared.entities schema.now) }
+    requires above { supertypes.now ≡ declared.supertype_graph declarations.now (declared.entities schema.now) }
     ensures { Binds result (spec.schema_parts schema.now) }
 {
     let names = names_once(alloc, schema);
     let constants = parts::constants(alloc, declarations, schema);
-    let classes = classes(alloc, declarations, subtypes, entities, schema);
+    let classes = classes(alloc, declarations, supertypes, entities, schema);
     let algorithms = algorithms(alloc, declarations, schema);
     both(names, both(constants, both(classes, algorithms)))
 }
@@ -117,18 +116,18 @@ fn schema_parts(
 fn named_schema(
     alloc: Global,
     declarations: &Declarations<'_>,
-    subtypes: &[Rows<usize>],
+    supertypes: &[Rows<usize>],
     entities: &[&Entity],
     schema: &Schema,
 ) -> Binding<NamedSchema>
     requires declared { declarations.now ≡ declared.declarations schema.now }
     requires listed { map (λ e. e.now) entities.now ≡ declared.entities schema.now }
-    requires above { subtypes.now ≡ declared.subtype_graph declarations.now (declared.entities schema.now) }
+    requires above { supertypes.now ≡ declared.supertype_graph declarations.now (declared.entities schema.now) }
     ensures { Binds result (spec.named_schema schema.now) }
 {
     let name = copy_name(alloc, &schema.name)?;
     let strings = copy_strings(alloc, schema.strings.as_slice())?;
-    let ((), parts) = schema_parts(alloc, declarations, subtypes, entities, schema)?;
+    let ((), parts) = schema_parts(alloc, declarations, supertypes, entities, schema)?;
     let (constants, ((types, entities), (functions, rules))) = parts;
     Ok(NamedSchema {
         name,

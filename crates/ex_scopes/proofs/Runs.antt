@@ -1,8 +1,8 @@
 -- Elements in the order of a number that each has: those of one number, found by halving, and those of some numbers, one number after another.
 use Rattle.std.proofs.Common.{◌≡◌, ℕ, zero, suc, ◌<◌, ◌≤◌, ◌==◌, Bool, true, false, List, [], ◌∷◌, ◌++◌, length, get_or, take, drop, leb, ltb, refl, sym, ◌∙◌, ap, arith, rules}
-use Rattle.std.specs.Prelude.{filter, not, ◌||◌}
-use Rattle.std.specs.List.{AllByRecursion, list_any, flat_map}
-use Rattle.std.specs.List.Sorted.{IsPartitionPoint, IsNonDecreasingBy, IsSortedByKey, IsStrictlySortedBy}
+use Rattle.std.specs.Prelude.{IsTrue, filter, not}
+use Rattle.std.specs.List.{AllByRecursion, flat_map}
+use Rattle.std.specs.List.Sorted.{IsPartitionPoint, IsNonDecreasingBy, IsSortedByKey, IsStrictlyIncreasing, IsStrictlySortedBy}
 use Rattle.std.specs.Ordering.{nat_cmp, is_lt}
 use Rattle.std.specs.Str.{bytes_eq}
 use Rattle.std.specs.declared.cmp.Ordering.TheVariants.{Less}
@@ -12,9 +12,8 @@ use Rattle.std.proofs.lemmas.List.Kept.{IsSortedBy-filter}
 use Rattle.std.proofs.lemmas.List.MinMax.{ranks_by}
 use Rattle.std.proofs.lemmas.List.Sorted.{IsNonDecreasingBy-from_sort}
 use Rattle.std.proofs.lemmas.Cmp.{nat_cmp_total}
-use Rattle.std.proofs.lemmas.Map.Keys.{sorted_head, sorted_tail}
-use Rattle.ex_names.specs.Names.{named}
-use Rattle.ex_named.specs.declared.reference.AttributePlace.{AttributePlace}
+use Rattle.std.proofs.lemmas.Map.Keys.{sorted_from_strictly_increasing, sorted_head, sorted_tail}
+use Rattle.name_tables.specs.Names.{named}
 use Rattle.ex_named.specs.Scopes.{is_among}
 use Rattle.ex_scopes.specs.Attributes.{AscendIf}
 
@@ -98,22 +97,13 @@ module _ {X : Type 0} (n : X → ℕ) where
       ap (λ ys. filter (λ x. e == n x) xs ++ ys) (one_by_one es (sorted_tail nat_cmp e es ascend) xs order) ∙ first_then_others e es (sorted_head nat_cmp e es ascend) xs order
 
   -- where numbers and elements ascend, those of one number after another are those of all the numbers
-  pub in_turn : (es : List ℕ) → IsStrictlySortedBy nat_cmp es → (xs : List X) → IsNonDecreasingBy n xs → flat_map (λ e. filter (λ x. e == n x) xs) es ≡ filter (λ x. is_among es (n x)) xs
+  in_turn : (es : List ℕ) → IsStrictlySortedBy nat_cmp es → (xs : List X) → IsNonDecreasingBy n xs → flat_map (λ e. filter (λ x. e == n x) xs) es ≡ filter (λ x. is_among es (n x)) xs
   in_turn es ascend xs order = one_by_one es ascend xs (rises xs order)
 
-  any_either : (p q : X → Bool) (xs : List X) → list_any (λ x. p x || q x) xs ≡ (list_any p xs || list_any q xs)
-  any_either p q [] = refl
-  any_either p q (x ∷ xs) = grind (arith, any_either p q xs)
-
-  none_either : (xs : List X) → list_any (λ x. false) xs ≡ false
-  none_either [] = refl
-  none_either (x ∷ xs) = none_either xs
-
-  -- whether some number has an element, in either order of asking
-  pub any_in_turn : (es : List ℕ) (xs : List X) → list_any (λ e. list_any (λ x. e == n x) xs) es ≡ list_any (λ x. is_among es (n x)) xs
-  any_in_turn [] xs = sym (none_either xs)
-  any_in_turn (e ∷ es) xs =
-      ap (λ b. list_any (λ x. e == n x) xs || b) (any_in_turn es xs) ∙ sym (any_either (λ x. e == n x) (λ x. is_among es (n x)) xs)
+  -- where the members of a family ascend, and the elements too
+  pub of_members : (members family : List ℕ) (xs : List X) → members ≡ family → IsStrictlyIncreasing members → IsNonDecreasingBy n xs → flat_map (λ e. filter (λ x. e == n x) xs) members ≡ filter (λ x. is_among family (n x)) xs
+  of_members members family xs same ascend order =
+      in_turn members (sorted_from_strictly_increasing members ascend) xs order ∙ ap (λ es. filter (λ x. is_among es (n x)) xs) same
 
   -- those of one number, found by halving twice
   same_number : (e : ℕ) (xs : List X) → filter (λ x. leb (n x) e) (filter (λ x. not (ltb (n x) e)) xs) ≡ filter (λ x. e == n x) xs
@@ -136,6 +126,9 @@ module _ {X : Type 0} (n : X → ℕ) where
       let inside : j < length own = omega (arith, length-map own value) in
       rw (get_or-map value own i ([], d) d (omega arith), get_or-map value own j ([], d) d inside) (rising i j ([], d) le inside)
 
--- where it is said that attributes ascend, those of one name do
-pub said_to_rise : (is_said : Bool) (last : ℕ) (rows : List (List ℕ × AttributePlace)) (name : List ℕ) → AscendIf is_said last rows → is_said ≡ true → IsNonDecreasingBy (λ a. a.entity) (named name rows)
-said_to_rise is_said last rows name ascend said = named_rise (λ (a : AttributePlace). a.entity) name rows (ascend (search (rules, said))).0
+-- where it is said that rows ascend, those of one name do
+pub if_said : {A : Type 0} (number : A → ℕ) (is_said : Bool) (last : ℕ) (rows : List (List ℕ × A)) (name : List ℕ) → AscendIf number is_said last rows → IsTrue is_said → IsNonDecreasingBy number (named name rows)
+if_said number is_said last rows name ascend said = named_rise number name rows (ascend said).0
+
+pub said_to_rise : {A : Type 0} (number : A → ℕ) (is_said : Bool) (last : ℕ) (rows : List (List ℕ × A)) (name : List ℕ) → AscendIf number is_said last rows → is_said ≡ true → IsNonDecreasingBy number (named name rows)
+said_to_rise number is_said last rows name ascend said = if_said number is_said last rows name ascend (search (rules, said))

@@ -1,17 +1,20 @@
-//! The attributes that entities declare, and those of one name that a family declares: by a look at each, or by halving,
+//! The attributes that entities declare, and what a name of them means in a family: by a look at each, or by halving,
 //! where the family has few entities and the attributes are many.
 
-ghost use Rattle.std.specs.Prelude.{◌≡◌, ◌==◌, [], ◌∷◌, ◌++◌, IfOk, OnOk, OnErr, filter};
-ghost use Rattle.std.specs.List.{list_any, flat_map};
+ghost use Rattle.std.specs.Prelude.{◌≡◌, ◌≤◌, ◌==◌, [], ◌∷◌, ◌++◌, IfOk, IsTrue, OnOk, OnErr, filter};
+ghost use Rattle.std.specs.List.{flat_map};
 ghost use Rattle.std.specs.List.Sorted.{IsNonDecreasingBy};
-ghost use Rattle.ex_names.specs.Names.{named};
-ghost use Rattle.ex_named.specs.Scopes as spec;
+ghost use Rattle.name_tables.specs.Names.{named};
+ghost use Rattle.ex_named.specs.Scopes.{is_among};
+ghost use Rattle.ex_scopes.specs.Attributes as spec;
+ghost use Rattle.ex_scopes.specs.Sorts.{admitted};
 
-use crate::lookup::{declared_in, declares_any};
-use ex_named::AttributePlace;
-use ex_names::NameRows;
+use crate::seen::Seen;
+use crate::sorts::Sorts;
+use descent::Family;
+use ex_named::{AttributeMeaning, AttributePlace};
+use name_tables::NameRows;
 use std::alloc::{AllocError, Global};
-use std::collections::BTreeSet;
 use std::marker::Model;
 
 /// The attributes that entities declare, in the order in which they were put.
@@ -33,7 +36,7 @@ impl<'a> Model for AttributeRows<'a> {
 
     ghost view = { λ table. table.rows };
 
-    ghost invariant = { λ table. AscendIf table.is_ascending table.last_entity table.rows };
+    ghost invariant = { λ table. AscendIf (λ a. a.entity) table.is_ascending table.last_entity table.rows };
 }
 
 impl<'a> AttributeRows<'a> {
@@ -58,33 +61,51 @@ impl<'a> AttributeRows<'a> {
         Ok(())
     }
 
-    /// The attributes of this name that one of these entities declares.
+    /// What this name means in a family, if one of its declarations there is of these sorts.
+    pub(crate) fn meaning(
+        &self,
+        alloc: Global,
+        family: &Family<'_>,
+        sorts: Sorts,
+        name: &[u8],
+    ) -> Result<Option<AttributeMeaning>, AllocError>
+        ensures { IfOk result (λ found. found ≡ spec.meaning_if (admitted sorts) (filter (λ a. is_among family.now a.entity) (named name.now self.now))) }
+    {
+        let places = self.rows.get(name);
+        let nothing = Seen::nothing();
+        let seen = and_left(
+            alloc,
+            nothing,
+            family,
+            sorts,
+            self.is_ascending,
+            FIRST_LOOK,
+            places,
+        )?;
+        Ok(seen.meaning())
+    }
+
+    /// The attributes of this name that a family declares.
     pub(crate) fn of_family(
         &self,
         alloc: Global,
-        family: &BTreeSet<usize>,
+        family: &Family<'_>,
         name: &[u8],
     ) -> Result<Vec<AttributePlace>, AllocError>
-        ensures { IfOk result (λ found. found.items ≡ filter (λ a. spec.is_among family.now.keys a.entity) (named name.now self.now)) }
+        ensures { IfOk result (λ found. found.items ≡ filter (λ a. is_among family.now a.entity) (named name.now self.now)) }
     {
         let places = self.rows.get(name);
-        if self.is_ascending && family.len() < places.len() / 8 {
-            return runs_of(alloc, family, places);
+        if self.is_ascending {
+            if let Some(members) = family.within(alloc, places.len() / 8)? {
+                return of_each(alloc, &members, places);
+            }
         }
         declared_in(alloc, family, places)
     }
-
-    /// Whether one of these entities declares an attribute of this name. It takes no memory.
-    pub(crate) fn has_any(&self, family: &BTreeSet<usize>, name: &[u8]) -> bool
-        ensures { result ≡ list_any (λ a. spec.is_among family.now.keys a.entity) (named name.now self.now) }
-    {
-        let places = self.rows.get(name);
-        if self.is_ascending && family.len() < places.len() / 8 {
-            return has_run(family, places);
-        }
-        declares_any(family, places)
-    }
 }
+
+/// How many attributes of a name are looked at before the members of a family are counted.
+const FIRST_LOOK: usize = 8;
 
 /// Those of the attributes that this entity declares.
 fn run_of(entity: usize, places: &[AttributePlace]) -> &[AttributePlace]
@@ -97,22 +118,96 @@ fn run_of(entity: usize, places: &[AttributePlace]) -> &[AttributePlace]
     &from[..end]
 }
 
-/// Whether this entity declares one of the attributes.
-fn declares(entity: usize, places: &[AttributePlace]) -> bool
-    requires { IsNonDecreasingBy (λ a. a.entity) places.now }
-    ensures { result ≡ list_any (λ a. entity == a.entity) places.now }
+/// What is seen with these declarations too.
+fn and_all(before: Seen, sorts: Sorts, places: &[AttributePlace]) -> Seen
+    ensures { result ≡ spec.seen_after (admitted sorts) before places.now }
 {
-    !run_of(entity, places).is_empty()
+    let mut seen = before;
+    for place in places {
+        if seen.is_settled() {
+            return seen;
+        }
+        seen = seen.and(sorts, *place);
+    }
+    seen
+}
+
+/// What is seen with those of the attributes that these entities declare, one entity after another.
+fn and_of_each(before: Seen, sorts: Sorts, entities: &[usize], places: &[AttributePlace]) -> Seen
+    requires { IsNonDecreasingBy (λ a. a.entity) places.now }
+    ensures { result ≡ spec.seen_after (admitted sorts) before (flat_map (λ e. filter (λ a. e == a.entity) places.now) entities.now) }
+{
+    let mut seen = before;
+    for entity in entities {
+        if seen.is_settled() {
+            return seen;
+        }
+        seen = and_all(seen, sorts, run_of(*entity, places));
+    }
+    seen
+}
+
+/// What is seen with those of the attributes that a family declares, one attribute after another.
+fn and_of_family(
+    alloc: Global,
+    before: Seen,
+    family: &Family<'_>,
+    sorts: Sorts,
+    places: &[AttributePlace],
+) -> Result<Seen, AllocError>
+    ensures { IfOk result (λ found. found ≡ spec.seen_after (admitted sorts) before (filter (λ a. is_among family.now a.entity) places.now)) }
+{
+    let mut seen = before;
+    for place in places {
+        if seen.is_settled() {
+            return Ok(seen);
+        }
+        if family.has(alloc, place.entity)? {
+            seen = seen.and(sorts, *place);
+        }
+    }
+    Ok(seen)
+}
+
+/// What is seen with those of the attributes that a family declares: of ever more attributes one after another, until
+/// the family has fewer members than were looked at.
+fn and_left(
+    alloc: Global,
+    before: Seen,
+    family: &Family<'_>,
+    sorts: Sorts,
+    is_ascending: bool,
+    count: usize,
+    left: &[AttributePlace],
+) -> Result<Seen, AllocError>
+    requires some { 1 ≤ count }
+    requires ascending { IsTrue is_ascending → IsNonDecreasingBy (λ a. a.entity) left.now }
+    ensures { IfOk result (λ found. found ≡ spec.seen_after (admitted sorts) before (filter (λ a. is_among family.now a.entity) left.now)) }
+{
+    if left.len() <= count {
+        return and_of_family(alloc, before, family, sorts, left);
+    }
+    let (next, others) = left.split_at(count);
+    let seen = and_of_family(alloc, before, family, sorts, next)?;
+    if seen.is_settled() {
+        return Ok(seen);
+    }
+    if is_ascending {
+        if let Some(members) = family.within(alloc, count)? {
+            return Ok(and_of_each(seen, sorts, &members, others));
+        }
+    }
+    and_left(alloc, seen, family, sorts, is_ascending, 2 * count, others)
 }
 
 /// Those of the attributes that these entities declare, one entity after another.
-fn runs_of(
+fn of_each(
     alloc: Global,
-    entities: &BTreeSet<usize>,
+    entities: &[usize],
     places: &[AttributePlace],
 ) -> Result<Vec<AttributePlace>, AllocError>
     requires { IsNonDecreasingBy (λ a. a.entity) places.now }
-    ensures { IfOk result (λ found. found.items ≡ flat_map (λ e. filter (λ a. e == a.entity) places.now) entities.now.keys) }
+    ensures { IfOk result (λ found. found.items ≡ flat_map (λ e. filter (λ a. e == a.entity) places.now) entities.now) }
 {
     entities
         .iter()
@@ -121,10 +216,19 @@ fn runs_of(
         .collect(alloc)
 }
 
-/// Whether one entity after another declares one of the attributes.
-fn has_run(entities: &BTreeSet<usize>, places: &[AttributePlace]) -> bool
-    requires { IsNonDecreasingBy (λ a. a.entity) places.now }
-    ensures { result ≡ list_any (λ e. list_any (λ a. e == a.entity) places.now) entities.now.keys }
+/// Those of the attributes that a family declares, one attribute after another.
+fn declared_in(
+    alloc: Global,
+    family: &Family<'_>,
+    places: &[AttributePlace],
+) -> Result<Vec<AttributePlace>, AllocError>
+    ensures { IfOk result (λ found. found.items ≡ filter (λ a. is_among family.now a.entity) places.now) }
 {
-    entities.iter().any(|entity| declares(*entity, places))
+    let mut found = Vec::new(alloc);
+    for place in places {
+        if family.has(alloc, place.entity)? {
+            found.push(*place)?;
+        }
+    }
+    Ok(found)
 }

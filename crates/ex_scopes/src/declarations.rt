@@ -3,20 +3,23 @@
 ghost use Rattle.std.specs.Prelude.{◌≡◌, ◌∷◌, [], ◌++◌, IfOk, OnOk, OnErr, is_some};
 ghost use Rattle.ex_named.specs.Outcomes.{Binds};
 ghost use Rattle.ex_named.specs.Scopes as spec;
+ghost use Rattle.ex_scopes.specs.Attributes.{meaning_if};
+ghost use Rattle.ex_scopes.specs.Sorts.{admitted};
 
 use crate::attributes::AttributeRows;
-use crate::lookup::{is_among, is_marked, item_of_type, or_undeclared};
+use crate::items::ItemRows;
+use crate::lookup::{is_among, is_marked, or_undeclared};
 use crate::scope::Scope;
+use crate::sorts::Sorts;
+use descent::Family;
 use ex_named::{
-    AttributePlace, AttributeUse, Binding, Declared, EnumerationItem, NameFaultKind,
-    NamedExpression, TypeName, refused,
+    AttributeMeaning, AttributePlace, AttributeUse, Binding, Declared, EnumerationItem,
+    NameFaultKind, NamedExpression, TypeName, refused,
 };
-use ex_names::NameRows;
 use ex_tree::Name;
-use plain_data::Rows;
-use sqlite_items::Items;
+use name_tables::NameRows;
+use plain_data::Items;
 use std::alloc::{AllocError, Global};
-use std::collections::BTreeSet;
 use std::marker::Model;
 
 /// What a schema declares, each list in the order of the text: its names with their meanings, the attributes that entities
@@ -25,7 +28,7 @@ use std::marker::Model;
 pub struct Declarations<'a> {
     names: NameRows<'a, Declared>,
     attributes: AttributeRows<'a>,
-    items: NameRows<'a, EnumerationItem>,
+    items: ItemRows<'a>,
     enumerations: Vec<bool>,
 }
 
@@ -44,7 +47,7 @@ impl<'a> Declarations<'a> {
         Declarations {
             names: NameRows::new(alloc),
             attributes: AttributeRows::new(alloc),
-            items: NameRows::new(alloc),
+            items: ItemRows::new(alloc),
             enumerations: Vec::new(alloc),
         }
     }
@@ -96,17 +99,29 @@ impl<'a> Declarations<'a> {
         }
     }
 
-    /// The attributes of this name that one of these entities declares.
+    /// The attributes of this name that a family declares.
     pub fn attributes_of(
         &self,
         alloc: Global,
-        family: &BTreeSet<usize>,
+        family: &Family<'_>,
         name: &[u8],
-    ) -> Result<Rows<AttributePlace>, AllocError>
-        ensures { IfOk result (λ found. found ≡ spec.attributes_of self.now family.now.keys name.now) }
+    ) -> Result<Vec<AttributePlace>, AllocError>
+        ensures { IfOk result (λ found. found.items ≡ spec.attributes_of self.now family.now name.now) }
     {
-        let found = self.attributes.of_family(alloc, family, name)?;
-        Ok(Rows::from_vec(found))
+        self.attributes.of_family(alloc, family, name)
+    }
+
+    /// What this name means in a family, if one of its declarations there is of these sorts.
+    pub fn attribute(
+        &self,
+        alloc: Global,
+        family: &Family<'_>,
+        sorts: Sorts,
+        name: &[u8],
+    ) -> Result<Option<AttributeMeaning>, AllocError>
+        ensures { IfOk result (λ found. found ≡ meaning_if (admitted sorts) (spec.attributes_of self.now family.now name.now)) }
+    {
+        self.attributes.meaning(alloc, family, sorts, name)
     }
 
     /// The type of this name.
@@ -145,13 +160,14 @@ impl<'a> Declarations<'a> {
     /// What `type.item` means, if the first name is one of a type.
     pub fn item_of(
         &self,
+        alloc: Global,
         scope: &Scope<'_>,
         type_name: &Name,
         item: &Name,
     ) -> Binding<Option<NamedExpression>>
         ensures { Binds result (spec.item_of self.now scope.now type_name.now item.now) }
     {
-        if self.has_value(scope, type_name) {
+        if self.has_value(alloc, scope, type_name)? {
             return Ok(None);
         }
         let Some(Declared::Type(number)) = self.declares(type_name.text.as_bytes()) else {
@@ -161,11 +177,11 @@ impl<'a> Declarations<'a> {
     }
 
     /// The function of this name.
-    pub fn function(&self, scope: &Scope<'_>, name: &Name) -> Binding<usize>
+    pub fn function(&self, alloc: Global, scope: &Scope<'_>, name: &Name) -> Binding<usize>
         ensures { Binds result (spec.function self.now scope.now name.now) }
     {
         let text = name.text.as_bytes();
-        let found = if scope.variable(text).is_some() || self.has_attribute(scope, text) {
+        let found = if scope.variable(text).is_some() || self.has_attribute(alloc, scope, text)? {
             None
         } else {
             match self.declares(text) {
@@ -189,10 +205,9 @@ impl<'a> Declarations<'a> {
         if let Some(slot) = scope.variable(text) {
             return Ok(Some(NamedExpression::Variable(slot)));
         }
-        let declarations = self.attributes_of(alloc, scope.family(), text)?;
-        if declarations.len() > 0 {
+        if let Some(meaning) = self.attribute_in(alloc, scope, text)? {
             let at = name.at;
-            return Ok(Some(NamedExpression::Attribute(AttributeUse { at, declarations })));
+            return Ok(Some(NamedExpression::Attribute(AttributeUse { at, meaning })));
         }
         Ok(self.declared_value(alloc, scope, name))
     }
@@ -220,26 +235,45 @@ impl<'a> Declarations<'a> {
         }
     }
 
-    /// Whether a value has this name. It takes no memory.
-    fn has_value(&self, scope: &Scope<'_>, name: &Name) -> bool
-        ensures { result ≡ is_some (spec.value self.now scope.now name.now) }
+    /// Whether a value has this name.
+    fn has_value(&self, alloc: Global, scope: &Scope<'_>, name: &Name) -> Result<bool, AllocError>
+        ensures { IfOk result (λ has. has ≡ is_some (spec.value self.now scope.now name.now)) }
     {
         let text = name.text.as_bytes();
-        if scope.variable(text).is_some() || self.has_attribute(scope, text) {
-            return true;
+        if scope.variable(text).is_some() || self.has_attribute(alloc, scope, text)? {
+            return Ok(true);
         }
-        match self.declares(text) {
+        Ok(match self.declares(text) {
             Some(Declared::Constant(_) | Declared::Function(_)) => true,
             Some(Declared::Entity(number)) => is_among(scope.populations(), number),
             _ => false,
-        }
+        })
     }
 
     /// Whether an attribute in scope has this name.
-    fn has_attribute(&self, scope: &Scope<'_>, name: &[u8]) -> bool
-        ensures { result ≡ is_some (spec.first (spec.attributes_of self.now scope.now.family name.now)) }
+    #[tactic(auto, using(crate::proofs::Told::some_meaning))]
+    fn has_attribute(
+        &self,
+        alloc: Global,
+        scope: &Scope<'_>,
+        name: &[u8],
+    ) -> Result<bool, AllocError>
+        ensures { IfOk result (λ has. has ≡ is_some (spec.first (spec.attributes_of self.now scope.now.family name.now))) }
     {
-        self.attributes.has_any(scope.family(), name)
+        Ok(self.attribute_in(alloc, scope, name)?.is_some())
+    }
+
+    /// What this name means as one of an attribute in scope.
+    #[tactic(auto, using(crate::proofs::Told::any_meaning))]
+    fn attribute_in(
+        &self,
+        alloc: Global,
+        scope: &Scope<'_>,
+        name: &[u8],
+    ) -> Result<Option<AttributeMeaning>, AllocError>
+        ensures { IfOk result (λ found. found ≡ spec.meaning_of (spec.attributes_of self.now scope.now.family name.now)) }
+    {
+        self.attribute(alloc, scope.family(), Sorts::Any, name)
     }
 
     /// The item of this name, where no value has it.
@@ -265,7 +299,7 @@ impl<'a> Declarations<'a> {
         if !is_marked(&self.enumerations, number) {
             return refused(NameFaultKind::Undeclared, type_name.at);
         }
-        let found = item_of_type(self.items.get(item.text.as_bytes()), number);
+        let found = self.items.of_type(number, item.text.as_bytes());
         or_undeclared(item, found.map(NamedExpression::Item))
     }
 }

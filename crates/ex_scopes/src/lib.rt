@@ -3,8 +3,12 @@
 
 mod attributes;
 mod declarations;
+mod items;
 mod lookup;
 mod scope;
+mod seen;
+mod sorts;
 
 pub use declarations::Declarations;
 pub use scope::Scope;
+pub use sorts::Sorts;

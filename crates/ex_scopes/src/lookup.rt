@@ -1,14 +1,13 @@
 //! Sets, marks, positions of names, and what was found or not.
 
-ghost use Rattle.std.specs.Prelude.{◌≡◌, ◌<◌, length, IfOk, IfSome, filter, ◌==◌};
-ghost use Rattle.std.specs.List.{find, list_any, position};
+ghost use Rattle.std.specs.Prelude.{◌≡◌, ◌<◌, length, IfSome};
+ghost use Rattle.std.specs.List.{position};
 ghost use Rattle.std.specs.Str.{bytes_eq};
 ghost use Rattle.ex_named.specs.Outcomes.{Binds};
 ghost use Rattle.ex_named.specs.Scopes as spec;
 
-use ex_named::{AttributePlace, Binding, EnumerationItem, NameFaultKind, refused};
+use ex_named::{Binding, NameFaultKind, refused};
 use ex_tree::Name;
-use std::alloc::{AllocError, Global};
 use std::collections::BTreeSet;
 
 /// Whether a number is in the set.
@@ -41,36 +40,4 @@ pub(crate) fn place_among(names: &[&[u8]], name: &[u8]) -> Option<usize>
     ensures within { IfSome result (λ place. place < length names.now) }
 {
     names.iter().position(|other| *other == name)
-}
-
-/// Whether one of these entities declares one of these attributes.
-pub(crate) fn declares_any(family: &BTreeSet<usize>, places: &[AttributePlace]) -> bool
-    ensures { result ≡ list_any (λ a. spec.is_among family.now.keys a.entity) places.now }
-{
-    places.iter().any(|place| is_among(family, place.entity))
-}
-
-/// Those of the attributes that one of these entities declares.
-pub(crate) fn declared_in(
-    alloc: Global,
-    family: &BTreeSet<usize>,
-    places: &[AttributePlace],
-) -> Result<Vec<AttributePlace>, AllocError>
-    ensures { IfOk result (λ found. found.items ≡ filter (λ a. spec.is_among family.now.keys a.entity) places.now) }
-{
-    places
-        .iter()
-        .copied()
-        .filter(|place| is_among(family, place.entity))
-        .collect(alloc)
-}
-
-/// The first of these items that is one of this type.
-pub(crate) fn item_of_type(items: &[EnumerationItem], number: usize) -> Option<EnumerationItem>
-    ensures { result ≡ find (λ i. i.type_number == number) items.now }
-{
-    items
-        .iter()
-        .copied()
-        .find(|item| item.type_number == number)
 }

@@ -1,14 +1,15 @@
 //! What an expression or a statement stands in.
 
 ghost use Rattle.std.specs.Prelude.{◌≡◌, ◌<◌, [], ◌∷◌, IfOk, length, option_map};
-ghost use Rattle.ex_names.specs.Names.{place_of};
+ghost use Rattle.name_tables.specs.Names.{place_of};
 ghost use Rattle.ex_named.specs.Outcomes.{Binds};
 ghost use Rattle.ex_named.specs.Scopes as spec;
 
 use crate::lookup::{or_undeclared, place_among};
+use descent::Family;
 use ex_named::{Binding, NameFaultKind, NamedExpression, refused};
-use ex_names::SortedNames;
 use ex_tree::Name;
+use name_tables::SortedNames;
 use std::alloc::{AllocError, Global};
 use std::collections::BTreeSet;
 use std::marker::Model;
@@ -21,17 +22,17 @@ pub struct Scope<'a> {
     nested: Vec<&'a [u8]>,
     frame: &'a SortedNames<'a>,
     has_self: bool,
-    family: &'a BTreeSet<usize>,
+    family: &'a Family<'a>,
     populations: &'a BTreeSet<usize>,
 }
 
 impl<'a> Model for Scope<'a> {
-    ghost use Rattle.ex_names.specs.Names.{bytes_of};
+    ghost use Rattle.name_tables.specs.Names.{bytes_of};
     ghost use Rattle.ex_named.specs.Scopes as spec;
 
     ghost Value = { spec.Scope };
 
-    ghost view = { λ s. record { nested = bytes_of s.nested.items; frame = s.frame.now; has_self = s.has_self; family = s.family.now.keys; populations = s.populations.now.keys } };
+    ghost view = { λ s. record { nested = bytes_of s.nested.items; frame = s.frame.now; has_self = s.has_self; family = s.family.now; populations = s.populations.now.keys } };
 }
 
 impl<'a> Scope<'a> {
@@ -40,10 +41,10 @@ impl<'a> Scope<'a> {
         alloc: Global,
         frame: &'a SortedNames<'a>,
         has_self: bool,
-        family: &'a BTreeSet<usize>,
+        family: &'a Family<'a>,
         populations: &'a BTreeSet<usize>,
     ) -> Scope<'a>
-        ensures { result ≡ record { nested = []; frame = frame.now; has_self = has_self; family = family.now.keys; populations = populations.now.keys } }
+        ensures { result ≡ record { nested = []; frame = frame.now; has_self = has_self; family = family.now; populations = populations.now.keys } }
     {
         Scope {
             nested: Vec::new(alloc),
@@ -98,8 +99,8 @@ impl<'a> Scope<'a> {
         }
     }
 
-    pub(crate) fn family(&self) -> &BTreeSet<usize>
-        ensures { result.now.keys ≡ self.now.family }
+    pub(crate) fn family(&self) -> &Family<'a>
+        ensures { result.now ≡ self.now.family }
     {
         self.family
     }

@@ -1,8 +1,8 @@
 -- Statements, and the tokens that begin one (ISO 10303-11:1994, clause 13).
 use Rattle.std.specs.Prelude.{ℕ, zero, suc, ◌-◌, Bool, true, false, if◌then◌else◌, List, []}
 use Rattle.text_forms.specs.Forms.{◌>>=◌, ◌>>◌, pure}
-use Rattle.ex_tree.specs.declared.kind.Kind.{Kind}
-use Rattle.ex_tree.specs.declared.kind.Kind.TheVariants as k
+use Rattle.ex_tree.specs.declared.kind.TokenKind.{TokenKind}
+use Rattle.ex_tree.specs.declared.kind.TokenKind.TheVariants as k
 use Rattle.ex_tree.specs.declared.expression.Expression.{Expression}
 use Rattle.ex_tree.specs.declared.statement.Increment.{Increment}
 use Rattle.ex_tree.specs.declared.statement.RepeatControl.{RepeatControl}
@@ -17,7 +17,7 @@ use Rattle.ex_statements.specs.declared.place.Place.{Place}
 -- ---- where a statement begins
 
 -- RETURN stands in functions alone, SKIP and ESCAPE in a REPEAT alone
-abbrev pub begins_by : Place → Kind → Bool
+abbrev pub begins_by : Place → TokenKind → Bool
 begins_by place k.Identifier = true
 begins_by place k.Case = true
 begins_by place k.Begin = true
@@ -174,7 +174,7 @@ module _ (place : Place) (levels : ℕ) (below : Place → Parser Statement) whe
     found ← repeat_body
     pure (s.Repeat control found)
 
-  abbrev pub stmt_by : Kind → Parser Statement
+  abbrev pub stmt_by : TokenKind → Parser Statement
   stmt_by k.Identifier = assignment_stmt levels
   stmt_by k.Case = case_stmt
   stmt_by k.Begin = compound_stmt

@@ -2,12 +2,12 @@
 
 ghost use Rattle.std.specs.Prelude.{◌≡◌};
 ghost use Rattle.text_forms.specs.Gives.{Reads, Takes, Keeps};
-ghost use Rattle.ex_tree.specs.declared.kind.Kind.TheVariants as k;
+ghost use Rattle.ex_tree.specs.declared.kind.TokenKind.TheVariants as k;
 ghost use Rattle.ex_forms.specs.Input.{optional, sees};
 ghost use Rattle.ex_statements.specs.Statements as spec;
 
 use ex_expressions::{expression, simple_expression};
-use ex_forms::{Cursor, Kind, Read, name};
+use ex_forms::{Cursor, Read, TokenKind, name};
 use ex_tree::{Expression, Increment, RepeatControl};
 use std::alloc::Global;
 
@@ -17,10 +17,10 @@ fn increment(alloc: Global, cursor: &mut Cursor<'_>, levels: u8) -> Read<Option<
     ensures reads { Reads (optional (sees k.By) (spec.increment levels) cursor.old) result cursor.new }
     ensures keeps { Keeps result cursor.old cursor.new }
 {
-    if !cursor.sees(Kind::By) {
+    if !cursor.sees(TokenKind::By) {
         return Ok(None);
     }
-    cursor.expect(Kind::By)?;
+    cursor.expect(TokenKind::By)?;
     Ok(Some(simple_expression(alloc, cursor, levels)?))
 }
 
@@ -30,9 +30,9 @@ fn increment_control(alloc: Global, cursor: &mut Cursor<'_>, levels: u8) -> Read
     ensures takes { Takes result cursor.old cursor.new }
 {
     let variable = name(alloc, cursor)?;
-    cursor.expect(Kind::Becomes)?;
+    cursor.expect(TokenKind::Becomes)?;
     let first = simple_expression(alloc, cursor, levels)?;
-    cursor.expect(Kind::To)?;
+    cursor.expect(TokenKind::To)?;
     let last = simple_expression(alloc, cursor, levels)?;
     let step = increment(alloc, cursor, levels)?;
     Ok(Increment {
@@ -48,7 +48,7 @@ fn increment_option(alloc: Global, cursor: &mut Cursor<'_>, levels: u8) -> Read<
     ensures reads { Reads (optional (sees k.Identifier) (spec.increment_control levels) cursor.old) result cursor.new }
     ensures keeps { Keeps result cursor.old cursor.new }
 {
-    if !cursor.sees(Kind::Identifier) {
+    if !cursor.sees(TokenKind::Identifier) {
         return Ok(None);
     }
     Ok(Some(increment_control(alloc, cursor, levels)?))
@@ -60,10 +60,10 @@ fn while_control(alloc: Global, cursor: &mut Cursor<'_>, levels: u8) -> Read<Opt
     ensures reads { Reads (optional (sees k.While) (spec.while_control levels) cursor.old) result cursor.new }
     ensures keeps { Keeps result cursor.old cursor.new }
 {
-    if !cursor.sees(Kind::While) {
+    if !cursor.sees(TokenKind::While) {
         return Ok(None);
     }
-    cursor.expect(Kind::While)?;
+    cursor.expect(TokenKind::While)?;
     Ok(Some(expression(alloc, cursor, levels)?))
 }
 
@@ -73,10 +73,10 @@ fn until_control(alloc: Global, cursor: &mut Cursor<'_>, levels: u8) -> Read<Opt
     ensures reads { Reads (optional (sees k.Until) (spec.until_control levels) cursor.old) result cursor.new }
     ensures keeps { Keeps result cursor.old cursor.new }
 {
-    if !cursor.sees(Kind::Until) {
+    if !cursor.sees(TokenKind::Until) {
         return Ok(None);
     }
-    cursor.expect(Kind::Until)?;
+    cursor.expect(TokenKind::Until)?;
     Ok(Some(expression(alloc, cursor, levels)?))
 }
 

@@ -3,7 +3,7 @@
 ghost use Rattle.std.specs.Prelude.{◌≡◌};
 ghost use Rattle.ex_statements.specs.Statements as spec;
 
-use ex_forms::{Cursor, Kind};
+use ex_forms::{Cursor, TokenKind};
 
 /// Where statements stand, at any depth of other statements: RETURN stands in functions alone, SKIP and ESCAPE in a
 /// REPEAT alone.
@@ -18,10 +18,14 @@ pub fn begins_statement(cursor: &Cursor<'_>, place: Place) -> bool
     ensures { result ≡ spec.begins_statement place cursor.now }
 {
     match cursor.kind() {
-        Kind::Identifier | Kind::Case | Kind::Begin | Kind::If | Kind::Semicolon | Kind::Repeat =>
-            true,
-        Kind::Return => place.in_function,
-        Kind::Escape | Kind::Skip => place.in_repeat,
+        TokenKind::Identifier
+        | TokenKind::Case
+        | TokenKind::Begin
+        | TokenKind::If
+        | TokenKind::Semicolon
+        | TokenKind::Repeat => true,
+        TokenKind::Return => place.in_function,
+        TokenKind::Escape | TokenKind::Skip => place.in_repeat,
         _ => false,
     }
 }

@@ -5,7 +5,7 @@ ghost use Rattle.text_forms.specs.Gives.{Reads, Takes};
 ghost use Rattle.ex_statements.specs.Statements as spec;
 
 use ex_expressions::expression;
-use ex_forms::{Cursor, Kind, Read, name};
+use ex_forms::{Cursor, Read, TokenKind, name};
 use ex_tree::Statement;
 use std::alloc::Global;
 
@@ -15,9 +15,9 @@ pub fn assignment(alloc: Global, cursor: &mut Cursor<'_>, levels: u8) -> Read<St
     ensures takes { Takes result cursor.old cursor.new }
 {
     let variable = name(alloc, cursor)?;
-    cursor.expect(Kind::Becomes)?;
+    cursor.expect(TokenKind::Becomes)?;
     let value = expression(alloc, cursor, levels)?;
-    cursor.expect(Kind::Semicolon)?;
+    cursor.expect(TokenKind::Semicolon)?;
     Ok(Statement::Assignment(variable, value))
 }
 
@@ -26,8 +26,8 @@ pub fn escape(cursor: &mut Cursor<'_>) -> Read<Statement>
     ensures reads { Reads (spec.escape_stmt cursor.old) result cursor.new }
     ensures takes { Takes result cursor.old cursor.new }
 {
-    cursor.expect(Kind::Escape)?;
-    cursor.expect(Kind::Semicolon)?;
+    cursor.expect(TokenKind::Escape)?;
+    cursor.expect(TokenKind::Semicolon)?;
     Ok(Statement::Escape)
 }
 
@@ -36,7 +36,7 @@ pub fn null(cursor: &mut Cursor<'_>) -> Read<Statement>
     ensures reads { Reads (spec.null_stmt cursor.old) result cursor.new }
     ensures takes { Takes result cursor.old cursor.new }
 {
-    cursor.expect(Kind::Semicolon)?;
+    cursor.expect(TokenKind::Semicolon)?;
     Ok(Statement::Null)
 }
 
@@ -45,11 +45,11 @@ pub fn return_value(alloc: Global, cursor: &mut Cursor<'_>, levels: u8) -> Read<
     ensures reads { Reads (spec.return_stmt levels cursor.old) result cursor.new }
     ensures takes { Takes result cursor.old cursor.new }
 {
-    let at = cursor.expect(Kind::Return)?.at;
-    cursor.enter(levels, Kind::OpenParenthesis)?;
+    let at = cursor.expect(TokenKind::Return)?.at;
+    cursor.enter(levels, TokenKind::OpenParenthesis)?;
     let value = expression(alloc, cursor, levels - 1)?;
-    cursor.expect(Kind::CloseParenthesis)?;
-    cursor.expect(Kind::Semicolon)?;
+    cursor.expect(TokenKind::CloseParenthesis)?;
+    cursor.expect(TokenKind::Semicolon)?;
     Ok(Statement::Return(at, value))
 }
 
@@ -58,7 +58,7 @@ pub fn skip(cursor: &mut Cursor<'_>) -> Read<Statement>
     ensures reads { Reads (spec.skip_stmt cursor.old) result cursor.new }
     ensures takes { Takes result cursor.old cursor.new }
 {
-    cursor.expect(Kind::Skip)?;
-    cursor.expect(Kind::Semicolon)?;
+    cursor.expect(TokenKind::Skip)?;
+    cursor.expect(TokenKind::Semicolon)?;
     Ok(Statement::Skip)
 }

@@ -3,7 +3,7 @@
 
 ghost use Rattle.std.specs.Prelude.{◌≡◌, ◌<◌, true};
 ghost use Rattle.text_forms.specs.Gives.{Reads, Takes, Keeps};
-ghost use Rattle.ex_tree.specs.declared.kind.Kind.TheVariants as k;
+ghost use Rattle.ex_tree.specs.declared.kind.TokenKind.TheVariants as k;
 ghost use Rattle.ex_forms.specs.Input.{optional, sees};
 ghost use Rattle.ex_statements.specs.Nests.{Nests};
 ghost use Rattle.ex_statements.specs.Statements as spec;
@@ -12,9 +12,9 @@ use crate::control::repeat_control;
 use crate::place::{Place, begins_statement};
 use crate::simple::{assignment, escape, null, return_value, skip};
 use ex_expressions::{ExpressionForm, begins_expression, expression};
-use ex_forms::{Begins, Cursor, Form, Kind, Read, many, separated, some};
+use ex_forms::{Begins, Cursor, Form, Read, TokenKind, many, separated, some};
 use ex_tree::{Case, CaseAction, Statement};
-use sqlite_items::{Boxed, Items};
+use plain_data::{Boxed, Items};
 use std::alloc::Global;
 use text_forms::Failure;
 
@@ -59,8 +59,8 @@ impl<S: Fn(Global, &mut Cursor<'_>, u8, Place) -> Read<Statement>> Level<S> {
         let label = ExpressionForm {
             levels: self.levels - 1,
         };
-        let labels = separated(self.alloc, cursor, Kind::Comma, &label)?;
-        cursor.expect(Kind::Colon)?;
+        let labels = separated(self.alloc, cursor, TokenKind::Comma, &label)?;
+        cursor.expect(TokenKind::Colon)?;
         let statement = self.inner_statement(cursor, self.place)?;
         Ok(CaseAction { labels, statement })
     }
@@ -73,11 +73,11 @@ impl<S: Fn(Global, &mut Cursor<'_>, u8, Place) -> Read<Statement>> Level<S> {
         ensures reads { Reads (optional (sees k.Otherwise) (spec.otherwise_action self.now.place self.now.levels (spec.below self.now.levels)) cursor.old) result cursor.new }
         ensures keeps { Keeps result cursor.old cursor.new }
     {
-        if !cursor.sees(Kind::Otherwise) {
+        if !cursor.sees(TokenKind::Otherwise) {
             return Ok(None);
         }
-        cursor.expect(Kind::Otherwise)?;
-        cursor.expect(Kind::Colon)?;
+        cursor.expect(TokenKind::Otherwise)?;
+        cursor.expect(TokenKind::Colon)?;
         let statement = self.inner_statement(cursor, self.place)?;
         Ok(Some(Boxed::new(self.alloc, statement)?))
     }
@@ -88,13 +88,13 @@ impl<S: Fn(Global, &mut Cursor<'_>, u8, Place) -> Read<Statement>> Level<S> {
         ensures reads { Reads (spec.case_stmt self.now.place self.now.levels (spec.below self.now.levels) cursor.old) result cursor.new }
         ensures takes { Takes result cursor.old cursor.new }
     {
-        let at = cursor.enter(self.levels, Kind::Case)?.at;
+        let at = cursor.enter(self.levels, TokenKind::Case)?.at;
         let selector = expression(self.alloc, cursor, self.levels - 1)?;
-        cursor.expect(Kind::Of)?;
+        cursor.expect(TokenKind::Of)?;
         let actions = many(self.alloc, cursor, &Action { level: self })?;
         let otherwise = self.otherwise(cursor)?;
-        cursor.expect(Kind::EndCase)?;
-        cursor.expect(Kind::Semicolon)?;
+        cursor.expect(TokenKind::EndCase)?;
+        cursor.expect(TokenKind::Semicolon)?;
         Ok(Statement::Case(Case {
             at,
             selector,
@@ -109,10 +109,10 @@ impl<S: Fn(Global, &mut Cursor<'_>, u8, Place) -> Read<Statement>> Level<S> {
         ensures reads { Reads (spec.compound_stmt self.now.place self.now.levels (spec.below self.now.levels) cursor.old) result cursor.new }
         ensures takes { Takes result cursor.old cursor.new }
     {
-        cursor.enter(self.levels, Kind::Begin)?;
+        cursor.enter(self.levels, TokenKind::Begin)?;
         let found = self.inner_statements(cursor, self.place)?;
-        cursor.expect(Kind::End)?;
-        cursor.expect(Kind::Semicolon)?;
+        cursor.expect(TokenKind::End)?;
+        cursor.expect(TokenKind::Semicolon)?;
         Ok(Statement::Compound(found))
     }
 
@@ -124,7 +124,7 @@ impl<S: Fn(Global, &mut Cursor<'_>, u8, Place) -> Read<Statement>> Level<S> {
         ensures reads { Reads (spec.alternative self.now.place self.now.levels (spec.below self.now.levels) cursor.old) result cursor.new }
         ensures keeps { Keeps result cursor.old cursor.new }
     {
-        if cursor.eat(Kind::Else) {
+        if cursor.eat(TokenKind::Else) {
             self.inner_statements(cursor, self.place)
         } else {
             Ok(Items::new(self.alloc))
@@ -137,13 +137,13 @@ impl<S: Fn(Global, &mut Cursor<'_>, u8, Place) -> Read<Statement>> Level<S> {
         ensures reads { Reads (spec.if_stmt self.now.place self.now.levels (spec.below self.now.levels) cursor.old) result cursor.new }
         ensures takes { Takes result cursor.old cursor.new }
     {
-        cursor.enter(self.levels, Kind::If)?;
+        cursor.enter(self.levels, TokenKind::If)?;
         let condition = expression(self.alloc, cursor, self.levels - 1)?;
-        cursor.expect(Kind::Then)?;
+        cursor.expect(TokenKind::Then)?;
         let then_part = self.inner_statements(cursor, self.place)?;
         let else_part = self.alternative(cursor)?;
-        cursor.expect(Kind::EndIf)?;
-        cursor.expect(Kind::Semicolon)?;
+        cursor.expect(TokenKind::EndIf)?;
+        cursor.expect(TokenKind::Semicolon)?;
         Ok(Statement::If(condition, then_part, else_part))
     }
 
@@ -155,14 +155,14 @@ impl<S: Fn(Global, &mut Cursor<'_>, u8, Place) -> Read<Statement>> Level<S> {
         ensures reads { Reads (spec.repeat_body self.now.place self.now.levels (spec.below self.now.levels) cursor.old) result cursor.new }
         ensures takes { Takes result cursor.old cursor.new }
     {
-        cursor.expect(Kind::Semicolon)?;
+        cursor.expect(TokenKind::Semicolon)?;
         let place = Place {
             in_repeat: true,
             ..self.place
         };
         let found = self.inner_statements(cursor, place)?;
-        cursor.expect(Kind::EndRepeat)?;
-        cursor.expect(Kind::Semicolon)?;
+        cursor.expect(TokenKind::EndRepeat)?;
+        cursor.expect(TokenKind::Semicolon)?;
         Ok(found)
     }
 
@@ -172,7 +172,7 @@ impl<S: Fn(Global, &mut Cursor<'_>, u8, Place) -> Read<Statement>> Level<S> {
         ensures reads { Reads (spec.repeat_stmt self.now.place self.now.levels (spec.below self.now.levels) cursor.old) result cursor.new }
         ensures takes { Takes result cursor.old cursor.new }
     {
-        cursor.enter(self.levels, Kind::Repeat)?;
+        cursor.enter(self.levels, TokenKind::Repeat)?;
         let control = repeat_control(self.alloc, cursor, self.levels - 1)?;
         let found = self.repeat_body(cursor)?;
         Ok(Statement::Repeat(control, found))
@@ -185,15 +185,19 @@ impl<S: Fn(Global, &mut Cursor<'_>, u8, Place) -> Read<Statement>> Level<S> {
         ensures takes { Takes result cursor.old cursor.new }
     {
         match cursor.kind() {
-            Kind::Identifier => assignment(self.alloc, cursor, self.levels),
-            Kind::Case => self.case(cursor),
-            Kind::Begin => self.compound(cursor),
-            Kind::Escape if self.place.in_repeat => escape(cursor),
-            Kind::If => self.conditional(cursor),
-            Kind::Semicolon => null(cursor),
-            Kind::Repeat => self.repeat(cursor),
-            Kind::Return if self.place.in_function => return_value(self.alloc, cursor, self.levels),
-            Kind::Skip if self.place.in_repeat => skip(cursor),
+            TokenKind::Identifier => assignment(self.alloc, cursor, self.levels),
+            TokenKind::Case => self.case(cursor),
+            TokenKind::Begin => self.compound(cursor),
+            TokenKind::Escape if self.place.in_repeat => escape(cursor),
+            TokenKind::If => self.conditional(cursor),
+            TokenKind::Semicolon => null(cursor),
+            TokenKind::Repeat => self.repeat(cursor),
+            TokenKind::Return if self.place.in_function => return_value(
+                self.alloc,
+                cursor,
+                self.levels,
+            ),
+            TokenKind::Skip if self.place.in_repeat => skip(cursor),
             _ => Err(Failure::Fault(cursor.refusal())),
         }
     }
@@ -206,22 +210,23 @@ struct Inner<'l, S> {
     place: Place,
 }
 
-impl<S: Fn(Global, &mut Cursor<'_>, u8, Place) -> Read<Statement>> Form for Inner<'_, S> {
+impl<'t, S: Fn(Global, &mut Cursor<'_>, u8, Place) -> Read<Statement>> Form<Cursor<'t>>
+    for Inner<'_, S> {
     type Tree = Statement;
 
     ghost form = { λ f. spec.below f.level.now.levels f.place };
 
     ghost can_read = { λ f. (0 < f.level.now.levels) × Nests f.level.now.levels (S.pre f.level.now.inner) (S.post f.level.now.inner) };
 
-    fn read(&self, _alloc: Global, cursor: &mut Cursor<'_>) -> Read<Statement> {
+    fn read(&self, _alloc: Global, cursor: &mut Cursor<'t>) -> Read<Statement> {
         self.level.inner_statement(cursor, self.place)
     }
 }
 
-impl<S> Begins for Inner<'_, S> {
+impl<'t, S> Begins<Cursor<'t>> for Inner<'_, S> {
     ghost begins = { λ f. spec.begins_statement f.place };
 
-    fn begins(&self, cursor: &Cursor<'_>) -> bool {
+    fn begins(&self, cursor: &Cursor<'t>) -> bool {
         begins_statement(cursor, self.place)
     }
 }
@@ -232,24 +237,25 @@ struct Action<'l, S> {
     level: &'l Level<S>,
 }
 
-impl<S: Fn(Global, &mut Cursor<'_>, u8, Place) -> Read<Statement>> Form for Action<'_, S> {
+impl<'t, S: Fn(Global, &mut Cursor<'_>, u8, Place) -> Read<Statement>> Form<Cursor<'t>>
+    for Action<'_, S> {
     type Tree = CaseAction;
 
     ghost form = { λ f. spec.case_action f.level.now.place f.level.now.levels (spec.below f.level.now.levels) };
 
     ghost can_read = { λ f. (0 < f.level.now.levels) × Nests f.level.now.levels (S.pre f.level.now.inner) (S.post f.level.now.inner) };
 
-    fn read(&self, _alloc: Global, cursor: &mut Cursor<'_>) -> Read<CaseAction> {
+    fn read(&self, _alloc: Global, cursor: &mut Cursor<'t>) -> Read<CaseAction> {
         self.level.case_action(cursor)
     }
 }
 
-impl<S> Begins for Action<'_, S> {
+impl<'t, S> Begins<Cursor<'t>> for Action<'_, S> {
     ghost use Rattle.ex_expressions.specs.Expressions.{begins_expression};
 
     ghost begins = { λ f. begins_expression };
 
-    fn begins(&self, cursor: &Cursor<'_>) -> bool {
+    fn begins(&self, cursor: &Cursor<'t>) -> bool {
         begins_expression(cursor)
     }
 }
@@ -276,22 +282,22 @@ struct Outer {
     place: Place,
 }
 
-impl Form for Outer {
+impl<'t> Form<Cursor<'t>> for Outer {
     type Tree = Statement;
 
     ghost form = { λ f. spec.statement_at f.levels f.place };
 
     ghost can_read = { λ f. Unit {0} };
 
-    fn read(&self, alloc: Global, cursor: &mut Cursor<'_>) -> Read<Statement> {
+    fn read(&self, alloc: Global, cursor: &mut Cursor<'t>) -> Read<Statement> {
         statement(alloc, cursor, self.levels, self.place)
     }
 }
 
-impl Begins for Outer {
+impl<'t> Begins<Cursor<'t>> for Outer {
     ghost begins = { λ f. spec.begins_statement f.place };
 
-    fn begins(&self, cursor: &Cursor<'_>) -> bool {
+    fn begins(&self, cursor: &Cursor<'t>) -> bool {
         begins_statement(cursor, self.place)
     }
 }

@@ -1,7 +1,7 @@
 -- Functions and rules (ISO 10303-11:1994, 9.5, 9.6).
 use Rattle.std.specs.Prelude.{ℕ, Bool, true, false, ◌-◌, List, [], Option, if◌then◌else◌}
 use Rattle.text_forms.specs.Forms.{◌>>=◌, ◌>>◌, ◌<$>◌, pure}
-use Rattle.ex_tree.specs.declared.kind.Kind.TheVariants as k
+use Rattle.ex_tree.specs.declared.kind.TokenKind.TheVariants as k
 use Rattle.ex_tree.specs.declared.expression.Name.{Name}
 use Rattle.ex_tree.specs.declared.expression.Expression.{Expression}
 use Rattle.ex_tree.specs.declared.statement.Statement.{Statement}

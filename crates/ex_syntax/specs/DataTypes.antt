@@ -1,8 +1,8 @@
 -- Types of attributes, constants, variables, parameters and results (ISO 10303-11:1994, clause 8).
 use Rattle.std.specs.Prelude.{ℕ, zero, suc, ◌-◌, Bool, true, false, Option, Some, None, if◌then◌else◌}
 use Rattle.text_forms.specs.Forms.{◌>>=◌, ◌>>◌, ◌<$>◌, pure}
-use Rattle.ex_tree.specs.declared.kind.Kind.{Kind}
-use Rattle.ex_tree.specs.declared.kind.Kind.TheVariants as k
+use Rattle.ex_tree.specs.declared.kind.TokenKind.{TokenKind}
+use Rattle.ex_tree.specs.declared.kind.TokenKind.TheVariants as k
 use Rattle.ex_tree.specs.declared.data_type.Width.{Width}
 use Rattle.ex_tree.specs.declared.data_type.Bounds.{Bounds}
 use Rattle.ex_tree.specs.declared.data_type.ArrayBounds.{ArrayBounds}
@@ -64,10 +64,10 @@ optional_bounds levels = do
 -- ---- types that hold no other type
 
 -- the type whose only token is this word
-abbrev pub word : Kind → SimpleType → Parser SimpleType
+abbrev pub word : TokenKind → SimpleType → Parser SimpleType
 word k simple_type = expect k >> pure simple_type
 
-abbrev pub simple_type_by : ℕ → Kind → Parser SimpleType
+abbrev pub simple_type_by : ℕ → TokenKind → Parser SimpleType
 simple_type_by levels k.Binary = expect k.Binary >> (simple.Binary <$> width levels)
 simple_type_by levels k.Boolean = word k.Boolean simple.Boolean
 simple_type_by levels k.Integer = word k.Integer simple.Integer
@@ -139,7 +139,7 @@ module _ (levels : ℕ) (element_type : Parser DataType) where
     pure (t.Aggregate element)
 
   -- The flag says whether AGGREGATE and GENERIC may stand.
-  abbrev pub data_type_by : Bool → Kind → Parser DataType
+  abbrev pub data_type_by : Bool → TokenKind → Parser DataType
   data_type_by general k.Array = array_type
   data_type_by general k.List = list_type
   data_type_by general k.Bag = bag_type

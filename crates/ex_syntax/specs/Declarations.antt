@@ -1,8 +1,8 @@
 -- Rules with their labels, names of attributes, constants and types (ISO 10303-11:1994, 8.3, 9.1, 9.2.2, 9.4).
 use Rattle.std.specs.Prelude.{ℕ, Bool, ◌&&◌, ◌||◌, List, [], Option, if◌then◌else◌}
 use Rattle.text_forms.specs.Forms.{◌>>=◌, ◌>>◌, ◌<$>◌, pure}
-use Rattle.ex_tree.specs.declared.kind.Kind.{Kind}
-use Rattle.ex_tree.specs.declared.kind.Kind.TheVariants as k
+use Rattle.ex_tree.specs.declared.kind.TokenKind.{TokenKind}
+use Rattle.ex_tree.specs.declared.kind.TokenKind.TheVariants as k
 use Rattle.ex_tree.specs.declared.expression.Name.{Name}
 use Rattle.ex_tree.specs.declared.declaration.DomainRule.{DomainRule}
 use Rattle.ex_tree.specs.declared.declaration.AttributeDeclaration.{AttributeDeclaration}
@@ -69,7 +69,7 @@ qualified_attribute = do
 abbrev pub begins_attribute : Lexemes → Bool
 begins_attribute s = sees k.Identifier s || sees k.Itself s
 
-abbrev pub attribute_by : Kind → Parser AttributeDeclaration
+abbrev pub attribute_by : TokenKind → Parser AttributeDeclaration
 attribute_by k.Identifier = Own <$> name
 attribute_by k.Itself = Qualified <$> qualified_attribute
 attribute_by _ = refuse
@@ -116,7 +116,7 @@ select_type = do
   members ← name_list
   pure (Select members)
 
-abbrev pub underlying_by : Kind → Parser UnderlyingType
+abbrev pub underlying_by : TokenKind → Parser UnderlyingType
 underlying_by k.Enumeration = enumeration_type
 underlying_by k.Select = select_type
 underlying_by _ = Data <$> base_type max_levels

@@ -1,8 +1,8 @@
 -- Entities (ISO 10303-11:1994, 9.2).
 use Rattle.std.specs.Prelude.{ℕ, Bool, true, false, ◌-◌, List, [], Option, Some, None, if◌then◌else◌}
 use Rattle.text_forms.specs.Forms.{◌>>=◌, ◌>>◌, ◌<$>◌, pure}
-use Rattle.ex_tree.specs.declared.kind.Kind.{Kind}
-use Rattle.ex_tree.specs.declared.kind.Kind.TheVariants as k
+use Rattle.ex_tree.specs.declared.kind.TokenKind.{TokenKind}
+use Rattle.ex_tree.specs.declared.kind.TokenKind.TheVariants as k
 use Rattle.ex_tree.specs.declared.expression.Name.{Name}
 use Rattle.ex_tree.specs.declared.declaration.ExplicitAttribute.{ExplicitAttribute}
 use Rattle.ex_tree.specs.declared.declaration.DerivedAttribute.{DerivedAttribute}
@@ -42,13 +42,13 @@ derived_attr = do
   expect k.Semicolon
   pure (record { attribute = attribute; data_type = data_type; value = value })
 
-abbrev pub set_or_bag : Kind → Option SetOrBag
+abbrev pub set_or_bag : TokenKind → Option SetOrBag
 set_or_bag k.Set = Some Set
 set_or_bag k.Bag = Some Bag
 set_or_bag _ = None
 
 -- SET or BAG, its bounds, and OF; it is open up to the entity's name
-abbrev pub aggregate_by : Kind → Option SetOrBag → Parser (Option InverseAggregate)
+abbrev pub aggregate_by : TokenKind → Option SetOrBag → Parser (Option InverseAggregate)
 aggregate_by word None = pure None
 aggregate_by word (Some kind) = do
   enter max_levels word
@@ -82,7 +82,7 @@ unique_rule = do
 -- ---- clauses, each if its word stands next
 
 -- what stands behind the word
-abbrev pub clause : {A : Type 0} → Kind → (Lexemes → Bool) → Parser A → Parser (List A)
+abbrev pub clause : {A : Type 0} → TokenKind → (Lexemes → Bool) → Parser A → Parser (List A)
 clause word begins item s = if sees word s then (expect word >> some begins item) s else pure [] s
 
 unfoldable pub entity_body : Parser EntityBody

@@ -2,8 +2,8 @@
 use Rattle.std.specs.Prelude.{ℕ, Bool, ◌||◌, List, [], Result, Ok, Err}
 use Rattle.text_forms.specs.Forms.{◌>>=◌, ◌>>◌, ◌<$>◌, pure}
 use Rattle.ex_lex.specs.Lexeme.{Lexeme, Lexed}
-use Rattle.ex_tree.specs.declared.kind.Kind.{Kind}
-use Rattle.ex_tree.specs.declared.kind.Kind.TheVariants as k
+use Rattle.ex_tree.specs.declared.kind.TokenKind.{TokenKind}
+use Rattle.ex_tree.specs.declared.kind.TokenKind.TheVariants as k
 use Rattle.ex_tree.specs.declared.fault.ParseFault.{ParseFault}
 use Rattle.ex_tree.specs.declared.declaration.Declaration.{Declaration}
 use Rattle.ex_tree.specs.declared.declaration.Declaration.TheVariants as tree
@@ -17,7 +17,7 @@ use Rattle.ex_syntax.specs.Algorithms.{function_decl, rule_decl}
 abbrev pub begins_declaration : Lexemes → Bool
 begins_declaration s = sees k.Entity s || sees k.Function s || sees k.Rule s || sees k.Type s
 
-abbrev pub declaration_by : Kind → Parser Declaration
+abbrev pub declaration_by : TokenKind → Parser Declaration
 declaration_by k.Entity = tree.Entity <$> entity_decl
 declaration_by k.Function = tree.Function <$> function_decl
 declaration_by k.Rule = tree.Rule <$> rule_decl

@@ -1,8 +1,8 @@
 -- What SUPERTYPE OF says of an entity's subtypes (ISO 10303-11:1994, 9.2.5).
 use Rattle.std.specs.Prelude.{ℕ, zero, suc, List, [], ◌∷◌}
 use Rattle.text_forms.specs.Forms.{◌>>=◌, ◌>>◌, ◌<$>◌, pure}
-use Rattle.ex_tree.specs.declared.kind.Kind.{Kind}
-use Rattle.ex_tree.specs.declared.kind.Kind.TheVariants as k
+use Rattle.ex_tree.specs.declared.kind.TokenKind.{TokenKind}
+use Rattle.ex_tree.specs.declared.kind.TokenKind.TheVariants as k
 use Rattle.ex_tree.specs.declared.declaration.SupertypeExpression.{SupertypeExpression}
 use Rattle.ex_tree.specs.declared.declaration.SupertypeExpression.TheVariants as s
 use Rattle.ex_forms.specs.Input.{Parser, peek, expect, enter, separated, refuse, name}
@@ -29,7 +29,7 @@ module _ (levels : ℕ) (inner : Parser SupertypeExpression) where
     expect k.CloseParenthesis
     pure expression
 
-  abbrev pub supertype_term_by : Kind → Parser SupertypeExpression
+  abbrev pub supertype_term_by : TokenKind → Parser SupertypeExpression
   supertype_term_by k.Identifier = s.Entity <$> name
   supertype_term_by k.OneOf = one_of
   supertype_term_by k.OpenParenthesis = parenthesized

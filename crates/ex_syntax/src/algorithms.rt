@@ -4,7 +4,7 @@ ghost use Rattle.std.specs.Prelude.{◌≡◌};
 ghost use Rattle.text_forms.specs.Gives.{Reads, Takes, Keeps};
 ghost use Rattle.ex_forms.specs.Input as input;
 ghost use Rattle.ex_syntax.specs.Algorithms as spec;
-ghost use Rattle.ex_tree.specs.declared.kind.Kind.TheVariants as k;
+ghost use Rattle.ex_tree.specs.declared.kind.TokenKind.TheVariants as k;
 
 use crate::data_types::{base_type, parameter_type};
 use crate::declarations::{MAX_LEVELS, NameForm, name_list, where_clause};
@@ -12,9 +12,10 @@ use ex_expressions::expression;
 use ex_forms::{Begins, Cursor, Form, Read, name, optional, separated, some};
 use ex_statements::{Place, begins_statement, statements};
 use ex_tree::{
-    Expression, Function, FunctionHead, Kind, LocalVariable, Parameter, Rule, RuleHead, Statement,
+    Expression, Function, FunctionHead, LocalVariable, Parameter, Rule, RuleHead, Statement,
+    TokenKind,
 };
-use sqlite_items::Items;
+use plain_data::Items;
 use std::alloc::Global;
 
 const IN_FUNCTIONS: Place = Place {
@@ -32,8 +33,8 @@ fn formal_parameter(alloc: Global, cursor: &mut Cursor<'_>) -> Read<Parameter>
     ensures reads { Reads (spec.formal_parameter cursor.old) result cursor.new }
     ensures takes { Takes result cursor.old cursor.new }
 {
-    let names = separated(alloc, cursor, Kind::Comma, &NameForm)?;
-    cursor.expect(Kind::Colon)?;
+    let names = separated(alloc, cursor, TokenKind::Comma, &NameForm)?;
+    cursor.expect(TokenKind::Colon)?;
     let data_type = parameter_type(alloc, cursor, MAX_LEVELS - 1)?;
     Ok(Parameter { names, data_type })
 }
@@ -41,14 +42,14 @@ fn formal_parameter(alloc: Global, cursor: &mut Cursor<'_>) -> Read<Parameter>
 #[derive(Drop)]
 struct ParameterForm;
 
-impl Form for ParameterForm {
+impl<'t> Form<Cursor<'t>> for ParameterForm {
     type Tree = Parameter;
 
     ghost form = { λ _. spec.formal_parameter };
 
     ghost can_read = { λ _. Unit {0} };
 
-    fn read(&self, alloc: Global, cursor: &mut Cursor<'_>) -> Read<Parameter> {
+    fn read(&self, alloc: Global, cursor: &mut Cursor<'t>) -> Read<Parameter> {
         formal_parameter(alloc, cursor)
     }
 }
@@ -58,9 +59,9 @@ fn parameter_list(alloc: Global, cursor: &mut Cursor<'_>) -> Read<Items<Paramete
     ensures reads { Reads (spec.parameter_list cursor.old) result cursor.new }
     ensures takes { Takes result cursor.old cursor.new }
 {
-    cursor.enter(MAX_LEVELS, Kind::OpenParenthesis)?;
-    let found = separated(alloc, cursor, Kind::Semicolon, &ParameterForm)?;
-    cursor.expect(Kind::CloseParenthesis)?;
+    cursor.enter(MAX_LEVELS, TokenKind::OpenParenthesis)?;
+    let found = separated(alloc, cursor, TokenKind::Semicolon, &ParameterForm)?;
+    cursor.expect(TokenKind::CloseParenthesis)?;
     Ok(found)
 }
 
@@ -70,7 +71,7 @@ fn parameters(alloc: Global, cursor: &mut Cursor<'_>) -> Read<Items<Parameter>>
     ensures reads { Reads (spec.parameters cursor.old) result cursor.new }
     ensures keeps { Keeps result cursor.old cursor.new }
 {
-    if cursor.sees(Kind::OpenParenthesis) {
+    if cursor.sees(TokenKind::OpenParenthesis) {
         parameter_list(alloc, cursor)
     } else {
         Ok(Items::new(alloc))
@@ -82,30 +83,30 @@ fn initial_value(alloc: Global, cursor: &mut Cursor<'_>) -> Read<Expression>
     ensures reads { Reads (spec.initial_value cursor.old) result cursor.new }
     ensures takes { Takes result cursor.old cursor.new }
 {
-    cursor.expect(Kind::Becomes)?;
+    cursor.expect(TokenKind::Becomes)?;
     expression(alloc, cursor, MAX_LEVELS)
 }
 
 #[derive(Drop)]
 struct InitialValueForm;
 
-impl Form for InitialValueForm {
+impl<'t> Form<Cursor<'t>> for InitialValueForm {
     type Tree = Expression;
 
     ghost form = { λ _. spec.initial_value };
 
     ghost can_read = { λ _. Unit {0} };
 
-    fn read(&self, alloc: Global, cursor: &mut Cursor<'_>) -> Read<Expression> {
+    fn read(&self, alloc: Global, cursor: &mut Cursor<'t>) -> Read<Expression> {
         initial_value(alloc, cursor)
     }
 }
 
-impl Begins for InitialValueForm {
+impl<'t> Begins<Cursor<'t>> for InitialValueForm {
     ghost begins = { λ _. input.sees k.Becomes };
 
-    fn begins(&self, cursor: &Cursor<'_>) -> bool {
-        cursor.sees(Kind::Becomes)
+    fn begins(&self, cursor: &Cursor<'t>) -> bool {
+        cursor.sees(TokenKind::Becomes)
     }
 }
 
@@ -114,11 +115,11 @@ fn local_variable(alloc: Global, cursor: &mut Cursor<'_>) -> Read<LocalVariable>
     ensures reads { Reads (spec.local_variable cursor.old) result cursor.new }
     ensures takes { Takes result cursor.old cursor.new }
 {
-    let names = separated(alloc, cursor, Kind::Comma, &NameForm)?;
-    cursor.expect(Kind::Colon)?;
+    let names = separated(alloc, cursor, TokenKind::Comma, &NameForm)?;
+    cursor.expect(TokenKind::Colon)?;
     let data_type = base_type(alloc, cursor, MAX_LEVELS)?;
     let value = optional(alloc, cursor, &InitialValueForm)?;
-    cursor.expect(Kind::Semicolon)?;
+    cursor.expect(TokenKind::Semicolon)?;
     Ok(LocalVariable {
         names,
         data_type,
@@ -129,23 +130,23 @@ fn local_variable(alloc: Global, cursor: &mut Cursor<'_>) -> Read<LocalVariable>
 #[derive(Drop)]
 struct LocalVariableForm;
 
-impl Form for LocalVariableForm {
+impl<'t> Form<Cursor<'t>> for LocalVariableForm {
     type Tree = LocalVariable;
 
     ghost form = { λ _. spec.local_variable };
 
     ghost can_read = { λ _. Unit {0} };
 
-    fn read(&self, alloc: Global, cursor: &mut Cursor<'_>) -> Read<LocalVariable> {
+    fn read(&self, alloc: Global, cursor: &mut Cursor<'t>) -> Read<LocalVariable> {
         local_variable(alloc, cursor)
     }
 }
 
-impl Begins for LocalVariableForm {
+impl<'t> Begins<Cursor<'t>> for LocalVariableForm {
     ghost begins = { λ _. input.sees k.Identifier };
 
-    fn begins(&self, cursor: &Cursor<'_>) -> bool {
-        cursor.sees(Kind::Identifier)
+    fn begins(&self, cursor: &Cursor<'t>) -> bool {
+        cursor.sees(TokenKind::Identifier)
     }
 }
 
@@ -154,10 +155,10 @@ fn local_decl(alloc: Global, cursor: &mut Cursor<'_>) -> Read<Items<LocalVariabl
     ensures reads { Reads (spec.local_decl cursor.old) result cursor.new }
     ensures takes { Takes result cursor.old cursor.new }
 {
-    cursor.expect(Kind::Local)?;
+    cursor.expect(TokenKind::Local)?;
     let found = some(alloc, cursor, &LocalVariableForm)?;
-    cursor.expect(Kind::EndLocal)?;
-    cursor.expect(Kind::Semicolon)?;
+    cursor.expect(TokenKind::EndLocal)?;
+    cursor.expect(TokenKind::Semicolon)?;
     Ok(found)
 }
 
@@ -167,7 +168,7 @@ fn algorithm_head(alloc: Global, cursor: &mut Cursor<'_>) -> Read<Items<LocalVar
     ensures reads { Reads (spec.algorithm_head cursor.old) result cursor.new }
     ensures keeps { Keeps result cursor.old cursor.new }
 {
-    if cursor.sees(Kind::Local) {
+    if cursor.sees(TokenKind::Local) {
         local_decl(alloc, cursor)
     } else {
         Ok(Items::new(alloc))
@@ -179,12 +180,12 @@ fn function_head(alloc: Global, cursor: &mut Cursor<'_>) -> Read<FunctionHead>
     ensures reads { Reads (spec.function_head cursor.old) result cursor.new }
     ensures takes { Takes result cursor.old cursor.new }
 {
-    cursor.expect(Kind::Function)?;
+    cursor.expect(TokenKind::Function)?;
     let name = name(alloc, cursor)?;
     let parameters = parameters(alloc, cursor)?;
-    cursor.expect(Kind::Colon)?;
+    cursor.expect(TokenKind::Colon)?;
     let result = parameter_type(alloc, cursor, MAX_LEVELS)?;
-    cursor.expect(Kind::Semicolon)?;
+    cursor.expect(TokenKind::Semicolon)?;
     Ok(FunctionHead {
         name,
         parameters,
@@ -200,8 +201,8 @@ pub(crate) fn function_decl(alloc: Global, cursor: &mut Cursor<'_>) -> Read<Func
     let head = function_head(alloc, cursor)?;
     let locals = algorithm_head(alloc, cursor)?;
     let statements = statements(alloc, cursor, MAX_LEVELS, IN_FUNCTIONS)?;
-    cursor.expect(Kind::EndFunction)?;
-    cursor.expect(Kind::Semicolon)?;
+    cursor.expect(TokenKind::EndFunction)?;
+    cursor.expect(TokenKind::Semicolon)?;
     Ok(Function {
         head,
         locals,
@@ -214,11 +215,11 @@ fn rule_head(alloc: Global, cursor: &mut Cursor<'_>) -> Read<RuleHead>
     ensures reads { Reads (spec.rule_head cursor.old) result cursor.new }
     ensures takes { Takes result cursor.old cursor.new }
 {
-    cursor.expect(Kind::Rule)?;
+    cursor.expect(TokenKind::Rule)?;
     let name = name(alloc, cursor)?;
-    cursor.expect(Kind::For)?;
+    cursor.expect(TokenKind::For)?;
     let entities = name_list(alloc, cursor)?;
-    cursor.expect(Kind::Semicolon)?;
+    cursor.expect(TokenKind::Semicolon)?;
     Ok(RuleHead { name, entities })
 }
 
@@ -244,8 +245,8 @@ pub(crate) fn rule_decl(alloc: Global, cursor: &mut Cursor<'_>) -> Read<Rule>
     let locals = algorithm_head(alloc, cursor)?;
     let statements = rule_statements(alloc, cursor)?;
     let domain_rules = where_clause(alloc, cursor)?;
-    cursor.expect(Kind::EndRule)?;
-    cursor.expect(Kind::Semicolon)?;
+    cursor.expect(TokenKind::EndRule)?;
+    cursor.expect(TokenKind::Semicolon)?;
     Ok(Rule {
         head,
         locals,

@@ -7,8 +7,8 @@ ghost use Rattle.ex_forms.specs.Nests.{Nests};
 ghost use Rattle.ex_syntax.specs.DataTypes as spec;
 
 use ex_forms::{Cursor, Read, name, whole};
-use ex_tree::{ArrayBounds, Bounds, DataType, Kind, SimpleType, Width};
-use sqlite_items::Boxed;
+use ex_tree::{ArrayBounds, Bounds, DataType, SimpleType, TokenKind, Width};
+use plain_data::Boxed;
 use std::alloc::Global;
 use text_forms::Failure;
 
@@ -17,10 +17,10 @@ fn width_spec(cursor: &mut Cursor<'_>, levels: u8) -> Read<Width>
     ensures reads { Reads (spec.width_spec levels cursor.old) result cursor.new }
     ensures takes { Takes result cursor.old cursor.new }
 {
-    cursor.enter(levels, Kind::OpenParenthesis)?;
+    cursor.enter(levels, TokenKind::OpenParenthesis)?;
     let length = whole(cursor)?;
-    cursor.expect(Kind::CloseParenthesis)?;
-    let fixed = cursor.eat(Kind::Fixed);
+    cursor.expect(TokenKind::CloseParenthesis)?;
+    let fixed = cursor.eat(TokenKind::Fixed);
     Ok(Width { length, fixed })
 }
 
@@ -30,7 +30,7 @@ fn width(cursor: &mut Cursor<'_>, levels: u8) -> Read<Option<Width>>
     ensures reads { Reads (spec.width levels cursor.old) result cursor.new }
     ensures keeps { Keeps result cursor.old cursor.new }
 {
-    if !cursor.sees(Kind::OpenParenthesis) {
+    if !cursor.sees(TokenKind::OpenParenthesis) {
         return Ok(None);
     }
     Ok(Some(width_spec(cursor, levels)?))
@@ -41,11 +41,11 @@ fn array_bound_spec(cursor: &mut Cursor<'_>, levels: u8) -> Read<ArrayBounds>
     ensures reads { Reads (spec.array_bound_spec levels cursor.old) result cursor.new }
     ensures takes { Takes result cursor.old cursor.new }
 {
-    cursor.enter(levels, Kind::OpenBracket)?;
+    cursor.enter(levels, TokenKind::OpenBracket)?;
     let low = whole(cursor)?;
-    cursor.expect(Kind::Colon)?;
+    cursor.expect(TokenKind::Colon)?;
     let high = whole(cursor)?;
-    cursor.expect(Kind::CloseBracket)?;
+    cursor.expect(TokenKind::CloseBracket)?;
     Ok(ArrayBounds { low, high })
 }
 
@@ -54,7 +54,7 @@ fn high_bound(cursor: &mut Cursor<'_>) -> Read<Option<u64>>
     ensures reads { Reads (spec.high_bound cursor.old) result cursor.new }
     ensures keeps { Keeps result cursor.old cursor.new }
 {
-    if cursor.eat(Kind::QuestionMark) {
+    if cursor.eat(TokenKind::QuestionMark) {
         return Ok(None);
     }
     Ok(Some(whole(cursor)?))
@@ -65,11 +65,11 @@ fn bound_spec(cursor: &mut Cursor<'_>, levels: u8) -> Read<Bounds>
     ensures reads { Reads (spec.bound_spec levels cursor.old) result cursor.new }
     ensures takes { Takes result cursor.old cursor.new }
 {
-    cursor.enter(levels, Kind::OpenBracket)?;
+    cursor.enter(levels, TokenKind::OpenBracket)?;
     let low = whole(cursor)?;
-    cursor.expect(Kind::Colon)?;
+    cursor.expect(TokenKind::Colon)?;
     let high = high_bound(cursor)?;
-    cursor.expect(Kind::CloseBracket)?;
+    cursor.expect(TokenKind::CloseBracket)?;
     Ok(Bounds { low, high })
 }
 
@@ -79,14 +79,14 @@ pub(crate) fn optional_bounds(cursor: &mut Cursor<'_>, levels: u8) -> Read<Bound
     ensures reads { Reads (spec.optional_bounds levels cursor.old) result cursor.new }
     ensures keeps { Keeps result cursor.old cursor.new }
 {
-    if !cursor.sees(Kind::OpenBracket) {
+    if !cursor.sees(TokenKind::OpenBracket) {
         return Ok(Bounds { low: 0, high: None });
     }
     bound_spec(cursor, levels)
 }
 
 /// The type whose only token is this word.
-fn word(cursor: &mut Cursor<'_>, kind: Kind, simple_type: SimpleType) -> Read<SimpleType>
+fn word(cursor: &mut Cursor<'_>, kind: TokenKind, simple_type: SimpleType) -> Read<SimpleType>
     ensures reads { Reads (spec.word kind simple_type cursor.old) result cursor.new }
     ensures takes { Takes result cursor.old cursor.new }
 {
@@ -100,17 +100,17 @@ fn simple_types(cursor: &mut Cursor<'_>, levels: u8) -> Read<SimpleType>
     ensures takes { Takes result cursor.old cursor.new }
 {
     match cursor.kind() {
-        Kind::Binary => {
-            cursor.expect(Kind::Binary)?;
+        TokenKind::Binary => {
+            cursor.expect(TokenKind::Binary)?;
             Ok(SimpleType::Binary(width(cursor, levels)?))
         }
-        Kind::Boolean => word(cursor, Kind::Boolean, SimpleType::Boolean),
-        Kind::Integer => word(cursor, Kind::Integer, SimpleType::Integer),
-        Kind::Logical => word(cursor, Kind::Logical, SimpleType::Logical),
-        Kind::Number => word(cursor, Kind::Number, SimpleType::Number),
-        Kind::Real => word(cursor, Kind::Real, SimpleType::Real),
-        Kind::String => {
-            cursor.expect(Kind::String)?;
+        TokenKind::Boolean => word(cursor, TokenKind::Boolean, SimpleType::Boolean),
+        TokenKind::Integer => word(cursor, TokenKind::Integer, SimpleType::Integer),
+        TokenKind::Logical => word(cursor, TokenKind::Logical, SimpleType::Logical),
+        TokenKind::Number => word(cursor, TokenKind::Number, SimpleType::Number),
+        TokenKind::Real => word(cursor, TokenKind::Real, SimpleType::Real),
+        TokenKind::String => {
+            cursor.expect(TokenKind::String)?;
             Ok(SimpleType::String(width(cursor, levels)?))
         }
         _ => Err(Failure::Fault(cursor.refusal())),
@@ -123,8 +123,8 @@ fn optional_label(cursor: &mut Cursor<'_>) -> Read<()>
     ensures reads { Reads (spec.optional_label cursor.old) result cursor.new }
     ensures keeps { Keeps result cursor.old cursor.new }
 {
-    if cursor.eat(Kind::Colon) {
-        cursor.expect(Kind::Identifier)?;
+    if cursor.eat(TokenKind::Colon) {
+        cursor.expect(TokenKind::Identifier)?;
     }
     Ok(())
 }
@@ -134,7 +134,7 @@ fn generic_type(cursor: &mut Cursor<'_>) -> Read<DataType>
     ensures reads { Reads (spec.generic_type cursor.old) result cursor.new }
     ensures takes { Takes result cursor.old cursor.new }
 {
-    cursor.expect(Kind::Generic)?;
+    cursor.expect(TokenKind::Generic)?;
     optional_label(cursor)?;
     Ok(DataType::Generic)
 }
@@ -168,11 +168,11 @@ impl<E: Fn(Global, &mut Cursor<'_>, u8) -> Read<DataType>> Types<E> {
         ensures reads { Reads (spec.array_type self.now.levels (spec.below self.now.general self.now.levels) cursor.old) result cursor.new }
         ensures takes { Takes result cursor.old cursor.new }
     {
-        cursor.enter(self.levels, Kind::Array)?;
+        cursor.enter(self.levels, TokenKind::Array)?;
         let bounds = array_bound_spec(cursor, self.levels - 1)?;
-        cursor.expect(Kind::Of)?;
-        let optional = cursor.eat(Kind::Optional);
-        let unique = cursor.eat(Kind::Unique);
+        cursor.expect(TokenKind::Of)?;
+        let optional = cursor.eat(TokenKind::Optional);
+        let unique = cursor.eat(TokenKind::Unique);
         let element = self.element(cursor)?;
         Ok(DataType::Array {
             bounds,
@@ -188,10 +188,10 @@ impl<E: Fn(Global, &mut Cursor<'_>, u8) -> Read<DataType>> Types<E> {
         ensures reads { Reads (spec.list_type self.now.levels (spec.below self.now.general self.now.levels) cursor.old) result cursor.new }
         ensures takes { Takes result cursor.old cursor.new }
     {
-        cursor.enter(self.levels, Kind::List)?;
+        cursor.enter(self.levels, TokenKind::List)?;
         let bounds = optional_bounds(cursor, self.levels - 1)?;
-        cursor.expect(Kind::Of)?;
-        let unique = cursor.eat(Kind::Unique);
+        cursor.expect(TokenKind::Of)?;
+        let unique = cursor.eat(TokenKind::Unique);
         let element = self.element(cursor)?;
         Ok(DataType::List {
             bounds,
@@ -206,9 +206,9 @@ impl<E: Fn(Global, &mut Cursor<'_>, u8) -> Read<DataType>> Types<E> {
         ensures reads { Reads (spec.bag_type self.now.levels (spec.below self.now.general self.now.levels) cursor.old) result cursor.new }
         ensures takes { Takes result cursor.old cursor.new }
     {
-        cursor.enter(self.levels, Kind::Bag)?;
+        cursor.enter(self.levels, TokenKind::Bag)?;
         let bounds = optional_bounds(cursor, self.levels - 1)?;
-        cursor.expect(Kind::Of)?;
+        cursor.expect(TokenKind::Of)?;
         let element = self.element(cursor)?;
         Ok(DataType::Bag { bounds, element })
     }
@@ -219,9 +219,9 @@ impl<E: Fn(Global, &mut Cursor<'_>, u8) -> Read<DataType>> Types<E> {
         ensures reads { Reads (spec.set_type self.now.levels (spec.below self.now.general self.now.levels) cursor.old) result cursor.new }
         ensures takes { Takes result cursor.old cursor.new }
     {
-        cursor.enter(self.levels, Kind::Set)?;
+        cursor.enter(self.levels, TokenKind::Set)?;
         let bounds = optional_bounds(cursor, self.levels - 1)?;
-        cursor.expect(Kind::Of)?;
+        cursor.expect(TokenKind::Of)?;
         let element = self.element(cursor)?;
         Ok(DataType::Set { bounds, element })
     }
@@ -232,9 +232,9 @@ impl<E: Fn(Global, &mut Cursor<'_>, u8) -> Read<DataType>> Types<E> {
         ensures reads { Reads (spec.aggregate_type self.now.levels (spec.below self.now.general self.now.levels) cursor.old) result cursor.new }
         ensures takes { Takes result cursor.old cursor.new }
     {
-        cursor.enter(self.levels, Kind::Aggregate)?;
+        cursor.enter(self.levels, TokenKind::Aggregate)?;
         optional_label(cursor)?;
-        cursor.expect(Kind::Of)?;
+        cursor.expect(TokenKind::Of)?;
         Ok(DataType::Aggregate(self.element(cursor)?))
     }
 
@@ -245,14 +245,14 @@ impl<E: Fn(Global, &mut Cursor<'_>, u8) -> Read<DataType>> Types<E> {
         ensures takes { Takes result cursor.old cursor.new }
     {
         match cursor.kind() {
-            Kind::Array => self.array_type(cursor),
-            Kind::List => self.list_type(cursor),
-            Kind::Bag => self.bag_type(cursor),
-            Kind::Set => self.set_type(cursor),
-            Kind::Aggregate if self.general => self.aggregate_type(cursor),
-            Kind::Generic if self.general => generic_type(cursor),
-            Kind::Aggregate | Kind::Generic => Err(Failure::Fault(cursor.refusal())),
-            Kind::Identifier => Ok(DataType::Named(name(self.alloc, cursor)?)),
+            TokenKind::Array => self.array_type(cursor),
+            TokenKind::List => self.list_type(cursor),
+            TokenKind::Bag => self.bag_type(cursor),
+            TokenKind::Set => self.set_type(cursor),
+            TokenKind::Aggregate if self.general => self.aggregate_type(cursor),
+            TokenKind::Generic if self.general => generic_type(cursor),
+            TokenKind::Aggregate | TokenKind::Generic => Err(Failure::Fault(cursor.refusal())),
+            TokenKind::Identifier => Ok(DataType::Named(name(self.alloc, cursor)?)),
             _ => Ok(DataType::Simple(simple_types(cursor, self.levels)?)),
         }
     }

@@ -4,17 +4,17 @@ ghost use Rattle.std.specs.Prelude.{◌≡◌};
 ghost use Rattle.text_forms.specs.Gives.{Reads, Takes, Keeps};
 ghost use Rattle.ex_forms.specs.Input as input;
 ghost use Rattle.ex_syntax.specs.Declarations as spec;
-ghost use Rattle.ex_tree.specs.declared.kind.Kind.TheVariants as k;
+ghost use Rattle.ex_tree.specs.declared.kind.TokenKind.TheVariants as k;
 ghost use Rattle.ex_expressions.specs.Expressions.{begins_expression};
 
 use crate::data_types::base_type;
 use ex_expressions::{begins_expression, expression};
 use ex_forms::{Begins, Cursor, Form, Read, name, optional, separated, some};
 use ex_tree::{
-    AttributeDeclaration, Constant, DomainRule, Kind, Name, QualifiedAttribute, TypeDeclaration,
-    UnderlyingType,
+    AttributeDeclaration, Constant, DomainRule, Name, QualifiedAttribute, TokenKind,
+    TypeDeclaration, UnderlyingType,
 };
-use sqlite_items::Items;
+use plain_data::Items;
 use std::alloc::Global;
 use text_forms::Failure;
 
@@ -24,14 +24,14 @@ pub(crate) const MAX_LEVELS: u8 = 64;
 #[derive(Drop)]
 pub(crate) struct NameForm;
 
-impl Form for NameForm {
+impl<'t> Form<Cursor<'t>> for NameForm {
     type Tree = Name;
 
     ghost form = { λ _. input.name };
 
     ghost can_read = { λ _. Unit {0} };
 
-    fn read(&self, alloc: Global, cursor: &mut Cursor<'_>) -> Read<Name> {
+    fn read(&self, alloc: Global, cursor: &mut Cursor<'t>) -> Read<Name> {
         name(alloc, cursor)
     }
 }
@@ -42,9 +42,9 @@ pub(crate) fn name_list(alloc: Global, cursor: &mut Cursor<'_>) -> Read<Items<Na
     ensures reads { Reads (spec.name_list cursor.old) result cursor.new }
     ensures takes { Takes result cursor.old cursor.new }
 {
-    cursor.enter(MAX_LEVELS, Kind::OpenParenthesis)?;
-    let names = separated(alloc, cursor, Kind::Comma, &NameForm)?;
-    cursor.expect(Kind::CloseParenthesis)?;
+    cursor.enter(MAX_LEVELS, TokenKind::OpenParenthesis)?;
+    let names = separated(alloc, cursor, TokenKind::Comma, &NameForm)?;
+    cursor.expect(TokenKind::CloseParenthesis)?;
     Ok(names)
 }
 
@@ -54,30 +54,30 @@ fn label(alloc: Global, cursor: &mut Cursor<'_>) -> Read<Name>
     ensures takes { Takes result cursor.old cursor.new }
 {
     let found = name(alloc, cursor)?;
-    cursor.expect(Kind::Colon)?;
+    cursor.expect(TokenKind::Colon)?;
     Ok(found)
 }
 
 #[derive(Drop)]
 pub(crate) struct LabelForm;
 
-impl Form for LabelForm {
+impl<'t> Form<Cursor<'t>> for LabelForm {
     type Tree = Name;
 
     ghost form = { λ _. spec.label };
 
     ghost can_read = { λ _. Unit {0} };
 
-    fn read(&self, alloc: Global, cursor: &mut Cursor<'_>) -> Read<Name> {
+    fn read(&self, alloc: Global, cursor: &mut Cursor<'t>) -> Read<Name> {
         label(alloc, cursor)
     }
 }
 
-impl Begins for LabelForm {
+impl<'t> Begins<Cursor<'t>> for LabelForm {
     ghost begins = { λ _. spec.begins_label };
 
-    fn begins(&self, cursor: &Cursor<'_>) -> bool {
-        cursor.sees(Kind::Identifier) && cursor.sees_second(Kind::Colon)
+    fn begins(&self, cursor: &Cursor<'t>) -> bool {
+        cursor.sees(TokenKind::Identifier) && cursor.sees_second(TokenKind::Colon)
     }
 }
 
@@ -88,29 +88,29 @@ fn domain_rule(alloc: Global, cursor: &mut Cursor<'_>) -> Read<DomainRule>
 {
     let label = optional(alloc, cursor, &LabelForm)?;
     let condition = expression(alloc, cursor, MAX_LEVELS)?;
-    cursor.expect(Kind::Semicolon)?;
+    cursor.expect(TokenKind::Semicolon)?;
     Ok(DomainRule { label, condition })
 }
 
 #[derive(Drop)]
 struct DomainRuleForm;
 
-impl Form for DomainRuleForm {
+impl<'t> Form<Cursor<'t>> for DomainRuleForm {
     type Tree = DomainRule;
 
     ghost form = { λ _. spec.domain_rule };
 
     ghost can_read = { λ _. Unit {0} };
 
-    fn read(&self, alloc: Global, cursor: &mut Cursor<'_>) -> Read<DomainRule> {
+    fn read(&self, alloc: Global, cursor: &mut Cursor<'t>) -> Read<DomainRule> {
         domain_rule(alloc, cursor)
     }
 }
 
-impl Begins for DomainRuleForm {
+impl<'t> Begins<Cursor<'t>> for DomainRuleForm {
     ghost begins = { λ _. begins_expression };
 
-    fn begins(&self, cursor: &Cursor<'_>) -> bool {
+    fn begins(&self, cursor: &Cursor<'t>) -> bool {
         begins_expression(cursor)
     }
 }
@@ -120,7 +120,7 @@ pub(crate) fn where_clause(alloc: Global, cursor: &mut Cursor<'_>) -> Read<Items
     ensures reads { Reads (spec.where_clause cursor.old) result cursor.new }
     ensures takes { Takes result cursor.old cursor.new }
 {
-    cursor.expect(Kind::Where)?;
+    cursor.expect(TokenKind::Where)?;
     some(alloc, cursor, &DomainRuleForm)
 }
 
@@ -130,7 +130,7 @@ pub(crate) fn where_rules(alloc: Global, cursor: &mut Cursor<'_>) -> Read<Items<
     ensures reads { Reads (spec.where_rules cursor.old) result cursor.new }
     ensures keeps { Keeps result cursor.old cursor.new }
 {
-    if cursor.sees(Kind::Where) {
+    if cursor.sees(TokenKind::Where) {
         where_clause(alloc, cursor)
     } else {
         Ok(Items::new(alloc))
@@ -142,10 +142,10 @@ fn qualified_attribute(alloc: Global, cursor: &mut Cursor<'_>) -> Read<Qualified
     ensures reads { Reads (spec.qualified_attribute cursor.old) result cursor.new }
     ensures takes { Takes result cursor.old cursor.new }
 {
-    cursor.expect(Kind::Itself)?;
-    cursor.expect(Kind::Backslash)?;
+    cursor.expect(TokenKind::Itself)?;
+    cursor.expect(TokenKind::Backslash)?;
     let entity = name(alloc, cursor)?;
-    cursor.expect(Kind::Point)?;
+    cursor.expect(TokenKind::Point)?;
     let attribute = name(alloc, cursor)?;
     Ok(QualifiedAttribute { entity, attribute })
 }
@@ -157,8 +157,10 @@ pub(crate) fn attribute_decl(alloc: Global, cursor: &mut Cursor<'_>) -> Read<Att
     ensures takes { Takes result cursor.old cursor.new }
 {
     match cursor.kind() {
-        Kind::Identifier => Ok(AttributeDeclaration::Own(name(alloc, cursor)?)),
-        Kind::Itself => Ok(AttributeDeclaration::Qualified(qualified_attribute(alloc, cursor)?)),
+        TokenKind::Identifier => Ok(AttributeDeclaration::Own(name(alloc, cursor)?)),
+        TokenKind::Itself => Ok(AttributeDeclaration::Qualified(qualified_attribute(
+            alloc, cursor,
+        )?)),
         _ => Err(Failure::Fault(cursor.refusal())),
     }
 }
@@ -167,20 +169,20 @@ pub(crate) fn attribute_decl(alloc: Global, cursor: &mut Cursor<'_>) -> Read<Att
 pub(crate) fn begins_attribute(cursor: &Cursor<'_>) -> bool
     ensures { result ≡ spec.begins_attribute cursor.now }
 {
-    cursor.sees(Kind::Identifier) || cursor.sees(Kind::Itself)
+    cursor.sees(TokenKind::Identifier) || cursor.sees(TokenKind::Itself)
 }
 
 #[derive(Drop)]
 pub(crate) struct AttributeForm;
 
-impl Form for AttributeForm {
+impl<'t> Form<Cursor<'t>> for AttributeForm {
     type Tree = AttributeDeclaration;
 
     ghost form = { λ _. spec.attribute_decl };
 
     ghost can_read = { λ _. Unit {0} };
 
-    fn read(&self, alloc: Global, cursor: &mut Cursor<'_>) -> Read<AttributeDeclaration> {
+    fn read(&self, alloc: Global, cursor: &mut Cursor<'t>) -> Read<AttributeDeclaration> {
         attribute_decl(alloc, cursor)
     }
 }
@@ -191,11 +193,11 @@ fn constant_body(alloc: Global, cursor: &mut Cursor<'_>) -> Read<Constant>
     ensures takes { Takes result cursor.old cursor.new }
 {
     let name = name(alloc, cursor)?;
-    cursor.expect(Kind::Colon)?;
+    cursor.expect(TokenKind::Colon)?;
     let data_type = base_type(alloc, cursor, MAX_LEVELS)?;
-    cursor.expect(Kind::Becomes)?;
+    cursor.expect(TokenKind::Becomes)?;
     let value = expression(alloc, cursor, MAX_LEVELS)?;
-    cursor.expect(Kind::Semicolon)?;
+    cursor.expect(TokenKind::Semicolon)?;
     Ok(Constant {
         name,
         data_type,
@@ -206,23 +208,23 @@ fn constant_body(alloc: Global, cursor: &mut Cursor<'_>) -> Read<Constant>
 #[derive(Drop)]
 struct ConstantForm;
 
-impl Form for ConstantForm {
+impl<'t> Form<Cursor<'t>> for ConstantForm {
     type Tree = Constant;
 
     ghost form = { λ _. spec.constant_body };
 
     ghost can_read = { λ _. Unit {0} };
 
-    fn read(&self, alloc: Global, cursor: &mut Cursor<'_>) -> Read<Constant> {
+    fn read(&self, alloc: Global, cursor: &mut Cursor<'t>) -> Read<Constant> {
         constant_body(alloc, cursor)
     }
 }
 
-impl Begins for ConstantForm {
+impl<'t> Begins<Cursor<'t>> for ConstantForm {
     ghost begins = { λ _. input.sees k.Identifier };
 
-    fn begins(&self, cursor: &Cursor<'_>) -> bool {
-        cursor.sees(Kind::Identifier)
+    fn begins(&self, cursor: &Cursor<'t>) -> bool {
+        cursor.sees(TokenKind::Identifier)
     }
 }
 
@@ -231,10 +233,10 @@ fn constant_decl(alloc: Global, cursor: &mut Cursor<'_>) -> Read<Items<Constant>
     ensures reads { Reads (spec.constant_decl cursor.old) result cursor.new }
     ensures takes { Takes result cursor.old cursor.new }
 {
-    cursor.expect(Kind::Constant)?;
+    cursor.expect(TokenKind::Constant)?;
     let constants = some(alloc, cursor, &ConstantForm)?;
-    cursor.expect(Kind::EndConstant)?;
-    cursor.expect(Kind::Semicolon)?;
+    cursor.expect(TokenKind::EndConstant)?;
+    cursor.expect(TokenKind::Semicolon)?;
     Ok(constants)
 }
 
@@ -244,7 +246,7 @@ pub(crate) fn constants(alloc: Global, cursor: &mut Cursor<'_>) -> Read<Items<Co
     ensures reads { Reads (spec.constants cursor.old) result cursor.new }
     ensures keeps { Keeps result cursor.old cursor.new }
 {
-    if cursor.sees(Kind::Constant) {
+    if cursor.sees(TokenKind::Constant) {
         constant_decl(alloc, cursor)
     } else {
         Ok(Items::new(alloc))
@@ -256,8 +258,8 @@ fn enumeration_type(alloc: Global, cursor: &mut Cursor<'_>) -> Read<UnderlyingTy
     ensures reads { Reads (spec.enumeration_type cursor.old) result cursor.new }
     ensures takes { Takes result cursor.old cursor.new }
 {
-    cursor.expect(Kind::Enumeration)?;
-    cursor.expect(Kind::Of)?;
+    cursor.expect(TokenKind::Enumeration)?;
+    cursor.expect(TokenKind::Of)?;
     Ok(UnderlyingType::Enumeration(name_list(alloc, cursor)?))
 }
 
@@ -266,7 +268,7 @@ fn select_type(alloc: Global, cursor: &mut Cursor<'_>) -> Read<UnderlyingType>
     ensures reads { Reads (spec.select_type cursor.old) result cursor.new }
     ensures takes { Takes result cursor.old cursor.new }
 {
-    cursor.expect(Kind::Select)?;
+    cursor.expect(TokenKind::Select)?;
     Ok(UnderlyingType::Select(name_list(alloc, cursor)?))
 }
 
@@ -276,8 +278,8 @@ fn underlying_type(alloc: Global, cursor: &mut Cursor<'_>) -> Read<UnderlyingTyp
     ensures takes { Takes result cursor.old cursor.new }
 {
     match cursor.kind() {
-        Kind::Enumeration => enumeration_type(alloc, cursor),
-        Kind::Select => select_type(alloc, cursor),
+        TokenKind::Enumeration => enumeration_type(alloc, cursor),
+        TokenKind::Select => select_type(alloc, cursor),
         _ => Ok(UnderlyingType::Data(base_type(alloc, cursor, MAX_LEVELS)?)),
     }
 }
@@ -287,14 +289,14 @@ pub(crate) fn type_decl(alloc: Global, cursor: &mut Cursor<'_>) -> Read<TypeDecl
     ensures reads { Reads (spec.type_decl cursor.old) result cursor.new }
     ensures takes { Takes result cursor.old cursor.new }
 {
-    cursor.expect(Kind::Type)?;
+    cursor.expect(TokenKind::Type)?;
     let name = name(alloc, cursor)?;
-    cursor.expect(Kind::Equals)?;
+    cursor.expect(TokenKind::Equals)?;
     let underlying = underlying_type(alloc, cursor)?;
-    cursor.expect(Kind::Semicolon)?;
+    cursor.expect(TokenKind::Semicolon)?;
     let domain_rules = where_rules(alloc, cursor)?;
-    cursor.expect(Kind::EndType)?;
-    cursor.expect(Kind::Semicolon)?;
+    cursor.expect(TokenKind::EndType)?;
+    cursor.expect(TokenKind::Semicolon)?;
     Ok(TypeDeclaration {
         name,
         underlying,

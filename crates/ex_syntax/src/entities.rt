@@ -5,7 +5,7 @@ ghost use Rattle.text_forms.specs.Gives.{Reads, Takes, Keeps};
 ghost use Rattle.ex_forms.specs.Input as input;
 ghost use Rattle.ex_syntax.specs.Declarations.{begins_attribute};
 ghost use Rattle.ex_syntax.specs.Entities as spec;
-ghost use Rattle.ex_tree.specs.declared.kind.Kind.TheVariants as k;
+ghost use Rattle.ex_tree.specs.declared.kind.TokenKind.TheVariants as k;
 
 use crate::data_types::{base_type, optional_bounds};
 use crate::declarations::{
@@ -16,9 +16,9 @@ use ex_expressions::expression;
 use ex_forms::{Begins, Cursor, Form, Read, many, name, optional, separated, some};
 use ex_tree::{
     DerivedAttribute, Entity, EntityBody, EntityHead, ExplicitAttribute, InverseAggregate,
-    InverseAttribute, Kind, Name, SetOrBag, SupertypeExpression, UniqueRule,
+    InverseAttribute, Name, SetOrBag, SupertypeExpression, TokenKind, UniqueRule,
 };
-use sqlite_items::Items;
+use plain_data::Items;
 use std::alloc::Global;
 
 #[tactic(auto, unfolding(crate::specs::Entities::explicit_attr))]
@@ -26,11 +26,11 @@ fn explicit_attr(alloc: Global, cursor: &mut Cursor<'_>) -> Read<ExplicitAttribu
     ensures reads { Reads (spec.explicit_attr cursor.old) result cursor.new }
     ensures takes { Takes result cursor.old cursor.new }
 {
-    let attributes = separated(alloc, cursor, Kind::Comma, &AttributeForm)?;
-    cursor.expect(Kind::Colon)?;
-    let optional = cursor.eat(Kind::Optional);
+    let attributes = separated(alloc, cursor, TokenKind::Comma, &AttributeForm)?;
+    cursor.expect(TokenKind::Colon)?;
+    let optional = cursor.eat(TokenKind::Optional);
     let data_type = base_type(alloc, cursor, MAX_LEVELS)?;
-    cursor.expect(Kind::Semicolon)?;
+    cursor.expect(TokenKind::Semicolon)?;
     Ok(ExplicitAttribute {
         attributes,
         optional,
@@ -41,22 +41,22 @@ fn explicit_attr(alloc: Global, cursor: &mut Cursor<'_>) -> Read<ExplicitAttribu
 #[derive(Drop)]
 struct ExplicitForm;
 
-impl Form for ExplicitForm {
+impl<'t> Form<Cursor<'t>> for ExplicitForm {
     type Tree = ExplicitAttribute;
 
     ghost form = { λ _. spec.explicit_attr };
 
     ghost can_read = { λ _. Unit {0} };
 
-    fn read(&self, alloc: Global, cursor: &mut Cursor<'_>) -> Read<ExplicitAttribute> {
+    fn read(&self, alloc: Global, cursor: &mut Cursor<'t>) -> Read<ExplicitAttribute> {
         explicit_attr(alloc, cursor)
     }
 }
 
-impl Begins for ExplicitForm {
+impl<'t> Begins<Cursor<'t>> for ExplicitForm {
     ghost begins = { λ _. begins_attribute };
 
-    fn begins(&self, cursor: &Cursor<'_>) -> bool {
+    fn begins(&self, cursor: &Cursor<'t>) -> bool {
         begins_attribute(cursor)
     }
 }
@@ -67,11 +67,11 @@ fn derived_attr(alloc: Global, cursor: &mut Cursor<'_>) -> Read<DerivedAttribute
     ensures takes { Takes result cursor.old cursor.new }
 {
     let attribute = attribute_decl(alloc, cursor)?;
-    cursor.expect(Kind::Colon)?;
+    cursor.expect(TokenKind::Colon)?;
     let data_type = base_type(alloc, cursor, MAX_LEVELS)?;
-    cursor.expect(Kind::Becomes)?;
+    cursor.expect(TokenKind::Becomes)?;
     let value = expression(alloc, cursor, MAX_LEVELS)?;
-    cursor.expect(Kind::Semicolon)?;
+    cursor.expect(TokenKind::Semicolon)?;
     Ok(DerivedAttribute {
         attribute,
         data_type,
@@ -82,32 +82,32 @@ fn derived_attr(alloc: Global, cursor: &mut Cursor<'_>) -> Read<DerivedAttribute
 #[derive(Drop)]
 struct DerivedForm;
 
-impl Form for DerivedForm {
+impl<'t> Form<Cursor<'t>> for DerivedForm {
     type Tree = DerivedAttribute;
 
     ghost form = { λ _. spec.derived_attr };
 
     ghost can_read = { λ _. Unit {0} };
 
-    fn read(&self, alloc: Global, cursor: &mut Cursor<'_>) -> Read<DerivedAttribute> {
+    fn read(&self, alloc: Global, cursor: &mut Cursor<'t>) -> Read<DerivedAttribute> {
         derived_attr(alloc, cursor)
     }
 }
 
-impl Begins for DerivedForm {
+impl<'t> Begins<Cursor<'t>> for DerivedForm {
     ghost begins = { λ _. begins_attribute };
 
-    fn begins(&self, cursor: &Cursor<'_>) -> bool {
+    fn begins(&self, cursor: &Cursor<'t>) -> bool {
         begins_attribute(cursor)
     }
 }
 
-fn set_or_bag(kind: Kind) -> Option<SetOrBag>
+fn set_or_bag(kind: TokenKind) -> Option<SetOrBag>
     ensures { result ≡ spec.set_or_bag kind }
 {
     match kind {
-        Kind::Set => Some(SetOrBag::Set),
-        Kind::Bag => Some(SetOrBag::Bag),
+        TokenKind::Set => Some(SetOrBag::Set),
+        TokenKind::Bag => Some(SetOrBag::Bag),
         _ => None,
     }
 }
@@ -124,7 +124,7 @@ fn inverse_aggregate(cursor: &mut Cursor<'_>) -> Read<Option<InverseAggregate>>
     };
     cursor.enter(MAX_LEVELS, word)?;
     let bounds = optional_bounds(cursor, MAX_LEVELS - 1)?;
-    cursor.expect(Kind::Of)?;
+    cursor.expect(TokenKind::Of)?;
     Ok(Some(InverseAggregate { kind, bounds }))
 }
 
@@ -134,12 +134,12 @@ fn inverse_attr(alloc: Global, cursor: &mut Cursor<'_>) -> Read<InverseAttribute
     ensures takes { Takes result cursor.old cursor.new }
 {
     let own = name(alloc, cursor)?;
-    cursor.expect(Kind::Colon)?;
+    cursor.expect(TokenKind::Colon)?;
     let aggregate = inverse_aggregate(cursor)?;
     let entity = name(alloc, cursor)?;
-    cursor.expect(Kind::For)?;
+    cursor.expect(TokenKind::For)?;
     let attribute = name(alloc, cursor)?;
-    cursor.expect(Kind::Semicolon)?;
+    cursor.expect(TokenKind::Semicolon)?;
     Ok(InverseAttribute {
         name: own,
         aggregate,
@@ -151,23 +151,23 @@ fn inverse_attr(alloc: Global, cursor: &mut Cursor<'_>) -> Read<InverseAttribute
 #[derive(Drop)]
 struct InverseForm;
 
-impl Form for InverseForm {
+impl<'t> Form<Cursor<'t>> for InverseForm {
     type Tree = InverseAttribute;
 
     ghost form = { λ _. spec.inverse_attr };
 
     ghost can_read = { λ _. Unit {0} };
 
-    fn read(&self, alloc: Global, cursor: &mut Cursor<'_>) -> Read<InverseAttribute> {
+    fn read(&self, alloc: Global, cursor: &mut Cursor<'t>) -> Read<InverseAttribute> {
         inverse_attr(alloc, cursor)
     }
 }
 
-impl Begins for InverseForm {
+impl<'t> Begins<Cursor<'t>> for InverseForm {
     ghost begins = { λ _. input.sees k.Identifier };
 
-    fn begins(&self, cursor: &Cursor<'_>) -> bool {
-        cursor.sees(Kind::Identifier)
+    fn begins(&self, cursor: &Cursor<'t>) -> bool {
+        cursor.sees(TokenKind::Identifier)
     }
 }
 
@@ -177,39 +177,39 @@ fn unique_rule(alloc: Global, cursor: &mut Cursor<'_>) -> Read<UniqueRule>
     ensures takes { Takes result cursor.old cursor.new }
 {
     let label = optional(alloc, cursor, &LabelForm)?;
-    let attributes = separated(alloc, cursor, Kind::Comma, &AttributeForm)?;
-    cursor.expect(Kind::Semicolon)?;
+    let attributes = separated(alloc, cursor, TokenKind::Comma, &AttributeForm)?;
+    cursor.expect(TokenKind::Semicolon)?;
     Ok(UniqueRule { label, attributes })
 }
 
 #[derive(Drop)]
 struct UniqueForm;
 
-impl Form for UniqueForm {
+impl<'t> Form<Cursor<'t>> for UniqueForm {
     type Tree = UniqueRule;
 
     ghost form = { λ _. spec.unique_rule };
 
     ghost can_read = { λ _. Unit {0} };
 
-    fn read(&self, alloc: Global, cursor: &mut Cursor<'_>) -> Read<UniqueRule> {
+    fn read(&self, alloc: Global, cursor: &mut Cursor<'t>) -> Read<UniqueRule> {
         unique_rule(alloc, cursor)
     }
 }
 
-impl Begins for UniqueForm {
+impl<'t> Begins<Cursor<'t>> for UniqueForm {
     ghost begins = { λ _. begins_attribute };
 
-    fn begins(&self, cursor: &Cursor<'_>) -> bool {
+    fn begins(&self, cursor: &Cursor<'t>) -> bool {
         begins_attribute(cursor)
     }
 }
 
 /// What stands behind this word, if it stands here: one item or more.
-fn clause<F: Form + Begins>(
+fn clause<'t, F: Form<Cursor<'t>> + Begins<Cursor<'t>>>(
     alloc: Global,
-    cursor: &mut Cursor<'_>,
-    word: Kind,
+    cursor: &mut Cursor<'t>,
+    word: TokenKind,
     item: &F,
 ) -> Read<Items<F::Tree>>
     requires { F.can_read item.now }
@@ -229,9 +229,9 @@ fn entity_body(alloc: Global, cursor: &mut Cursor<'_>) -> Read<EntityBody>
     ensures keeps { Keeps result cursor.old cursor.new }
 {
     let explicit = many(alloc, cursor, &ExplicitForm)?;
-    let derived = clause(alloc, cursor, Kind::Derive, &DerivedForm)?;
-    let inverse = clause(alloc, cursor, Kind::Inverse, &InverseForm)?;
-    let unique_rules = clause(alloc, cursor, Kind::Unique, &UniqueForm)?;
+    let derived = clause(alloc, cursor, TokenKind::Derive, &DerivedForm)?;
+    let inverse = clause(alloc, cursor, TokenKind::Inverse, &InverseForm)?;
+    let unique_rules = clause(alloc, cursor, TokenKind::Unique, &UniqueForm)?;
     let domain_rules = where_rules(alloc, cursor)?;
     Ok(EntityBody {
         explicit,
@@ -247,33 +247,33 @@ fn subtype_constraint(alloc: Global, cursor: &mut Cursor<'_>) -> Read<SupertypeE
     ensures reads { Reads (spec.subtype_constraint cursor.old) result cursor.new }
     ensures takes { Takes result cursor.old cursor.new }
 {
-    cursor.expect(Kind::Of)?;
-    cursor.enter(MAX_LEVELS, Kind::OpenParenthesis)?;
+    cursor.expect(TokenKind::Of)?;
+    cursor.enter(MAX_LEVELS, TokenKind::OpenParenthesis)?;
     let found = supertype_expression(alloc, cursor, MAX_LEVELS - 1)?;
-    cursor.expect(Kind::CloseParenthesis)?;
+    cursor.expect(TokenKind::CloseParenthesis)?;
     Ok(found)
 }
 
 #[derive(Drop)]
 struct SubtypeConstraintForm;
 
-impl Form for SubtypeConstraintForm {
+impl<'t> Form<Cursor<'t>> for SubtypeConstraintForm {
     type Tree = SupertypeExpression;
 
     ghost form = { λ _. spec.subtype_constraint };
 
     ghost can_read = { λ _. Unit {0} };
 
-    fn read(&self, alloc: Global, cursor: &mut Cursor<'_>) -> Read<SupertypeExpression> {
+    fn read(&self, alloc: Global, cursor: &mut Cursor<'t>) -> Read<SupertypeExpression> {
         subtype_constraint(alloc, cursor)
     }
 }
 
-impl Begins for SubtypeConstraintForm {
+impl<'t> Begins<Cursor<'t>> for SubtypeConstraintForm {
     ghost begins = { λ _. input.sees k.Of };
 
-    fn begins(&self, cursor: &Cursor<'_>) -> bool {
-        cursor.sees(Kind::Of)
+    fn begins(&self, cursor: &Cursor<'t>) -> bool {
+        cursor.sees(TokenKind::Of)
     }
 }
 
@@ -282,30 +282,30 @@ fn supertype_rule(alloc: Global, cursor: &mut Cursor<'_>) -> Read<SupertypeExpre
     ensures reads { Reads (spec.supertype_rule cursor.old) result cursor.new }
     ensures takes { Takes result cursor.old cursor.new }
 {
-    cursor.expect(Kind::Supertype)?;
+    cursor.expect(TokenKind::Supertype)?;
     subtype_constraint(alloc, cursor)
 }
 
 #[derive(Drop)]
 struct SupertypeRuleForm;
 
-impl Form for SupertypeRuleForm {
+impl<'t> Form<Cursor<'t>> for SupertypeRuleForm {
     type Tree = SupertypeExpression;
 
     ghost form = { λ _. spec.supertype_rule };
 
     ghost can_read = { λ _. Unit {0} };
 
-    fn read(&self, alloc: Global, cursor: &mut Cursor<'_>) -> Read<SupertypeExpression> {
+    fn read(&self, alloc: Global, cursor: &mut Cursor<'t>) -> Read<SupertypeExpression> {
         supertype_rule(alloc, cursor)
     }
 }
 
-impl Begins for SupertypeRuleForm {
+impl<'t> Begins<Cursor<'t>> for SupertypeRuleForm {
     ghost begins = { λ _. input.sees k.Supertype };
 
-    fn begins(&self, cursor: &Cursor<'_>) -> bool {
-        cursor.sees(Kind::Supertype)
+    fn begins(&self, cursor: &Cursor<'t>) -> bool {
+        cursor.sees(TokenKind::Supertype)
     }
 }
 
@@ -315,7 +315,7 @@ fn abstract_supertype(alloc: Global, cursor: &mut Cursor<'_>) -> Read<Option<Sup
     ensures reads { Reads (spec.abstract_supertype cursor.old) result cursor.new }
     ensures takes { Takes result cursor.old cursor.new }
 {
-    cursor.expect(Kind::Supertype)?;
+    cursor.expect(TokenKind::Supertype)?;
     optional(alloc, cursor, &SubtypeConstraintForm)
 }
 
@@ -339,8 +339,8 @@ fn subtype_declaration(alloc: Global, cursor: &mut Cursor<'_>) -> Read<Items<Nam
     ensures reads { Reads (spec.subtype_declaration cursor.old) result cursor.new }
     ensures takes { Takes result cursor.old cursor.new }
 {
-    cursor.expect(Kind::Subtype)?;
-    cursor.expect(Kind::Of)?;
+    cursor.expect(TokenKind::Subtype)?;
+    cursor.expect(TokenKind::Of)?;
     name_list(alloc, cursor)
 }
 
@@ -350,7 +350,7 @@ fn supertypes(alloc: Global, cursor: &mut Cursor<'_>) -> Read<Items<Name>>
     ensures reads { Reads (spec.supertypes cursor.old) result cursor.new }
     ensures keeps { Keeps result cursor.old cursor.new }
 {
-    if cursor.sees(Kind::Subtype) {
+    if cursor.sees(TokenKind::Subtype) {
         subtype_declaration(alloc, cursor)
     } else {
         Ok(Items::new(alloc))
@@ -362,12 +362,12 @@ fn entity_head(alloc: Global, cursor: &mut Cursor<'_>) -> Read<EntityHead>
     ensures reads { Reads (spec.entity_head cursor.old) result cursor.new }
     ensures takes { Takes result cursor.old cursor.new }
 {
-    cursor.expect(Kind::Entity)?;
+    cursor.expect(TokenKind::Entity)?;
     let name = name(alloc, cursor)?;
-    let is_abstract = cursor.eat(Kind::Abstract);
+    let is_abstract = cursor.eat(TokenKind::Abstract);
     let constraint = supertype_constraint(alloc, cursor, is_abstract)?;
     let supertypes = supertypes(alloc, cursor)?;
-    cursor.expect(Kind::Semicolon)?;
+    cursor.expect(TokenKind::Semicolon)?;
     Ok(EntityHead {
         name,
         is_abstract,
@@ -383,7 +383,7 @@ pub(crate) fn entity_decl(alloc: Global, cursor: &mut Cursor<'_>) -> Read<Entity
 {
     let head = entity_head(alloc, cursor)?;
     let body = entity_body(alloc, cursor)?;
-    cursor.expect(Kind::EndEntity)?;
-    cursor.expect(Kind::Semicolon)?;
+    cursor.expect(TokenKind::EndEntity)?;
+    cursor.expect(TokenKind::Semicolon)?;
     Ok(Entity { head, body })
 }

@@ -8,9 +8,9 @@ use crate::algorithms::{function_decl, rule_decl};
 use crate::declarations::{constants, type_decl};
 use crate::entities::entity_decl;
 use ex_expressions::strings;
-use ex_forms::{Begins, Cursor, Form, Read, Tokens, many, name};
-use ex_tree::{Declaration, Kind, ParseFault, Schema};
-use sqlite_items::Items;
+use ex_forms::{Begins, Cursor, Form, Read, TokenList, many, name};
+use ex_tree::{Declaration, ParseFault, Schema, TokenKind};
+use plain_data::Items;
 use std::alloc::Global;
 use text_forms::Failure;
 
@@ -20,10 +20,10 @@ fn declaration(alloc: Global, cursor: &mut Cursor<'_>) -> Read<Declaration>
     ensures takes { Takes result cursor.old cursor.new }
 {
     match cursor.kind() {
-        Kind::Entity => Ok(Declaration::Entity(entity_decl(alloc, cursor)?)),
-        Kind::Function => Ok(Declaration::Function(function_decl(alloc, cursor)?)),
-        Kind::Rule => Ok(Declaration::Rule(rule_decl(alloc, cursor)?)),
-        Kind::Type => Ok(Declaration::Type(type_decl(alloc, cursor)?)),
+        TokenKind::Entity => Ok(Declaration::Entity(entity_decl(alloc, cursor)?)),
+        TokenKind::Function => Ok(Declaration::Function(function_decl(alloc, cursor)?)),
+        TokenKind::Rule => Ok(Declaration::Rule(rule_decl(alloc, cursor)?)),
+        TokenKind::Type => Ok(Declaration::Type(type_decl(alloc, cursor)?)),
         _ => Err(Failure::Fault(cursor.refusal())),
     }
 }
@@ -31,31 +31,31 @@ fn declaration(alloc: Global, cursor: &mut Cursor<'_>) -> Read<Declaration>
 fn begins_declaration(cursor: &Cursor<'_>) -> bool
     ensures { result ≡ spec.begins_declaration cursor.now }
 {
-    cursor.sees(Kind::Entity)
-        || cursor.sees(Kind::Function)
-        || cursor.sees(Kind::Rule)
-        || cursor.sees(Kind::Type)
+    cursor.sees(TokenKind::Entity)
+        || cursor.sees(TokenKind::Function)
+        || cursor.sees(TokenKind::Rule)
+        || cursor.sees(TokenKind::Type)
 }
 
 #[derive(Drop)]
 struct DeclarationForm;
 
-impl Form for DeclarationForm {
+impl<'t> Form<Cursor<'t>> for DeclarationForm {
     type Tree = Declaration;
 
     ghost form = { λ _. spec.declaration };
 
     ghost can_read = { λ _. Unit {0} };
 
-    fn read(&self, alloc: Global, cursor: &mut Cursor<'_>) -> Read<Declaration> {
+    fn read(&self, alloc: Global, cursor: &mut Cursor<'t>) -> Read<Declaration> {
         declaration(alloc, cursor)
     }
 }
 
-impl Begins for DeclarationForm {
+impl<'t> Begins<Cursor<'t>> for DeclarationForm {
     ghost begins = { λ _. spec.begins_declaration };
 
-    fn begins(&self, cursor: &Cursor<'_>) -> bool {
+    fn begins(&self, cursor: &Cursor<'t>) -> bool {
         begins_declaration(cursor)
     }
 }
@@ -66,13 +66,13 @@ fn schema_decl(alloc: Global, cursor: &mut Cursor<'_>) -> Read<Schema>
     ensures reads { Reads (spec.schema_decl cursor.old) result cursor.new }
     ensures takes { Takes result cursor.old cursor.new }
 {
-    cursor.expect(Kind::Schema)?;
+    cursor.expect(TokenKind::Schema)?;
     let name = name(alloc, cursor)?;
-    cursor.expect(Kind::Semicolon)?;
+    cursor.expect(TokenKind::Semicolon)?;
     let constants = constants(alloc, cursor)?;
     let declarations = many(alloc, cursor, &DeclarationForm)?;
-    cursor.expect(Kind::EndSchema)?;
-    cursor.expect(Kind::Semicolon)?;
+    cursor.expect(TokenKind::EndSchema)?;
+    cursor.expect(TokenKind::Semicolon)?;
     Ok(Schema {
         name,
         constants,
@@ -93,7 +93,7 @@ fn syntax(alloc: Global, cursor: &mut Cursor<'_>) -> Read<Schema>
 /// The tree that the tokens of a text spell: one schema, with the text's string literals. Else the fault of the first
 /// token that cannot stand where it does, or of the text's end.
 #[tactic(auto, unfolding(crate::specs::Schemas::parsed))]
-pub fn parse(alloc: Global, tokens: &Tokens<'_>) -> Result<Schema, Failure<ParseFault>>
+pub fn parse(alloc: Global, tokens: &TokenList<'_>) -> Result<Schema, Failure<ParseFault>>
     ensures { Gives (λ schema. schema) result (spec.parsed tokens.now) }
 {
     let mut schema = syntax(alloc, &mut Cursor::new(tokens))?;

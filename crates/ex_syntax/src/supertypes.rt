@@ -7,8 +7,8 @@ ghost use Rattle.ex_forms.specs.Nests.{Nests};
 ghost use Rattle.ex_syntax.specs.Supertypes as spec;
 
 use ex_forms::{Cursor, Form, Read, name, separated};
-use ex_tree::{Kind, SupertypeExpression};
-use sqlite_items::Items;
+use ex_tree::{SupertypeExpression, TokenKind};
+use plain_data::Items;
 use std::alloc::Global;
 use text_forms::Failure;
 
@@ -62,10 +62,10 @@ impl<E: Fn(Global, &mut Cursor<'_>, u8) -> Read<SupertypeExpression>> Supertypes
         ensures reads { Reads (spec.one_of self.now.levels (spec.below self.now.levels) cursor.old) result cursor.new }
         ensures takes { Takes result cursor.old cursor.new }
     {
-        cursor.expect(Kind::OneOf)?;
-        cursor.enter(self.levels, Kind::OpenParenthesis)?;
-        let parts = separated(self.alloc, cursor, Kind::Comma, &Inner(self))?;
-        cursor.expect(Kind::CloseParenthesis)?;
+        cursor.expect(TokenKind::OneOf)?;
+        cursor.enter(self.levels, TokenKind::OpenParenthesis)?;
+        let parts = separated(self.alloc, cursor, TokenKind::Comma, &Inner(self))?;
+        cursor.expect(TokenKind::CloseParenthesis)?;
         Ok(SupertypeExpression::OneOf(parts))
     }
 
@@ -75,9 +75,9 @@ impl<E: Fn(Global, &mut Cursor<'_>, u8) -> Read<SupertypeExpression>> Supertypes
         ensures reads { Reads (spec.parenthesized self.now.levels (spec.below self.now.levels) cursor.old) result cursor.new }
         ensures takes { Takes result cursor.old cursor.new }
     {
-        cursor.enter(self.levels, Kind::OpenParenthesis)?;
+        cursor.enter(self.levels, TokenKind::OpenParenthesis)?;
         let expression = self.inner(cursor)?;
-        cursor.expect(Kind::CloseParenthesis)?;
+        cursor.expect(TokenKind::CloseParenthesis)?;
         Ok(expression)
     }
 
@@ -88,9 +88,9 @@ impl<E: Fn(Global, &mut Cursor<'_>, u8) -> Read<SupertypeExpression>> Supertypes
         ensures takes { Takes result cursor.old cursor.new }
     {
         match cursor.kind() {
-            Kind::Identifier => Ok(SupertypeExpression::Entity(name(self.alloc, cursor)?)),
-            Kind::OneOf => self.one_of(cursor),
-            Kind::OpenParenthesis => self.parenthesized(cursor),
+            TokenKind::Identifier => Ok(SupertypeExpression::Entity(name(self.alloc, cursor)?)),
+            TokenKind::OneOf => self.one_of(cursor),
+            TokenKind::OpenParenthesis => self.parenthesized(cursor),
             _ => Err(Failure::Fault(cursor.refusal())),
         }
     }
@@ -101,7 +101,7 @@ impl<E: Fn(Global, &mut Cursor<'_>, u8) -> Read<SupertypeExpression>> Supertypes
         ensures reads { Reads (spec.supertype_factor self.now.levels (spec.below self.now.levels) cursor.old) result cursor.new }
         ensures takes { Takes result cursor.old cursor.new }
     {
-        let operands = separated(self.alloc, cursor, Kind::And, &Term(self))?;
+        let operands = separated(self.alloc, cursor, TokenKind::And, &Term(self))?;
         Ok(and_of(operands))
     }
 
@@ -111,7 +111,7 @@ impl<E: Fn(Global, &mut Cursor<'_>, u8) -> Read<SupertypeExpression>> Supertypes
         ensures reads { Reads (spec.supertype_expression_over self.now.levels (spec.below self.now.levels) cursor.old) result cursor.new }
         ensures takes { Takes result cursor.old cursor.new }
     {
-        let operands = separated(self.alloc, cursor, Kind::AndOr, &Factor(self))?;
+        let operands = separated(self.alloc, cursor, TokenKind::AndOr, &Factor(self))?;
         Ok(and_or_of(operands))
     }
 }
@@ -119,7 +119,8 @@ impl<E: Fn(Global, &mut Cursor<'_>, u8) -> Read<SupertypeExpression>> Supertypes
 #[derive(Drop)]
 struct Inner<'s, E>(&'s Supertypes<E>);
 
-impl<E: Fn(Global, &mut Cursor<'_>, u8) -> Read<SupertypeExpression>> Form for Inner<'_, E> {
+impl<'t, E: Fn(Global, &mut Cursor<'_>, u8) -> Read<SupertypeExpression>> Form<Cursor<'t>>
+    for Inner<'_, E> {
     ghost use Rattle.ex_tree.specs.declared.declaration.SupertypeExpression.{SupertypeExpression};
 
     type Tree = SupertypeExpression;
@@ -128,7 +129,7 @@ impl<E: Fn(Global, &mut Cursor<'_>, u8) -> Read<SupertypeExpression>> Form for I
 
     ghost can_read = { λ f. (0 < f.0.now.levels) × Nests SupertypeExpression f.0.now.levels (spec.below f.0.now.levels) (E.pre f.0.now.inner) (E.post f.0.now.inner) };
 
-    fn read(&self, _alloc: Global, cursor: &mut Cursor<'_>) -> Read<SupertypeExpression> {
+    fn read(&self, _alloc: Global, cursor: &mut Cursor<'t>) -> Read<SupertypeExpression> {
         self.0.inner(cursor)
     }
 }
@@ -136,7 +137,8 @@ impl<E: Fn(Global, &mut Cursor<'_>, u8) -> Read<SupertypeExpression>> Form for I
 #[derive(Drop)]
 struct Term<'s, E>(&'s Supertypes<E>);
 
-impl<E: Fn(Global, &mut Cursor<'_>, u8) -> Read<SupertypeExpression>> Form for Term<'_, E> {
+impl<'t, E: Fn(Global, &mut Cursor<'_>, u8) -> Read<SupertypeExpression>> Form<Cursor<'t>>
+    for Term<'_, E> {
     ghost use Rattle.ex_tree.specs.declared.declaration.SupertypeExpression.{SupertypeExpression};
 
     type Tree = SupertypeExpression;
@@ -145,7 +147,7 @@ impl<E: Fn(Global, &mut Cursor<'_>, u8) -> Read<SupertypeExpression>> Form for T
 
     ghost can_read = { λ f. Nests SupertypeExpression f.0.now.levels (spec.below f.0.now.levels) (E.pre f.0.now.inner) (E.post f.0.now.inner) };
 
-    fn read(&self, _alloc: Global, cursor: &mut Cursor<'_>) -> Read<SupertypeExpression> {
+    fn read(&self, _alloc: Global, cursor: &mut Cursor<'t>) -> Read<SupertypeExpression> {
         self.0.supertype_term(cursor)
     }
 }
@@ -153,7 +155,8 @@ impl<E: Fn(Global, &mut Cursor<'_>, u8) -> Read<SupertypeExpression>> Form for T
 #[derive(Drop)]
 struct Factor<'s, E>(&'s Supertypes<E>);
 
-impl<E: Fn(Global, &mut Cursor<'_>, u8) -> Read<SupertypeExpression>> Form for Factor<'_, E> {
+impl<'t, E: Fn(Global, &mut Cursor<'_>, u8) -> Read<SupertypeExpression>> Form<Cursor<'t>>
+    for Factor<'_, E> {
     ghost use Rattle.ex_tree.specs.declared.declaration.SupertypeExpression.{SupertypeExpression};
 
     type Tree = SupertypeExpression;
@@ -162,7 +165,7 @@ impl<E: Fn(Global, &mut Cursor<'_>, u8) -> Read<SupertypeExpression>> Form for F
 
     ghost can_read = { λ f. Nests SupertypeExpression f.0.now.levels (spec.below f.0.now.levels) (E.pre f.0.now.inner) (E.post f.0.now.inner) };
 
-    fn read(&self, _alloc: Global, cursor: &mut Cursor<'_>) -> Read<SupertypeExpression> {
+    fn read(&self, _alloc: Global, cursor: &mut Cursor<'t>) -> Read<SupertypeExpression> {
         self.0.supertype_factor(cursor)
     }
 }

@@ -1,7 +1,7 @@
 //! Types (clause 8).
 
 use crate::expression::Name;
-use sqlite_items::Boxed;
+use plain_data::Boxed;
 
 /// `(length)` or `(length) FIXED`
 #[derive(Clone, Copy, PartialEq, Eq)]

@@ -3,8 +3,7 @@
 use crate::data_type::{Bounds, DataType};
 use crate::expression::{Expression, Name};
 use crate::statement::Statement;
-use plain_data::Text;
-use sqlite_items::Items;
+use plain_data::{Items, Text};
 
 /// `name : data_type := value`
 #[derive(Drop)]

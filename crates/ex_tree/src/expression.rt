@@ -1,8 +1,7 @@
 //! Expressions (clause 12). An offset stands wherever a fault of names or types may lie.
 
-use plain_data::Text;
-use rp_value::{Decimal, Logical};
-use sqlite_items::{Boxed, Items};
+use plain_data::{Boxed, Items, Text};
+use rp_numbers::{Decimal, Logical};
 
 /// An identifier in upper case, and its first byte.
 #[derive(Drop)]

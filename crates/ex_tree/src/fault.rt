@@ -1,4 +1,4 @@
-use crate::kind::Kind;
+use crate::kind::TokenKind;
 
 /// What is wrong with a token or a remark.
 #[derive(Clone, Copy, PartialEq, Eq)]
@@ -31,7 +31,7 @@ pub enum ParseFaultKind {
     TooDeep,
     /// A token that cannot stand here and is of EXPRESS beyond this profile: a reserved word or `||`, or the
     /// identifier SUBTYPE_CONSTRAINT.
-    OutOfProfile(Kind),
+    OutOfProfile(TokenKind),
 }
 
 /// The first fault of a text's syntax, and the byte at which its token begins, from 0; the text's length where it

@@ -1,6 +1,6 @@
 /// What a token is: an identifier, a literal, a symbol, or a reserved word.
 #[derive(Clone, Copy, PartialEq, Eq)]
-pub enum Kind {
+pub enum TokenKind {
     /// `simple_id`: a word that isn't reserved.
     Identifier,
     IntegerLiteral,

@@ -22,6 +22,6 @@ pub use expression::{
     Operation, Qualifier, Query, UnaryOperator,
 };
 pub use fault::{LexFault, LexFaultKind, ParseFault, ParseFaultKind};
-pub use kind::Kind;
+pub use kind::TokenKind;
 pub use statement::{Case, CaseAction, Increment, RepeatControl, Statement};
 pub use token::Token;

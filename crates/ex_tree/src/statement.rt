@@ -1,7 +1,7 @@
 //! Statements (clause 13).
 
 use crate::expression::{Expression, Name};
-use sqlite_items::{Boxed, Items};
+use plain_data::{Boxed, Items};
 
 /// `variable := first TO last BY step`
 #[derive(Drop)]

@@ -18,7 +18,8 @@ use Rattle.ex_named.specs.declared.declaration.NamedSchema.{NamedSchema}
 use Rattle.ex_named.specs.declared.declaration.NamedType.{NamedType}
 use Rattle.ex_named.specs.declared.declaration.NamedUniqueRule.{NamedUniqueRule}
 use Rattle.ex_named.specs.declared.expression.NamedExpression.{NamedExpression}
-use Rattle.ex_named.specs.declared.reference.AttributePlace.{AttributePlace}
+use Rattle.ex_named.specs.declared.reference.AttributeMeaning.{AttributeMeaning}
+use Rattle.ex_named.specs.declared.reference.AttributeMeaning.TheVariants as m
 use Rattle.ex_named.specs.declared.reference.AttributeUse.{AttributeUse}
 use Rattle.ex_kinds.specs.declared.fault.TypeFaultKind.TheVariants.{Ambiguous}
 use Rattle.ex_kinds.specs.declared.kind.Sort.TheVariants as k
@@ -29,7 +30,7 @@ use Rattle.ex_kinds.specs.Types.{of_types}
 use Rattle.ex_operators.specs.Fitting.{fits}
 use Rattle.ex_attributes.specs.Attributes.{attributes_of}
 use Rattle.ex_typing.specs.declared.known.Signature.{Signature}
-use Rattle.ex_typing.specs.Expressions.{Known, Scope, expression}
+use Rattle.ex_typing.specs.Expressions.{Known, TypingScope, expression}
 use Rattle.ex_typing_statements.specs.Statements.{Told, statements, assigned, assign_unless}
 
 -- ---- what the declarations say of kinds
@@ -78,12 +79,12 @@ each_unless fine = told (λ n. assign_unless fine n.at)
 
 -- ---- names of attributes that mean two
 
-abbrev pub ambiguous_by : ℕ → List AttributePlace → Told
-ambiguous_by at (a ∷ b ∷ others) = fault_at Ambiguous at
-ambiguous_by at _ = None
+abbrev pub ambiguous_by : ℕ → AttributeMeaning → Told
+ambiguous_by at (m.One place) = None
+ambiguous_by at m.Several = fault_at Ambiguous at
 
 abbrev pub ambiguous : AttributeUse → Told
-ambiguous name = ambiguous_by name.at name.declarations
+ambiguous name = ambiguous_by name.at name.meaning
 
 abbrev pub attribute : NamedAttribute → Told
 attribute (na.Own n) = None
@@ -97,23 +98,23 @@ place_of (na.Redeclared r) = r.attribute.at
 -- ---- scopes
 
 -- of constants
-abbrev pub nowhere : Scope
+abbrev pub nowhere : TypingScope
 nowhere = record { entity = None; itself = []; variables = []; result = [] }
 
-abbrev pub of_type_number : ℕ → Scope
+abbrev pub of_type_number : ℕ → TypingScope
 of_type_number n = record { entity = None; itself = itself (k.Defined n) ∷ []; variables = []; result = [] }
 
-abbrev pub of_entity : ℕ → Scope
+abbrev pub of_entity : ℕ → TypingScope
 of_entity n = record { entity = Some n; itself = itself (k.Entity n) ∷ []; variables = []; result = [] }
 
-abbrev pub of_function : NamedFunction → Scope
+abbrev pub of_function : NamedFunction → TypingScope
 of_function f = record { entity = None; itself = []; variables = parameters f.parameters ++ locals f.locals; result = of_type f.result }
 
-abbrev pub of_rule : NamedRule → Scope
+abbrev pub of_rule : NamedRule → TypingScope
 of_rule r = record { entity = None; itself = []; variables = locals r.locals; result = [] }
 
 module _ (schema : Known) where
-  abbrev pub domain_rules : Scope → List NamedDomainRule → Told
+  abbrev pub domain_rules : TypingScope → List NamedDomainRule → Told
   domain_rules s = told (λ r. (expression schema s r.condition).fault)
 
   unfoldable pub constant : NamedConstant → Told
@@ -127,10 +128,10 @@ module _ (schema : Known) where
   abbrev pub explicit : List NamedExplicit → Told
   explicit = told (λ x. told attribute x.attributes)
 
-  abbrev pub derived_one : Scope → NamedDerived → Told
+  abbrev pub derived_one : TypingScope → NamedDerived → Told
   derived_one s x = either (attribute x.attribute) (assigned schema s (of_type x.data_type) (place_of x.attribute) x.value)
 
-  abbrev pub derived : Scope → List NamedDerived → Told
+  abbrev pub derived : TypingScope → List NamedDerived → Told
   derived s = told (derived_one s)
 
   abbrev pub inverse : List NamedInverse → Told
@@ -149,11 +150,11 @@ module _ (schema : Known) where
   abbrev pub given_each : Kinds → List Name → Typed → Told
   given_each place names value = either value.fault (each_unless (fits schema.types value.kinds place) names)
 
-  abbrev pub local_by : Scope → NamedLocal → Option NamedExpression → Told
+  abbrev pub local_by : TypingScope → NamedLocal → Option NamedExpression → Told
   local_by s l None = None
   local_by s l (Some value) = given_each (of_type l.data_type) l.names (expression schema s value)
 
-  abbrev pub local : Scope → NamedLocal → Told
+  abbrev pub local : TypingScope → NamedLocal → Told
   local s l = local_by s l l.value
 
   unfoldable pub function : NamedFunction → Told

@@ -7,7 +7,7 @@ use crate::rules::domain_rules;
 use crate::variables::{locals, parameters, push_locals};
 use ex_kinds::{TypeFault, either, kinds_of};
 use ex_named::{NamedFunction, NamedRule};
-use ex_typing::{Known, Scope};
+use ex_typing::{Known, TypingScope};
 use ex_typing_statements::statements;
 use plain_data::Rows;
 use std::alloc::{AllocError, Global};
@@ -23,7 +23,7 @@ fn function(
     let mut frame = parameters(alloc, function.parameters.as_slice())?;
     push_locals(alloc, &mut frame, function.locals.as_slice())?;
     let result_kinds = kinds_of(alloc, &function.result)?;
-    let scope = Scope::new(alloc, None, &[], frame.as_slice(), result_kinds.as_slice());
+    let scope = TypingScope::new(alloc, None, &[], frame.as_slice(), result_kinds.as_slice());
     let variables = locals(alloc, schema, &scope, function.locals.as_slice())?;
     let body = statements(alloc, schema, &scope, function.statements.as_slice())?;
     Ok(either(variables, body))
@@ -51,7 +51,7 @@ fn rule(alloc: Global, schema: &Known, rule: &NamedRule) -> Result<Option<TypeFa
 {
     let mut frame = Rows::new(alloc);
     push_locals(alloc, &mut frame, rule.locals.as_slice())?;
-    let scope = Scope::new(alloc, None, &[], frame.as_slice(), &[]);
+    let scope = TypingScope::new(alloc, None, &[], frame.as_slice(), &[]);
     let variables = locals(alloc, schema, &scope, rule.locals.as_slice())?;
     let body = statements(alloc, schema, &scope, rule.statements.as_slice())?;
     let conditions = domain_rules(alloc, schema, &scope, rule.domain_rules.as_slice())?;

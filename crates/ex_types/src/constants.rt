@@ -5,7 +5,7 @@ ghost use Rattle.ex_types.specs.Declarations as spec;
 
 use ex_kinds::{TypeFault, either, kinds_of};
 use ex_named::NamedConstant;
-use ex_typing::{Known, Scope};
+use ex_typing::{Known, TypingScope};
 use ex_typing_statements::assigned;
 use std::alloc::{AllocError, Global};
 
@@ -19,7 +19,7 @@ fn constant(
     ensures { IfOk result (λ told. told ≡ spec.constant schema.now constant.now) }
 {
     let kinds = kinds_of(alloc, &constant.data_type)?;
-    let scope = Scope::new(alloc, None, &[], &[], &[]);
+    let scope = TypingScope::new(alloc, None, &[], &[], &[]);
     assigned(
         alloc,
         schema,

@@ -7,15 +7,14 @@ use crate::algorithms::{all_functions, all_rules};
 use crate::constants::all_constants;
 use crate::defined_types::all_types;
 use crate::entities::all_entities;
-use crate::known::known;
 use ex_kinds::{TypeFault, either};
 use ex_named::NamedSchema;
 use ex_typing::Known;
 use std::alloc::{AllocError, Global};
 
-/// The fault that is told of the declarations of each sort.
+/// The fault that is told of a schema's declarations: the one of least offset.
 #[tactic(auto, unfolding(crate::specs::Declarations::declarations))]
-fn each_sort(
+pub fn fault_of(
     alloc: Global,
     known: &Known,
     schema: &NamedSchema,
@@ -29,12 +28,4 @@ fn each_sort(
     let rules = all_rules(alloc, known, schema.rules.as_slice())?;
     let algorithms = either(functions, rules);
     Ok(either(either(constants, types), either(entities, algorithms)))
-}
-
-/// The fault that is told of a schema's declarations: the one of least offset.
-pub fn fault_of(alloc: Global, schema: &NamedSchema) -> Result<Option<TypeFault>, AllocError>
-    ensures { IfOk result (λ told. told ≡ spec.declarations (spec.known schema.now) schema.now) }
-{
-    let known = known(alloc, schema)?;
-    each_sort(alloc, &known, schema)
 }

@@ -6,7 +6,7 @@ ghost use Rattle.ex_types.specs.Declarations as spec;
 use crate::rules::domain_rules;
 use ex_kinds::{Sort, TypeFault, either, kinds_of_one};
 use ex_named::NamedType;
-use ex_typing::{Known, Scope};
+use ex_typing::{Known, TypingScope};
 use std::alloc::{AllocError, Global};
 
 /// SELF is of the type.
@@ -20,7 +20,7 @@ fn defined_type(
     ensures { IfOk result (λ told. told ≡ spec.defined_type schema.now number declared.now) }
 {
     let itself = kinds_of_one(alloc, Sort::Defined(number))?;
-    let scope = Scope::new(alloc, None, itself.as_slice(), &[], &[]);
+    let scope = TypingScope::new(alloc, None, itself.as_slice(), &[], &[]);
     domain_rules(alloc, schema, &scope, declared.domain_rules.as_slice())
 }
 

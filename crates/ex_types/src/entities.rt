@@ -7,7 +7,7 @@ use crate::rules::domain_rules;
 use crate::uses::{all_ambiguous, ambiguous, attribute, attributes, place_of};
 use ex_kinds::{Sort, TypeFault, either, kinds_of, kinds_of_one};
 use ex_named::{NamedDerived, NamedEntity, NamedExplicit, NamedInverse, NamedUniqueRule};
-use ex_typing::{Known, Scope};
+use ex_typing::{Known, TypingScope};
 use ex_typing_statements::assigned;
 use std::alloc::{AllocError, Global};
 
@@ -26,7 +26,7 @@ fn explicit(list: &[NamedExplicit]) -> Option<TypeFault>
 fn derived_one(
     alloc: Global,
     schema: &Known,
-    scope: &Scope<'_>,
+    scope: &TypingScope<'_>,
     derived: &NamedDerived,
 ) -> Result<Option<TypeFault>, AllocError>
     ensures { IfOk result (λ told. told ≡ spec.derived_one schema.now scope.now derived.now) }
@@ -41,7 +41,7 @@ fn derived_one(
 fn derived(
     alloc: Global,
     schema: &Known,
-    scope: &Scope<'_>,
+    scope: &TypingScope<'_>,
     list: &[NamedDerived],
 ) -> Result<Option<TypeFault>, AllocError>
     ensures { IfOk result (λ told. told ≡ spec.derived schema.now scope.now list.now) }
@@ -87,7 +87,7 @@ fn entity(
     ensures { IfOk result (λ told. told ≡ spec.entity schema.now number entity.now) }
 {
     let itself = kinds_of_one(alloc, Sort::Entity(number))?;
-    let scope = Scope::new(alloc, Some(number), itself.as_slice(), &[], &[]);
+    let scope = TypingScope::new(alloc, Some(number), itself.as_slice(), &[], &[]);
     let derived = derived(alloc, schema, &scope, entity.derived.as_slice())?;
     let rules = domain_rules(alloc, schema, &scope, entity.domain_rules.as_slice())?;
     let attributes = either(explicit(entity.explicit.as_slice()), derived);

@@ -14,4 +14,4 @@ mod uses;
 mod variables;
 
 pub use ex_kinds::{TypeFault, TypeFaultKind};
-pub use schema::{Schema, check};
+pub use schema::{CheckedSchema, check};

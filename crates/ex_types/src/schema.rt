@@ -1,14 +1,16 @@
 //! A schema whose types are checked.
 
-ghost use Rattle.std.specs.Prelude.{◌≡◌, ◌↔◌, ℕ, IfOk, IsTrue, Some, length, map};
+ghost use Rattle.std.specs.Prelude.{◌≡◌, ◌↔◌, ℕ, IfOk, IsTrue, Some, Ok, length, map};
 ghost use Rattle.std.specs.List.Sorted.{IsStrictlyIncreasing};
 ghost use Rattle.text_forms.specs.Gives.{Gives};
-ghost use Rattle.ex_lineage.specs.Lineage as lineage;
+ghost use Rattle.lineage.specs.Lineage as lineage;
 ghost use Rattle.ex_resolve.specs.Schemas as schemas;
 ghost use Rattle.ex_types.specs.Checked as spec;
+ghost use Rattle.ex_types.specs.Declarations as declarations;
 ghost use Rattle.ex_types.specs.Redeclarations as redeclarations;
 
 use crate::declarations::fault_of;
+use crate::known::known;
 use crate::redeclared::redeclared_by;
 use ex_kinds::TypeFault;
 use ex_named::{
@@ -16,26 +18,34 @@ use ex_named::{
     NamedType,
 };
 use ex_resolve::Named;
+use ex_typing::Known;
 use ex_warnings::warnings;
 use plain_data::{Rows, Text};
 use std::alloc::{AllocError, Global};
 use std::marker::Model;
 use text_forms::Failure;
 
-/// A schema whose types are checked.
+/// A schema whose types are checked: the one that its named schema is accepted as.
 #[derive(Drop)]
-pub struct Schema {
+pub struct CheckedSchema {
     named: Named,
+    /// What its declarations say of kinds.
+    known: Known,
     /// The first bytes of the literals that are warned of.
     warnings: Rows<usize>,
 }
 
-impl Model for Schema {
+impl Model for CheckedSchema {
     ghost use Rattle.ex_types.specs.Checked as spec;
 
     ghost Value = { spec.Checked };
 
     ghost view = { λ s. record { named = s.named; warnings = s.warnings } };
+
+    ghost use Rattle.std.specs.Prelude.{◌≡◌, Ok};
+    ghost use Rattle.ex_types.specs.Declarations.{known as known_of};
+
+    ghost invariant = { λ s. (s.known ≡ known_of s.named.schema) × (spec.checked s.named ≡ Ok (record { named = s.named; warnings = s.warnings })) };
 
     ghost use Rattle.std.specs.Coded.{codes};
     ghost use Rattle.ex_resolve.specs.contracts.named.Named as named_schema;
@@ -43,12 +53,26 @@ impl Model for Schema {
     ghost coded = { Prim.hlevel (codes, named_schema.the_row.coded) };
 }
 
-impl Schema {
+impl CheckedSchema {
+    /// What was proved when it was made: its named schema is accepted as this one.
+    pub fn proved(&self)
+        ensures { spec.checked self.now.named ≡ Ok self.now }
+    {
+        let _ = &self.named;
+    }
+
     /// The schema with its names bound.
     pub fn named(&self) -> &Named
         ensures { result.now ≡ self.now.named }
     {
         &self.named
+    }
+
+    /// What its declarations say of kinds, as it was found when it was checked.
+    pub fn known(&self) -> &Known
+        ensures { result.now ≡ declarations.known self.now.named.schema }
+    {
+        &self.known
     }
 
     /// Its name, in upper case.
@@ -104,7 +128,7 @@ impl Schema {
     /// The entities above one, by their numbers in ascending order.
     pub fn ancestors(&self, alloc: Global, entity: usize) -> Result<Rows<usize>, AllocError>
         ensures ascending { IfOk result (λ found. IsStrictlyIncreasing found) }
-        ensures exact { IfOk result (λ found. (a : ℕ) → IsTrue (lineage.is_among found a) ↔ lineage.IsAncestor self.now.named.subtypes entity a) }
+        ensures exact { IfOk result (λ found. (a : ℕ) → IsTrue (lineage.is_among found a) ↔ lineage.IsAncestor self.now.named.supertypes entity a) }
     {
         self.named.ancestors(alloc, entity)
     }
@@ -137,12 +161,17 @@ impl Schema {
 
 /// The schema, where its expressions can't go wrong in ways that the profile leaves out. Else the fault of least offset.
 #[tactic(auto, unfolding(crate::specs::Checked::checked))]
-pub fn check(alloc: Global, named: Named) -> Result<Schema, Failure<TypeFault>>
+pub fn check(alloc: Global, named: Named) -> Result<CheckedSchema, Failure<TypeFault>>
     ensures { Gives (λ schema. schema) result (spec.checked named) }
 {
-    if let Some(fault) = fault_of(alloc, named.schema())? {
+    let known = known(alloc, named.schema())?;
+    if let Some(fault) = fault_of(alloc, &known, named.schema())? {
         return Err(Failure::Fault(fault));
     }
     let warnings = warnings(alloc, named.schema())?;
-    Ok(Schema { named, warnings })
+    Ok(CheckedSchema {
+        named,
+        known,
+        warnings,
+    })
 }

@@ -4,15 +4,15 @@ ghost use Rattle.std.specs.Prelude.{◌≡◌};
 ghost use Rattle.ex_types.specs.Declarations as spec;
 
 use ex_kinds::{TypeFault, TypeFaultKind, either, fault_at};
-use ex_named::{AttributeUse, NamedAttribute};
+use ex_named::{AttributeMeaning, AttributeUse, NamedAttribute};
 
 /// The fault of a name that means two attributes.
 pub fn ambiguous(name: &AttributeUse) -> Option<TypeFault>
     ensures { result ≡ spec.ambiguous name.now }
 {
-    match name.declarations.as_slice() {
-        [_, _, ..] => fault_at(TypeFaultKind::Ambiguous, name.at),
-        _ => None,
+    match name.meaning {
+        AttributeMeaning::One(_) => None,
+        AttributeMeaning::Several => fault_at(TypeFaultKind::Ambiguous, name.at),
     }
 }
 

@@ -8,7 +8,7 @@ use ex_kinds::{Kinds, TypeFault, copied, either, kinds_of};
 use ex_named::{NamedDataType, NamedExpression, NamedLocal, NamedParameter};
 use ex_operators::fits;
 use ex_tree::Name;
-use ex_typing::{Known, Scope, expression};
+use ex_typing::{Known, TypingScope, expression};
 use ex_typing_statements::assign_unless;
 use plain_data::Rows;
 use std::alloc::{AllocError, Global};
@@ -75,7 +75,7 @@ fn each_unless(fine: bool, names: &[Name]) -> Option<TypeFault>
 fn initial(
     alloc: Global,
     schema: &Known,
-    scope: &Scope<'_>,
+    scope: &TypingScope<'_>,
     local: &NamedLocal,
     value: &NamedExpression,
 ) -> Result<Option<TypeFault>, AllocError>
@@ -95,7 +95,7 @@ fn initial(
 fn local_variable(
     alloc: Global,
     schema: &Known,
-    scope: &Scope<'_>,
+    scope: &TypingScope<'_>,
     local: &NamedLocal,
 ) -> Result<Option<TypeFault>, AllocError>
     ensures { IfOk result (λ told. told ≡ spec.local schema.now scope.now local.now) }
@@ -110,7 +110,7 @@ fn local_variable(
 pub fn locals(
     alloc: Global,
     schema: &Known,
-    scope: &Scope<'_>,
+    scope: &TypingScope<'_>,
     list: &[NamedLocal],
 ) -> Result<Option<TypeFault>, AllocError>
     ensures { IfOk result (λ told. told ≡ spec.told (spec.local schema.now scope.now) list.now) }

@@ -31,7 +31,7 @@ pub record Known : Type 0 where
   pub functions : List Signature
 
 -- What an expression or a statement stands in.
-pub record Scope : Type 0 where
+pub record TypingScope : Type 0 where
   -- the entity at hand
   pub entity : Option ℕ
   -- what SELF may be
@@ -42,18 +42,18 @@ pub record Scope : Type 0 where
   pub result : Kinds
 
 -- a scope with one variable more
-abbrev pub within : Scope → Kinds → Scope
+abbrev pub within : TypingScope → Kinds → TypingScope
 within s kinds = record s { variables = s.variables ++ kinds ∷ [] }
 
 abbrev pub TypedExpression : Type 0
-TypedExpression = Scope → Typed
+TypedExpression = TypingScope → Typed
 
 -- what comes of the value of these kinds
 abbrev pub TypedQualifier : Type 0
-TypedQualifier = Scope → Typed → Typed
+TypedQualifier = TypingScope → Typed → Typed
 
 abbrev pub TypedOperation : Type 0
-TypedOperation = Scope → Typed → Typed
+TypedOperation = TypingScope → Typed → Typed
 
 -- ---- several expressions
 
@@ -63,15 +63,15 @@ TypedList = List Kinds × Option TypeFault
 abbrev pub and_one : TypedList → Typed → TypedList
 and_one found next = (found.0 ++ next.kinds ∷ [], either found.1 next.fault)
 
-abbrev pub each_after : Scope → TypedList → List TypedExpression → TypedList
+abbrev pub each_after : TypingScope → TypedList → List TypedExpression → TypedList
 each_after s found [] = found
 each_after s found (x ∷ xs) = each_after s (and_one found (x s)) xs
 
-abbrev pub each : Scope → List TypedExpression → TypedList
+abbrev pub each : TypingScope → List TypedExpression → TypedList
 each s = each_after s ([], None)
 
 -- one after the other, each on what came of the ones before
-abbrev pub one_after_another : Scope → Typed → List (Scope → Typed → Typed) → Typed
+abbrev pub one_after_another : TypingScope → Typed → List (TypingScope → Typed → Typed) → Typed
 one_after_another s found [] = found
 one_after_another s found (next ∷ others) = one_after_another s (next s found) others
 
@@ -135,7 +135,7 @@ module _ (schema : Known) where
 
   -- ---- one layer of each tree, given what is said of its parts
 
-  abbrev pub expression_layer : NamedExpression-F TypedExpression TypedQualifier (Scope → Typed) TypedOperation (Scope → Typed) → TypedExpression
+  abbrev pub expression_layer : NamedExpression-F TypedExpression TypedQualifier (TypingScope → Typed) TypedOperation (TypingScope → Typed) → TypedExpression
   expression_layer (NamedExpression-F.Literal value) = λ s. fine (literal value)
   expression_layer NamedExpression-F.Itself = λ s. fine s.itself
   expression_layer NamedExpression-F.Indeterminate = λ s. fine []
@@ -154,34 +154,34 @@ module _ (schema : Known) where
   expression_layer (NamedExpression-F.Query query) = query
   expression_layer (NamedExpression-F.Initializer elements) = λ s. initializer (each s elements)
 
-  abbrev pub qualifier_layer : NamedQualifier-F TypedExpression TypedQualifier (Scope → Typed) TypedOperation (Scope → Typed) → TypedQualifier
+  abbrev pub qualifier_layer : NamedQualifier-F TypedExpression TypedQualifier (TypingScope → Typed) TypedOperation (TypingScope → Typed) → TypedQualifier
   qualifier_layer (NamedQualifier-F.«NamedQualifier::Attribute» at name) = λ s base. behind base.fault (taken schema.attributes (plain schema.types base.kinds) at name)
   qualifier_layer (NamedQualifier-F.Group at entity) = λ s base. behind base.fault (grouped_at at base.kinds entity)
   qualifier_layer (NamedQualifier-F.Index at index) = λ s base. behind (either base.fault (index s).fault) (ruled at (indexed schema.types base.kinds (index s).kinds))
   qualifier_layer (NamedQualifier-F.Range at low high) = λ s base. behind (either (either base.fault (low s).fault) (high s).fault)
       (ruled at (ranged schema.types base.kinds (low s).kinds (high s).kinds))
 
-  abbrev pub operation_layer : NamedOperation-F TypedExpression TypedQualifier (Scope → Typed) TypedOperation (Scope → Typed) → TypedOperation
+  abbrev pub operation_layer : NamedOperation-F TypedExpression TypedQualifier (TypingScope → Typed) TypedOperation (TypingScope → Typed) → TypedOperation
   operation_layer o = λ s left. behind (either left.fault (o.right s).fault) (binary_at o.operator o.at left.kinds (o.right s).kinds)
 
   abbrev pub interval_of : Typed → Typed → Typed → Typed → Typed → Typed
   interval_of low item high first second = compared (either (either (either low.fault item.fault) high.fault) (either first.fault second.fault))
 
-  abbrev pub interval_layer : NamedInterval-F TypedExpression TypedQualifier (Scope → Typed) TypedOperation (Scope → Typed) → Scope → Typed
+  abbrev pub interval_layer : NamedInterval-F TypedExpression TypedQualifier (TypingScope → Typed) TypedOperation (TypingScope → Typed) → TypingScope → Typed
   interval_layer i = λ s. interval_of (i.low s) (i.item s) (i.high s)
       (binary_at (comparison i.low_operator) i.low_at (i.low s).kinds (i.item s).kinds)
       (binary_at (comparison i.high_operator) i.high_at (i.item s).kinds (i.high s).kinds)
 
   -- the variable is one of the source's elements
-  abbrev pub query_layer : NamedQuery-F TypedExpression TypedQualifier (Scope → Typed) TypedOperation (Scope → Typed) → Scope → Typed
+  abbrev pub query_layer : NamedQuery-F TypedExpression TypedQualifier (TypingScope → Typed) TypedOperation (TypingScope → Typed) → TypingScope → Typed
   query_layer q = λ s. behind (either (q.source s).fault (q.condition (within s (elements_of schema.types (q.source s).kinds))).fault)
       (ruled q.at (queried schema.types (q.source s).kinds))
 
   -- ---- whole trees
 
   unfoldable pub typed_expression : NamedExpression → TypedExpression
-  typed_expression = fold-NamedExpression TypedExpression TypedQualifier (Scope → Typed) TypedOperation (Scope → Typed)
+  typed_expression = fold-NamedExpression TypedExpression TypedQualifier (TypingScope → Typed) TypedOperation (TypingScope → Typed)
       expression_layer qualifier_layer interval_layer operation_layer query_layer
 
-  abbrev pub expression : Scope → NamedExpression → Typed
+  abbrev pub expression : TypingScope → NamedExpression → Typed
   expression s x = typed_expression x s

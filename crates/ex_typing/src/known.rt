@@ -3,7 +3,7 @@
 ghost use Rattle.std.specs.Prelude.{◌≡◌, [], slice_get, slice_index_or, option_copied};
 
 use ex_attributes::Attributes;
-use ex_kinds::{Kind, Kinds, Types};
+use ex_kinds::{Kinds, Types, ValueKind};
 use plain_data::Rows;
 use std::marker::Model;
 
@@ -49,26 +49,29 @@ impl Known {
         }
     }
 
+    /// The defined types.
     pub fn types(&self) -> &Types
         ensures { result.now ≡ self.now.types }
     {
         &self.types
     }
 
-    pub(crate) fn attributes(&self) -> &Attributes
+    /// The attributes of its entities.
+    pub fn attributes(&self) -> &Attributes
         ensures { result.now ≡ self.now.attributes }
     {
         &self.attributes
     }
 
     /// What the constant of this number may be.
-    pub(crate) fn constant(&self, number: usize) -> &[Kind]
+    pub fn constant(&self, number: usize) -> &[ValueKind]
         ensures { result.now ≡ slice_index_or self.now.constants number [] }
     {
         kinds_at(self.constants.as_slice(), number)
     }
 
-    pub(crate) fn function(&self, number: usize) -> Option<&Signature>
+    /// What the function of this number takes and gives.
+    pub fn function(&self, number: usize) -> Option<&Signature>
         ensures { option_copied result ≡ slice_get self.now.functions number }
     {
         self.functions.as_slice().get(number)
@@ -76,7 +79,7 @@ impl Known {
 }
 
 /// The kinds in this place of a list; none beyond its end.
-pub(crate) fn kinds_at(list: &[Kinds], place: usize) -> &[Kind]
+pub(crate) fn kinds_at(list: &[Kinds], place: usize) -> &[ValueKind]
     ensures { result.now ≡ slice_index_or list.now place [] }
 {
     match list.get(place) {

@@ -7,10 +7,10 @@ ghost use Rattle.ex_kinds.specs.Kinds.{itself, aggregate_of as aggregate_by};
 ghost use Rattle.ex_typing.specs.Expressions as spec;
 
 use crate::known::Known;
-use crate::scope::Scope;
+use crate::scope::TypingScope;
 use ex_kinds::{
-    Kind, Kinds, Sort, TypeFault, TypeFaultKind, Typed, aggregate_of, copied, join, kinds_of_one,
-    ruled,
+    Kinds, Sort, TypeFault, TypeFaultKind, Typed, ValueKind, aggregate_of, copied, join,
+    kinds_of_one, ruled,
 };
 use ex_named::AttributeUse;
 use ex_operators::{
@@ -57,7 +57,7 @@ pub(crate) fn ambiguous(alloc: Global, at: usize) -> Typed
 }
 
 /// A value of these kinds, without a fault.
-pub(crate) fn known_kinds(alloc: Global, kinds: &[Kind]) -> Result<Typed, AllocError>
+pub(crate) fn known_kinds(alloc: Global, kinds: &[ValueKind]) -> Result<Typed, AllocError>
     ensures { IfOk result (λ typed. typed ≡ fine kinds.now) }
 {
     Ok(Typed::fine(copied(alloc, kinds)?))
@@ -75,7 +75,7 @@ pub(crate) fn aggregate_of_one(alloc: Global, sort: Sort) -> Result<Typed, Alloc
 pub(crate) fn attribute(
     alloc: Global,
     schema: &Known,
-    scope: &Scope<'_>,
+    scope: &TypingScope<'_>,
     name: &AttributeUse,
 ) -> Result<Typed, AllocError>
     ensures { IfOk result (λ typed. typed ≡ spec.used_by schema.now.attributes scope.now.entity name.now) }
@@ -150,7 +150,7 @@ pub(crate) fn unary_at(
     schema: &Known,
     operator: UnaryOperator,
     at: usize,
-    operand: &[Kind],
+    operand: &[ValueKind],
 ) -> Result<Typed, AllocError>
     ensures { IfOk result (λ typed. typed ≡ spec.unary_at schema.now operator at operand.now) }
 {
@@ -167,8 +167,8 @@ pub(crate) fn binary_at(
     schema: &Known,
     operator: BinaryOperator,
     at: usize,
-    left: &[Kind],
-    right: &[Kind],
+    left: &[ValueKind],
+    right: &[ValueKind],
 ) -> Result<Typed, AllocError>
     ensures { IfOk result (λ typed. typed ≡ spec.binary_at schema.now operator at left.now right.now) }
 {
@@ -188,7 +188,7 @@ pub(crate) fn grouped_at(
     alloc: Global,
     schema: &Known,
     at: usize,
-    base: &[Kind],
+    base: &[ValueKind],
     entity: usize,
 ) -> Result<Typed, AllocError>
     ensures { IfOk result (λ typed. typed ≡ spec.grouped_at schema.now at base.now entity) }

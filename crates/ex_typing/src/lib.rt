@@ -8,5 +8,5 @@ mod taken;
 mod trees;
 
 pub use known::{Known, Signature};
-pub use scope::Scope;
+pub use scope::TypingScope;
 pub use trees::{expression, expressions};

@@ -11,14 +11,13 @@ use crate::leaves::{
     aggregate_of_one, ambiguous, attribute, binary_at, built_in_at, called, compared, initializer,
     known_kinds, literal_value, unary_at, value_of_one,
 };
-use crate::scope::Scope;
+use crate::scope::TypingScope;
 use crate::taken::{attribute_taken, group_taken, index_taken, range_taken};
-use ex_kinds::{Kind, Kinds, Sort, TypeFault, Typed, either, ruled};
+use ex_kinds::{Kinds, Sort, TypeFault, Typed, ValueKind, either, ruled};
 use ex_named::{NamedExpression, NamedInterval, NamedOperation, NamedQualifier, NamedQuery};
 use ex_operators::{comparison, elements_of, queried};
 use ex_tree::{BuiltInFunction, UnaryOperator};
-use plain_data::Rows;
-use sqlite_items::Items;
+use plain_data::{Items, Rows};
 use std::alloc::{AllocError, Global};
 
 /// What the value of an expression may be, and the fault that is told of it.
@@ -26,7 +25,7 @@ use std::alloc::{AllocError, Global};
 pub fn expression(
     alloc: Global,
     schema: &Known,
-    scope: &Scope<'_>,
+    scope: &TypingScope<'_>,
     tree: &NamedExpression,
 ) -> Result<Typed, AllocError>
     ensures { IfOk result (λ typed. typed ≡ spec.expression schema.now scope.now tree.now) }
@@ -67,7 +66,7 @@ pub fn expression(
 pub fn expressions(
     alloc: Global,
     schema: &Known,
-    scope: &Scope<'_>,
+    scope: &TypingScope<'_>,
     list: &[NamedExpression],
 ) -> Result<(Rows<Kinds>, Option<TypeFault>), AllocError>
     ensures { IfOk result (λ typed. typed ≡ trees.expressions schema.now scope.now list.now) }
@@ -86,7 +85,7 @@ pub fn expressions(
 fn call(
     alloc: Global,
     schema: &Known,
-    scope: &Scope<'_>,
+    scope: &TypingScope<'_>,
     function: usize,
     at: usize,
     arguments: &Items<NamedExpression>,
@@ -102,7 +101,7 @@ fn call(
 fn call_built_in(
     alloc: Global,
     schema: &Known,
-    scope: &Scope<'_>,
+    scope: &TypingScope<'_>,
     function: BuiltInFunction,
     at: usize,
     arguments: &[NamedExpression],
@@ -119,7 +118,7 @@ fn call_built_in(
 fn initialized(
     alloc: Global,
     schema: &Known,
-    scope: &Scope<'_>,
+    scope: &TypingScope<'_>,
     elements: &Items<NamedExpression>,
 ) -> Result<Typed, AllocError>
     ensures { IfOk result (λ typed. typed ≡ trees.initialized schema.now scope.now elements.now) }
@@ -132,7 +131,7 @@ fn initialized(
 fn signed(
     alloc: Global,
     schema: &Known,
-    scope: &Scope<'_>,
+    scope: &TypingScope<'_>,
     operator: UnaryOperator,
     at: usize,
     operand: &NamedExpression,
@@ -149,7 +148,7 @@ fn signed(
 fn qualifiers(
     alloc: Global,
     schema: &Known,
-    scope: &Scope<'_>,
+    scope: &TypingScope<'_>,
     base: Typed,
     list: &[NamedQualifier],
 ) -> Result<Typed, AllocError>
@@ -166,7 +165,7 @@ fn qualifiers(
 fn qualifier(
     alloc: Global,
     schema: &Known,
-    scope: &Scope<'_>,
+    scope: &TypingScope<'_>,
     base: Typed,
     tree: &NamedQualifier,
 ) -> Result<Typed, AllocError>
@@ -192,7 +191,7 @@ fn qualifier(
 fn operations(
     alloc: Global,
     schema: &Known,
-    scope: &Scope<'_>,
+    scope: &TypingScope<'_>,
     left: Typed,
     list: &[NamedOperation],
 ) -> Result<Typed, AllocError>
@@ -209,7 +208,7 @@ fn operations(
 fn operation(
     alloc: Global,
     schema: &Known,
-    scope: &Scope<'_>,
+    scope: &TypingScope<'_>,
     left: Typed,
     tree: &NamedOperation,
 ) -> Result<Typed, AllocError>
@@ -231,7 +230,7 @@ fn operation(
 fn interval(
     alloc: Global,
     schema: &Known,
-    scope: &Scope<'_>,
+    scope: &TypingScope<'_>,
     tree: &NamedInterval,
 ) -> Result<Typed, AllocError>
     ensures { IfOk result (λ typed. typed ≡ trees.interval schema.now scope.now tree.now) }
@@ -273,7 +272,7 @@ fn comparisons(
 fn query(
     alloc: Global,
     schema: &Known,
-    scope: &Scope<'_>,
+    scope: &TypingScope<'_>,
     tree: &NamedQuery,
 ) -> Result<Typed, AllocError>
     ensures { IfOk result (λ typed. typed ≡ trees.query schema.now scope.now tree.now) }
@@ -290,8 +289,8 @@ fn query(
 fn condition(
     alloc: Global,
     schema: &Known,
-    scope: &Scope<'_>,
-    variable: &[Kind],
+    scope: &TypingScope<'_>,
+    variable: &[ValueKind],
     tree: &NamedExpression,
 ) -> Result<Option<TypeFault>, AllocError>
     ensures { IfOk result (λ fault. fault ≡ trees.condition schema.now scope.now variable.now tree.now) }

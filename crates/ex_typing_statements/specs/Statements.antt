@@ -15,31 +15,31 @@ use Rattle.ex_kinds.specs.Faults.{either, fault_at}
 use Rattle.ex_kinds.specs.Kinds.{Kinds, itself}
 use Rattle.ex_operators.specs.Fitting.{fits, is_integer}
 use Rattle.ex_operators.specs.Operators.{case_fault}
-use Rattle.ex_typing.specs.Expressions.{Known, Scope, within, TypedList, expression, typed_expression, each}
+use Rattle.ex_typing.specs.Expressions.{Known, TypingScope, within, TypedList, expression, typed_expression, each}
 
 abbrev pub Told : Type 0
 Told = Option TypeFault
 
 abbrev pub TypedStatement : Type 0
-TypedStatement = Scope → Told
+TypedStatement = TypingScope → Told
 
 -- what the labels may be, and the fault of the action
 abbrev pub TypedCaseAction : Type 0
-TypedCaseAction = Scope → TypedList
+TypedCaseAction = TypingScope → TypedList
 
-abbrev pub told_after : Scope → Told → List TypedStatement → Told
+abbrev pub told_after : TypingScope → Told → List TypedStatement → Told
 told_after s found [] = found
 told_after s found (x ∷ xs) = told_after s (either found (x s)) xs
 
 -- of several
-abbrev pub told_of : Scope → List TypedStatement → Told
+abbrev pub told_of : TypingScope → List TypedStatement → Told
 told_of s = told_after s None
 
 abbrev pub assign_unless : Bool → ℕ → Told
 assign_unless fine at = if fine then None else fault_at Assign at
 
 -- where the conditions and the statements of a REPEAT stand: its variable is INTEGER
-abbrev pub in_turn : Scope → Option NamedIncrement → Scope
+abbrev pub in_turn : TypingScope → Option NamedIncrement → TypingScope
 in_turn s None = s
 in_turn s (Some increment) = within s (itself k.Integer ∷ [])
 
@@ -52,31 +52,31 @@ module _ (schema : Known) where
   abbrev pub given_to : Kinds → ℕ → Typed → Told
   given_to place at value = either value.fault (assign_unless (fits schema.types value.kinds place) at)
 
-  unfoldable pub assigned : Scope → Kinds → ℕ → NamedExpression → Told
+  unfoldable pub assigned : TypingScope → Kinds → ℕ → NamedExpression → Told
   assigned s place at value = given_to place at (expression schema s value)
 
-  abbrev pub condition : Scope → Option NamedExpression → Told
+  abbrev pub condition : TypingScope → Option NamedExpression → Told
   condition s None = None
   condition s (Some x) = (expression schema s x).fault
 
   -- ---- what governs a REPEAT
 
-  abbrev pub step_is_integer : Scope → Option NamedExpression → Bool
+  abbrev pub step_is_integer : TypingScope → Option NamedExpression → Bool
   step_is_integer s None = true
   step_is_integer s (Some x) = is_integer schema.types (expression schema s x).kinds
 
-  abbrev pub are_integers : Scope → NamedIncrement → Bool
+  abbrev pub are_integers : TypingScope → NamedIncrement → Bool
   are_integers s i = is_integer schema.types (expression schema s i.first).kinds && is_integer schema.types (expression schema s i.last).kinds && step_is_integer s i.step
 
-  unfoldable pub increment : Scope → NamedIncrement → Told
+  unfoldable pub increment : TypingScope → NamedIncrement → Told
   increment s i = either (either (either (expression schema s i.first).fault (expression schema s i.last).fault) (condition s i.step))
       (assign_unless (are_integers s i) i.at)
 
-  abbrev pub optional_increment : Scope → Option NamedIncrement → Told
+  abbrev pub optional_increment : TypingScope → Option NamedIncrement → Told
   optional_increment s None = None
   optional_increment s (Some i) = increment s i
 
-  unfoldable pub repeat_control : Scope → NamedRepeatControl → Told
+  unfoldable pub repeat_control : TypingScope → NamedRepeatControl → Told
   repeat_control s control = either (either (optional_increment s control.increment) (condition (in_turn s control.increment) control.while_condition))
       (condition (in_turn s control.increment) control.until_condition)
 
@@ -85,14 +85,14 @@ module _ (schema : Known) where
   abbrev pub and_action : TypedList → TypedList → TypedList
   and_action found next = (found.0 ++ next.0, either found.1 next.1)
 
-  abbrev pub actions_after : Scope → TypedList → List TypedCaseAction → TypedList
+  abbrev pub actions_after : TypingScope → TypedList → List TypedCaseAction → TypedList
   actions_after s found [] = found
   actions_after s found (a ∷ others) = actions_after s (and_action found (a s)) others
 
   abbrev pub case_told : ℕ → Typed → TypedList → Told → Told
   case_told at selector actions otherwise = either (either (either selector.fault actions.1) otherwise) (fault_by (case_fault schema.types selector.kinds actions.0) at)
 
-  abbrev pub otherwise_told : Scope → Option TypedStatement → Told
+  abbrev pub otherwise_told : TypingScope → Option TypedStatement → Told
   otherwise_told s None = None
   otherwise_told s (Some x) = x s
 
@@ -123,8 +123,8 @@ module _ (schema : Known) where
   unfoldable pub typed_statement : NamedStatement → TypedStatement
   typed_statement = fold-NamedStatement TypedStatement TypedStatement TypedCaseAction statement_layer case_layer case_action_layer
 
-  abbrev pub statement : Scope → NamedStatement → Told
+  abbrev pub statement : TypingScope → NamedStatement → Told
   statement s x = typed_statement x s
 
-  abbrev pub statements : Scope → List NamedStatement → Told
+  abbrev pub statements : TypingScope → List NamedStatement → Told
   statements s list = told_of s (map typed_statement list)

@@ -9,14 +9,14 @@ use crate::places::{Told, assign_unless, fault_of};
 use ex_kinds::{TypeFault, either};
 use ex_named::{NamedExpression, NamedIncrement, NamedRepeatControl};
 use ex_operators::is_integer;
-use ex_typing::{Known, Scope, expression};
+use ex_typing::{Known, TypingScope, expression};
 use std::alloc::{AllocError, Global};
 
 /// A condition that may be left out.
 fn condition(
     alloc: Global,
     schema: &Known,
-    scope: &Scope<'_>,
+    scope: &TypingScope<'_>,
     value: &Option<NamedExpression>,
 ) -> Told
     ensures { IfOk result (λ told. told ≡ spec.condition schema.now scope.now value.now) }
@@ -31,14 +31,14 @@ fn condition(
 fn bound(
     alloc: Global,
     schema: &Known,
-    scope: &Scope<'_>,
+    scope: &TypingScope<'_>,
     value: &NamedExpression,
 ) -> Result<(Option<TypeFault>, bool), AllocError>
     ensures fault { IfOk result (λ found. found.0 ≡ (expressions.expression schema.now scope.now value.now).fault) }
     ensures integer { IfOk result (λ found. found.1 ≡ fitting.is_integer schema.now.types (expressions.expression schema.now scope.now value.now).kinds) }
 {
     let value = expression(alloc, schema, scope, value)?;
-    let fine = is_integer(alloc, schema.types(), value.kinds.as_slice())?;
+    let fine = is_integer(schema.types(), value.kinds.as_slice());
     Ok((value.fault, fine))
 }
 
@@ -46,7 +46,7 @@ fn bound(
 fn step(
     alloc: Global,
     schema: &Known,
-    scope: &Scope<'_>,
+    scope: &TypingScope<'_>,
     value: &Option<NamedExpression>,
 ) -> Result<(Option<TypeFault>, bool), AllocError>
     ensures fault { IfOk result (λ found. found.0 ≡ spec.condition schema.now scope.now value.now) }
@@ -60,7 +60,12 @@ fn step(
 
 /// The bounds stand outside the variable's scope.
 #[tactic(auto, unfolding(crate::specs::Statements::increment))]
-fn increment(alloc: Global, schema: &Known, scope: &Scope<'_>, increment: &NamedIncrement) -> Told
+fn increment(
+    alloc: Global,
+    schema: &Known,
+    scope: &TypingScope<'_>,
+    increment: &NamedIncrement,
+) -> Told
     ensures { IfOk result (λ told. told ≡ spec.increment schema.now scope.now increment.now) }
 {
     let (first, first_fits) = bound(alloc, schema, scope, &increment.first)?;
@@ -77,7 +82,7 @@ fn increment(alloc: Global, schema: &Known, scope: &Scope<'_>, increment: &Named
 fn optional_increment(
     alloc: Global,
     schema: &Known,
-    scope: &Scope<'_>,
+    scope: &TypingScope<'_>,
     value: &Option<NamedIncrement>,
 ) -> Told
     ensures { IfOk result (λ told. told ≡ spec.optional_increment schema.now scope.now value.now) }
@@ -93,8 +98,8 @@ fn optional_increment(
 pub(crate) fn repeat_control(
     alloc: Global,
     schema: &Known,
-    scope: &Scope<'_>,
-    turn: &Scope<'_>,
+    scope: &TypingScope<'_>,
+    turn: &TypingScope<'_>,
     control: &NamedRepeatControl,
 ) -> Told
     requires { turn.now ≡ spec.in_turn scope.now control.now.increment }

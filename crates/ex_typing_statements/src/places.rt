@@ -4,10 +4,10 @@ ghost use Rattle.std.specs.Prelude.{◌≡◌, IfOk};
 ghost use Rattle.ex_typing.specs.Expressions as expressions;
 ghost use Rattle.ex_typing_statements.specs.Statements as spec;
 
-use ex_kinds::{Kind, TypeFault, TypeFaultKind, either, fault_at};
+use ex_kinds::{TypeFault, TypeFaultKind, ValueKind, either, fault_at};
 use ex_named::NamedExpression;
 use ex_operators::fits;
-use ex_typing::{Known, Scope, expression};
+use ex_typing::{Known, TypingScope, expression};
 use std::alloc::{AllocError, Global};
 
 /// The fault that is told of a tree, if there is one.
@@ -17,7 +17,7 @@ pub(crate) type Told = Result<Option<TypeFault>, AllocError>;
 pub(crate) fn fault_of(
     alloc: Global,
     schema: &Known,
-    scope: &Scope<'_>,
+    scope: &TypingScope<'_>,
     value: &NamedExpression,
 ) -> Told
     ensures { IfOk result (λ told. told ≡ (expressions.expression schema.now scope.now value.now).fault) }
@@ -42,8 +42,8 @@ pub fn assign_unless(fine: bool, at: usize) -> Option<TypeFault>
 pub fn assigned(
     alloc: Global,
     schema: &Known,
-    scope: &Scope<'_>,
-    place: &[Kind],
+    scope: &TypingScope<'_>,
+    place: &[ValueKind],
     at: usize,
     value: &NamedExpression,
 ) -> Result<Option<TypeFault>, AllocError>

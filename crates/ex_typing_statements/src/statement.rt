@@ -8,16 +8,15 @@ ghost use Rattle.ex_typing_statements.specs.Statements as spec;
 use crate::control::repeat_control;
 use crate::labels::{Actions, append, fault_by};
 use crate::places::{Told, assigned, fault_of};
-use ex_kinds::{Kind, Sort, TypeFault, either};
+use ex_kinds::{Sort, TypeFault, ValueKind, either};
 use ex_named::{NamedCase, NamedCaseAction, NamedExpression, NamedRepeatControl, NamedStatement};
 use ex_operators::case_fault;
-use ex_typing::{Known, Scope, expression, expressions};
-use plain_data::Rows;
-use sqlite_items::{Boxed, Items};
+use ex_typing::{Known, TypingScope, expression, expressions};
+use plain_data::{Boxed, Items, Rows};
 use std::alloc::{AllocError, Global};
 
 /// What the variable of a REPEAT may be.
-static VARIABLE: [Kind; 1] = [Kind {
+static VARIABLE: [ValueKind; 1] = [ValueKind {
     depth: 0,
     sort: Sort::Integer,
 }];
@@ -27,7 +26,7 @@ static VARIABLE: [Kind; 1] = [Kind {
 pub fn statements(
     alloc: Global,
     schema: &Known,
-    scope: &Scope<'_>,
+    scope: &TypingScope<'_>,
     list: &[NamedStatement],
 ) -> Result<Option<TypeFault>, AllocError>
     ensures { IfOk result (λ told. told ≡ spec.statements schema.now scope.now list.now) }
@@ -41,7 +40,12 @@ pub fn statements(
 }
 
 #[cycle(statements)]
-fn statement(alloc: Global, schema: &Known, scope: &Scope<'_>, statement: &NamedStatement) -> Told
+fn statement(
+    alloc: Global,
+    schema: &Known,
+    scope: &TypingScope<'_>,
+    statement: &NamedStatement,
+) -> Told
     ensures { IfOk result (λ told. told ≡ spec.statement schema.now scope.now statement.now) }
 {
     match statement {
@@ -67,7 +71,7 @@ fn statement(alloc: Global, schema: &Known, scope: &Scope<'_>, statement: &Named
 }
 
 #[cycle(statements)]
-fn case_statement(alloc: Global, schema: &Known, scope: &Scope<'_>, case: &NamedCase) -> Told
+fn case_statement(alloc: Global, schema: &Known, scope: &TypingScope<'_>, case: &NamedCase) -> Told
     ensures { IfOk result (λ told. told ≡ parts.typed_case schema.now case.now scope.now) }
 {
     let selector = expression(alloc, schema, scope, &case.selector)?;
@@ -88,7 +92,7 @@ fn case_statement(alloc: Global, schema: &Known, scope: &Scope<'_>, case: &Named
 fn case_actions(
     alloc: Global,
     schema: &Known,
-    scope: &Scope<'_>,
+    scope: &TypingScope<'_>,
     actions: &[NamedCaseAction],
 ) -> Result<Actions, AllocError>
     ensures { IfOk result (λ found. found ≡ parts.case_actions schema.now scope.now actions.now) }
@@ -107,7 +111,7 @@ fn case_actions(
 fn case_action(
     alloc: Global,
     schema: &Known,
-    scope: &Scope<'_>,
+    scope: &TypingScope<'_>,
     action: &NamedCaseAction,
 ) -> Result<Actions, AllocError>
     ensures { IfOk result (λ found. found ≡ parts.typed_case_action schema.now action.now scope.now) }
@@ -122,7 +126,7 @@ fn case_action(
 fn otherwise(
     alloc: Global,
     schema: &Known,
-    scope: &Scope<'_>,
+    scope: &TypingScope<'_>,
     part: &Option<Boxed<NamedStatement>>,
 ) -> Told
     ensures { IfOk result (λ told. told ≡ parts.otherwise schema.now scope.now part.now) }
@@ -137,7 +141,7 @@ fn otherwise(
 fn repeat(
     alloc: Global,
     schema: &Known,
-    scope: &Scope<'_>,
+    scope: &TypingScope<'_>,
     control: &NamedRepeatControl,
     body: &Items<NamedStatement>,
 ) -> Told
@@ -157,8 +161,8 @@ fn repeat(
 fn repeat_in<'a>(
     alloc: Global,
     schema: &Known,
-    scope: &Scope<'a>,
-    turn: &Scope<'a>,
+    scope: &TypingScope<'a>,
+    turn: &TypingScope<'a>,
     control: &NamedRepeatControl,
     body: &Items<NamedStatement>,
 ) -> Told

@@ -7,7 +7,7 @@ use Rattle.std.proofs.lemmas.Slice.Eq.{bytes_eq-Decides, strip_prefix_is}
 use Rattle.std.specs.Cmp.Lexicographic.{pointwise}
 use Rattle.std.specs.Option.{MatchOption}
 use Rattle.std.specs.Str.{bytes_eq}
-use Rattle.ex_names.specs.Names.{place_of}
+use Rattle.name_tables.specs.Names.{place_of}
 use Rattle.ex_warnings.specs.Steps.{IsBehind}
 use Rattle.ex_warnings.specs.Warnings.{qualified, is_qualified}
 

@@ -5,7 +5,7 @@ ghost use Rattle.ex_warnings.specs.Selects as spec;
 ghost use Rattle.ex_warnings.specs.Steps.{HasRenamed, target as target_in};
 
 use ex_named::{NamedDataType, NamedType, NamedUnderlying, TypeName};
-use ex_names::NameTable;
+use name_tables::NameTable;
 use std::alloc::{AllocError, Global};
 
 /// The type that a type renames; itself, where it renames none.

@@ -6,8 +6,8 @@ ghost use Rattle.ex_warnings.specs.Warnings as spec;
 
 use crate::selects::select_names;
 use ex_named::NamedSchema;
-use ex_names::NameTable;
 use ex_tree::StringToken;
+use name_tables::NameTable;
 use plain_data::Rows;
 use std::alloc::{AllocError, Global};
 

@@ -4,7 +4,7 @@ ghost use Rattle.std.specs.Prelude.{◌≡◌, IfOk};
 ghost use Rattle.p21_read.specs.Defaults as spec;
 
 use p21_tree::{Header, HeaderValue};
-use sqlite_items::Items;
+use plain_data::Items;
 use std::alloc::{AllocError, Global};
 
 /// `''`

@@ -5,8 +5,8 @@ use Rattle.std.proofs.lemmas.Str.Ascii.{IsAscii-nil, IsAscii-cons}
 use Rattle.std.specs.Char.{is_ascii_digit}
 use Rattle.std.specs.List.{prefix_len, slice_index}
 use Rattle.std.specs.Str.{IsAscii}
-use Rattle.p21_text.specs.declared.token.Kind.{Kind}
-use Rattle.p21_text.specs.declared.token.Kind.TheVariants as k
+use Rattle.p21_text.specs.declared.token.TokenKind.{TokenKind}
+use Rattle.p21_text.specs.declared.token.TokenKind.TheVariants as k
 use Rattle.p21_text.specs.declared.front.Start.{Start}
 use Rattle.p21_text.specs.declared.front.Start.TheVariants.{Blank, Token}
 use Rattle.p21_text.specs.Lexical.{is_letter, is_mark_byte, is_sign, word, number, name, item, closed, string, binary, commented, slash, directive, single, punctuation, front}
@@ -97,5 +97,5 @@ front_len z n e =
     (word_len z n) (no_word (number z) n (number_is z)) (no_word (punctuation z) n (punctuation_is z)) e
 
 -- a word in front of a text
-pub word-IsAscii : (z : List ℕ) (kind : Kind) (n : ℕ) → front z ≡ Token kind n → kind ≡ k.Word → IsAscii (take n z)
+pub word-IsAscii : (z : List ℕ) (kind : TokenKind) (n : ℕ) → front z ≡ Token kind n → kind ≡ k.Word → IsAscii (take n z)
 word-IsAscii z kind n e is = rw (front_len z n (e ∙ ap (λ k. Token k n) is)) (marks_below z)

@@ -9,14 +9,14 @@ ghost use Rattle.rp_core.specs.Told.{plain_of, told};
 
 use crate::sight::{at_least, level};
 use crate::table::{RowRef, Table};
-use ex_types::Schema;
+use ex_types::CheckedSchema;
 use plain_data::Text;
 use rp_rows::rows::{Content, Key, Listing, Right};
 
 /// What a repository holds, as one partner asks it.
 #[derive(Clone, Copy)]
 pub struct Asking<'a> {
-    pub schemas: &'a [Schema],
+    pub schemas: &'a [CheckedSchema],
     pub partners: &'a [Text],
     pub models: &'a Table<Content>,
     pub groups: &'a Table<Listing>,
@@ -29,7 +29,7 @@ fn has(texts: &[Text], text: &Text) -> bool
     texts.iter().any(|other| text.is(other))
 }
 
-fn is_loaded(schemas: &[Schema], name: &Text) -> bool
+fn is_loaded(schemas: &[CheckedSchema], name: &Text) -> bool
     ensures { result ≡ HasSchema schemas.now name.now }
 {
     schemas.iter().any(|schema| name.is(schema.name()))

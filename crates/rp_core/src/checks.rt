@@ -11,7 +11,7 @@ use crate::asked::Asking;
 use crate::edits::{Edits, Plan};
 use crate::faults::too_large;
 use ex_check::schema_of;
-use ex_types::Schema;
+use ex_types::CheckedSchema;
 use plain_data::{Rows, Text};
 use rp_plain::messages::{Refusal, Reply, Request};
 use std::alloc::{AllocError, Global};
@@ -28,7 +28,7 @@ fn told_of_text(alloc: Global, text: &Text) -> Result<Reply, AllocError>
     }
 }
 
-fn told_of_schema(alloc: Global, schema: &Schema) -> Result<Reply, AllocError>
+fn told_of_schema(alloc: Global, schema: &CheckedSchema) -> Result<Reply, AllocError>
     ensures { IfOk result (λ reply. reply ≡ Reply.Checked (schema_name schema.now) schema.now.warnings) }
 {
     let warnings = Vec::from_slice(alloc, schema.warnings())?;

@@ -4,12 +4,12 @@ ghost use Rattle.std.specs.Prelude.{◌≡◌, map, IfOk};
 ghost use Rattle.rp_plain.specs.Meaning.{schema_name};
 ghost use Rattle.rp_plain.specs.Lists.{schema_names};
 
-use ex_types::Schema;
+use ex_types::CheckedSchema;
 use plain_data::{Rows, Text};
 use std::alloc::{AllocError, Global};
 
 /// The names of the schemas.
-pub fn names_of(alloc: Global, schemas: &[Schema]) -> Result<Vec<Text>, AllocError>
+pub fn names_of(alloc: Global, schemas: &[CheckedSchema]) -> Result<Vec<Text>, AllocError>
     ensures { IfOk result (λ names. names.items ≡ map schema_name schemas.now) }
 {
     let mut names = Vec::with_capacity(alloc, schemas.len())?;
@@ -20,7 +20,7 @@ pub fn names_of(alloc: Global, schemas: &[Schema]) -> Result<Vec<Text>, AllocErr
 }
 
 /// The names of the schemas, in byte order.
-pub fn sorted_names(alloc: Global, schemas: &[Schema]) -> Result<Rows<Text>, AllocError>
+pub fn sorted_names(alloc: Global, schemas: &[CheckedSchema]) -> Result<Rows<Text>, AllocError>
     ensures { IfOk result (λ names. names ≡ schema_names schemas.now) }
 {
     let mut names = names_of(alloc, schemas)?;

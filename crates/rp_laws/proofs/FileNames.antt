@@ -6,8 +6,8 @@ use Rattle.text_forms.specs.Forms.{Outcome, and_then, ◌>>=◌, pure, turns, re
 use Rattle.p21_tree.specs.declared.fault.FileFault.{FileFault}
 use Rattle.p21_tree.specs.declared.instance.Instance.{Instance}
 use Rattle.p21_tree.specs.declared.raw.Raw.{Raw}
-use Rattle.p21_text.specs.declared.token.Kind.TheVariants as k
-use Rattle.p21_text.specs.Tokens.{Lexeme, Lexemes, Parser, sees, word, expect, file_lexemes}
+use Rattle.p21_text.specs.declared.token.TokenKind.TheVariants as k
+use Rattle.p21_text.specs.Tokens.{Lexemes, Parser, sees, word, expect, file_lexemes}
 use Rattle.p21_read.specs.Grammar.{name_of, name, mapping_form, instance, instances}
 use Rattle.p21_read.specs.File.{line, header_section, section, data_section, mark, file_end, file, file_of, tree_of}
 use Rattle.rp_plain.specs.Valid.{max_name}
@@ -16,7 +16,7 @@ use Rattle.rp_plain.specs.Valid.{max_name}
 abbrev Gives : {A : Type 0} → Parser A → (A → Type 0) → Type 0
 Gives {A} p P = (s : Lexemes) (a : A) (t : Lexemes) → p s ≡ Ok (a, t) → P a
 
-ok_same : {A : Type 0} (u v : A × Lexemes) (o : Outcome Lexeme FileFault A) → o ≡ Ok u → o ≡ Ok v → u ≡ v
+ok_same : {A : Type 0} (u v : A × Lexemes) (o : Outcome Lexemes FileFault A) → o ≡ Ok u → o ≡ Ok v → u ≡ v
 ok_same u v o e f = cc
 
 gives_pure : {A : Type 0} (P : A → Type 0) (a : A) → P a → Gives (pure a) P
@@ -26,7 +26,7 @@ gives_pure {A = A} P a has s b t e = subst P (ap (λ (u : A × Lexemes). u.0) (o
 gives_then : {A B : Type 0} (p : Parser A) (q : A → Parser B) (P : A → Type 0) (Q : B → Type 0) → Gives p P → ((a : A) → P a → Gives (q a) Q) → Gives (p >>= q) Q
 gives_then {A = A} p q P Q first next s b t e = by (p s) refl e
   where
-    by : (o : Outcome Lexeme FileFault A) → p s ≡ o → and_then o q ≡ Ok (b, t) → Q b
+    by : (o : Outcome Lexemes FileFault A) → p s ≡ o → and_then o q ≡ Ok (b, t) → Q b
     by (Ok u) f g = next u.0 (first s u.0 u.1 f) u.1 b t g
     by (Err fault) f g = cc
 
@@ -41,22 +41,22 @@ all_more P (y ∷ ys) x all here = (all.0, all_more P ys x all.1 here)
 
 module _ {A : Type 0} (P : A → Type 0) (begins : Lexemes → Bool) (item : Parser A) (gives : Gives item P) where
   abbrev Collects : ℕ → Type 0
-  Collects n = (found : List A) → AllByRecursion P found → Gives (repeat_from begins item n found) (AllByRecursion P)
+  Collects n = (found : List A) → AllByRecursion P found → Gives (repeat_from turns begins item n found) (AllByRecursion P)
 
-  turned : (n : ℕ) → Collects n → (found : List A) → AllByRecursion P found → (s : Lexemes) (xs : List A) (t : Lexemes) → (o : Outcome Lexeme FileFault A) → item s ≡ o
-      → and_then o (λ a u. (if nat_lt (turns u) (turns s) then repeat_from begins item n (found ++ a ∷ []) else pure (found ++ a ∷ [])) u) ≡ Ok (xs, t) → AllByRecursion P xs
+  turned : (n : ℕ) → Collects n → (found : List A) → AllByRecursion P found → (s : Lexemes) (xs : List A) (t : Lexemes) → (o : Outcome Lexemes FileFault A) → item s ≡ o
+      → and_then o (λ a u. (if nat_lt (turns u) (turns s) then repeat_from turns begins item n (found ++ a ∷ []) else pure (found ++ a ∷ [])) u) ≡ Ok (xs, t) → AllByRecursion P xs
   turned n rest found all s xs t (Err fault) i e = cc
   turned n rest found all s xs t (Ok u) i e = by (nat_lt (turns u.1) (turns s)) e
     where
       more : AllByRecursion P (found ++ u.0 ∷ [])
       more = all_more P found u.0 all (gives s u.0 u.1 i)
 
-      by : (b : Bool) → (if b then repeat_from begins item n (found ++ u.0 ∷ []) else pure (found ++ u.0 ∷ [])) u.1 ≡ Ok (xs, t) → AllByRecursion P xs
+      by : (b : Bool) → (if b then repeat_from turns begins item n (found ++ u.0 ∷ []) else pure (found ++ u.0 ∷ [])) u.1 ≡ Ok (xs, t) → AllByRecursion P xs
       by true f = rest (found ++ u.0 ∷ []) more u.1 xs t f
       by false f = gives_pure (AllByRecursion P) (found ++ u.0 ∷ []) more u.1 xs t f
 
   begun : (n : ℕ) → Collects n → (found : List A) → AllByRecursion P found → (s : Lexemes) (xs : List A) (t : Lexemes) → (b : Bool)
-      → (if b then and_then (item s) (λ a u. (if nat_lt (turns u) (turns s) then repeat_from begins item n (found ++ a ∷ []) else pure (found ++ a ∷ [])) u) else Ok (found, s)) ≡ Ok (xs, t) → AllByRecursion P xs
+      → (if b then and_then (item s) (λ a u. (if nat_lt (turns u) (turns s) then repeat_from turns begins item n (found ++ a ∷ []) else pure (found ++ a ∷ [])) u) else Ok (found, s)) ≡ Ok (xs, t) → AllByRecursion P xs
   begun n rest found all s xs t true e = turned n rest found all s xs t (item s) refl e
   begun n rest found all s xs t false e = gives_pure (AllByRecursion P) found all s xs t e
 
@@ -111,6 +111,6 @@ raw_named =
 pub file_named : (text : List ℕ) (raw : Raw) → file_of text ≡ Ok raw → AllByRecursion IsNamed raw.instances
 file_named text raw e = by (file (file_lexemes text)) refl e
   where
-    by : (o : Outcome Lexeme FileFault Raw) → file (file_lexemes text) ≡ o → tree_of o ≡ Ok raw → AllByRecursion IsNamed raw.instances
+    by : (o : Outcome Lexemes FileFault Raw) → file (file_lexemes text) ≡ o → tree_of o ≡ Ok raw → AllByRecursion IsNamed raw.instances
     by (Ok u) f g = let same : u.0 ≡ raw = cc in subst (λ (r : Raw). AllByRecursion IsNamed r.instances) same (raw_named (file_lexemes text) u.0 u.1 f)
     by (Err fault) f g = cc

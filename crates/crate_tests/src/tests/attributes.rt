@@ -3,7 +3,7 @@
 use ex_check::schema_of;
 use ex_named::{AttributePlace, AttributeSort};
 use plain_data::Rows;
-use rp_repo::Schema;
+use rp_repo::CheckedSchema;
 use std::alloc::{AllocError, Global};
 use std::test::*;
 
@@ -36,7 +36,7 @@ static ROWS: [Row; 2] = [
 type Told = (Rows<AttributePlace>, Rows<usize>, Vec<usize>);
 
 /// What is told of the fourth entity.
-fn fourth(alloc: Global, schema: &Schema) -> Result<Told, AllocError> {
+fn fourth(alloc: Global, schema: &CheckedSchema) -> Result<Told, AllocError> {
     let attributes = schema.named().attributes(alloc, 3)?;
     let ancestors = schema.named().ancestors(alloc, 3)?;
     let mut redeclared = Vec::new(alloc);

@@ -1,6 +1,6 @@
 //! Decimals by hand: the one that a real spells, and how two of them stand to each other.
 
-use rp_value::{Decimal, DecimalFault};
+use rp_numbers::{Decimal, DecimalFault};
 use std::cmp::Ordering;
 use std::test::*;
 

@@ -4,4 +4,4 @@ use Rattle.ex_bind_entities.specs.Entities.{derived_attribute}
 use Rattle.ex_bind_entities.proofs.attributes.derived_attributes.Given as goal
 
 abbrev pub invariant-loop-derived : goal.invariant-loop-derived
-invariant-loop-derived l = each_after (derived_attribute l.context.declarations.now l.context.subtypes.now l.context.entity) l.found (drop l.derived-index l.list) ≡ each (derived_attribute l.context.declarations.now l.context.subtypes.now l.context.entity) l.list
+invariant-loop-derived l = each_after (derived_attribute l.context.declarations.now l.context.supertypes.now l.context.entity) l.found (drop l.derived-index l.list) ≡ each (derived_attribute l.context.declarations.now l.context.supertypes.now l.context.entity) l.list

@@ -8,7 +8,7 @@ use Rattle.ex_bind_entities.proofs.entities.entity_in.Goals as goal
 pub returns-in_err-head : goal.returns-in_err-head
 returns-in_err-head c =
     let schema = c.args.context.now.declarations.now in
-    let graph = c.args.context.now.subtypes.now in
+    let graph = c.args.context.now.supertypes.now in
     let number = c.args.context.now.entity in
     let entity = c.args.entity.now in
     let all : Binds c.both.result (both (entity_names schema graph number entity.body) (entity_parts schema graph number entity)) =
@@ -18,7 +18,7 @@ returns-in_err-head c =
 pub returns : goal.returns
 returns c =
     let schema = c.args.context.now.declarations.now in
-    let graph = c.args.context.now.subtypes.now in
+    let graph = c.args.context.now.supertypes.now in
     let number = c.args.context.now.entity in
     let entity = c.args.entity.now in
     let all : Binds c.both.result (both (entity_names schema graph number entity.body) (entity_parts schema graph number entity)) =

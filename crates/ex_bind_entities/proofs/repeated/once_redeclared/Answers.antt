@@ -8,4 +8,4 @@ pub returns : goal.returns
 returns c =
     let context = c.args.context.now in
     let P : Outcome (Unit {0}) → Type 0 = λ o. Binds c.all_once.result o in
-    subst P (once_by context.declarations.now context.subtypes.now context.entity c.args.body.now (read c.deref.result.now) (ap read c.deref.ensures.value ∙ c.in_ok-list.ensures)) c.all_once.ensures
+    subst P (once_by context.declarations.now context.supertypes.now context.entity c.args.body.now (read c.deref.result.now) (ap read c.deref.ensures.value ∙ c.in_ok-list.ensures)) c.all_once.ensures

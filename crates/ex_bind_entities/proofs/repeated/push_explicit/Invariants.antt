@@ -1,6 +1,6 @@
 use Rattle.std.proofs.Common.{◌≡◌, ◌++◌, drop}
 use Rattle.std.specs.List.{flat_map}
-use Rattle.ex_bind_entities.specs.declared.attribute_uses.Sorts.TheVariants.{Explicit}
+use Rattle.ex_scopes.specs.declared.sorts.Sorts.TheVariants.{Explicit}
 use Rattle.ex_bind_entities.specs.Inherited.{read, inherited_by}
 use Rattle.ex_bind_entities.proofs.repeated.push_explicit.Given as goal
 

@@ -4,4 +4,4 @@ use Rattle.ex_bind_entities.specs.Entities.{unique_attribute}
 use Rattle.ex_bind_entities.proofs.unique_rules.unique_attributes.Given as goal
 
 abbrev pub invariant-loop-named : goal.invariant-loop-named
-invariant-loop-named l = each_after (unique_attribute l.context.declarations.now l.context.subtypes.now l.context.entity) l.found (drop l.named-index l.list) ≡ each (unique_attribute l.context.declarations.now l.context.subtypes.now l.context.entity) l.list
+invariant-loop-named l = each_after (unique_attribute l.context.declarations.now l.context.supertypes.now l.context.entity) l.found (drop l.named-index l.list) ≡ each (unique_attribute l.context.declarations.now l.context.supertypes.now l.context.entity) l.list

@@ -1,6 +1,6 @@
 use Rattle.std.proofs.Common.{rules, sym, ◌∙◌}
 use denote.Enum.Bare.{same_true}
-use Rattle.ex_tree.specs.contracts.kind.Kind.{the_type}
+use Rattle.ex_tree.specs.contracts.kind.TokenKind.{the_type}
 use Rattle.ex_forms.specs.Input.{same_kind}
 use Rattle.ex_forms.proofs.cursor.same_kind.Goals as goal
 

@@ -1,5 +1,5 @@
 use Rattle.std.proofs.Common.{◌≡◌, ◌-◌, length}
-use Rattle.ex_lineage.specs.Lineage.{numbers_from}
+use Rattle.lineage.specs.Lineage.{numbers_from}
 use Rattle.ex_attributes.specs.Attributes as spec
 use Rattle.ex_attributes.proofs.attributes.Attributes.look_in_all.Given as goal
 

@@ -1,6 +1,6 @@
 use Rattle.std.proofs.Common.{◌≡◌, ◌++◌, drop}
 use Rattle.std.specs.List.{flat_map}
-use Rattle.ex_lineage.specs.Lineage as lineage
+use Rattle.lineage.specs.Lineage as lineage
 use Rattle.ex_kinds.specs.Types as spec
 use Rattle.ex_kinds.proofs.types.Types.push_plain.Given as goal
 

@@ -1,12 +1,14 @@
-use Rattle.ex_names.specs.Names.{named}
+use Rattle.name_tables.specs.Names.{named}
 use Rattle.ex_named.specs.declared.reference.AttributePlace.{AttributePlace}
-use Rattle.ex_scopes.proofs.Runs.{in_turn, said_to_rise}
+use Rattle.ex_scopes.proofs.Runs.{of_members, said_to_rise}
 use Rattle.ex_scopes.proofs.attributes.AttributeRows.of_family.Goals as goal
 
-pub runs_of-requires : goal.runs_of-requires
-runs_of-requires c = rw c.get-places.ensures (said_to_rise c.self.inside.is_ascending c.self.inside.last_entity c.self.inside.rows c.args.name.now c.self.invariant c.if-self.true)
+pub of_each-requires : goal.of_each-requires
+of_each-requires c = rw c.get-places.ensures (said_to_rise (λ (a : AttributePlace). a.entity) c.self.inside.is_ascending c.self.inside.last_entity c.self.inside.rows c.args.name.now c.self.invariant c.if-self.true)
 
-pub returns-then-len-places : goal.returns-then-len-places
-returns-then-len-places c =
-    let rises = said_to_rise c.self.inside.is_ascending c.self.inside.last_entity c.self.inside.rows c.args.name.now c.self.invariant c.if-self.true in
-    rw (← c.self.view_is, ← in_turn (λ (a : AttributePlace). a.entity) c.args.family.now.keys c.len.ensures.ordered (named c.args.name.now c.self.inside.rows) rises, ← c.get-places.ensures) c.runs_of.ensures
+pub returns-in-Some : goal.returns-in-Some
+returns-in-Some c =
+    let exact = rw c.in-Some.is at c.in_ok-members.ensures.exact in
+    let ascending = rw c.in-Some.is at c.in_ok-members.ensures.ascending in
+    let rises = said_to_rise (λ (a : AttributePlace). a.entity) c.self.inside.is_ascending c.self.inside.last_entity c.self.inside.rows c.args.name.now c.self.invariant c.if-self.true in
+    rw (← c.self.view_is, ← of_members (λ (a : AttributePlace). a.entity) c.in-Some.members.items c.args.family.now (named c.args.name.now c.self.inside.rows) exact ascending rises, ← c.get-places.ensures, ← c.deref.ensures.value) c.of_each.ensures

@@ -1,5 +1,5 @@
 use Rattle.std.proofs.Common.{arith}
-use Rattle.ex_names.proofs.Places.{length-bytes_of}
+use Rattle.name_tables.proofs.Places.{length-bytes_of}
 use Rattle.ex_scopes.proofs.Lists.{position-place_of}
 use Rattle.ex_scopes.proofs.scope.Scope.nested_variable.Goals as goal
 

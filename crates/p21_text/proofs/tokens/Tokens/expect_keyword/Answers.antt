@@ -1,8 +1,8 @@
 use Rattle.std.proofs.Common.{rules, ◌≡◌, ◌∙◌, sym, ap, true, false, List, [], ◌∷◌, Some, None}
 use Rattle.std.proofs.lemmas.Str.{IsUtf8-from_ascii}
 use denote.Enum.Bare.{same_true}
-use Rattle.p21_text.specs.contracts.token.Kind.{the_type}
-use Rattle.p21_text.specs.declared.token.Kind.TheVariants.{Word}
+use Rattle.p21_text.specs.contracts.token.TokenKind.{the_type}
+use Rattle.p21_text.specs.declared.token.TokenKind.TheVariants.{Word}
 use Rattle.p21_text.specs.Tokens.{Lexeme, same_kind}
 use Rattle.p21_text.proofs.tokens.Tokens.expect_keyword.Goals as goal
 

@@ -1,0 +1,3 @@
+pub mod Ranges
+pub mod Members
+pub mod Walked

@@ -1,0 +1,137 @@
+//! A graph of which it is asked often who stands above whom.
+
+ghost use Rattle.std.specs.Prelude.{◌≡◌, ◌<◌, ℕ, length, MatchOption, IfOk, IfSome};
+ghost use Rattle.std.specs.List.Sorted.{IsStrictlyIncreasing};
+ghost use Rattle.lineage.specs.Lineage as graphs;
+ghost use Rattle.descent.specs.Kept as spec;
+
+use crate::trees::{Trees, spanned, told_by_trees};
+use crate::walks::is_above;
+use lineage::supertypes;
+use plain_data::Rows;
+use std::alloc::{AllocError, Global};
+use std::collections::BTreeSet;
+use std::marker::Model;
+
+/// A graph of which it is asked often who stands above whom.
+#[derive(Drop)]
+pub struct Descent<'g> {
+    trees: Trees<'g>,
+}
+
+impl<'g> Model for Descent<'g> {
+    ghost use Rattle.std.specs.Prelude.{List, ℕ};
+    ghost use Rattle.descent.specs.Kept.{IsKept};
+
+    ghost Value = { List (List ℕ) };
+
+    ghost view = { λ d. d.trees.graph.now };
+
+    ghost invariant = { λ d. IsKept d.trees };
+}
+
+/// Whether a member's family has a number.
+fn is_in(alloc: Global, trees: &Trees<'_>, member: usize, number: usize) -> Result<bool, AllocError>
+    requires { spec.IsKept trees.now }
+    ensures { IfOk result (λ told. told ≡ graphs.is_among (graphs.family trees.now.graph.now member) number) }
+{
+    let count = trees.graph.len();
+    if member >= count {
+        return Ok(false);
+    }
+    if number >= count {
+        return Ok(false);
+    }
+    if member == number {
+        return Ok(true);
+    }
+    match told_by_trees(trees, member, number) {
+        Some(told) => Ok(told),
+        None => is_above(alloc, trees, member, number),
+    }
+}
+
+/// The ancestors of a member among the members, where its family has at most so many.
+fn above_within(
+    alloc: Global,
+    graph: &[Rows<usize>],
+    member: usize,
+    limit: usize,
+) -> Result<Option<BTreeSet<usize>>, AllocError>
+    ensures { IfOk result (λ found. MatchOption found (limit < length (graphs.family graph.now member)) (λ above. spec.AreAbove graph.now member above.keys)) }
+{
+    let mut found = BTreeSet::new(alloc);
+    let mut waiting = Vec::from_slice(alloc, supertypes(graph, member))?;
+    while let Some(next) = waiting.pop() {
+        if next >= graph.len() {
+            continue;
+        }
+        if found.insert(next)? {
+            if found.len() > limit {
+                return Ok(None);
+            }
+            waiting.extend_from_slice(supertypes(graph, next))?;
+        }
+    }
+    Ok(Some(found))
+}
+
+/// The family of a member, where it has at most so many.
+fn all_within(
+    alloc: Global,
+    graph: &[Rows<usize>],
+    member: usize,
+    limit: usize,
+) -> Result<Option<BTreeSet<usize>>, AllocError>
+    ensures { IfOk result (λ found. MatchOption found (limit < length (graphs.family graph.now member)) (λ all. all.keys ≡ graphs.family graph.now member)) }
+{
+    let Some(mut found) = above_within(alloc, graph, member, limit)? else {
+        return Ok(None);
+    };
+    found.insert(member)?;
+    found.split_off(&graph.len())?;
+    if found.len() > limit {
+        return Ok(None);
+    }
+    Ok(Some(found))
+}
+
+impl<'g> Descent<'g> {
+    pub fn of(alloc: Global, graph: &'g [Rows<usize>]) -> Result<Descent<'g>, AllocError>
+        ensures { IfOk result (λ d. d ≡ graph.now) }
+    {
+        let trees = spanned(alloc, graph)?;
+        Ok(Descent { trees })
+    }
+
+    /// Whether a member's family has a number.
+    pub fn is_in_family(
+        &self,
+        alloc: Global,
+        member: usize,
+        number: usize,
+    ) -> Result<bool, AllocError>
+        ensures { IfOk result (λ told. told ≡ graphs.is_among (graphs.family self.now member) number) }
+    {
+        is_in(alloc, &self.trees, member, number)
+    }
+
+    /// A member's family, ascending, where it has at most so many.
+    pub fn family_within(
+        &self,
+        alloc: Global,
+        member: usize,
+        limit: usize,
+    ) -> Result<Option<Vec<usize>>, AllocError>
+        ensures exact { IfOk result (λ found. MatchOption found (limit < length (graphs.family self.now member)) (λ all. all.items ≡ graphs.family self.now member)) }
+        ensures ascending { IfOk result (λ found. IfSome found (λ all. IsStrictlyIncreasing all.items)) }
+    {
+        match all_within(alloc, self.trees.graph, member, limit)? {
+            Some(found) => {
+                let all: Vec<usize> = found.into_iter().collect(alloc)?;
+                Ok(Some(all))
+            }
+            None => Ok(None),
+        }
+    }
+}

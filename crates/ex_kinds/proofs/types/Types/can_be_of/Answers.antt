@@ -1,0 +1,15 @@
+use Rattle.std.proofs.Common.{sym, ◌∙◌, ap}
+use Rattle.ex_kinds.specs.Leading.{is_marked}
+use Rattle.ex_kinds.specs.Types as spec
+use Rattle.ex_kinds.proofs.Tests.{meaning_of_type, meaning_of_itself}
+use Rattle.ex_kinds.proofs.types.Types.can_be_of.Goals as goal
+
+pub returns-in-Some : goal.returns-in-Some
+returns-in-Some c =
+    let types = c.args.self.now in
+    let test = spec.is_value c.args.sort in
+    c.is_marked.ensures ∙ ap (λ l. is_marked l c.in-Some.number) c.of_sort.ensures
+    ∙ meaning_of_type types test c.args.kind c.in-Some.number (sym c.alternative.ensures ∙ c.in-Some.is)
+
+pub returns-in-None : goal.returns-in-None
+returns-in-None c = c.is_value.ensures ∙ meaning_of_itself c.args.self.now (spec.is_value c.args.sort) c.args.kind (sym c.alternative.ensures ∙ c.in-None.is)

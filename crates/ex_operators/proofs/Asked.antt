@@ -1,0 +1,101 @@
+-- What is asked of operands, and of what they are made.
+use Rattle.std.proofs.Common.{◌≡◌, ℕ, zero, suc, ◌+◌, ◌<◌, drop, get_or, Bool, true, false, ◌||◌, ◌&&◌, ◌==◌, nat_lt, List, [], ◌∷◌, length, refl, sym, ◌∙◌, ap, arith}
+use Rattle.std.specs.Prelude.{Option, Some, None, is_some}
+use Rattle.std.specs.List.{list_any, filter_map}
+use Rattle.std.proofs.lemmas.Bool.Decides.{nat_tests}
+use Rattle.std.proofs.Math.Seq.{drop-cons}
+use Rattle.ex_named.specs.Scopes.{is_among}
+use Rattle.ex_kinds.specs.declared.kind.ValueKind.{ValueKind}
+use Rattle.ex_kinds.specs.declared.kind.Sort.{Sort}
+use Rattle.ex_kinds.specs.declared.kind.Sort.TheVariants as k
+use Rattle.ex_kinds.specs.declared.kind.PlainSort.{PlainSort}
+use Rattle.ex_kinds.specs.declared.kind.PlainSort.TheVariants as p
+use Rattle.ex_kinds.specs.Kinds.{Kinds, elements, shallower, joined}
+use Rattle.ex_kinds.specs.Types.{possible, plain, some_plain, is_value, is_sort, can_be, enumeration, enumeration_at, has_elements}
+
+some_there : {A : Type 0} → (xs : List A) → nat_lt zero (suc (length xs)) ≡ true
+some_there xs = grind (arith, nat_tests)
+
+-- one kind more, at its depth and of its sort
+enumeration_next : (kinds : Kinds) → list_any (is_value p.Enumeration) kinds ≡ nat_lt zero (length (filter_map enumeration kinds)) → (depth : ℕ) (sort : Sort)
+    → (((depth == zero) && is_sort p.Enumeration sort) || list_any (is_value p.Enumeration) kinds)
+    ≡ nat_lt zero (length (filter_map enumeration (record { depth = depth; sort = sort } ∷ kinds)))
+enumeration_next kinds rest zero k.Integer = rest
+enumeration_next kinds rest zero k.Real = rest
+enumeration_next kinds rest zero k.String = rest
+enumeration_next kinds rest zero k.Binary = rest
+enumeration_next kinds rest zero k.Logical = rest
+enumeration_next kinds rest zero (k.Enumeration n) = sym (some_there (filter_map enumeration kinds))
+enumeration_next kinds rest zero (k.Defined n) = rest
+enumeration_next kinds rest zero (k.Entity n) = rest
+enumeration_next kinds rest zero k.Instance = rest
+enumeration_next kinds rest zero k.Aggregate = rest
+enumeration_next kinds rest zero k.Generic = rest
+enumeration_next kinds rest (suc depth) sort = let deep : (suc depth == zero) ≡ false = grind (arith, nat_tests) in rw deep rest
+
+any_enumeration : (kinds : Kinds) → list_any (is_value p.Enumeration) kinds ≡ nat_lt zero (length (filter_map enumeration kinds))
+any_enumeration [] = refl
+any_enumeration (kind ∷ kinds) = enumeration_next kinds (any_enumeration kinds) kind.depth kind.sort
+
+pub can_be_exact : (types : List Kinds) (kinds : Kinds) (sort : PlainSort) → some_plain types (is_value sort) kinds ≡ can_be (possible (plain types kinds)) sort
+unfolding some_plain possible
+can_be_exact types kinds p.Integer = refl
+can_be_exact types kinds p.Real = refl
+can_be_exact types kinds p.String = refl
+can_be_exact types kinds p.Binary = refl
+can_be_exact types kinds p.Logical = refl
+can_be_exact types kinds p.Enumeration = any_enumeration (plain types kinds)
+can_be_exact types kinds p.Instance = refl
+can_be_exact types kinds p.Aggregate = refl
+can_be_exact types kinds p.Generic = refl
+
+none_shallower : (kinds : Kinds) → list_any has_elements kinds ≡ false → filter_map shallower kinds ≡ []
+none_shallower [] none = refl
+none_shallower (kind ∷ kinds) none = (elim (shallower kind) as (λ o. shallower kind ≡ o → filter_map shallower (kind ∷ kinds) ≡ []) [
+  | None ↦ λ is. rw is (none_shallower kinds (rw is at none))
+  | Some found ↦ λ is. let there = rw is at none in absurd cc
+]) refl
+
+pub no_elements : (types : List Kinds) (kinds : Kinds) → some_plain types has_elements kinds ≡ false → elements (plain types kinds) ≡ []
+unfolding some_plain
+no_elements types kinds none = ap (joined []) (none_shallower (plain types kinds) none)
+
+-- ---- numbers that two lists share
+
+any_same : (p q : ℕ → Bool) → ((x : ℕ) → p x ≡ q x) → (xs : List ℕ) → list_any p xs ≡ list_any q xs
+any_same p q same [] = refl
+any_same p q same (x ∷ xs) = ap (λ b. b || list_any p xs) (same x) ∙ ap (λ b. q x || b) (any_same p q same xs)
+
+pub shared_by_set : (keys second first : List ℕ) → ((k : ℕ) → is_among keys k ≡ is_among second k) → list_any (λ n. is_among keys n) first ≡ list_any (λ n. is_among second n) first
+shared_by_set keys second first same = any_same (is_among keys) (is_among second) same first
+
+none_among : (xs : List ℕ) → list_any (λ n. is_among [] n) xs ≡ false
+none_among [] = refl
+none_among (x ∷ xs) = none_among xs
+
+pub none_first : (first second : List ℕ) → nat_lt zero (length first) ≡ false → list_any (λ n. is_among second n) first ≡ false
+none_first [] second none = refl
+none_first (x ∷ xs) second none = let there = some_there xs in absurd cc
+
+pub none_second : (first second : List ℕ) → nat_lt zero (length second) ≡ false → list_any (λ n. is_among second n) first ≡ false
+none_second first [] none = none_among first
+none_second first (y ∷ ys) none = let there = some_there ys in absurd cc
+
+pub enumerations_are : (kinds : Kinds) → filter_map enumeration kinds ≡ (possible kinds).enumerations
+unfolding possible
+enumerations_are kinds = refl
+
+swap_or : (a b c : Bool) → ((a || b) || c) ≡ (b || (a || c))
+swap_or true true c = refl
+swap_or true false c = refl
+swap_or false b c = refl
+
+-- one number more that is put into the set
+pub set_next : (i : ℕ) (numbers keys more : List ℕ) (k : ℕ) → i < length numbers → is_among more k ≡ ((get_or numbers i 0 == k) || is_among keys k)
+    → (is_among more k || is_among (drop (i + 1) numbers) k) ≡ (is_among keys k || is_among (drop i numbers) k)
+set_next i numbers keys more k within is =
+    let later : suc i ≡ i + 1 = omega arith in
+    let rest = is_among (drop (i + 1) numbers) k in
+    ap (λ b. b || rest) is
+    ∙ swap_or (get_or numbers i 0 == k) (is_among keys k) rest
+    ∙ ap (λ b. is_among keys k || b) (sym (ap (λ l. is_among l k) (drop-cons numbers i 0 within) ∙ ap (λ j. (get_or numbers i 0 == k) || is_among (drop j numbers) k) later))

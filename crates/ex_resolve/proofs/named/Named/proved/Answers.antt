@@ -1,0 +1,16 @@
+use Rattle.std.proofs.Common.{subst}
+use Rattle.ex_resolve.proofs.Cycles.{acyclic, listed}
+use Rattle.ex_resolve.proofs.Laws.{once, held}
+use Rattle.ex_resolve.specs.Schemas.{IsResolved}
+use Rattle.ex_resolve.proofs.named.Named.proved.Goals as goal
+
+pub returns : goal.returns
+returns c =
+    let whole : IsResolved c.args.self.now = subst IsResolved c.self.view_is c.self.invariant in
+    record {
+      resolved = whole;
+      listed = listed c.args.self.now whole;
+      acyclic = acyclic c.args.self.now whole;
+      once = once c.args.self.now whole;
+      held = held c.args.self.now whole;
+    }

@@ -1,7 +1,0 @@
-use Rattle.std.proofs.Common.{◌≡◌, map, drop}
-use Rattle.ex_declarations.specs.Declared.{each_numbered, each_numbered_after}
-use Rattle.ex_bind_entities.specs.Entities as spec
-use Rattle.ex_resolve.proofs.parts.each_entity.Given as goal
-
-abbrev pub invariant-loop-number : goal.invariant-loop-number
-invariant-loop-number l = each_numbered_after (spec.named_entity l.declarations l.subtypes) l.number l.found (map (λ e. e.now) (drop l.number l.entities)) ≡ each_numbered (spec.named_entity l.declarations l.subtypes) (map (λ e. e.now) l.entities)

@@ -1,0 +1,13 @@
+pub mod Sets
+pub mod Left
+pub mod Search
+pub mod Bounded
+pub mod Numbers
+pub mod Marks
+pub mod Lines
+pub mod Once
+pub mod Rises
+pub mod Walk
+pub mod Certain
+pub mod Turned
+pub mod Families

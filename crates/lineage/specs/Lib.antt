@@ -1,0 +1,3 @@
+pub mod Lineage
+pub mod Traces
+pub mod Numbered

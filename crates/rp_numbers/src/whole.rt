@@ -1,0 +1,45 @@
+//! Whole numbers as they are spelled.
+
+ghost use Rattle.std.specs.Prelude.{◌≡◌, ◌≤◌, nat_le, if◌then◌else◌, Some, None};
+ghost use Rattle.std.specs.List.{list_all};
+ghost use Rattle.std.specs.Char.{is_ascii_digit};
+ghost use Rattle.rp_numbers.specs.Whole as spec;
+
+const MAX_WHOLE: u128 = 9_223_372_036_854_775_807;
+
+/// The number that `digits` write after those that write `start`, where it is at most `most`.
+pub(crate) fn number_after(start: u128, digits: &[u8], most: u128) -> Option<u128>
+    ensures { result ≡ (if nat_le (spec.value_after start digits.now) most then Some (spec.value_after start digits.now) else None) }
+{
+    let mut value = start;
+    'digits: for digit in digits {
+        let Some(tens) = value.checked_mul(10) else {
+            return None;
+        };
+        let Some(next) = tens.checked_add(u128::from(digit.saturating_sub(b'0'))) else {
+            return None;
+        };
+        value = next;
+    }
+    if value <= most { Some(value) } else { None }
+}
+
+pub(crate) fn are_digits(text: &[u8]) -> bool
+    ensures { result ≡ list_all is_ascii_digit text.now }
+{
+    text.iter().all(|b| b.is_ascii_digit())
+}
+
+#[tactic(auto, unfolding(crate::specs::Whole::whole_number))]
+/// The value of one or more digits, where it fits 64 bits with a sign.
+pub fn whole_number(digits: &[u8]) -> Option<u64>
+    ensures { result ≡ spec.whole_number digits.now }
+{
+    if digits.is_empty() || !are_digits(digits) {
+        return None;
+    }
+    let Some(value) = number_after(0, digits, MAX_WHOLE) else {
+        return None;
+    };
+    Some(value as u64)
+}
