@@ -1,0 +1,2 @@
+//! Numbers that name a declaration of their schema.
+#![tactic(auto)]
