@@ -1,2 +1,0 @@
-//! Numbers that name a declaration of their schema.
-#![tactic(auto)]
