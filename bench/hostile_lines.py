@@ -310,7 +310,7 @@ def remarks(count):
 def remark_open(count):
     text, _ = value_of("@")
     at = text.index("@")
-    return text[:at] + "/*" + "/*" * (count // 2), file_fault("Open", at)
+    return text[:at] + "/*" + " *" * (count // 2), file_fault("Open", at)
 
 
 @family(FILES, "bytes")

@@ -150,6 +150,80 @@ NOTHINGS = [
     ("an attribute that isn't there, and what it would have", "1 + x⟦Qualifier⟧.zz⟦Qualifier⟧.a"),
     ("an index of what has none, within others", "NOT i⟦Qualifier⟧[1]"),
     ("an index of what has none, in a sum", "'a' + i⟦Qualifier⟧[1]"),
+    # a fault outside, before the refused part, shows which kinds the part gives
+    ("a refused comparison is a truth value", "1 ⟦Operand⟧+ (1 = 'a')"),
+    ("a refused comparison, where a truth value fits", "NOT (1 ⟦Operand⟧= 'a')"),
+    ("a refused comparison of entities is a truth value", "1 ⟦Operand⟧+ (x = x)"),
+    ("a refused comparison of entities, where a truth value fits", "NOT (x ⟦EntityComparison⟧= x)"),
+    ("a refused order is a truth value", "1 ⟦Operand⟧+ (l < l)"),
+    ("a refused interval is a truth value", "1 ⟦Operand⟧+ {1 < TRUE < 2}"),
+    ("a refused interval, where a truth value fits", "NOT ({1 ⟦Operand⟧< TRUE < 2})"),
+    ("a refused real arithmetic has no kinds", "NOT (1.5 ⟦RealArithmetic⟧+ 1)"),
+    ("a refused division has no kinds", "NOT (1 ⟦RealArithmetic⟧/ 1)"),
+    ("a refused sign of a real has no kinds", "NOT (⟦RealArithmetic⟧-NVL(1.5, ?))"),
+    ("a refused range has no kinds", "NOT i⟦Qualifier⟧[1:2]"),
+    ("a range with a refused end has no kinds", "NOT s⟦Qualifier⟧['a':2]"),
+    ("an index with a refused place has no kinds", "NOT l⟦Qualifier⟧['a']"),
+    ("a refused attribute has no kinds", "ABS(s⟦Qualifier⟧.a)"),
+    ("a refused call gives what its function gives", "⟦Operand⟧NOT ABS('a')"),
+    ("a refused call, where its function's result fits", "-⟦Arguments⟧ABS('a')"),
+    ("a refused call of a function of the schema gives its result", "⟦Operand⟧NOT g('a', 1)"),
+    ("a refused call of a function of the schema, where its result fits", "-⟦Arguments⟧g('a', 1)"),
+    ("a call with too few arguments gives what its function gives", "⟦Operand⟧NOT g(1)"),
+    ("a call with too few arguments, where its function's result fits", "-⟦Arguments⟧g(1)"),
+    ("a call with too many arguments gives what its function gives", "⟦Operand⟧NOT ABS(1, 2)"),
+    ("a call with too many arguments, where its function's result fits", "-⟦Arguments⟧ABS(1, 2)"),
+    ("a function of the language without arguments gives its result", "⟦Operand⟧NOT SIZEOF"),
+    ("a refused TYPEOF gives strings", "⟦Arguments⟧ABS(TYPEOF(1, 2))"),
+    ("a refused TYPEOF, where strings fit", "SIZEOF(⟦Arguments⟧TYPEOF(1, 2))"),
+    ("a refused USEDIN gives entities", "l ⟦EntityComparison⟧= USEDIN(1, '')"),
+    ("a refused USEDIN, where an aggregate fits", "SIZEOF(⟦Arguments⟧USEDIN(1, ''))"),
+    ("NVL with too few arguments has no kinds", "NOT ⟦Arguments⟧NVL(1)"),
+    ("NVL with too many arguments has no kinds", "NOT ⟦Arguments⟧NVL(1, 2, 3)"),
+    ("NVL without arguments has no kinds", "NOT ⟦Arguments⟧NVL"),
+    ("VALUE_IN with too few arguments is a truth value", "1 ⟦Operand⟧+ VALUE_IN(l)"),
+    ("VALUE_IN with too few arguments, where a truth value fits", "NOT ⟦Arguments⟧VALUE_IN(l)"),
+    ("VALUE_IN of entities with too few arguments", "⟦Arguments⟧VALUE_IN([x])"),
+    ("VALUE_IN of entities with too many arguments", "⟦Arguments⟧VALUE_IN([x], 1, 2)"),
+    ("VALUE_IN of no aggregate is a truth value", "1 ⟦Operand⟧+ VALUE_IN(1, 1)"),
+    ("VALUE_IN of entities is a truth value", "1 ⟦Operand⟧+ VALUE_IN([x], 1)"),
+    ("a refused group is an entity", "⟦Operand⟧NOT i\\e"),
+    ("a refused group, where an entity fits", "USEDIN(i⟦Qualifier⟧\\e, '')"),
+    ("an attribute of a refused group", "⟦Operand⟧NOT i\\e.a"),
+    ("an attribute of a refused group, where it fits", "-i⟦Qualifier⟧\\e.a"),
+    # in a union a part without kinds adds none
+    ("a fault in NVL, beside what doesn't fit", "⟦Operand⟧NOT NVL(1 + 'a', 1)"),
+    ("a fault in NVL, beside what fits", "NOT NVL(1 ⟦Operand⟧+ 'a', TRUE)"),
+    ("a fault in NVL, beside nothing", "NOT NVL(1 ⟦Operand⟧+ 'a', ?)"),
+    ("a fault in NVL, behind what doesn't fit", "⟦Operand⟧NOT NVL(1, 1 + 'a')"),
+    ("a fault in an initialiser, beside an entity", "l ⟦EntityComparison⟧= [1 + 'a', x]"),
+    ("a fault in an initialiser, beside an integer", "l = [1 ⟦Operand⟧+ 'a', 1]"),
+    ("a fault in a sum of aggregates, beside an entity", "l ⟦EntityComparison⟧= ([1 + 'a'] + [x])"),
+    ("a fault in a sum of aggregates, beside an integer", "l = ([1 ⟦Operand⟧+ 'a'] + [1])"),
+    ("a fault among elements that may hold an entity", "⟦EntityComparison⟧VALUE_IN([1 + 'a', x], 1)"),
+    ("a fault among elements that hold none", "VALUE_IN([1 ⟦Operand⟧+ 'a'], 1)"),
+    # comparisons with nothing
+    ("a list before nothing", "l ⟦Operand⟧< ?"),
+    ("nothing before a list", "? ⟦Operand⟧> l"),
+    ("a list within nothing", "[l <= ?, ? <= l, l >= ?, ? >= l]"),
+    ("an entity within nothing", "x ⟦Operand⟧<= ?"),
+    ("nothing within an entity", "? ⟦Operand⟧>= x"),
+    ("an interval of nothing", "[{? < ? <= ?}, {? < 1 < ?}, {1 <= ? < 's'}]"),
+    ("an interval from a list to nothing", "{l ⟦Operand⟧< ? < ?}"),
+    ("an interval from nothing to an entity", "{? < ? ⟦Operand⟧<= x}"),
+    ("a list that is or isn't nothing", "[l = ?, l <> ?, ? = s, ? <> TRUE]"),
+]
+
+# what a function returns in a schema without entities
+WITHOUT_ENTITIES = [
+    ("users in a schema without entities", "USEDIN(?, '') = []"),
+    ("a sum with users in a schema without entities", "(USEDIN(?, '') + 1) = [1]"),
+    ("an element of users in a schema without entities", "[NOT USEDIN(?, '')[1], ABS(USEDIN(?, '')[1])]"),
+    ("a QUERY over users in a schema without entities", "QUERY(v <* USEDIN(?, '') | NOT v)"),
+    ("an attribute of users in a schema without entities", "USEDIN(?, '')[1]⟦Qualifier⟧.a"),
+    ("users in a schema without entities are no number", "⟦Arguments⟧ABS(USEDIN(?, ''))"),
+    ("users in a schema without entities are no truth value", "⟦Operand⟧NOT USEDIN(?, '')"),
+    ("VALUE_IN of users in a schema without entities", "VALUE_IN(USEDIN(?, ''), 1)"),
 ]
 
 # ---- order: the least offset is told
@@ -348,12 +422,19 @@ NAMESAKES = [
     ("an own attribute beside an inherited one, of others", "o.a = 1;"),
     ("an attribute beside an ambiguous one", "b = 1; x.b = 1; SELF\\e.b = 1;"),
     ("an ambiguous name inside causes no fault outside", "NOT x.⟦Ambiguous⟧a;"),
+    ("an ambiguous name has no kinds", "-x.⟦Ambiguous⟧a; ABS(x.⟦Ambiguous⟧a);"),
     ("a fault before an ambiguous name", "1 ⟦Operand⟧+ 'a' = ⟦Ambiguous⟧a;"),
     ("an ambiguous name before a fault", "⟦Ambiguous⟧a = 1 ⟦Operand⟧+ 'a';"),
 ]
 NAMESAKE = ("TYPE any = SELECT (r, e); END_TYPE; TYPE others = SELECT (r, n); END_TYPE; ENTITY n; c : INTEGER; END_ENTITY; ENTITY r; a : INTEGER; END_ENTITY; "
             "ENTITY e SUBTYPE OF (r); a : INTEGER; b : INTEGER; END_ENTITY; ENTITY f SUBTYPE OF (e); END_ENTITY; "
             "ENTITY g SUBTYPE OF (e); x : e; y : r; z : f; w : any; o : others; WHERE {} END_ENTITY;")
+
+# a is explicit in r, derived in s and inverse in t; e, g and h have it from two of these, and k from r and itself
+TWO_SORTS = ("ENTITY n; x : t; END_ENTITY; ENTITY r; a : n; END_ENTITY; ENTITY s; DERIVE a : n := ?; END_ENTITY; "
+             "ENTITY t; INVERSE a : n FOR x; END_ENTITY; ENTITY e SUBTYPE OF (r, s); END_ENTITY; "
+             "ENTITY g SUBTYPE OF (r, t); END_ENTITY; ENTITY h SUBTYPE OF (s, t); END_ENTITY; "
+             "ENTITY k SUBTYPE OF (r); DERIVE a : n := ?; END_ENTITY;")
 
 AMBIGUOUS = [
     ("an attribute that two supertypes have", "ENTITY r; a : INTEGER; END_ENTITY; ENTITY s; a : STRING; END_ENTITY; "
@@ -386,9 +467,25 @@ AMBIGUOUS = [
      "ENTITY s; a : INTEGER; END_ENTITY; ENTITY e SUBTYPE OF (r, s); END_ENTITY;"),
     ("one entity of the schema has two, behind a group", "FUNCTION f (p : GENERIC) : GENERIC; RETURN (p\\r.a); END_FUNCTION; ENTITY r; a : INTEGER; END_ENTITY; "
      "ENTITY s; a : INTEGER; END_ENTITY; ENTITY e SUBTYPE OF (r, s); END_ENTITY;"),
+    ("redeclared: an explicit and a derived one", f"{TWO_SORTS} ENTITY f SUBTYPE OF (e); SELF\\e.⟦Ambiguous⟧a : n; END_ENTITY;"),
+    ("redeclared: an explicit and a derived one, in DERIVE", f"{TWO_SORTS} ENTITY f SUBTYPE OF (e); DERIVE SELF\\e.⟦Ambiguous⟧a : n := ?; END_ENTITY;"),
+    ("redeclared: an explicit and an inverse one", f"{TWO_SORTS} ENTITY f SUBTYPE OF (g); SELF\\g.⟦Ambiguous⟧a : n; END_ENTITY;"),
+    ("redeclared: an explicit and an inverse one, in DERIVE", f"{TWO_SORTS} ENTITY f SUBTYPE OF (g); DERIVE SELF\\g.⟦Ambiguous⟧a : n := ?; END_ENTITY;"),
+    ("redeclared: a derived and an inverse one, in DERIVE", f"{TWO_SORTS} ENTITY f SUBTYPE OF (h); DERIVE SELF\\h.⟦Ambiguous⟧a : n := ?; END_ENTITY;"),
+    ("redeclared: a derived and an inverse one, where neither can be", f"{TWO_SORTS} ENTITY f SUBTYPE OF (h); SELF\\h.⟦Ambiguous⟧a : n; END_ENTITY;"),
+    ("redeclared: an inherited and an own derived one", f"{TWO_SORTS} ENTITY f SUBTYPE OF (k); SELF\\k.⟦Ambiguous⟧a : n; END_ENTITY;"),
+    ("redeclared: each of two sorts behind its own entity",
+     f"{TWO_SORTS} ENTITY f SUBTYPE OF (e); SELF\\r.a : n; DERIVE SELF\\s.a : n := ?; END_ENTITY;"),
+    ("redeclared: the sort that can't be, behind its own entity", f"{TWO_SORTS} ENTITY f SUBTYPE OF (e); SELF\\s.⟦NotAnAttribute⟧a : n; END_ENTITY;"),
+    ("INVERSE of an explicit and an inverse one", f"{TWO_SORTS} ENTITY f; INVERSE i : g FOR ⟦Ambiguous⟧a; END_ENTITY;"),
+    ("INVERSE of a derived and an inverse one", f"{TWO_SORTS} ENTITY f; INVERSE i : h FOR ⟦Ambiguous⟧a; END_ENTITY;"),
+    ("INVERSE of an inherited and an own derived one", f"{TWO_SORTS} ENTITY f; INVERSE i : SET OF k FOR ⟦Ambiguous⟧a; END_ENTITY;"),
+    ("INVERSE of one of two sorts, behind its own entity", f"{TWO_SORTS} ENTITY f; INVERSE i : r FOR a; END_ENTITY;"),
     # items of enumerations
     ("an item of two enumerations", "TYPE t = ENUMERATION OF (x, y); END_TYPE; TYPE u = ENUMERATION OF (y, x); END_TYPE; "
      "FUNCTION f (p : t) : LOGICAL; RETURN ([p = t.x, p = ⟦Ambiguous⟧x] = []); END_FUNCTION;"),
+    ("an item of two enumerations has no kinds", "TYPE t = ENUMERATION OF (x); END_TYPE; TYPE u = ENUMERATION OF (x); END_TYPE; "
+     "FUNCTION f : LOGICAL; RETURN (NOT ⟦Ambiguous⟧x); END_FUNCTION;"),
     ("an item of one of two enumerations", "TYPE t = ENUMERATION OF (x, y); END_TYPE; TYPE u = ENUMERATION OF (x, z); END_TYPE; FUNCTION f (p : t; q : u) : LOGICAL; RETURN ((p = y) AND (q = z)); END_FUNCTION;"),
     ("an item of two enumerations as a label", "TYPE t = ENUMERATION OF (x); END_TYPE; TYPE u = ENUMERATION OF (x); END_TYPE; "
      "FUNCTION f (p : t) : t; CASE p OF t.x : ; ⟦Ambiguous⟧x : ; END_CASE; END_FUNCTION;"),
@@ -613,6 +710,8 @@ def named_rows():
     for name, expression in NOTHINGS:
         yield name, "A", ("SCHEMA A; ENTITY e; a : INTEGER; END_ENTITY; FUNCTION g (p, q : INTEGER) : INTEGER; ; END_FUNCTION; "
                           f"FUNCTION f (i : INTEGER; s : STRING; x : e; l : LIST OF INTEGER) : GENERIC; RETURN ({expression}); END_FUNCTION; END_SCHEMA;")
+    for name, expression in WITHOUT_ENTITIES:
+        yield name, "A", f"SCHEMA A; FUNCTION f : GENERIC; RETURN ({expression}); END_FUNCTION; END_SCHEMA;"
     for name, rules in NAMESAKES:
         yield name, "A", f"SCHEMA A; {NAMESAKE.format(rules)} END_SCHEMA;"
     for name, declarations in (*SEVERAL, *COMPARED, *ATTRIBUTES, *AMBIGUOUS, *MORE, *many_of_them()):

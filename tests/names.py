@@ -571,7 +571,7 @@ TURNS = [
 
 COLOURS = ("TYPE colour = ENUMERATION OF (red, green); END_TYPE; TYPE light = ENUMERATION OF (red, amber); END_TYPE; "
            "TYPE paint = colour; END_TYPE; TYPE size = INTEGER; END_TYPE; TYPE any = SELECT (colour, light); END_TYPE; "
-           "ENTITY e; n : colour; END_ENTITY; ")
+           "ENTITY e; n : colour; END_ENTITY; FUNCTION h (o : colour) : INTEGER; ; END_FUNCTION; RULE w FOR (e); WHERE v : TRUE; END_RULE; ")
 # what a function returns
 ITEMS = [
     ("an item alone", "p = green"),
@@ -588,6 +588,11 @@ ITEMS = [
     ("a SELECT of enumerations", "p = ⟦Undeclared⟧any.red"),
     ("an item of what isn't declared", "p = ⟦Undeclared⟧shade.red"),
     ("an item of an entity", "p = ⟦Undeclared⟧e.red"),
+    ("an item of an item", "p = ⟦Undeclared⟧green.red"),
+    ("an item of a rule", "p = ⟦Undeclared⟧w.red"),
+    ("an item of a label", "p = ⟦Undeclared⟧v.red"),
+    ("an item of the schema", "p = ⟦Undeclared⟧a.red"),
+    ("an item of another function's parameter", "p = ⟦Undeclared⟧o.red"),
     ("an item of a type, neither of which is declared", "p = ⟦Undeclared⟧shade.tint"),
     ("an enumeration alone", "EXISTS(⟦Undeclared⟧colour)"),
     ("an enumeration with an index", "EXISTS(⟦Undeclared⟧colour[1])"),

@@ -1,3 +1,4 @@
 pub mod Ranges
 pub mod Members
 pub mod Walked
+pub mod InTurn

@@ -16,13 +16,13 @@ abbrev pub IsSureTree : List (List ℕ) → List Trace → Tree → Type 0
 IsSureTree graph traces tree = IsTrue tree.is_sure → IsSure graph traces tree.labels.items
 
 pub record IsKept (trees : Trees) : Type 0 where
-  pub turned : IsTurned trees.graph.now trees.below.items
-  pub one : IsSureTree trees.graph.now trees.traces.items trees.first
-  pub other : IsSureTree trees.graph.now trees.traces.items trees.second
+  pub turned : IsTurned trees.graph.items trees.below.items
+  pub one : IsSureTree trees.graph.items trees.traces.items trees.first
+  pub other : IsSureTree trees.graph.items trees.traces.items trees.second
 
 -- the graph, or the graph turned round
 abbrev pub walked : Trees → Bool → List (List ℕ)
-walked trees is_down = if is_down then trees.below.items else trees.graph.now
+walked trees is_down = if is_down then trees.below.items else trees.graph.items
 
 -- the numbers are the ancestors of a member among the members
 abbrev pub AreAbove : List (List ℕ) → ℕ → List ℕ → Type 0

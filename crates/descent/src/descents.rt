@@ -5,7 +5,7 @@ ghost use Rattle.std.specs.List.Sorted.{IsStrictlyIncreasing};
 ghost use Rattle.lineage.specs.Lineage as graphs;
 ghost use Rattle.descent.specs.Kept as spec;
 
-use crate::trees::{Trees, spanned, told_by_trees};
+use crate::trees::{Trees, member_count, spanned, told_by_trees};
 use crate::walks::is_above;
 use lineage::supertypes;
 use plain_data::Rows;
@@ -15,27 +15,27 @@ use std::marker::Model;
 
 /// A graph of which it is asked often who stands above whom.
 #[derive(Drop)]
-pub struct Descent<'g> {
-    trees: Trees<'g>,
+pub struct Descent {
+    trees: Trees,
 }
 
-impl<'g> Model for Descent<'g> {
+impl Model for Descent {
     ghost use Rattle.std.specs.Prelude.{List, ℕ};
     ghost use Rattle.descent.specs.Kept.{IsKept};
 
     ghost Value = { List (List ℕ) };
 
-    ghost view = { λ d. d.trees.graph.now };
+    ghost view = { λ d. d.trees.graph.items };
 
     ghost invariant = { λ d. IsKept d.trees };
 }
 
 /// Whether a member's family has a number.
-fn is_in(alloc: Global, trees: &Trees<'_>, member: usize, number: usize) -> Result<bool, AllocError>
+fn is_in(alloc: Global, trees: &Trees, member: usize, number: usize) -> Result<bool, AllocError>
     requires { spec.IsKept trees.now }
-    ensures { IfOk result (λ told. told ≡ graphs.is_among (graphs.family trees.now.graph.now member) number) }
+    ensures { IfOk result (λ told. told ≡ graphs.is_among (graphs.family trees.now.graph.items member) number) }
 {
-    let count = trees.graph.len();
+    let count = member_count(trees);
     if member >= count {
         return Ok(false);
     }
@@ -96,12 +96,39 @@ fn all_within(
     Ok(Some(found))
 }
 
-impl<'g> Descent<'g> {
-    pub fn of(alloc: Global, graph: &'g [Rows<usize>]) -> Result<Descent<'g>, AllocError>
-        ensures { IfOk result (λ d. d ≡ graph.now) }
+/// The graph once more.
+fn copied(alloc: Global, graph: &[Rows<usize>]) -> Result<Vec<Rows<usize>>, AllocError>
+    ensures { IfOk result (λ found. found.items ≡ graph.now) }
+{
+    let mut found = Vec::with_capacity(alloc, graph.len())?;
+    for above in graph {
+        let above = Vec::from_slice(alloc, above.as_slice())?;
+        found.push(Rows::from_vec(above))?;
+    }
+    Ok(found)
+}
+
+impl Descent {
+    /// Of this graph, which is kept.
+    pub fn of(alloc: Global, graph: Vec<Rows<usize>>) -> Result<Descent, AllocError>
+        ensures { IfOk result (λ d. d ≡ graph.items) }
     {
         let trees = spanned(alloc, graph)?;
         Ok(Descent { trees })
+    }
+
+    /// Of a graph that somebody else keeps.
+    pub fn of_lent(alloc: Global, graph: &[Rows<usize>]) -> Result<Descent, AllocError>
+        ensures { IfOk result (λ d. d ≡ graph.now) }
+    {
+        Descent::of(alloc, copied(alloc, graph)?)
+    }
+
+    /// The graph.
+    pub fn graph(&self) -> &[Rows<usize>]
+        ensures { result.now ≡ self.now }
+    {
+        &self.trees.graph
     }
 
     /// Whether a member's family has a number.
@@ -126,7 +153,7 @@ impl<'g> Descent<'g> {
         ensures exact { IfOk result (λ found. MatchOption found (limit < length (graphs.family self.now member)) (λ all. all.items ≡ graphs.family self.now member)) }
         ensures ascending { IfOk result (λ found. IfSome found (λ all. IsStrictlyIncreasing all.items)) }
     {
-        match all_within(alloc, self.trees.graph, member, limit)? {
+        match all_within(alloc, &self.trees.graph, member, limit)? {
             Some(found) => {
                 let all: Vec<usize> = found.into_iter().collect(alloc)?;
                 Ok(Some(all))

@@ -12,7 +12,7 @@ use std::marker::Model;
 #[derive(Drop)]
 pub struct Family<'d> {
     // Nobody, where there is none.
-    descent: Option<&'d Descent<'d>>,
+    descent: Option<&'d Descent>,
     member: usize,
 }
 
@@ -37,7 +37,7 @@ impl<'d> Family<'d> {
     }
 
     /// Of a member of the graph; of a number beyond it, nobody's.
-    pub fn of(descent: &'d Descent<'_>, member: usize) -> Family<'d>
+    pub fn of(descent: &'d Descent, member: usize) -> Family<'d>
         ensures { result ≡ graphs.family descent.now member }
     {
         Family {

@@ -19,28 +19,36 @@ pub struct Tree {
 }
 
 /// A graph, of each member its direct subtypes, and the labels of two trees.
-pub struct Trees<'g> {
-    pub graph: &'g [Rows<usize>],
+pub struct Trees {
+    pub graph: Vec<Rows<usize>>,
     pub below: Vec<Rows<usize>>,
     pub traces: Vec<Trace>,
     pub first: Tree,
     pub second: Tree,
 }
 
-impl<'g> Drop for Trees<'g> {
+impl Drop for Trees {
     fn drop(self) {
         let Trees {
-            graph: _,
+            graph,
             below,
             traces,
             first,
             second,
         } = self;
+        drop(graph);
         drop(below);
         drop(traces);
         drop(first);
         drop(second);
     }
+}
+
+/// How many members the graph has.
+pub fn member_count(trees: &Trees) -> usize
+    ensures { result ≡ length trees.now.graph.items }
+{
+    trees.graph.len()
 }
 
 /// The labels of a tree that spans the graph, tested.
@@ -59,14 +67,14 @@ fn grown(
 }
 
 /// Two trees that span a graph: in the second the last subtypes come first.
-pub fn spanned<'g>(alloc: Global, graph: &'g [Rows<usize>]) -> Result<Trees<'g>, AllocError>
-    ensures graph { IfOk result (λ trees. trees.graph.now ≡ graph.now) }
+pub fn spanned(alloc: Global, graph: Vec<Rows<usize>>) -> Result<Trees, AllocError>
+    ensures graph { IfOk result (λ trees. trees.graph.items ≡ graph.items) }
     ensures kept { IfOk result (λ trees. spec.IsKept trees) }
 {
-    let below = subtypes(alloc, graph)?;
-    let traces = traces(alloc, graph, &below)?;
-    let first = grown(alloc, graph, &below, &traces, false)?;
-    let second = grown(alloc, graph, &below, &traces, true)?;
+    let below = subtypes(alloc, &graph)?;
+    let traces = traces(alloc, &graph, &below)?;
+    let first = grown(alloc, &graph, &below, &traces, false)?;
+    let second = grown(alloc, &graph, &below, &traces, true)?;
     Ok(Trees {
         graph,
         below,
@@ -77,25 +85,25 @@ pub fn spanned<'g>(alloc: Global, graph: &'g [Rows<usize>]) -> Result<Trees<'g>,
 }
 
 /// What the labels of one tree tell, where they can be relied on.
-fn told_by_tree(trees: &Trees<'_>, tree: &Tree, member: usize, above: usize) -> Option<bool>
-    requires sure { spec.IsSureTree trees.now.graph.now trees.now.traces.items tree.now }
-    requires member { member < length trees.now.graph.now }
-    requires above { above < length trees.now.graph.now }
-    ensures { MatchOption result (Unit {0}) (λ told. told ≡ labelled.is_up trees.now.graph.now member above) }
+fn told_by_tree(trees: &Trees, tree: &Tree, member: usize, above: usize) -> Option<bool>
+    requires sure { spec.IsSureTree trees.now.graph.items trees.now.traces.items tree.now }
+    requires member { member < length trees.now.graph.items }
+    requires above { above < length trees.now.graph.items }
+    ensures { MatchOption result (Unit {0}) (λ told. told ≡ labelled.is_up trees.now.graph.items member above) }
 {
     if tree.is_sure {
-        told_by_labels(trees.graph, &trees.traces, &tree.labels, member, above)
+        told_by_labels(&trees.graph, &trees.traces, &tree.labels, member, above)
     } else {
         None
     }
 }
 
 /// What one tree tells, or else the other.
-pub fn told_by_trees(trees: &Trees<'_>, member: usize, above: usize) -> Option<bool>
+pub fn told_by_trees(trees: &Trees, member: usize, above: usize) -> Option<bool>
     requires kept { spec.IsKept trees.now }
-    requires member { member < length trees.now.graph.now }
-    requires above { above < length trees.now.graph.now }
-    ensures { MatchOption result (Unit {0}) (λ told. told ≡ labelled.is_up trees.now.graph.now member above) }
+    requires member { member < length trees.now.graph.items }
+    requires above { above < length trees.now.graph.items }
+    ensures { MatchOption result (Unit {0}) (λ told. told ≡ labelled.is_up trees.now.graph.items member above) }
 {
     match told_by_tree(trees, &trees.first, member, above) {
         Some(told) => Some(told),

@@ -5,25 +5,25 @@ ghost use Rattle.lineage.specs.Lineage as graphs;
 ghost use Rattle.descent.specs.Labels as labelled;
 ghost use Rattle.descent.specs.Kept as spec;
 
-use crate::trees::{Trees, told_by_trees};
+use crate::trees::{Trees, member_count, told_by_trees};
 use lineage::{all_above, is_in, supertypes};
 use plain_data::Rows;
 use std::alloc::{AllocError, Global};
 use std::collections::BTreeSet;
 
 /// The graph in which a walk goes: up, or down.
-fn walked<'t>(trees: &'t Trees<'_>, is_down: bool) -> &'t [Rows<usize>]
+fn walked(trees: &Trees, is_down: bool) -> &[Rows<usize>]
     ensures { result.now ≡ spec.walked trees.now is_down }
 {
-    if is_down { &trees.below } else { trees.graph }
+    if is_down { &trees.below } else { &trees.graph }
 }
 
 /// Whether a walk from one member comes to the other, where the trees tell it.
-fn told(trees: &Trees<'_>, is_down: bool, from: usize, to: usize) -> Option<bool>
+fn told(trees: &Trees, is_down: bool, from: usize, to: usize) -> Option<bool>
     requires { spec.IsKept trees.now }
     ensures { MatchOption result (Unit {0}) (λ told. told ≡ labelled.is_up (spec.walked trees.now is_down) from to) }
 {
-    let count = trees.graph.len();
+    let count = member_count(trees);
     if from >= count {
         return None;
     }
@@ -41,7 +41,7 @@ fn told(trees: &Trees<'_>, is_down: bool, from: usize, to: usize) -> Option<bool
 /// the trees don't tell it.
 fn told_within(
     alloc: Global,
-    trees: &Trees<'_>,
+    trees: &Trees,
     is_down: bool,
     from: usize,
     to: usize,
@@ -81,14 +81,14 @@ fn told_within(
 /// Whether the second is above the first, where a walk down or a walk up of so many steps tells it.
 fn above_within(
     alloc: Global,
-    trees: &Trees<'_>,
+    trees: &Trees,
     member: usize,
     above: usize,
     limit: usize,
 ) -> Result<Option<bool>, AllocError>
     requires kept { spec.IsKept trees.now }
-    requires above { above < length trees.now.graph.now }
-    ensures { IfOk result (λ found. MatchOption found (Unit {0}) (λ told. told ≡ graphs.is_ancestor trees.now.graph.now member above)) }
+    requires above { above < length trees.now.graph.items }
+    ensures { IfOk result (λ found. MatchOption found (Unit {0}) (λ told. told ≡ graphs.is_ancestor trees.now.graph.items member above)) }
 {
     let by_down = told_within(alloc, trees, true, above, member, limit)?;
     match by_down {
@@ -101,19 +101,19 @@ fn above_within(
 /// at last by all that is above the first.
 pub fn is_above(
     alloc: Global,
-    trees: &Trees<'_>,
+    trees: &Trees,
     member: usize,
     above: usize,
 ) -> Result<bool, AllocError>
     requires kept { spec.IsKept trees.now }
-    requires above { above < length trees.now.graph.now }
-    ensures { IfOk result (λ told. told ≡ graphs.is_ancestor trees.now.graph.now member above) }
+    requires above { above < length trees.now.graph.items }
+    ensures { IfOk result (λ told. told ≡ graphs.is_ancestor trees.now.graph.items member above) }
 {
     for limit in &[16, 256, 4096] {
         if let Some(told) = above_within(alloc, trees, member, above, *limit)? {
             return Ok(told);
         }
     }
-    let found = all_above(alloc, trees.graph, member)?;
+    let found = all_above(alloc, &trees.graph, member)?;
     Ok(is_in(&found, above))
 }

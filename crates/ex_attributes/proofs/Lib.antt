@@ -1,2 +1,4 @@
 pub mod Above
-pub mod Search
+pub mod Places
+pub mod Several
+pub mod Updates

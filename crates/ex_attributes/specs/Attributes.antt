@@ -1,7 +1,6 @@
 -- The attributes of entities, and what their values may be (ISO 10303-11:1994, 9.2.1 and 9.2.3).
-use Rattle.std.specs.Prelude.{ℕ, zero, Bool, true, false, not, ◌==◌, ◌&&◌, List, [], ◌∷◌, ◌++◌, map, filter, length, Option, Some, None, option_map, slice_get, if◌then◌else◌}
-use Rattle.std.specs.List.{list_any, flat_map, filter_map, find}
-use Rattle.std.specs.Option.{option_map_or}
+use Rattle.std.specs.Prelude.{ℕ, zero, Bool, true, false, not, ◌==◌, ◌&&◌, ◌||◌, List, [], ◌∷◌, ◌++◌, map, filter, length, Option, Some, None, option_map, if◌then◌else◌}
+use Rattle.std.specs.List.{list_any, flat_map, filter_map}
 use Rattle.std.specs.Str.{bytes_eq}
 use Rattle.ex_tree.specs.declared.declaration.InverseAggregate.{InverseAggregate}
 use Rattle.ex_tree.specs.declared.expression.Name.{Name}
@@ -29,12 +28,12 @@ use Rattle.ex_kinds.specs.Faults.{fine, refused}
 use Rattle.ex_kinds.specs.Kinds.{Kinds, itself, joined, aggregate_of, of_type}
 use Rattle.ex_attributes.specs.declared.attribute.Attribute.{Attribute}
 use Rattle.ex_attributes.specs.declared.attribute.Redeclared.{Redeclared}
-use Rattle.ex_attributes.specs.declared.attribute.EntityAttributes.{EntityAttributes}
 use Rattle.ex_attributes.specs.declared.found.Found.{Found}
 
--- Of each entity the attributes that it declares, those that it redeclares, and its direct supertypes.
+-- What the entities of a schema declare and redeclare, entity after entity, and of each its direct supertypes.
 pub record Attributes : Type 0 where
-  pub entities : List EntityAttributes
+  pub declared : List Attribute
+  pub redeclared : List Redeclared
   pub supertypes : List (List ℕ)
 
 -- ---- what an entity declares
@@ -73,34 +72,56 @@ abbrev pub declared_by : ℕ → NamedEntity → List Attribute
 declared_by number e = placed number Explicit (flat_map explicit_names e.explicit) ++ placed number Derived (filter_map derived_name e.derived)
     ++ placed number Inverse (map inverse_name e.inverse)
 
-abbrev pub redeclared_as : Kinds → NamedAttribute → Option Redeclared
-redeclared_as kinds a = option_map (λ place. record { place = place; kinds = kinds }) (and_then (redeclaration a) (λ r. meant r.attribute.meaning))
+abbrev pub redeclared_as : ℕ → Kinds → NamedAttribute → Option Redeclared
+redeclared_as entity kinds a = option_map (λ place. record { place = place; entity = entity; kinds = kinds }) (and_then (redeclaration a) (λ r. meant r.attribute.meaning))
 
-abbrev pub redeclared_by : NamedEntity → List Redeclared
-redeclared_by e = flat_map (λ x. filter_map (redeclared_as (of_type x.data_type)) x.attributes) e.explicit
-    ++ filter_map (λ x. redeclared_as (of_type x.data_type) x.attribute) e.derived
+abbrev pub redeclared_by : ℕ → NamedEntity → List Redeclared
+redeclared_by number e = flat_map (λ x. filter_map (redeclared_as number (of_type x.data_type)) x.attributes) e.explicit
+    ++ filter_map (λ x. redeclared_as number (of_type x.data_type) x.attribute) e.derived
+
+-- what comes of each entity, one after another
+abbrev pub of_each : {A : Type 0} → (ℕ → NamedEntity → List A) → List NamedEntity → List A
+of_each make entities = flat_map (λ rows. rows) (numbered make entities)
 
 unfoldable pub attributes_of : List NamedEntity → Attributes
 attributes_of entities = record {
-  entities = numbered (λ number e. record { attributes = declared_by number e; redeclared = redeclared_by e }) entities;
+  declared = of_each declared_by entities;
+  redeclared = of_each redeclared_by entities;
   supertypes = map (λ e. e.supertypes) entities;
 }
 
--- ---- an attribute of an entity, its own or inherited
+-- ---- keys
 
-abbrev pub same_attribute_sort : AttributeSort → AttributeSort → Bool
-same_attribute_sort Explicit Explicit = true
-same_attribute_sort Derived Derived = true
-same_attribute_sort Inverse Inverse = true
-same_attribute_sort _ _ = false
+abbrev pub sort_number : AttributeSort → ℕ
+sort_number Explicit = 0
+sort_number Derived = 1
+sort_number Inverse = 2
 
+abbrev pub place_key : AttributePlace → List ℕ
+place_key p = p.entity ∷ sort_number p.sort ∷ p.place ∷ []
+
+-- whether the two are one declaration
 abbrev pub same_place : AttributePlace → AttributePlace → Bool
-same_place a b = (a.entity == b.entity) && same_attribute_sort a.sort b.sort && (a.place == b.place)
+same_place a b = bytes_eq (place_key a) (place_key b)
+
+-- ---- several
+
+abbrev pub named : List ℕ → List Attribute → List Attribute
+named name = filter (λ a. bytes_eq a.name name)
 
 -- what several redeclarations allow
-abbrev pub all_kinds : Kinds → List (ℕ × Kinds) → Kinds
+abbrev pub all_kinds : Kinds → List Redeclared → Kinds
 all_kinds found [] = found
-all_kinds found (r ∷ others) = all_kinds (joined found r.1) others
+all_kinds found (r ∷ others) = all_kinds (joined found r.kinds) others
+
+abbrev pub kinds_of_first : List Attribute → Kinds
+kinds_of_first [] = []
+kinds_of_first (a ∷ others) = a.kinds
+
+abbrev pub is_several : {A : Type 0} → List A → Bool
+is_several [] = false
+is_several (a ∷ []) = false
+is_several (a ∷ b ∷ others) = true
 
 -- ---- what was found of a name
 
@@ -112,42 +133,43 @@ abbrev pub told : Found → ℕ → ℕ → Typed
 told found dot at = if found.is_ambiguous then refused Ambiguous at else (if found.is_there then fine found.kinds else refused Qualifier dot)
 
 module _ (schema : Attributes) where
-  abbrev pub declared_in : ℕ → List Attribute
-  declared_in entity = option_map_or (λ e. e.attributes) (slice_get schema.entities entity) []
-
-  abbrev pub redeclared_in : ℕ → List Redeclared
-  redeclared_in entity = option_map_or (λ e. e.redeclared) (slice_get schema.entities entity) []
-
   -- the attributes of this name that an entity or one above it declares
   abbrev pub named_attributes : ℕ → List ℕ → List Attribute
-  named_attributes entity name = flat_map (λ above. filter (λ a. bytes_eq a.name name) (declared_in above)) (family schema.supertypes entity)
+  named_attributes entity name = filter (λ a. is_among (family schema.supertypes entity) a.place.entity) (named name schema.declared)
 
-  -- ---- what its value may be: by its latest redeclarations, else by its declaration
-
-  abbrev pub redeclarations_in : AttributePlace → ℕ → List (ℕ × Kinds)
-  redeclarations_in place entity = map (λ r. (entity, r.kinds)) (filter (λ r. same_place r.place place) (redeclared_in entity))
-
-  -- those by an entity or the ones above it, each with who redeclares
-  abbrev pub redeclarations : AttributePlace → ℕ → List (ℕ × Kinds)
-  redeclarations place entity = flat_map (redeclarations_in place) (family schema.supertypes entity)
-
-  -- whether one that is below another redeclares too
-  abbrev pub is_overridden : List (ℕ × Kinds) → ℕ → Bool
-  is_overridden all entity = list_any (λ other. not (other.0 == entity) && is_among (family schema.supertypes other.0) entity) all
-
-  abbrev pub latest : List (ℕ × Kinds) → List (ℕ × Kinds)
-  latest all = filter (λ r. not (is_overridden all r.0)) all
+  -- ---- what its value may be: by the entity's own redeclarations, else by the latest above it, else by its declaration
 
   abbrev pub declared_kinds : AttributePlace → Kinds
-  declared_kinds place = option_map_or (λ a. a.kinds) (find (λ a. same_place a.place place) (declared_in place.entity)) []
+  declared_kinds place = kinds_of_first (filter (λ a. same_place a.place place) schema.declared)
 
-  abbrev pub kinds_by : AttributePlace → List (ℕ × Kinds) → Kinds
-  kinds_by place [] = declared_kinds place
-  kinds_by place (r ∷ others) = all_kinds [] (latest (r ∷ others))
+  abbrev pub all_redeclarations : AttributePlace → List Redeclared
+  all_redeclarations place = filter (λ r. same_place r.place place) schema.redeclared
+
+  abbrev pub own_redeclarations : AttributePlace → ℕ → List Redeclared
+  own_redeclarations place entity = filter (λ r. (r.entity == entity) && same_place r.place place) schema.redeclared
+
+  -- those by an entity or the ones above it
+  abbrev pub redeclarations : AttributePlace → ℕ → List Redeclared
+  redeclarations place entity = filter (λ r. is_among (family schema.supertypes entity) r.entity) (all_redeclarations place)
+
+  -- whether one that is below another redeclares too
+  abbrev pub is_overridden : List Redeclared → ℕ → Bool
+  is_overridden all entity = list_any (λ other. not (other.entity == entity) && is_among (family schema.supertypes other.entity) entity) all
+
+  abbrev pub latest : List Redeclared → List Redeclared
+  latest all = filter (λ r. not (is_overridden all r.entity)) all
+
+  abbrev pub inherited_kinds : AttributePlace → List Redeclared → Kinds
+  inherited_kinds place [] = declared_kinds place
+  inherited_kinds place (r ∷ others) = all_kinds [] (latest (r ∷ others))
+
+  abbrev pub kinds_by : AttributePlace → ℕ → List Redeclared → Kinds
+  kinds_by place entity [] = inherited_kinds place (redeclarations place entity)
+  kinds_by place entity (r ∷ others) = all_kinds [] (r ∷ others)
 
   -- what an attribute's value may be in an instance of an entity
   unfoldable pub kinds_at : AttributePlace → ℕ → Kinds
-  kinds_at place entity = kinds_by place (redeclarations place entity)
+  kinds_at place entity = kinds_by place entity (own_redeclarations place entity)
 
   -- ---- `SELF.a` by its name alone
 
@@ -158,30 +180,38 @@ module _ (schema : Attributes) where
   unfoldable pub used : ℕ → AttributeUse → Typed
   used entity name = used_by entity name.at name.meaning
 
-  -- ---- `x.a`
-
-  abbrev pub entities_at : ℕ → Sort → List ℕ
-  entities_at zero (k.Entity entity) = entity ∷ []
-  entities_at zero k.Instance = numbers_from 0 (length schema.entities)
-  entities_at zero k.Generic = numbers_from 0 (length schema.entities)
-  entities_at _ _ = []
-
-  -- the entities that an instance may be of by its declared kinds
-  abbrev pub entities_among : Kinds → List ℕ
-  entities_among = flat_map (λ kind. entities_at kind.depth kind.sort)
+  -- ---- `x.a`: in an instance of an entity
 
   abbrev pub with_attributes : Found → ℕ → List Attribute → Found
   with_attributes found entity [] = found
   with_attributes found entity (a ∷ []) = record { is_there = true; is_ambiguous = found.is_ambiguous; kinds = joined found.kinds (kinds_at a.place entity) }
   with_attributes found entity (a ∷ b ∷ others) = record { is_there = true; is_ambiguous = true; kinds = found.kinds }
 
-  abbrev pub found_after : List ℕ → Found → List ℕ → Found
-  found_after name found [] = found
-  found_after name found (entity ∷ others) = found_after name (with_attributes found entity (named_attributes entity name)) others
+  -- ---- in an instance of whatever entity: by all declarations of the name and all that redeclare one
 
-  abbrev pub found_among : Kinds → List ℕ → Found
-  found_among plain_kinds name = found_after name found_nothing (entities_among plain_kinds)
+  abbrev pub is_ambiguous_in_some : List ℕ → Bool
+  is_ambiguous_in_some name = list_any (λ entity. is_several (named_attributes entity name)) (numbers_from 0 (length schema.supertypes))
+
+  abbrev pub kinds_in_all : Kinds → List Attribute → Kinds
+  kinds_in_all found [] = found
+  kinds_in_all found (a ∷ others) = kinds_in_all (all_kinds (joined found a.kinds) (all_redeclarations a.place)) others
+
+  abbrev pub with_all : List ℕ → Found → List Attribute → Found
+  with_all name found [] = found
+  with_all name found (a ∷ others) = record { is_there = true; is_ambiguous = found.is_ambiguous || is_ambiguous_in_some name; kinds = kinds_in_all found.kinds (a ∷ others) }
+
+  -- ---- in what an instance may be by its declared kinds
+
+  abbrev pub found_at : List ℕ → Found → ℕ → Sort → Found
+  found_at name found zero (k.Entity entity) = with_attributes found entity (named_attributes entity name)
+  found_at name found zero k.Instance = with_all name found (named name schema.declared)
+  found_at name found zero k.Generic = with_all name found (named name schema.declared)
+  found_at name found _ _ = found
+
+  abbrev pub found_after : List ℕ → Found → Kinds → Found
+  found_after name found [] = found
+  found_after name found (kind ∷ others) = found_after name (found_at name found kind.depth kind.sort) others
 
   -- the attribute of this name of what is of these kinds, which are plain; the point's first byte is given
   unfoldable pub taken : Kinds → ℕ → Name → Typed
-  taken plain_kinds dot n = told (found_among plain_kinds n.text) dot n.at
+  taken plain_kinds dot n = told (found_after n.text found_nothing plain_kinds) dot n.at

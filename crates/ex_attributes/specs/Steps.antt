@@ -9,6 +9,6 @@ use Rattle.ex_kinds.specs.Kinds.{Kinds, of_type}
 abbrev pub rows_of : List (Bor Name × Bor NamedDataType) → List (List ℕ × Kinds)
 rows_of rows = map (λ r. (r.0.now.text, of_type r.1.now)) rows
 
--- kinds that are lent, each with who redeclares
-abbrev pub read : List (ℕ × Bor Kinds) → List (ℕ × Kinds)
-read rows = map (λ r. (r.0, r.1.now)) rows
+-- rows that are lent
+abbrev pub read : {A : Type 0} → List (Bor A) → List A
+read rows = map (λ r. r.now) rows

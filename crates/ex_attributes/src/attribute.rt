@@ -2,7 +2,7 @@
 
 use ex_kinds::Kinds;
 use ex_named::AttributePlace;
-use plain_data::{Rows, Text};
+use plain_data::Text;
 
 /// An attribute that an entity declares, and what its value may be.
 #[derive(Drop)]
@@ -16,12 +16,7 @@ pub struct Attribute {
 #[derive(Drop)]
 pub struct Redeclared {
     pub place: AttributePlace,
+    /// The entity that redeclares it.
+    pub entity: usize,
     pub kinds: Kinds,
-}
-
-/// What an entity declares and redeclares.
-#[derive(Drop)]
-pub struct EntityAttributes {
-    pub attributes: Rows<Attribute>,
-    pub redeclared: Rows<Redeclared>,
 }

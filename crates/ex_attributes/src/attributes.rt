@@ -1,13 +1,14 @@
 //! The attributes of a schema's entities.
 
-ghost use Rattle.std.specs.Prelude.{◌≡◌, map, length, IfOk};
-ghost use Rattle.lineage.specs.Numbered.{numbered};
+ghost use Rattle.std.specs.Prelude.{◌≡◌, nat_lt, map, length, IfOk};
 ghost use Rattle.lineage.specs.Lineage as lineage;
 ghost use Rattle.ex_attributes.specs.Attributes as spec;
 
-use crate::attribute::{Attribute, EntityAttributes, Redeclared};
-use crate::declared_attributes::declared_by;
-use crate::redeclarations::redeclared_by;
+use crate::declared_attributes::declared_by_all;
+use crate::declared_rows::DeclaredRows;
+use crate::redeclarations::redeclared_by_all;
+use crate::redeclared_rows::RedeclaredRows;
+use descent::{Descent, Family};
 use ex_named::NamedEntity;
 use lineage::family;
 use plain_data::Rows;
@@ -15,12 +16,24 @@ use std::alloc::{AllocError, Global};
 use std::marker::Model;
 
 /// The attributes of a schema's entities.
-#[derive(Drop)]
 pub struct Attributes {
-    /// Of each entity what it declares and redeclares.
-    entities: Vec<EntityAttributes>,
+    declared: DeclaredRows,
+    redeclared: RedeclaredRows,
     /// Of each entity its direct supertypes.
-    supertypes: Vec<Rows<usize>>,
+    supertypes: Descent,
+}
+
+impl Drop for Attributes {
+    fn drop(self) {
+        let Attributes {
+            declared,
+            redeclared,
+            supertypes,
+        } = self;
+        drop(declared);
+        drop(redeclared);
+        drop(supertypes);
+    }
 }
 
 impl Model for Attributes {
@@ -28,30 +41,14 @@ impl Model for Attributes {
 
     ghost Value = { spec.Attributes };
 
-    ghost view = { λ a. record { entities = a.entities.items; supertypes = a.supertypes.items } };
-}
-
-/// Of each entity what it declares and redeclares.
-fn declared(alloc: Global, entities: &[NamedEntity]) -> Result<Vec<EntityAttributes>, AllocError>
-    ensures { IfOk result (λ found. found.items ≡ numbered (λ number e. record { attributes = spec.declared_by number e; redeclared = spec.redeclared_by e }) entities.now) }
-{
-    let mut found = Vec::new(alloc);
-    for (number, entity) in entities.iter().enumerate() {
-        let attributes = declared_by(alloc, number, entity)?;
-        let redeclared = redeclared_by(alloc, entity)?;
-        found.push(EntityAttributes {
-            attributes,
-            redeclared,
-        })?;
-    }
-    Ok(found)
+    ghost view = { λ a. record { declared = a.declared; redeclared = a.redeclared; supertypes = a.supertypes } };
 }
 
 /// Of each entity its direct supertypes.
 fn supertypes(alloc: Global, entities: &[NamedEntity]) -> Result<Vec<Rows<usize>>, AllocError>
     ensures { IfOk result (λ found. found.items ≡ map (λ e. e.supertypes) entities.now) }
 {
-    let mut found = Vec::new(alloc);
+    let mut found = Vec::with_capacity(alloc, entities.len())?;
     for entity in entities {
         let above = Vec::from_slice(alloc, entity.supertypes.as_slice())?;
         found.push(Rows::from_vec(above))?;
@@ -65,46 +62,57 @@ impl Attributes {
     pub fn of(alloc: Global, entities: &[NamedEntity]) -> Result<Attributes, AllocError>
         ensures { IfOk result (λ found. found ≡ spec.attributes_of entities.now) }
     {
-        let supertypes = supertypes(alloc, entities)?;
-        let entities = declared(alloc, entities)?;
+        let supertypes = Descent::of(alloc, supertypes(alloc, entities)?)?;
+        let declared = DeclaredRows::new(alloc, declared_by_all(alloc, entities)?.into_vec())?;
+        let redeclared = redeclared_by_all(alloc, entities)?.into_vec();
+        let redeclared = RedeclaredRows::new(alloc, redeclared)?;
         Ok(Attributes {
-            entities,
+            declared,
+            redeclared,
             supertypes,
         })
     }
 
+    /// Whether there are entities.
+    pub fn has_entities(&self) -> bool
+        ensures { result ≡ nat_lt 0 (length self.now.supertypes) }
+    {
+        self.len() > 0
+    }
+
     /// How many entities there are.
     pub(crate) fn len(&self) -> usize
-        ensures { result ≡ length self.now.entities }
+        ensures { result ≡ length self.now.supertypes }
     {
-        self.entities.len()
+        self.supertypes.graph().len()
     }
 
-    /// What an entity declares.
-    pub(crate) fn declared_in(&self, entity: usize) -> &[Attribute]
-        ensures { result.now ≡ spec.declared_in self.now entity }
+    /// What entities declare.
+    pub(crate) fn declared(&self) -> &DeclaredRows
+        ensures { result.now ≡ self.now.declared }
     {
-        match self.entities.get(entity) {
-            Some(entity) => entity.attributes.as_slice(),
-            None => &[],
-        }
+        &self.declared
     }
 
-    /// What an entity redeclares.
-    pub(crate) fn redeclared_in(&self, entity: usize) -> &[Redeclared]
-        ensures { result.now ≡ spec.redeclared_in self.now entity }
+    /// What entities redeclare.
+    pub(crate) fn redeclared(&self) -> &RedeclaredRows
+        ensures { result.now ≡ self.now.redeclared }
     {
-        match self.entities.get(entity) {
-            Some(entity) => entity.redeclared.as_slice(),
-            None => &[],
-        }
+        &self.redeclared
     }
 
     /// The entity and the ones above it.
-    pub(crate) fn family(&self, alloc: Global, entity: usize) -> Result<Vec<usize>, AllocError>
+    pub(crate) fn family(&self, entity: usize) -> Family<'_>
+        ensures { result ≡ lineage.family self.now.supertypes entity }
+    {
+        Family::of(&self.supertypes, entity)
+    }
+
+    /// The numbers of the entity and of the ones above it.
+    pub(crate) fn members(&self, alloc: Global, entity: usize) -> Result<Vec<usize>, AllocError>
         ensures { IfOk result (λ found. found.items ≡ lineage.family self.now.supertypes entity) }
     {
-        family(alloc, &self.supertypes, entity)?
+        family(alloc, self.supertypes.graph(), entity)?
             .into_iter()
             .collect(alloc)
     }

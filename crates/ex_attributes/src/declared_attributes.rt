@@ -126,25 +126,32 @@ fn push_inverse(
     Ok(())
 }
 
-/// The attributes that the entity of this number declares.
-pub(crate) fn declared_by(
+/// Puts the attributes that the entity of this number declares behind the others.
+fn push_declared(
     alloc: Global,
+    found: &mut Rows<Attribute>,
     number: usize,
     entity: &NamedEntity,
+) -> Result<(), AllocError>
+    ensures { OnOk result (found.new ≡ found.old ++ spec.declared_by number entity.now) }
+{
+    let explicit = explicit_rows(alloc, entity.explicit.as_slice())?;
+    push_rows(alloc, found, number, AttributeSort::Explicit, &explicit)?;
+    let derived = derived_rows(alloc, entity.derived.as_slice())?;
+    push_rows(alloc, found, number, AttributeSort::Derived, &derived)?;
+    push_inverse(alloc, found, number, entity.inverse.as_slice())
+}
+
+/// The attributes that entities declare, entity after entity.
+pub(crate) fn declared_by_all(
+    alloc: Global,
+    entities: &[NamedEntity],
 ) -> Result<Rows<Attribute>, AllocError>
-    ensures { IfOk result (λ found. found ≡ spec.declared_by number entity.now) }
+    ensures { IfOk result (λ found. found ≡ spec.of_each spec.declared_by entities.now) }
 {
     let mut found = Rows::new(alloc);
-    let explicit = explicit_rows(alloc, entity.explicit.as_slice())?;
-    push_rows(
-        alloc,
-        &mut found,
-        number,
-        AttributeSort::Explicit,
-        &explicit,
-    )?;
-    let derived = derived_rows(alloc, entity.derived.as_slice())?;
-    push_rows(alloc, &mut found, number, AttributeSort::Derived, &derived)?;
-    push_inverse(alloc, &mut found, number, entity.inverse.as_slice())?;
+    for (number, entity) in entities.iter().enumerate() {
+        push_declared(alloc, &mut found, number, entity)?;
+    }
     Ok(found)
 }

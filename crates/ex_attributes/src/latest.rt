@@ -1,14 +1,12 @@
 //! What an attribute may be: by its latest redeclarations, else by its declaration.
 
-ghost use Rattle.std.specs.Prelude.{◌≡◌, ℕ, ◌==◌, ◌&&◌, ◌||◌, not, ◌++◌, [], IfOk, OnOk};
-ghost use Rattle.std.specs.List.{find};
-ghost use Rattle.std.specs.Option.{option_copied};
-ghost use Rattle.lineage.specs.Lineage.{family};
+ghost use Rattle.std.specs.Prelude.{◌≡◌, ℕ, ◌==◌, ◌&&◌, ◌||◌, not, [], IfOk, OnOk};
+ghost use Rattle.lineage.specs.Lineage.{family as family_of};
 ghost use Rattle.ex_named.specs.Scopes.{is_among};
 ghost use Rattle.ex_attributes.specs.Attributes as spec;
 ghost use Rattle.ex_attributes.specs.Steps.{read};
 
-use crate::attribute::Attribute;
+use crate::attribute::Redeclared;
 use crate::attributes::Attributes;
 use ex_kinds::{Kinds, TypeFaultKind, Typed, copied, join};
 use ex_named::{AttributeMeaning, AttributePlace, AttributeUse};
@@ -23,57 +21,26 @@ fn is_in(set: &BTreeSet<usize>, number: usize) -> bool
     set.contains(&number)
 }
 
-/// Whether the two are one declaration.
-fn same_place(first: AttributePlace, second: AttributePlace) -> bool
-    ensures { result ≡ spec.same_place first second }
+/// Puts what redeclarations allow behind what others do.
+pub(crate) fn join_all(kinds: &mut Kinds, all: &[&Redeclared]) -> Result<(), AllocError>
+    ensures { OnOk result (kinds.new ≡ spec.all_kinds kinds.old (read all.now)) }
 {
-    first.entity == second.entity && first.sort == second.sort && first.place == second.place
+    for redeclared in all {
+        join(kinds, redeclared.kinds.as_slice())?;
+    }
+    Ok(())
 }
 
-/// The attribute among these that is declared there.
-fn declared_at(attributes: &[Attribute], place: AttributePlace) -> Option<&Attribute>
-    ensures { option_copied result ≡ find (λ a. spec.same_place a.place place) attributes.now }
+/// What redeclarations allow.
+fn all_kinds(alloc: Global, all: &[&Redeclared]) -> Result<Kinds, AllocError>
+    ensures { IfOk result (λ kinds. kinds ≡ spec.all_kinds [] (read all.now)) }
 {
-    attributes
-        .iter()
-        .find(|attribute| same_place(attribute.place, place))
+    let mut kinds = Rows::new(alloc);
+    join_all(&mut kinds, all)?;
+    Ok(kinds)
 }
 
 impl Attributes {
-    /// Puts what an entity redeclares the attribute with behind the others.
-    fn push_redeclarations<'a>(
-        &'a self,
-        found: &mut Vec<(usize, &'a Kinds)>,
-        place: AttributePlace,
-        entity: usize,
-    ) -> Result<(), AllocError>
-        ensures { OnOk result (read found.new.items ≡ read found.old.items ++ spec.redeclarations_in self.now place entity) }
-    {
-        for redeclared in self.redeclared_in(entity) {
-            if same_place(redeclared.place, place) {
-                found.push((entity, &redeclared.kinds))?;
-            }
-        }
-        Ok(())
-    }
-
-    /// The redeclarations by an entity or the ones above it, each with who redeclares.
-    fn redeclarations<'a>(
-        &'a self,
-        alloc: Global,
-        place: AttributePlace,
-        entity: usize,
-    ) -> Result<Vec<(usize, &'a Kinds)>, AllocError>
-        ensures { IfOk result (λ found. read found.items ≡ spec.redeclarations self.now place entity) }
-    {
-        let family = self.family(alloc, entity)?;
-        let mut found = Vec::new(alloc);
-        for above in &family {
-            self.push_redeclarations(&mut found, place, *above)?;
-        }
-        Ok(found)
-    }
-
     /// Puts the entities above one into the set.
     fn insert_above(
         &self,
@@ -81,9 +48,9 @@ impl Attributes {
         set: &mut BTreeSet<usize>,
         entity: usize,
     ) -> Result<(), AllocError>
-        ensures { OnOk result ((k : ℕ) → is_among set.new.keys k ≡ (is_among set.old.keys k || (not (entity == k) && is_among (family self.now.supertypes entity) k))) }
+        ensures { OnOk result ((k : ℕ) → is_among set.new.keys k ≡ (is_among set.old.keys k || (not (entity == k) && is_among (family_of self.now.supertypes entity) k))) }
     {
-        let family = self.family(alloc, entity)?;
+        let family = self.members(alloc, entity)?;
         for above in &family {
             if *above != entity {
                 set.insert(*above)?;
@@ -93,29 +60,28 @@ impl Attributes {
     }
 
     /// The entities below which another redeclares.
-    fn overridden(
-        &self,
-        alloc: Global,
-        all: &[(usize, &Kinds)],
-    ) -> Result<BTreeSet<usize>, AllocError>
+    fn overridden(&self, alloc: Global, all: &[&Redeclared]) -> Result<BTreeSet<usize>, AllocError>
         ensures { IfOk result (λ found. (k : ℕ) → is_among found.keys k ≡ spec.is_overridden self.now (read all.now) k) }
     {
         let mut found = BTreeSet::new(alloc);
-        for (entity, _) in all {
-            self.insert_above(alloc, &mut found, *entity)?;
+        for redeclared in all {
+            self.insert_above(alloc, &mut found, redeclared.entity)?;
         }
         Ok(found)
     }
 
     /// What the latest of these redeclarations allow.
-    fn latest_kinds(&self, alloc: Global, all: &[(usize, &Kinds)]) -> Result<Kinds, AllocError>
+    fn latest_kinds(&self, alloc: Global, all: &[&Redeclared]) -> Result<Kinds, AllocError>
         ensures { IfOk result (λ kinds. kinds ≡ spec.all_kinds [] (spec.latest self.now (read all.now))) }
     {
+        if all.len() == 1 {
+            return all_kinds(alloc, all);
+        }
         let overridden = self.overridden(alloc, all)?;
         let mut kinds = Rows::new(alloc);
-        for (entity, redeclared) in all {
-            if !is_in(&overridden, *entity) {
-                join(&mut kinds, redeclared.as_slice())?;
+        for redeclared in all {
+            if !is_in(&overridden, redeclared.entity) {
+                join(&mut kinds, redeclared.kinds.as_slice())?;
             }
         }
         Ok(kinds)
@@ -125,9 +91,27 @@ impl Attributes {
     fn declared_kinds(&self, alloc: Global, place: AttributePlace) -> Result<Kinds, AllocError>
         ensures { IfOk result (λ kinds. kinds ≡ spec.declared_kinds self.now place) }
     {
-        match declared_at(self.declared_in(place.entity), place) {
-            Some(attribute) => copied(alloc, attribute.kinds.as_slice()),
-            None => Ok(Rows::new(alloc)),
+        match self.declared().declared_at(alloc, place)?.as_slice() {
+            [attribute, ..] => copied(alloc, attribute.kinds.as_slice()),
+            [] => Ok(Rows::new(alloc)),
+        }
+    }
+
+    /// What an attribute may be in an instance of an entity that doesn't redeclare it.
+    fn inherited_kinds(
+        &self,
+        alloc: Global,
+        place: AttributePlace,
+        entity: usize,
+    ) -> Result<Kinds, AllocError>
+        ensures { IfOk result (λ kinds. kinds ≡ spec.inherited_kinds self.now place (spec.redeclarations self.now place entity)) }
+    {
+        let family = self.family(entity);
+        let inherited = self.redeclared().by_family(alloc, &family, place)?;
+        if inherited.is_empty() {
+            self.declared_kinds(alloc, place)
+        } else {
+            self.latest_kinds(alloc, &inherited)
         }
     }
 
@@ -141,11 +125,11 @@ impl Attributes {
     ) -> Result<Kinds, AllocError>
         ensures { IfOk result (λ kinds. kinds ≡ spec.kinds_at self.now place entity) }
     {
-        let redeclarations = self.redeclarations(alloc, place, entity)?;
-        if redeclarations.is_empty() {
-            self.declared_kinds(alloc, place)
+        let own = self.redeclared().by(alloc, entity, place)?;
+        if own.is_empty() {
+            self.inherited_kinds(alloc, place, entity)
         } else {
-            self.latest_kinds(alloc, &redeclarations)
+            all_kinds(alloc, &own)
         }
     }
 

@@ -4,11 +4,16 @@
 mod attribute;
 mod attributes;
 mod declared_attributes;
+mod declared_rows;
 mod found;
+mod keys;
 mod latest;
+mod order;
 mod redeclarations;
+mod redeclared_rows;
+mod tables;
 mod taken;
 
-pub use attribute::{Attribute, EntityAttributes, Redeclared};
+pub use attribute::{Attribute, Redeclared};
 pub use attributes::Attributes;
 pub use found::Found;

@@ -39,15 +39,20 @@ fn redeclared_place(attribute: &NamedAttribute) -> Option<AttributePlace>
 fn push_redeclared(
     alloc: Global,
     found: &mut Rows<Redeclared>,
+    entity: usize,
     attributes: &[NamedAttribute],
     data_type: &NamedDataType,
 ) -> Result<(), AllocError>
-    ensures { OnOk result (found.new ≡ found.old ++ filter_map (spec.redeclared_as (of_type data_type.now)) attributes.now) }
+    ensures { OnOk result (found.new ≡ found.old ++ filter_map (spec.redeclared_as entity (of_type data_type.now)) attributes.now) }
 {
     for attribute in attributes {
         if let Some(place) = redeclared_place(attribute) {
             let kinds = kinds_of(alloc, data_type)?;
-            found.push(Redeclared { place, kinds })?;
+            found.push(Redeclared {
+                place,
+                entity,
+                kinds,
+            })?;
         }
     }
     Ok(())
@@ -57,14 +62,16 @@ fn push_redeclared(
 fn push_explicit(
     alloc: Global,
     found: &mut Rows<Redeclared>,
+    entity: usize,
     list: &[NamedExplicit],
 ) -> Result<(), AllocError>
-    ensures { OnOk result (found.new ≡ found.old ++ flat_map (λ x. filter_map (spec.redeclared_as (of_type x.data_type)) x.attributes) list.now) }
+    ensures { OnOk result (found.new ≡ found.old ++ flat_map (λ x. filter_map (spec.redeclared_as entity (of_type x.data_type)) x.attributes) list.now) }
 {
     for explicit in list {
         push_redeclared(
             alloc,
             found,
+            entity,
             explicit.attributes.as_slice(),
             &explicit.data_type,
         )?;
@@ -76,28 +83,47 @@ fn push_explicit(
 fn push_derived(
     alloc: Global,
     found: &mut Rows<Redeclared>,
+    entity: usize,
     list: &[NamedDerived],
 ) -> Result<(), AllocError>
-    ensures { OnOk result (found.new ≡ found.old ++ filter_map (λ x. spec.redeclared_as (of_type x.data_type) x.attribute) list.now) }
+    ensures { OnOk result (found.new ≡ found.old ++ filter_map (λ x. spec.redeclared_as entity (of_type x.data_type) x.attribute) list.now) }
 {
     for derived in list {
         if let Some(place) = redeclared_place(&derived.attribute) {
             let kinds = kinds_of(alloc, &derived.data_type)?;
-            found.push(Redeclared { place, kinds })?;
+            found.push(Redeclared {
+                place,
+                entity,
+                kinds,
+            })?;
         }
     }
     Ok(())
 }
 
-/// The attributes that an entity redeclares.
-pub(crate) fn redeclared_by(
+/// Puts the attributes that the entity of this number redeclares behind the others.
+fn push_redeclarations(
     alloc: Global,
+    found: &mut Rows<Redeclared>,
+    number: usize,
     entity: &NamedEntity,
+) -> Result<(), AllocError>
+    ensures { OnOk result (found.new ≡ found.old ++ spec.redeclared_by number entity.now) }
+{
+    push_explicit(alloc, found, number, entity.explicit.as_slice())?;
+    push_derived(alloc, found, number, entity.derived.as_slice())
+}
+
+/// The attributes that entities redeclare, entity after entity.
+pub(crate) fn redeclared_by_all(
+    alloc: Global,
+    entities: &[NamedEntity],
 ) -> Result<Rows<Redeclared>, AllocError>
-    ensures { IfOk result (λ found. found ≡ spec.redeclared_by entity.now) }
+    ensures { IfOk result (λ found. found ≡ spec.of_each spec.redeclared_by entities.now) }
 {
     let mut found = Rows::new(alloc);
-    push_explicit(alloc, &mut found, entity.explicit.as_slice())?;
-    push_derived(alloc, &mut found, entity.derived.as_slice())?;
+    for (number, entity) in entities.iter().enumerate() {
+        push_redeclarations(alloc, &mut found, number, entity)?;
+    }
     Ok(found)
 }

@@ -1,50 +1,32 @@
 //! Attributes by their names.
 
-ghost use Rattle.std.specs.Prelude.{◌≡◌, ◌++◌, map, filter, length, IfOk, OnOk};
-ghost use Rattle.std.specs.Str.{bytes_eq};
+ghost use Rattle.std.specs.Prelude.{◌≡◌, length, IfOk, OnOk};
+ghost use Rattle.std.specs.List.{list_any};
 ghost use Rattle.lineage.specs.Lineage.{numbers_from};
 ghost use Rattle.ex_attributes.specs.Attributes as spec;
+ghost use Rattle.ex_attributes.specs.Steps.{read};
 
 use crate::attribute::Attribute;
 use crate::attributes::Attributes;
 use crate::found::Found;
-use ex_kinds::{Sort, Typed, ValueKind, join};
+use crate::latest::join_all;
+use ex_kinds::{Kinds, Sort, Typed, ValueKind, join};
 use ex_tree::Name;
 use plain_data::Text;
 use std::alloc::{AllocError, Global};
 
-/// Puts those of the attributes that have this name behind the others.
-fn push_named<'a>(
-    found: &mut Vec<&'a Attribute>,
-    attributes: &'a [Attribute],
-    name: &Text,
-) -> Result<(), AllocError>
-    ensures { OnOk result (map (λ a. a.now) found.new.items ≡ map (λ a. a.now) found.old.items ++ filter (λ a. bytes_eq a.name name.now) attributes.now) }
-{
-    for attribute in attributes {
-        if attribute.name.is(name) {
-            found.push(attribute)?;
-        }
-    }
-    Ok(())
-}
-
 impl Attributes {
     /// The attributes of this name that an entity or one above it declares.
-    fn named<'a>(
-        &'a self,
+    fn named(
+        &self,
         alloc: Global,
         entity: usize,
         name: &Text,
-    ) -> Result<Vec<&'a Attribute>, AllocError>
-        ensures { IfOk result (λ found. map (λ a. a.now) found.items ≡ spec.named_attributes self.now entity name.now) }
+    ) -> Result<Vec<&Attribute>, AllocError>
+        ensures { IfOk result (λ found. read found.items ≡ spec.named_attributes self.now entity name.now) }
     {
-        let family = self.family(alloc, entity)?;
-        let mut found = Vec::new(alloc);
-        for above in &family {
-            push_named(&mut found, self.declared_in(*above), name)?;
-        }
-        Ok(found)
+        let family = self.family(entity);
+        self.declared().named_in(alloc, &family, name)
     }
 
     /// Looks for the name in one entity.
@@ -72,13 +54,67 @@ impl Attributes {
         Ok(())
     }
 
+    /// Whether an entity has two attributes of this name.
+    fn has_several(&self, alloc: Global, entity: usize, name: &Text) -> Result<bool, AllocError>
+        ensures { IfOk result (λ told. told ≡ spec.is_several (spec.named_attributes self.now entity name.now)) }
+    {
+        match self.named(alloc, entity, name)?.as_slice() {
+            [_, _, ..] => Ok(true),
+            _ => Ok(false),
+        }
+    }
+
+    /// Whether some entity has two attributes of this name, which have these declarations.
+    fn is_ambiguous(
+        &self,
+        alloc: Global,
+        name: &Text,
+        declarations: &[&Attribute],
+    ) -> Result<bool, AllocError>
+        requires { read declarations.now ≡ spec.named name.now self.now.declared }
+        ensures { IfOk result (λ told. told ≡ spec.is_ambiguous_in_some self.now name.now) }
+    {
+        if declarations.len() < 2 {
+            return Ok(false);
+        }
+        for entity in 0..self.len() {
+            let has_several = self.has_several(alloc, entity, name)?;
+            if has_several {
+                return Ok(true);
+            }
+        }
+        Ok(false)
+    }
+
+    /// Puts what attributes may be in whatever instance behind the others.
+    fn join_in_all(
+        &self,
+        alloc: Global,
+        kinds: &mut Kinds,
+        declarations: &[&Attribute],
+    ) -> Result<(), AllocError>
+        ensures { OnOk result (kinds.new ≡ spec.kinds_in_all self.now kinds.old (read declarations.now)) }
+    {
+        for attribute in declarations {
+            join(kinds, attribute.kinds.as_slice())?;
+            let all = self.redeclared().of_place(alloc, attribute.place)?;
+            join_all(kinds, &all)?;
+        }
+        Ok(())
+    }
+
     /// Looks for the name in all entities.
     fn look_in_all(&self, alloc: Global, found: &mut Found, name: &Text) -> Result<(), AllocError>
-        ensures { OnOk result (found.new ≡ spec.found_after self.now name.now found.old (numbers_from 0 (length self.now.entities))) }
+        ensures { OnOk result (found.new ≡ spec.with_all self.now name.now found.old (spec.named name.now self.now.declared)) }
     {
-        for entity in 0..self.len() {
-            self.look_in(alloc, found, entity, name)?;
+        let declarations = self.declared().named(alloc, name)?;
+        if declarations.is_empty() {
+            return Ok(());
         }
+        let is_ambiguous = self.is_ambiguous(alloc, name, &declarations)?;
+        self.join_in_all(alloc, &mut found.kinds, &declarations)?;
+        found.is_there = true;
+        found.is_ambiguous = found.is_ambiguous || is_ambiguous;
         Ok(())
     }
 
@@ -90,7 +126,7 @@ impl Attributes {
         kind: ValueKind,
         name: &Text,
     ) -> Result<(), AllocError>
-        ensures { OnOk result (found.new ≡ spec.found_after self.now name.now found.old (spec.entities_at self.now kind.depth kind.sort)) }
+        ensures { OnOk result (found.new ≡ spec.found_at self.now name.now found.old kind.depth kind.sort) }
     {
         if kind.depth > 0 {
             return Ok(());
@@ -109,7 +145,7 @@ impl Attributes {
         kinds: &[ValueKind],
         name: &Text,
     ) -> Result<Found, AllocError>
-        ensures { IfOk result (λ found. found ≡ spec.found_among self.now kinds.now name.now) }
+        ensures { IfOk result (λ found. found ≡ spec.found_after self.now name.now spec.found_nothing kinds.now) }
     {
         let mut found = Found::nothing(alloc);
         for kind in kinds {

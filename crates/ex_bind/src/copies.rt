@@ -2,7 +2,7 @@
 
 ghost use Rattle.std.specs.Prelude.{◌≡◌, IfOk};
 
-use ex_tree::{Literal, Name, StringToken};
+use ex_tree::{Literal, Name};
 use plain_data::Items;
 use std::alloc::{AllocError, Global};
 
@@ -44,20 +44,4 @@ pub fn copy_literal(alloc: Global, literal: &Literal) -> Result<Literal, AllocEr
         Literal::Binary(bits) => Literal::Binary(bits.copy(alloc)?),
         Literal::Logical(value) => Literal::Logical(*value),
     })
-}
-
-pub fn copy_strings(
-    alloc: Global,
-    strings: &[StringToken],
-) -> Result<Items<StringToken>, AllocError>
-    ensures { IfOk result (λ copies. copies ≡ strings.now) }
-{
-    let mut copies = Vec::with_capacity(alloc, strings.len())?;
-    for string in strings {
-        copies.push(StringToken {
-            value: string.value.copy(alloc)?,
-            at: string.at,
-        })?;
-    }
-    Ok(Items::from_vec(copies))
 }

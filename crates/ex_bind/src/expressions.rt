@@ -149,10 +149,10 @@ fn qualifier(
             NamedQualifier::Index(*at, expression(alloc, declarations, scope, index)?)
         },
         Qualifier::Range(at, low, high) => {
-            let low = expression(alloc, declarations, scope, low);
-            let high = expression(alloc, declarations, scope, high);
+            let low = expression(alloc, declarations, scope, low.get());
+            let high = expression(alloc, declarations, scope, high.get());
             let (low, high) = both(low, high)?;
-            NamedQualifier::Range(*at, low, high)
+            NamedQualifier::Range(*at, Boxed::new(alloc, low)?, Boxed::new(alloc, high)?)
         },
     })
 }

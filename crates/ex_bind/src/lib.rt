@@ -7,7 +7,7 @@ mod qualified;
 mod rules;
 mod types;
 
-pub use copies::{copy_label, copy_name, copy_names, copy_strings};
+pub use copies::{copy_label, copy_name, copy_names};
 pub use expressions::expression;
 pub use rules::domain_rules;
 pub use types::data_type;

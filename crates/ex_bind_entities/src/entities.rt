@@ -190,7 +190,7 @@ fn entity_over<'a>(
 pub fn named_entity(
     alloc: Global,
     declarations: &Declarations<'_>,
-    supertypes: &Descent<'_>,
+    supertypes: &Descent,
     number: usize,
     is_cyclic: bool,
     entity: &Entity,

@@ -13,7 +13,7 @@ use std::alloc::{AllocError, Global};
 pub struct EntityContext<'a, 'd, 's> {
     pub declarations: &'a Declarations<'d>,
     /// Of each entity the entities that its SUBTYPE OF lists.
-    pub supertypes: &'s Descent<'s>,
+    pub supertypes: &'s Descent,
     pub entity: usize,
     /// Whether the entity is an ancestor of itself.
     pub is_cyclic: bool,
@@ -26,7 +26,7 @@ pub struct EntityContext<'a, 'd, 's> {
 impl<'a, 'd, 's> EntityContext<'a, 'd, 's> {
     pub fn new(
         declarations: &'a Declarations<'d>,
-        supertypes: &'s Descent<'s>,
+        supertypes: &'s Descent,
         entity: usize,
         is_cyclic: bool,
     ) -> EntityContext<'a, 'd, 's>

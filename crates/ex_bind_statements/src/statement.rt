@@ -58,7 +58,7 @@ fn statement(
         Statement::Null => Ok(NamedStatement::Null),
         Statement::Assignment(name, value) => assignment(alloc, declarations, scope, name, value),
         Statement::Case(case) => {
-            let case = case_statement(alloc, declarations, scope, case)?;
+            let case = case_statement(alloc, declarations, scope, case.get())?;
             Ok(NamedStatement::Case(case))
         },
         Statement::Compound(body) => {
@@ -73,7 +73,9 @@ fn statement(
             let ((condition, then_part), else_part) = both(both(condition, then_part), else_part)?;
             Ok(NamedStatement::If(condition, then_part, else_part))
         },
-        Statement::Repeat(control, body) => repeat(alloc, declarations, &*scope, control, body),
+        Statement::Repeat(control, body) => {
+            repeat(alloc, declarations, &*scope, control.get(), body)
+        },
         Statement::Return(at, value) => {
             let value = expression(alloc, declarations, scope, value)?;
             Ok(NamedStatement::Return(*at, value))
@@ -103,19 +105,20 @@ fn case_statement(
     declarations: &Declarations<'_>,
     scope: &Scope<'_>,
     case: &Case,
-) -> Binding<NamedCase>
+) -> Binding<Boxed<NamedCase>>
     ensures { Binds result (parts.bound_case declarations.now case.now scope.now) }
 {
     let selector = expression(alloc, declarations, scope, &case.selector);
     let actions = case_actions(alloc, declarations, scope, case.actions.as_slice());
     let otherwise = otherwise(alloc, declarations, scope, &case.otherwise);
     let ((selector, actions), otherwise) = both(both(selector, actions), otherwise)?;
-    Ok(NamedCase {
+    let bound = NamedCase {
         at: case.at,
         selector,
         actions,
         otherwise,
-    })
+    };
+    Ok(Boxed::new(alloc, bound)?)
 }
 
 /// The actions of a CASE, in order.
@@ -220,5 +223,5 @@ fn repeat_in<'a>(
     let control = repeat_control(alloc, declarations, scope, turn, control);
     let body = sequence(alloc, declarations, turn, body.as_slice());
     let (control, body) = both(control, body)?;
-    Ok(NamedStatement::Repeat(control, body))
+    Ok(NamedStatement::Repeat(Boxed::new(alloc, control)?, body))
 }

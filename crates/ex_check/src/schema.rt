@@ -41,7 +41,7 @@ fn named_of(alloc: Global, text: &[u8]) -> Result<Named, Failure<SchemaFault>>
     ensures ascending { IfOk result (λ schema. Rise 0 (map (λ s. s.at) schema.schema.strings)) }
 {
     let tree = tree_of(alloc, text)?;
-    match resolve(alloc, &tree) {
+    match resolve(alloc, tree) {
         Ok(schema) => Ok(schema),
         Err(Failure::Fault(fault)) => Err(Failure::Fault(SchemaFault::Naming(fault))),
         Err(Failure::NoMemory) => Err(Failure::NoMemory),

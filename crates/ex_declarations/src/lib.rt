@@ -11,5 +11,5 @@ mod uniqueness;
 pub use collected::declarations;
 pub use graphs::{supertype_graph, type_graph};
 pub use own_names::declared_names;
-pub use sorts::{entities, functions, rules, types};
+pub use sorts::{entities, types};
 pub use uniqueness::once;

@@ -3,7 +3,7 @@
 ghost use Rattle.std.specs.Prelude.{◌≡◌, map, IfOk};
 ghost use Rattle.ex_declarations.specs.Declared as spec;
 
-use ex_tree::{Declaration, Entity, Function, Rule, Schema, TypeDeclaration};
+use ex_tree::{Declaration, Entity, Schema, TypeDeclaration};
 use std::alloc::{AllocError, Global};
 
 /// The entities of a schema, in order.
@@ -27,32 +27,6 @@ pub fn types<'a>(alloc: Global, schema: &'a Schema) -> Result<Vec<&'a TypeDeclar
     for declaration in schema.declarations.as_slice() {
         if let Declaration::Type(declared) = declaration {
             found.push(declared)?;
-        }
-    }
-    Ok(found)
-}
-
-/// The functions of a schema, in order.
-pub fn functions<'a>(alloc: Global, schema: &'a Schema) -> Result<Vec<&'a Function>, AllocError>
-    ensures { IfOk result (λ found. map (λ x. x.now) found.items ≡ spec.functions schema.now) }
-{
-    let mut found = Vec::new(alloc);
-    for declaration in schema.declarations.as_slice() {
-        if let Declaration::Function(function) = declaration {
-            found.push(function)?;
-        }
-    }
-    Ok(found)
-}
-
-/// The rules of a schema, in order.
-pub fn rules<'a>(alloc: Global, schema: &'a Schema) -> Result<Vec<&'a Rule>, AllocError>
-    ensures { IfOk result (λ found. map (λ x. x.now) found.items ≡ spec.rules schema.now) }
-{
-    let mut found = Vec::new(alloc);
-    for declaration in schema.declarations.as_slice() {
-        if let Declaration::Rule(rule) = declaration {
-            found.push(rule)?;
         }
     }
     Ok(found)

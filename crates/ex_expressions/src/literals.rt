@@ -7,7 +7,7 @@ ghost use Rattle.ex_lex.specs.Strings.{characters};
 ghost use Rattle.ex_forms.specs.Input as input;
 ghost use Rattle.ex_expressions.specs.Literals as spec;
 
-use ex_forms::{Cursor, Read, whole};
+use ex_forms::{Cursor, Read, refused, whole};
 use ex_lex::character;
 use ex_tree::{Literal, TokenKind};
 use plain_data::Text;
@@ -39,7 +39,7 @@ fn text_of(bytes: Vec<u8>) -> Option<Text>
 fn undoubled(alloc: Global, bytes: &[u8]) -> Result<Vec<u8>, AllocError>
     ensures { IfOk result (λ found. found.items ≡ spec.undoubled false bytes.now) }
 {
-    let mut found = Vec::new(alloc);
+    let mut found = Vec::with_capacity(alloc, bytes.len())?;
     let mut is_second = false;
     'bytes: for byte in bytes {
         if is_second {
@@ -60,16 +60,15 @@ fn copied(alloc: Global, bytes: &[u8]) -> Result<Vec<u8>, AllocError>
     Ok(found)
 }
 
-#[tactic(auto, unfolding(crate::specs::Literals::real, ex_forms::specs::Input::expect))]
+#[tactic(auto, unfolding(crate::specs::Literals::real))]
 fn real(cursor: &mut Cursor<'_>) -> Read<Decimal>
     ensures reads { Reads (spec.real cursor.old) result cursor.new }
     ensures takes { Takes result cursor.old cursor.new }
 {
-    let refusal = cursor.refusal();
     let token = cursor.expect(TokenKind::RealLiteral)?;
     match Decimal::parse(token.text) {
         Ok(value) => Ok(value),
-        Err(_) => Err(Failure::Fault(refusal)),
+        Err(_) => Err(Failure::Fault(refused(&token))),
     }
 }
 
@@ -94,15 +93,14 @@ pub(crate) fn simple_value(alloc: Global, token: &[u8]) -> Result<Option<Text>, 
     Ok(text_of(bytes))
 }
 
-#[tactic(auto, unfolding(crate::specs::Literals::simple_string, ex_forms::specs::Input::expect))]
+#[tactic(auto, unfolding(crate::specs::Literals::simple_string))]
 fn simple_string(alloc: Global, cursor: &mut Cursor<'_>) -> Read<Literal>
     ensures reads { Reads (spec.simple_string cursor.old) result cursor.new }
     ensures takes { Takes result cursor.old cursor.new }
 {
-    let refusal = cursor.refusal();
     let token = cursor.expect(TokenKind::SimpleStringLiteral)?;
     let Some(text) = simple_value(alloc, token.text)? else {
-        return Err(Failure::Fault(refusal));
+        return Err(Failure::Fault(refused(&token)));
     };
     Ok(Literal::String(text, token.at))
 }
@@ -134,32 +132,30 @@ pub(crate) fn encoded_value(alloc: Global, token: &[u8]) -> Result<Option<Text>,
     decoded(alloc, inner(token))
 }
 
-#[tactic(auto, unfolding(crate::specs::Literals::encoded_string, ex_forms::specs::Input::expect))]
+#[tactic(auto, unfolding(crate::specs::Literals::encoded_string))]
 fn encoded_string(alloc: Global, cursor: &mut Cursor<'_>) -> Read<Literal>
     ensures reads { Reads (spec.encoded_string cursor.old) result cursor.new }
     ensures takes { Takes result cursor.old cursor.new }
 {
-    let refusal = cursor.refusal();
     let token = cursor.expect(TokenKind::EncodedStringLiteral)?;
     let Some(text) = encoded_value(alloc, token.text)? else {
-        return Err(Failure::Fault(refusal));
+        return Err(Failure::Fault(refused(&token)));
     };
     Ok(Literal::String(text, token.at))
 }
 
-#[tactic(auto, unfolding(crate::specs::Literals::binary, ex_forms::specs::Input::expect))]
+#[tactic(auto, unfolding(crate::specs::Literals::binary))]
 fn binary(alloc: Global, cursor: &mut Cursor<'_>) -> Read<Literal>
     ensures reads { Reads (spec.binary cursor.old) result cursor.new }
     ensures takes { Takes result cursor.old cursor.new }
 {
-    let refusal = cursor.refusal();
     let token = cursor.expect(TokenKind::BinaryLiteral)?;
     let bits = match token.text {
         [_, bits @ ..] => bits,
         [] => &[],
     };
     let Some(text) = text_of(copied(alloc, bits)?) else {
-        return Err(Failure::Fault(refusal));
+        return Err(Failure::Fault(refused(&token)));
     };
     Ok(Literal::Binary(text))
 }

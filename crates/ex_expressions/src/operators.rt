@@ -195,9 +195,10 @@ pub fn chain<'t, F: Form<Cursor<'t>, Tree = Expression>>(
 fn only(alloc: Global, item: Operation) -> Result<Items<Operation>, AllocError>
     ensures { IfOk result (λ found. found ≡ item ∷ []) }
 {
-    let mut found = Items::new(alloc);
+    // A list that grows from nothing has room for four.
+    let mut found = Vec::with_capacity(alloc, 1)?;
     found.push(item)?;
-    Ok(found)
+    Ok(Items::from_vec(found))
 }
 
 /// One operand, or two with an operator of this rank between.

@@ -63,13 +63,18 @@ fn group_qualifier(alloc: Global, cursor: &mut Cursor<'_>) -> Read<Qualifier>
     Ok(Qualifier::Group(backslash.at, name(alloc, cursor)?))
 }
 
-fn indexed(at: usize, first: Expression, last: Option<Expression>) -> Qualifier
-    ensures { result ≡ spec.indexed at first last }
+fn indexed(
+    alloc: Global,
+    at: usize,
+    first: Expression,
+    last: Option<Expression>,
+) -> Result<Qualifier, AllocError>
+    ensures { IfOk result (λ q. q ≡ spec.indexed at first last) }
 {
-    match last {
-        Some(last) => Qualifier::Range(at, first, last),
+    Ok(match last {
+        Some(last) => Qualifier::Range(at, Boxed::new(alloc, first)?, Boxed::new(alloc, last)?),
         None => Qualifier::Index(at, first),
-    }
+    })
 }
 
 fn qualified(
@@ -111,7 +116,7 @@ impl<
         let first = self.inner_simple(cursor)?;
         let last = optional(self.alloc, cursor, &Index2(self))?;
         cursor.expect(TokenKind::CloseBracket)?;
-        Ok(indexed(bracket.at, first, last))
+        Ok(indexed(self.alloc, bracket.at, first, last)?)
     }
 
     #[tactic(auto, unfolding(crate::specs::Expressions::qualifier))]

@@ -43,5 +43,8 @@ pub fn whole(cursor: &mut Cursor<'_>) -> Read<u64>
     ensures takes { Takes result cursor.old cursor.new }
 {
     let token = cursor.expect(TokenKind::IntegerLiteral)?;
-    whole_number(token.text).ok_or(Failure::Fault(refused(&token)))
+    match whole_number(token.text) {
+        Some(value) => Ok(value),
+        None => Err(Failure::Fault(refused(&token))),
+    }
 }

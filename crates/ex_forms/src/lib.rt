@@ -4,7 +4,7 @@
 mod cursor;
 mod forms;
 
-pub use cursor::{Cursor, Read};
+pub use cursor::{Cursor, Read, refused};
 pub use ex_lex::TokenList;
 pub use ex_tree::{ParseFault, ParseFaultKind, Token, TokenKind};
 pub use forms::{name, whole};

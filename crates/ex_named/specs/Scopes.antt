@@ -168,15 +168,14 @@ module _ (schema : Declarations) where
   as_defined (d.Type k) = Some k
   as_defined _ = None
 
-  abbrev pub item_of_declared : Option ℕ → Name → Name → Outcome (Option NamedExpression)
-  item_of_declared None type item = Ok None
-  item_of_declared (Some k) type item = given Some (enumeration_item type k item)
+  abbrev pub item_of_declared : Option ℕ → Name → Name → Outcome NamedExpression
+  item_of_declared None type item = refused Undeclared type.at
+  item_of_declared (Some k) type item = enumeration_item type k item
 
   abbrev pub item_of_by : Option NamedExpression → Name → Name → Outcome (Option NamedExpression)
   item_of_by (Some found) type item = Ok None
-  item_of_by None type item = item_of_declared (and_then (declared type.text) as_defined) type item
+  item_of_by None type item = given Some (item_of_declared (and_then (declared type.text) as_defined) type item)
 
-  -- what `type.item` stands for, if no value has the name of the type, and the schema declares a type of that name
   abbrev pub item_of : Scope → Name → Name → Outcome (Option NamedExpression)
   item_of s type item = item_of_by (value s type) type item
 

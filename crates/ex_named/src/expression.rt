@@ -52,7 +52,7 @@ pub enum NamedQualifier {
     Group(usize, usize),
     Index(usize, NamedExpression),
     /// From the first index to the second.
-    Range(usize, NamedExpression, NamedExpression),
+    Range(usize, Boxed<NamedExpression>, Boxed<NamedExpression>),
 }
 
 /// `{ low < item <= high }`, each operator with its first byte.

@@ -42,12 +42,12 @@ pub enum NamedStatement {
     Null,
     /// The slot, the first byte of the variable, and the value.
     Assignment(usize, usize, NamedExpression),
-    Case(NamedCase),
+    Case(Boxed<NamedCase>),
     Compound(Items<NamedStatement>),
     Escape,
     /// The condition, what follows THEN, and what follows ELSE: nothing where it is not there.
     If(NamedExpression, Items<NamedStatement>, Items<NamedStatement>),
-    Repeat(NamedRepeatControl, Items<NamedStatement>),
+    Repeat(Boxed<NamedRepeatControl>, Items<NamedStatement>),
     /// With the first byte of its word.
     Return(usize, NamedExpression),
     Skip,

@@ -1,5 +1,5 @@
 -- Built-in functions, calls, qualifiers and QUERY (ISO 10303-11:1994, 12.6 to 12.9 and 15): what they take and give.
-use Rattle.std.specs.Prelude.{ℕ, Bool, not, ◌||◌, ◌&&◌, List, [], ◌∷◌, ◌++◌, Ok, Err, if◌then◌else◌}
+use Rattle.std.specs.Prelude.{true, false, ℕ, Bool, not, ◌||◌, ◌&&◌, List, [], ◌∷◌, ◌++◌, Ok, Err, if◌then◌else◌}
 use Rattle.ex_tree.specs.declared.expression.BuiltInFunction.{BuiltInFunction}
 use Rattle.ex_tree.specs.declared.expression.BuiltInFunction.TheVariants as f
 use Rattle.ex_kinds.specs.declared.fault.TypeFaultKind.TheVariants.{EntityComparison, Operand, Arguments, Qualifier}
@@ -23,15 +23,20 @@ indexed_by base p fine = or_else_fault ((can_be_aggregate p || p.string || p.bin
 abbrev pub ranged_by : Possible → Bool → Rule
 ranged_by p fine = or_else_fault ((can_be_string p || p.binary) && fine) Qualifier (kinds_if (p.string || p.generic) k.String ++ kinds_if (p.binary || p.generic) k.Binary)
 
--- what a function gives whatever its arguments are
-abbrev pub built_in_anyway : BuiltInFunction → Kinds
-built_in_anyway f.Exists = logical
-built_in_anyway f.Nvl = []
-built_in_anyway f.Odd = logical
-built_in_anyway f.TypeOf = aggregate_of (itself k.String ∷ [])
-built_in_anyway f.UsedIn = aggregate_of (itself k.Instance ∷ [])
-built_in_anyway f.ValueIn = logical
-built_in_anyway _ = integer
+-- the instances that use an instance: in a schema without entities they are of no kind
+abbrev pub users : Bool → Kinds
+users true = aggregate_of (itself k.Instance ∷ [])
+users false = aggregate_of []
+
+-- what a function gives whatever its arguments are, in a schema with or without entities
+abbrev pub built_in_anyway : Bool → BuiltInFunction → Kinds
+built_in_anyway has_entities f.Exists = logical
+built_in_anyway has_entities f.Nvl = []
+built_in_anyway has_entities f.Odd = logical
+built_in_anyway has_entities f.TypeOf = aggregate_of (itself k.String ∷ [])
+built_in_anyway has_entities f.UsedIn = users has_entities
+built_in_anyway has_entities f.ValueIn = logical
+built_in_anyway has_entities _ = integer
 
 module _ (types : List Kinds) where
   -- what the elements of these may be
@@ -41,28 +46,28 @@ module _ (types : List Kinds) where
   -- ---- built-in functions
 
   -- the instances that use an instance in a role
-  abbrev pub used_in : Kinds → Kinds → Rule
-  used_in x y = or_else_fault (can_be_instance (possibly types x) && can_be_string (possibly types y)) Arguments (aggregate_of (itself k.Instance ∷ []))
+  abbrev pub used_in : Bool → Kinds → Kinds → Rule
+  used_in has_entities x y = or_else_fault (can_be_instance (possibly types x) && can_be_string (possibly types y)) Arguments (users has_entities)
 
   -- an aggregate of instances can be searched for no value by `=`
   abbrev pub value_in : Kinds → Rule
   value_in aggregate = if may_hold_instance types (elements_of aggregate) then Err EntityComparison
       else or_else_fault (can_be_aggregate (possibly types aggregate)) Arguments logical
 
-  unfoldable pub built_in : BuiltInFunction → List Kinds → Rule
-  built_in f.Abs (x ∷ []) = or_else_fault (can_be_integer (possibly types x)) Arguments integer
-  built_in f.BLength (x ∷ []) = or_else_fault (can_be_binary (possibly types x)) Arguments integer
-  built_in f.Exists (x ∷ []) = Ok logical
-  built_in f.HiIndex (x ∷ []) = or_else_fault (can_be_aggregate (possibly types x)) Arguments integer
-  built_in f.Length (x ∷ []) = or_else_fault (can_be_string (possibly types x)) Arguments integer
-  built_in f.LoIndex (x ∷ []) = or_else_fault (can_be_aggregate (possibly types x)) Arguments integer
-  built_in f.Nvl (x ∷ y ∷ []) = Ok (joined x y)
-  built_in f.Odd (x ∷ []) = or_else_fault (can_be_integer (possibly types x)) Arguments logical
-  built_in f.SizeOf (x ∷ []) = or_else_fault (can_be_aggregate (possibly types x)) Arguments integer
-  built_in f.TypeOf (x ∷ []) = Ok (aggregate_of (itself k.String ∷ []))
-  built_in f.UsedIn (x ∷ y ∷ []) = used_in x y
-  built_in f.ValueIn (x ∷ y ∷ []) = value_in x
-  built_in _ _ = Err Arguments
+  unfoldable pub built_in : Bool → BuiltInFunction → List Kinds → Rule
+  built_in has_entities f.Abs (x ∷ []) = or_else_fault (can_be_integer (possibly types x)) Arguments integer
+  built_in has_entities f.BLength (x ∷ []) = or_else_fault (can_be_binary (possibly types x)) Arguments integer
+  built_in has_entities f.Exists (x ∷ []) = Ok logical
+  built_in has_entities f.HiIndex (x ∷ []) = or_else_fault (can_be_aggregate (possibly types x)) Arguments integer
+  built_in has_entities f.Length (x ∷ []) = or_else_fault (can_be_string (possibly types x)) Arguments integer
+  built_in has_entities f.LoIndex (x ∷ []) = or_else_fault (can_be_aggregate (possibly types x)) Arguments integer
+  built_in has_entities f.Nvl (x ∷ y ∷ []) = Ok (joined x y)
+  built_in has_entities f.Odd (x ∷ []) = or_else_fault (can_be_integer (possibly types x)) Arguments logical
+  built_in has_entities f.SizeOf (x ∷ []) = or_else_fault (can_be_aggregate (possibly types x)) Arguments integer
+  built_in has_entities f.TypeOf (x ∷ []) = Ok (aggregate_of (itself k.String ∷ []))
+  built_in has_entities f.UsedIn (x ∷ y ∷ []) = used_in has_entities x y
+  built_in has_entities f.ValueIn (x ∷ y ∷ []) = value_in x
+  built_in has_entities _ _ = Err Arguments
 
   -- ---- functions of the schema
 

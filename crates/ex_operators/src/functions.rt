@@ -22,19 +22,27 @@ use plain_data::Rows;
 use std::alloc::{AllocError, Global};
 use text_forms::Failure;
 
-/// What a built-in function gives for these arguments.
+/// What a built-in function gives for these arguments, in a schema with or without entities.
 #[tactic(auto, unfolding(crate::specs::Taken::built_in))]
 pub fn built_in(
     alloc: Global,
     types: &Types,
+    has_entities: bool,
     function: BuiltInFunction,
     arguments: &[Kinds],
 ) -> Ruling
-    ensures { Gives (λ kinds. kinds) result (spec.built_in types.now function arguments.now) }
+    ensures { Gives (λ kinds. kinds) result (spec.built_in types.now has_entities function arguments.now) }
 {
     match arguments {
-        [argument] => of_one(alloc, types, function, argument.as_slice()),
-        [first, second] => of_two(alloc, types, function, first.as_slice(), second.as_slice()),
+        [argument] => of_one(alloc, types, has_entities, function, argument.as_slice()),
+        [first, second] => of_two(
+            alloc,
+            types,
+            has_entities,
+            function,
+            first.as_slice(),
+            second.as_slice(),
+        ),
         _ => Err(Failure::Fault(TypeFaultKind::Arguments)),
     }
 }
@@ -77,8 +85,14 @@ fn aggregate_of_one(alloc: Global, sort: Sort) -> Result<Kinds, AllocError>
 
 /// A call with one argument.
 #[tactic(auto, unfolding(crate::specs::Taken::built_in))]
-fn of_one(alloc: Global, types: &Types, function: BuiltInFunction, argument: &[ValueKind]) -> Ruling
-    ensures { Gives (λ kinds. kinds) result (spec.built_in types.now function (argument.now ∷ [])) }
+fn of_one(
+    alloc: Global,
+    types: &Types,
+    _has_entities: bool,
+    function: BuiltInFunction,
+    argument: &[ValueKind],
+) -> Ruling
+    ensures { Gives (λ kinds. kinds) result (spec.built_in types.now _has_entities function (argument.now ∷ [])) }
 {
     let possible = Operand::of(types, argument);
     match function {
@@ -102,15 +116,16 @@ fn of_one(alloc: Global, types: &Types, function: BuiltInFunction, argument: &[V
 fn of_two(
     alloc: Global,
     types: &Types,
+    has_entities: bool,
     function: BuiltInFunction,
     first: &[ValueKind],
     second: &[ValueKind],
 ) -> Ruling
-    ensures { Gives (λ kinds. kinds) result (spec.built_in types.now function (first.now ∷ second.now ∷ [])) }
+    ensures { Gives (λ kinds. kinds) result (spec.built_in types.now has_entities function (first.now ∷ second.now ∷ [])) }
 {
     match function {
         BuiltInFunction::Nvl => Ok(either(alloc, first, second)?),
-        BuiltInFunction::UsedIn => used_in(alloc, types, first, second),
+        BuiltInFunction::UsedIn => used_in(alloc, types, has_entities, first, second),
         BuiltInFunction::ValueIn => value_in(alloc, types, first),
         BuiltInFunction::Abs
         | BuiltInFunction::BLength
@@ -132,14 +147,30 @@ fn either(alloc: Global, first: &[ValueKind], second: &[ValueKind]) -> Result<Ki
     Ok(found)
 }
 
-fn used_in(alloc: Global, types: &Types, first: &[ValueKind], second: &[ValueKind]) -> Ruling
-    ensures { Gives (λ kinds. kinds) result (spec.used_in types.now first.now second.now) }
+/// The instances that use an instance: in a schema without entities they are of no kind.
+fn users(alloc: Global, has_entities: bool) -> Result<Kinds, AllocError>
+    ensures { IfOk result (λ found. found ≡ spec.users has_entities) }
+{
+    if has_entities {
+        aggregate_of_one(alloc, Sort::Instance)
+    } else {
+        aggregate_of(alloc, &[])
+    }
+}
+
+fn used_in(
+    alloc: Global,
+    types: &Types,
+    has_entities: bool,
+    first: &[ValueKind],
+    second: &[ValueKind],
+) -> Ruling
+    ensures { Gives (λ kinds. kinds) result (spec.used_in types.now has_entities first.now second.now) }
 {
     let instance = Operand::of(types, first);
     let role = Operand::of(types, second);
     let fine = can_be_instance(&instance) && can_be_string(&role);
-    let instances = aggregate_of_one(alloc, Sort::Instance)?;
-    or_else_fault(fine, TypeFaultKind::Arguments, instances)
+    or_else_fault(fine, TypeFaultKind::Arguments, users(alloc, has_entities)?)
 }
 
 /// An aggregate of instances can be searched for no value by `=`.
@@ -155,14 +186,18 @@ fn value_in(alloc: Global, types: &Types, aggregate: &[ValueKind]) -> Ruling
 }
 
 /// What a built-in function gives whatever its arguments are.
-pub fn built_in_anyway(alloc: Global, function: BuiltInFunction) -> Result<Kinds, AllocError>
-    ensures { IfOk result (λ found. found ≡ spec.built_in_anyway function) }
+pub fn built_in_anyway(
+    alloc: Global,
+    has_entities: bool,
+    function: BuiltInFunction,
+) -> Result<Kinds, AllocError>
+    ensures { IfOk result (λ found. found ≡ spec.built_in_anyway has_entities function) }
 {
     match function {
         BuiltInFunction::Exists | BuiltInFunction::Odd | BuiltInFunction::ValueIn => logical(alloc),
         BuiltInFunction::Nvl => Ok(Rows::new(alloc)),
         BuiltInFunction::TypeOf => aggregate_of_one(alloc, Sort::String),
-        BuiltInFunction::UsedIn => aggregate_of_one(alloc, Sort::Instance),
+        BuiltInFunction::UsedIn => users(alloc, has_entities),
         _ => kinds_of_one(alloc, Sort::Integer),
     }
 }

@@ -2,7 +2,7 @@
 use Rattle.std.proofs.Common.{◌≡◌, ℕ, zero, suc, List, [], ◌∷◌, ◌++◌, map, append-nil, Ok, refl, sym, ap, subst, ◌∙◌, append_assoc}
 use Rattle.ex_tree.specs.declared.declaration.Schema.{Schema}
 use Rattle.ex_named.specs.declared.declaration.NamedSchema.{NamedSchema}
-use Rattle.ex_named.specs.Outcomes.{Outcome, given, both, each, and_one}
+use Rattle.ex_named.specs.Outcomes.{Outcome, both, each, and_one}
 use Rattle.ex_declarations.specs.Declared.{declarations, declared_names, once, each_numbered, each_numbered_after}
 use Rattle.ex_bind_algorithms.specs.Algorithms.{constant}
 use Rattle.ex_resolve.proofs.Wholes.{given_ok, both_ok}

@@ -1,5 +1,5 @@
 -- A schema that is accepted has no entity that is its own ancestor, and its graph is what SUBTYPE OF lists.
-use Rattle.std.proofs.Common.{◌≡◌, ℕ, zero, suc, Bool, true, false, if◌then◌else◌, Option, Some, None, List, [], ◌∷◌, map, length, Ok, refl, sym, ap, subst, ◌∙◌}
+use Rattle.std.proofs.Common.{◌≡◌, ℕ, suc, Bool, true, false, if◌then◌else◌, Option, List, [], ◌∷◌, map, length, Ok, refl, sym, ap, subst, ◌∙◌}
 use Rattle.std.proofs.lemmas.List.{length-map}
 use Rattle.std.specs.List.{list_any, filter_map, cons_option}
 use Rattle.ex_tree.specs.declared.declaration.Entity.{Entity}
@@ -8,23 +8,20 @@ use Rattle.ex_tree.specs.declared.expression.Name.{Name}
 use Rattle.ex_named.specs.declared.declaration.NamedEntity.{NamedEntity}
 use Rattle.ex_named.specs.declared.declaration.NamedSchema.{NamedSchema}
 use Rattle.ex_named.specs.declared.fault.NameFaultKind.TheVariants.{CyclicSubtype}
-use Rattle.ex_named.specs.Outcomes.{given, both, each, refused}
-use Rattle.ex_named.specs.Scopes.{Declarations, and_then, as_entity, declared, entity, or_undeclared}
+use Rattle.ex_named.specs.Outcomes.{refused}
+use Rattle.ex_named.specs.Scopes.{Declarations, and_then, as_entity, declared, entity}
 use Rattle.lineage.specs.Lineage.{IsAcyclic, is_ancestor, numbers_from}
 use Rattle.lineage.proofs.Marks.{acyclic_from_marks}
-use Rattle.ex_declarations.specs.Declared.{declarations, entities, supertype_graph, each_numbered}
-use Rattle.ex_bind_entities.specs.Entities.{entity_head, make_entity, named_entity}
-use Rattle.ex_resolve.proofs.Wholes.{given_ok, both_ok, Gave, each_ok}
+use Rattle.ex_declarations.specs.Declared.{declarations, entities, supertype_graph}
+use Rattle.ex_bind_entities.specs.Entities.{entity_head, named_entity}
+use Rattle.ex_resolve.proofs.Wholes.{given_ok, both_ok, Gave, each_ok, meant}
 use Rattle.ex_resolve.proofs.Accepted.{GaveNumbered, each_numbered_ok, gave_map, parts_of}
+use Rattle.ex_resolve.proofs.Pieces.{entity_parts}
 use Rattle.ex_resolve.specs.Schemas.{Resolved, IsResolved, named_entities, named_schema, resolved}
 
 accepted_if : (b : Bool) (at : ℕ) (x : Unit {0}) → (if b then refused CyclicSubtype at else Ok (tt {0})) ≡ Ok x → b ≡ false
 accepted_if true at x h = absurd cc
 accepted_if false at x h = refl
-
-meant : {A : Type 0} (n : Name) (o : Option A) (a : A) → or_undeclared n o ≡ Ok a → o ≡ Some a
-meant n None a h = absurd cc
-meant n (Some b) a h = cc
 
 module _ (schema : Declarations) where
   -- the entity that a name names, if it names one
@@ -56,15 +53,9 @@ module _ (schema : Declarations) (graph : List (List ℕ)) where
 
   supertypes_of : (k : ℕ) (e : Entity) (found : NamedEntity) → named_entity schema graph k e ≡ Ok found
       → found.supertypes ≡ filter_map (entity_meant schema) e.head.supertypes
-  unfolding named_entity entity_head
   supertypes_of k e found h =
-      let whole = given_ok _ _ found h in
-      let parts = both_ok _ _ whole.0 whole.1.0 in
-      let head = both_ok _ _ whole.0.1 parts.1 in
-      let pair = given_ok _ _ whole.0.1.0 head.0 in
-      let inner = both_ok _ _ pair.0 pair.1.0 in
-      let listed = each_ok (entity schema) e.head.supertypes pair.0.1.1 (both_ok _ _ pair.0.1 inner.1).1 in
-      sym (ap (λ x. x.supertypes) whole.1.1) ∙ sym (ap (λ p. p.1) pair.1.1) ∙ sym (entities_meant schema e.head.supertypes pair.0.1.1 listed)
+      let parts = entity_parts schema graph k e found h in
+      sym (entities_meant schema e.head.supertypes found.supertypes (each_ok (entity schema) e.head.supertypes found.supertypes parts.supertypes))
 
 -- what SUBTYPE OF lists of each entity of the tree
 abbrev graph_of : Schema → List (List ℕ)

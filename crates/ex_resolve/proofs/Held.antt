@@ -35,14 +35,10 @@ use Rattle.lineage.proofs.Marks.{acyclic_from_marks}
 use Rattle.ex_declarations.specs.Declared as tree
 use Rattle.ex_declarations.specs.Declared.{declarations, named_in, named_in_layer, type_graph, type_named, types}
 use Rattle.ex_bind_entities.specs.Entities.{named_type, renamed, underlying, underlying_data}
-use Rattle.ex_resolve.proofs.Wholes.{given_ok, both_ok, Gave, each_ok}
+use Rattle.ex_resolve.proofs.Wholes.{given_ok, both_ok, Gave, each_ok, meant}
 use Rattle.ex_resolve.proofs.Accepted.{GaveNumbered, each_numbered_ok, gave_map, Parts}
 use Rattle.ex_resolve.specs.Proved.{held_by, held_in, held_in_layer, held_types, type_of_name}
 use Rattle.ex_resolve.specs.Schemas.{named_types}
-
-meant : {A : Type 0} (n : Name) (o : Option A) (a : A) → or_undeclared n o ≡ Ok a → o ≡ Some a
-meant n None a h = absurd cc
-meant n (Some b) a h = cc
 
 -- ---- what a type holds, variant by variant
 

@@ -1,7 +1,17 @@
 pub mod Wholes
 pub mod Accepted
+pub mod Bound
 pub mod Cycles
 pub mod Distinct
+pub mod Ends
 pub mod Held
+pub mod Truths
+pub mod Layers
+pub mod Meanings
+pub mod Trees
+pub mod Bodies
+pub mod Pieces
+pub mod Tables
+pub mod Within
 pub mod Laws
 pub mod Numbers

@@ -2,13 +2,12 @@
 use Rattle.std.proofs.Common.{◌≡◌, ℕ, zero, suc, ◌+◌, ◌-◌, ◌<◌, ◌≤◌, List, [], ◌∷◌, ◌++◌, map, length, refl, sym, ap, ◌∙◌, append_assoc, length-append, slice_index_or, get_or, drop, arith}
 use Rattle.std.proofs.Math.Seq.{drop-cons}
 use Rattle.std.proofs.lemmas.List.{length-map}
-use Rattle.std.specs.Borrow.{Bor}
 use Rattle.ex_tree.specs.declared.declaration.Entity.{Entity}
 use Rattle.ex_tree.specs.declared.declaration.TypeDeclaration.{TypeDeclaration}
 use Rattle.ex_named.specs.Scopes.{Declarations}
 use Rattle.lineage.specs.Lineage.{numbers_from}
 use Rattle.ex_declarations.specs.Declared.{supertype_graph, type_graph}
-use Rattle.lineage.specs.Numbered.{numbered_from}
+use Rattle.lineage.specs.Numbered.{numbered, numbered_from}
 
 pub length-numbers : {A : Type 0} (f : ℕ → A) (start n : ℕ) → length (map f (numbers_from start n)) ≡ n
 length-numbers f start zero = refl
@@ -25,6 +24,21 @@ mark-at f n k d less = let e : 0 + k ≡ k = omega arith in index-at f 0 n k d l
 pub length_numbered : {A B : Type 0} (make : ℕ → A → B) (k : ℕ) (xs : List A) → length (numbered_from make k xs) ≡ length xs
 length_numbered make k [] = refl
 length_numbered make k (x ∷ xs) = ap suc (length_numbered make (suc k) xs)
+
+-- what an element gives with its number
+numbered_from_at : {A B : Type 0} (make : ℕ → A → B) (start : ℕ) (xs : List A) (k : ℕ) (x : A) (d : B) → k < length xs → x ≡ slice_index_or xs k x
+    → slice_index_or (numbered_from make start xs) k d ≡ make (start + k) x
+numbered_from_at make start [] k x d less is = absurd (grind (arith, less))
+numbered_from_at make start (y ∷ ys) zero x d less is = ap (make start) (sym is) ∙ ap (λ n. make n x) (grind (arith))
+numbered_from_at make start (y ∷ ys) (suc k) x d less is = numbered_from_at make (suc start) ys k x d (grind (arith, less)) is ∙ ap (λ n. make n x) (grind (arith))
+
+pub numbered_at : {A B : Type 0} (make : ℕ → A → B) (xs : List A) (k : ℕ) (x : A) (d : B) → k < length xs → x ≡ slice_index_or xs k x → slice_index_or (numbered make xs) k d ≡ make k x
+numbered_at make xs k x d less is = numbered_from_at make zero xs k x d less is ∙ ap (λ n. make n x) (grind (arith))
+
+pub numbered_past : {A B : Type 0} (make : ℕ → A → B) (start : ℕ) (xs : List A) (k : ℕ) (d : B) → length xs ≤ k → slice_index_or (numbered_from make start xs) k d ≡ d
+numbered_past make start [] k d past = refl
+numbered_past make start (y ∷ ys) zero d past = absurd (grind (arith, past))
+numbered_past make start (y ∷ ys) (suc k) d past = numbered_past make (suc start) ys k d (grind (arith, past))
 
 -- one list behind another is numbered on
 pub numbered_append : {A B : Type 0} (make : ℕ → A → B) (k : ℕ) (xs ys : List A)
@@ -59,10 +73,10 @@ at_item xs i x within is = let e : suc i ≡ i + 1 = omega arith in drop-cons xs
 
 -- ---- each graph has a list for each declaration
 
-pub held_length : (schema : Declarations) (held : List (List ℕ)) (lent : List (Bor TypeDeclaration)) → held ≡ type_graph schema (map (λ t. t.now) lent) → length held ≡ length lent
+pub held_length : (schema : Declarations) (held : List (List ℕ)) (types : List TypeDeclaration) → held ≡ type_graph schema types → length held ≡ length types
 unfolding type_graph
-held_length schema held lent is = ap length is ∙ length-map (map (λ t. t.now) lent) _ ∙ length-map lent _
+held_length schema held types is = ap length is ∙ length-map types _
 
-pub above_length : (schema : Declarations) (graph : List (List ℕ)) (lent : List (Bor Entity)) (entities : List Entity) → graph ≡ supertype_graph schema entities → map (λ e. e.now) lent ≡ entities → length graph ≡ length lent
+pub above_length : (schema : Declarations) (graph : List (List ℕ)) (entities : List Entity) → graph ≡ supertype_graph schema entities → length graph ≡ length entities
 unfolding supertype_graph
-above_length schema graph lent entities is are = ap length is ∙ length-map entities _ ∙ ap length (sym are) ∙ length-map lent _
+above_length schema graph entities is = ap length is ∙ length-map entities _

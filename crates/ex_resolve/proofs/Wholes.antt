@@ -1,6 +1,8 @@
 -- What is accepted as a whole is accepted in its parts.
-use Rattle.std.proofs.Common.{◌≡◌, ℕ, zero, suc, List, [], ◌∷◌, ◌++◌, map, append_assoc, append-nil, Option, Some, None, Ok, Err, refl, sym, ap, ◌∙◌}
-use Rattle.ex_named.specs.Outcomes.{Outcome, given, both, and_one, each, each_after, optional}
+use Rattle.std.proofs.Common.{◌≡◌, List, [], ◌∷◌, ◌++◌, map, append_assoc, append-nil, Option, Some, None, Ok, Err, refl, sym, ap, ◌∙◌}
+use Rattle.ex_tree.specs.declared.expression.Name.{Name}
+use Rattle.ex_named.specs.Outcomes.{Outcome, given, both, and_one, each, each_after}
+use Rattle.ex_named.specs.Scopes.{or_undeclared}
 
 pub given_ok : {A B : Type 0} (make : A → B) (o : Outcome A) (b : B) → given make o ≡ Ok b → (a : A) × ((o ≡ Ok a) × (make a ≡ b))
 given_ok make (Ok a) b h = (a, (refl, cc))
@@ -11,6 +13,11 @@ both_ok (Ok x) (Ok y) p h = let e : (x, y) ≡ p = cc in (ap (λ q. Ok q.0) e, a
 both_ok (Ok x) (Err g) p h = absurd cc
 both_ok (Err f) (Ok y) p h = absurd cc
 both_ok (Err f) (Err g) p h = absurd cc
+
+-- what a name means, if it means something
+pub meant : {A : Type 0} (n : Name) (o : Option A) (a : A) → or_undeclared n o ≡ Ok a → o ≡ Some a
+meant n None a h = absurd cc
+meant n (Some b) a h = cc
 
 -- each of a list gave what stands at its place in the other
 abbrev pub Gave : {A B : Type 0} → (A → Outcome B) → List A → List B → Type 0

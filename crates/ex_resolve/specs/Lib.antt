@@ -1,2 +1,3 @@
 pub mod Proved
+pub mod Ranges
 pub mod Schemas

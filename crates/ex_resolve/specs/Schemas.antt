@@ -1,8 +1,11 @@
 -- A schema with its names bound, or the fault of least offset (ISO 10303-11:1994, clause 10).
-use Rattle.std.specs.Prelude.{◌≡◌, ℕ, Bool, true, false, List, [], map, filter, Option, Some, None, option_map, slice_get, Ok}
-use Rattle.std.specs.List.{flat_map}
-use Rattle.ex_tree.specs.declared.declaration.ExplicitAttribute.{ExplicitAttribute}
+use Rattle.std.specs.Prelude.{◌≡◌, ℕ, Bool, true, false, List, [], map, filter, Option, Some, None, option_map, slice_index_or, Ok}
+use Rattle.std.specs.List.{filter_map, flat_map}
+use Rattle.ex_tree.specs.declared.declaration.Constant.{Constant}
+use Rattle.ex_tree.specs.declared.declaration.Declaration.{Declaration}
+use Rattle.ex_tree.specs.declared.declaration.Entity.{Entity}
 use Rattle.ex_tree.specs.declared.declaration.Schema.{Schema}
+use Rattle.ex_tree.specs.declared.declaration.TypeDeclaration.{TypeDeclaration}
 use Rattle.ex_named.specs.declared.declaration.NamedAttribute.{NamedAttribute}
 use Rattle.ex_named.specs.declared.declaration.NamedAttribute.TheVariants as na
 use Rattle.ex_named.specs.declared.declaration.NamedConstant.{NamedConstant}
@@ -14,17 +17,26 @@ use Rattle.ex_named.specs.declared.declaration.NamedType.{NamedType}
 use Rattle.ex_named.specs.declared.reference.AttributePlace.{AttributePlace}
 use Rattle.ex_named.specs.declared.reference.AttributeSort.TheVariants.{Explicit}
 use Rattle.ex_named.specs.Outcomes.{Outcome, given, both, each}
-use Rattle.ex_declarations.specs.Declared.{declarations, declared_names, entities, types, functions, rules, once, supertype_graph, type_graph, each_numbered}
+use Rattle.ex_named.specs.Scopes.{Declarations}
+use Rattle.ex_declarations.specs.Declared.{declarations, declared_names, entity_of, type_of, function_of, rule_of, entities, types, functions, rules, once, supertype_graph, type_graph, each_numbered}
 use Rattle.lineage.specs.Numbered.{numbered}
 use Rattle.lineage.specs.Lineage.{line}
 use Rattle.ex_bind_entities.specs.Entities.{named_entity, named_type}
 use Rattle.ex_bind_algorithms.specs.Algorithms.{constant, named_function, named_rule}
 
+-- the types and the entities of a schema, by what it declares
+module _ (schema : Declarations) where
+  abbrev pub types_of : List TypeDeclaration → Outcome (List NamedType)
+  types_of trees = each_numbered (named_type schema [] (type_graph schema trees)) trees
+
+  abbrev pub entities_of : List Entity → Outcome (List NamedEntity)
+  entities_of trees = each_numbered (named_entity schema (supertype_graph schema trees)) trees
+
 unfoldable pub named_types : Schema → Outcome (List NamedType)
-named_types schema = each_numbered (named_type (declarations schema) [] (type_graph (declarations schema) (types schema))) (types schema)
+named_types schema = types_of (declarations schema) (types schema)
 
 unfoldable pub named_entities : Schema → Outcome (List NamedEntity)
-named_entities schema = each_numbered (named_entity (declarations schema) (supertype_graph (declarations schema) (entities schema))) (entities schema)
+named_entities schema = entities_of (declarations schema) (entities schema)
 
 unfoldable pub named_functions : Schema → Outcome (List NamedFunction)
 named_functions schema = each (named_function (declarations schema)) (functions schema)
@@ -34,6 +46,12 @@ named_rules schema = each (named_rule (declarations schema)) (rules schema)
 
 abbrev pub SchemaParts : Type 0
 SchemaParts = List NamedConstant × ((List NamedType × List NamedEntity) × (List NamedFunction × List NamedRule))
+
+-- constants and all other declarations, by what the schema declares
+abbrev pub all_bound : Declarations → List Constant → List Declaration → Outcome SchemaParts
+all_bound schema constants trees = both (each (constant schema) constants)
+    (both (both (types_of schema (filter_map type_of trees)) (entities_of schema (filter_map entity_of trees)))
+    (both (each (named_function schema) (filter_map function_of trees)) (each (named_rule schema) (filter_map rule_of trees))))
 
 -- all that a schema declares, each name once
 unfoldable pub schema_parts : Schema → Outcome (Unit {0} × SchemaParts)
@@ -74,12 +92,9 @@ place_in k place a = record { entity = k; sort = Explicit; place = place }
 abbrev pub explicit_places : ℕ → NamedEntity → List AttributePlace
 explicit_places k e = numbered (place_in k) (flat_map (λ x. filter is_own x.attributes) e.explicit)
 
-abbrev pub explicit_if : ℕ → Option NamedEntity → List AttributePlace
-explicit_if k None = []
-explicit_if k (Some e) = explicit_places k e
-
+-- of the entity of this number
 abbrev pub explicit_of : List NamedEntity → ℕ → List AttributePlace
-explicit_of entities k = explicit_if k (slice_get entities k)
+explicit_of entities k = slice_index_or (numbered explicit_places entities) k []
 
 -- Those of an entity: of the supertypes first, in the order of SUBTYPE OF, depth first, each entity's once, at its first
 -- place. They are there where no entity is an ancestor of itself.

@@ -4,7 +4,9 @@
 
 mod named;
 mod parts;
+mod queue;
 mod schema;
+mod sorts;
 
 pub use named::Named;
 pub use schema::resolve;

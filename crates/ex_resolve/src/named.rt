@@ -6,6 +6,7 @@ ghost use Rattle.std.specs.List.Sorted.{IsStrictlyIncreasing};
 ghost use Rattle.lineage.specs.Lineage as lineage;
 ghost use Rattle.lineage.specs.Numbered.{numbered_from};
 ghost use Rattle.ex_resolve.specs.Proved as proved;
+ghost use Rattle.ex_resolve.specs.Ranges as ranges;
 ghost use Rattle.ex_resolve.specs.Schemas as spec;
 
 use ex_named::{AttributePlace, AttributeSort, NamedAttribute, NamedEntity, NamedSchema};
@@ -15,11 +16,18 @@ use std::alloc::{AllocError, Global};
 use std::marker::Model;
 
 /// A schema whose names are bound: what some tree resolves to.
-#[derive(Drop)]
 pub struct Named {
     schema: NamedSchema,
     /// Of each entity the entities that SUBTYPE OF lists.
     supertypes: Rows<Rows<usize>>,
+}
+
+impl Drop for Named {
+    fn drop(self) {
+        let Named { schema, supertypes } = self;
+        drop(schema);
+        drop(supertypes);
+    }
 }
 
 impl Model for Named {
@@ -49,13 +57,15 @@ impl Named {
     }
 
     /// What was proved when it was made: some tree resolves to it, its graph is what its entities list, no entity is an
-    /// ancestor of itself, each name stands for one declaration, and no type holds itself but through an entity.
+    /// ancestor of itself, each name stands for one declaration, no type holds itself but through an entity, and each
+    /// number is that of a declaration, or of a variable that is open.
     pub fn proved(&self)
         ensures resolved { spec.IsResolved self.now }
         ensures listed { self.now.supertypes ≡ map (λ e. e.supertypes) self.now.schema.entities }
         ensures acyclic { lineage.IsAcyclic self.now.supertypes }
         ensures once { proved.DeclaresOnce self.now.schema }
         ensures held { lineage.IsAcyclic (proved.held_types self.now.schema.types) }
+        ensures in_range { ranges.InRange self.now.schema }
     {
         let _ = &self.schema;
     }
@@ -73,6 +83,14 @@ impl Named {
         ensures exact { IfOk result (λ found. (a : ℕ) → IsTrue (lineage.is_among found a) ↔ lineage.IsAncestor self.now.supertypes entity a) }
     {
         ancestors(alloc, self.supertypes.as_slice(), entity)
+    }
+
+    /// The entities above one and itself: supertypes first, in the order of SUBTYPE OF, depth first, each once, at its first
+    /// place.
+    pub fn line(&self, alloc: Global, entity: usize) -> Result<Rows<usize>, AllocError>
+        ensures { IfOk result (λ found. lineage.line self.now.supertypes entity ≡ Some found) }
+    {
+        line(alloc, self.supertypes.as_slice(), entity)
     }
 
     /// The inherited and own explicit attributes of an entity, in the order in which files write their values:

@@ -1,23 +1,21 @@
-//! The declarations of each sort.
+//! The declarations of each sort. Each tree goes once its names are bound.
 
 ghost use Rattle.std.specs.Prelude.{◌≡◌, [], map, length};
 ghost use Rattle.ex_named.specs.Outcomes.{Binds, each};
 ghost use Rattle.ex_bind_algorithms.specs.Algorithms as algorithms;
 ghost use Rattle.ex_bind_entities.specs.Entities as entities_spec;
-ghost use Rattle.ex_declarations.specs.Declared as declared;
 ghost use Rattle.ex_declarations.specs.Declared.{each_numbered};
 ghost use Rattle.lineage.specs.Lineage.{is_ancestor, numbers_from};
-ghost use Rattle.ex_resolve.specs.Schemas as spec;
 
+use crate::queue::Queue;
 use descent::Descent;
 use ex_bind_algorithms::{constant, named_function, named_rule};
 use ex_bind_entities::{named_entity, named_type};
-use ex_declarations::type_graph;
 use ex_named::{
     Binding, Gathered, NamedConstant, NamedEntity, NamedFunction, NamedRule, NamedType,
 };
 use ex_scopes::Declarations;
-use ex_tree::{Constant, Entity, Function, Rule, Schema, TypeDeclaration};
+use ex_tree::{Constant, Entity, Function, Rule, TypeDeclaration};
 use lineage::cyclic_marks;
 use plain_data::{Items, Rows};
 use std::alloc::Global;
@@ -26,80 +24,46 @@ use std::alloc::Global;
 pub fn constants(
     alloc: Global,
     declarations: &Declarations<'_>,
-    schema: &Schema,
+    trees: Queue<Constant>,
 ) -> Binding<Items<NamedConstant>>
-    requires { declarations.now ≡ declared.declarations schema.now }
-    ensures { Binds result (each (algorithms.constant (declared.declarations schema.now)) schema.now.constants) }
+    ensures { Binds result (each (algorithms.constant declarations.now) trees) }
 {
-    each_constant(alloc, declarations, schema.constants.as_slice())
-}
-
-fn each_constant(
-    alloc: Global,
-    declarations: &Declarations<'_>,
-    constants: &[Constant],
-) -> Binding<Items<NamedConstant>>
-    ensures { Binds result (each (algorithms.constant declarations.now) constants.now) }
-{
-    let mut found = Gathered::new(alloc, constants.len())?;
-    for each in constants {
-        found.push(constant(alloc, declarations, each))?;
+    let mut found = Gathered::new(alloc, trees.len())?;
+    let mut left = trees;
+    while let Some(tree) = left.take() {
+        found.push(constant(alloc, declarations, &tree))?;
     }
     found.finish()
 }
 
 /// Functions with their names bound, in order.
-#[tactic(auto, unfolding(crate::specs::Schemas::named_functions))]
 pub fn functions(
     alloc: Global,
     declarations: &Declarations<'_>,
-    schema: &Schema,
+    trees: Queue<Function>,
 ) -> Binding<Items<NamedFunction>>
-    requires { declarations.now ≡ declared.declarations schema.now }
-    ensures { Binds result (spec.named_functions schema.now) }
+    ensures { Binds result (each (algorithms.named_function declarations.now) trees) }
 {
-    let functions = ex_declarations::functions(alloc, schema)?;
-    each_function(alloc, declarations, &functions)
-}
-
-fn each_function(
-    alloc: Global,
-    declarations: &Declarations<'_>,
-    functions: &[&Function],
-) -> Binding<Items<NamedFunction>>
-    ensures { Binds result (each (algorithms.named_function declarations.now) (map (λ f. f.now) functions.now)) }
-{
-    let mut found = Gathered::new(alloc, functions.len())?;
-    for function in functions {
-        found.push(named_function(alloc, declarations, function))?;
+    let mut found = Gathered::new(alloc, trees.len())?;
+    let mut left = trees;
+    while let Some(tree) = left.take() {
+        found.push(named_function(alloc, declarations, &tree))?;
     }
     found.finish()
 }
 
 /// Rules with their names bound, in order.
-#[tactic(auto, unfolding(crate::specs::Schemas::named_rules))]
 pub fn rules(
     alloc: Global,
     declarations: &Declarations<'_>,
-    schema: &Schema,
+    trees: Queue<Rule>,
 ) -> Binding<Items<NamedRule>>
-    requires { declarations.now ≡ declared.declarations schema.now }
-    ensures { Binds result (spec.named_rules schema.now) }
+    ensures { Binds result (each (algorithms.named_rule declarations.now) trees) }
 {
-    let rules = ex_declarations::rules(alloc, schema)?;
-    each_rule(alloc, declarations, &rules)
-}
-
-fn each_rule(
-    alloc: Global,
-    declarations: &Declarations<'_>,
-    rules: &[&Rule],
-) -> Binding<Items<NamedRule>>
-    ensures { Binds result (each (algorithms.named_rule declarations.now) (map (λ r. r.now) rules.now)) }
-{
-    let mut found = Gathered::new(alloc, rules.len())?;
-    for rule in rules {
-        found.push(named_rule(alloc, declarations, rule))?;
+    let mut found = Gathered::new(alloc, trees.len())?;
+    let mut left = trees;
+    while let Some(tree) = left.take() {
+        found.push(named_rule(alloc, declarations, &tree))?;
     }
     found.finish()
 }
@@ -120,88 +84,62 @@ fn type_in(
 }
 
 /// Types with their names bound, in order.
-#[tactic(auto, unfolding(crate::specs::Schemas::named_types), using(crate::proofs::Numbers::held_length))]
 pub fn types(
     alloc: Global,
     declarations: &Declarations<'_>,
-    schema: &Schema,
-) -> Binding<Items<NamedType>>
-    requires { declarations.now ≡ declared.declarations schema.now }
-    ensures { Binds result (spec.named_types schema.now) }
-{
-    let types = ex_declarations::types(alloc, schema)?;
-    let held = type_graph(alloc, declarations, &types)?;
-    each_type(alloc, declarations, held.as_slice(), &types)
-}
-
-fn each_type(
-    alloc: Global,
-    declarations: &Declarations<'_>,
     held: &[Rows<usize>],
-    types: &[&TypeDeclaration],
+    trees: Queue<TypeDeclaration>,
 ) -> Binding<Items<NamedType>>
-    requires { length held.now ≡ length types.now }
-    ensures { Binds result (each_numbered (entities_spec.named_type declarations.now [] held.now) (map (λ t. t.now) types.now)) }
+    requires { length held.now ≡ length trees }
+    ensures { Binds result (each_numbered (entities_spec.named_type declarations.now [] held.now) trees) }
 {
     let cyclic = cyclic_marks(alloc, held)?;
     let cyclic = cyclic.as_slice();
-    let mut found = Gathered::new(alloc, types.len())?;
-    for number in 0..types.len() {
+    let mut found = Gathered::new(alloc, trees.len())?;
+    let mut left = trees;
+    let mut number = 0;
+    while let Some(tree) = left.take() {
         let is_cyclic = cyclic[number];
-        let declaration = types[number];
-        found.push(type_in(alloc, declarations, held, number, is_cyclic, declaration))?;
+        found.push(type_in(alloc, declarations, held, number, is_cyclic, &tree))?;
+        number += 1;
     }
     found.finish()
 }
 
 /// Entities with their names bound, in order.
-#[tactic(auto, unfolding(crate::specs::Schemas::named_entities), using(crate::proofs::Numbers::above_length))]
 pub fn entities(
     alloc: Global,
     declarations: &Declarations<'_>,
     supertypes: &[Rows<usize>],
-    entities: &[&Entity],
-    schema: &Schema,
+    trees: Queue<Entity>,
 ) -> Binding<Items<NamedEntity>>
-    requires declared { declarations.now ≡ declared.declarations schema.now }
-    requires listed { map (λ e. e.now) entities.now ≡ declared.entities schema.now }
-    requires above { supertypes.now ≡ declared.supertype_graph declarations.now (declared.entities schema.now) }
-    ensures { Binds result (spec.named_entities schema.now) }
-{
-    each_entity(alloc, declarations, supertypes, entities)
-}
-
-fn each_entity(
-    alloc: Global,
-    declarations: &Declarations<'_>,
-    supertypes: &[Rows<usize>],
-    entities: &[&Entity],
-) -> Binding<Items<NamedEntity>>
-    requires { length supertypes.now ≡ length entities.now }
-    ensures { Binds result (each_numbered (entities_spec.named_entity declarations.now supertypes.now) (map (λ e. e.now) entities.now)) }
+    requires { length supertypes.now ≡ length trees }
+    ensures { Binds result (each_numbered (entities_spec.named_entity declarations.now supertypes.now) trees) }
 {
     let cyclic = cyclic_marks(alloc, supertypes)?;
-    let descent = Descent::of(alloc, supertypes)?;
-    entities_over(alloc, declarations, &descent, cyclic.as_slice(), entities)
+    let descent = Descent::of_lent(alloc, supertypes)?;
+    entities_over(alloc, declarations, &descent, cyclic.as_slice(), trees)
 }
 
 /// Entities with their names bound, given of which it is known that they are their own ancestors.
 fn entities_over(
     alloc: Global,
     declarations: &Declarations<'_>,
-    supertypes: &Descent<'_>,
+    supertypes: &Descent,
     cyclic: &[bool],
-    entities: &[&Entity],
+    trees: Queue<Entity>,
 ) -> Binding<Items<NamedEntity>>
     requires cyclic { cyclic.now ≡ map (λ k. is_ancestor supertypes.now k k) (numbers_from 0 (length supertypes.now)) }
-    requires counted { length supertypes.now ≡ length entities.now }
-    ensures { Binds result (each_numbered (entities_spec.named_entity declarations.now supertypes.now) (map (λ e. e.now) entities.now)) }
+    requires counted { length supertypes.now ≡ length trees }
+    ensures { Binds result (each_numbered (entities_spec.named_entity declarations.now supertypes.now) trees) }
 {
-    let mut found = Gathered::new(alloc, entities.len())?;
-    for number in 0..entities.len() {
+    let mut found = Gathered::new(alloc, trees.len())?;
+    let mut left = trees;
+    let mut number = 0;
+    while let Some(tree) = left.take() {
         let is_cyclic = cyclic[number];
-        let entity = entities[number];
-        found.push(named_entity(alloc, declarations, supertypes, number, is_cyclic, entity))?;
+        found.push(named_entity(alloc, declarations, supertypes, number, is_cyclic, &tree))?;
+        number += 1;
     }
     found.finish()
 }

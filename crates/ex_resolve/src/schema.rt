@@ -1,21 +1,30 @@
 //! The whole schema.
 
-ghost use Rattle.std.specs.Prelude.{◌≡◌, map};
-ghost use Rattle.ex_named.specs.Outcomes.{Binds, both as both_of};
+ghost use Rattle.std.specs.Prelude.{◌≡◌, map, IfOk};
+ghost use Rattle.std.specs.List.{filter_map};
+ghost use Rattle.ex_named.specs.Outcomes.{Binds, Outcome, both as both_of, each, given};
+ghost use Rattle.ex_bind_algorithms.specs.Algorithms as algorithms_spec;
+ghost use Rattle.ex_bind_entities.specs.Entities as entities_spec;
 ghost use Rattle.ex_declarations.specs.Declared as declared;
 ghost use Rattle.ex_resolve.specs.Schemas as spec;
 
 use crate::named::Named;
 use crate::parts;
-use ex_bind::{copy_name, copy_strings};
-use ex_declarations::{declarations, declared_names, entities, once, supertype_graph};
+use crate::queue::Queue;
+use crate::sorts::{Sorted, in_order, sort_declarations};
+use ex_declarations::{
+    declarations, declared_names, entities, once, supertype_graph, type_graph, types,
+};
 use ex_named::{
     Binding, NamedConstant, NamedEntity, NamedFunction, NamedRule, NamedSchema, NamedType, both,
 };
 use ex_scopes::Declarations;
-use ex_tree::{Entity, Schema};
+use ex_tree::{
+    Constant, Declaration, Entity, Function, Name, Rule, Schema, StringToken, TypeDeclaration,
+};
 use plain_data::{Items, Rows};
-use std::alloc::Global;
+use std::alloc::{AllocError, Global};
+use text_forms::Failure;
 
 type Classes = (Items<NamedType>, Items<NamedEntity>);
 
@@ -25,30 +34,55 @@ type SchemaParts = (Items<NamedConstant>, (Classes, Algorithms));
 
 /// The schema with its names bound. Else the fault of least offset: a name that means nothing where it stands or
 /// something of another sort, one that its scope declares twice, an entity or a type in a cycle, an attribute that the
-/// entity hasn't.
-pub fn resolve(alloc: Global, schema: &Schema) -> Binding<Named>
-    ensures { Binds result (spec.resolved schema.now) }
+/// entity hasn't. Each declaration of the tree goes once it is bound.
+pub fn resolve(alloc: Global, schema: Schema) -> Binding<Named>
+    ensures { Binds result (spec.resolved schema) }
 {
-    let declarations = declarations(alloc, schema)?;
-    let entities = entities(alloc, schema)?;
-    named(alloc, &declarations, &entities, schema)
+    let declared = declarations(alloc, &schema)?;
+    let tables = declared.tables(alloc)?;
+    named(alloc, &tables, schema)
 }
 
 /// The schema with its names bound, by what it declares.
 #[tactic(auto, unfolding(crate::specs::Schemas::resolved))]
-fn named(
+fn named(alloc: Global, declarations: &Declarations<'_>, schema: Schema) -> Binding<Named>
+    requires { declarations.now ≡ declared.declarations schema }
+    ensures { Binds result (spec.resolved schema) }
+{
+    let supertypes = supertypes(alloc, declarations, &schema)?;
+    let held = held(alloc, declarations, &schema)?;
+    let found = named_schema(
+        alloc,
+        declarations,
+        supertypes.as_slice(),
+        held.as_slice(),
+        schema,
+    )?;
+    Ok(Named::new(found, supertypes))
+}
+
+/// Of each entity the entities that SUBTYPE OF lists.
+fn supertypes(
     alloc: Global,
     declarations: &Declarations<'_>,
-    entities: &[&Entity],
     schema: &Schema,
-) -> Binding<Named>
-    requires declared { declarations.now ≡ declared.declarations schema.now }
-    requires listed { map (λ e. e.now) entities.now ≡ declared.entities schema.now }
-    ensures { Binds result (spec.resolved schema.now) }
+) -> Result<Rows<Rows<usize>>, AllocError>
+    ensures { IfOk result (λ graph. graph ≡ declared.supertype_graph declarations.now (declared.entities schema.now)) }
 {
-    let supertypes = supertype_graph(alloc, declarations, entities)?;
-    let found = named_schema(alloc, declarations, supertypes.as_slice(), entities, schema)?;
-    Ok(Named::new(found, supertypes))
+    let entities = entities(alloc, schema)?;
+    supertype_graph(alloc, declarations, &entities)
+}
+
+/// Of each type the types that it holds other than through an entity.
+fn held(
+    alloc: Global,
+    declarations: &Declarations<'_>,
+    schema: &Schema,
+) -> Result<Rows<Rows<usize>>, AllocError>
+    ensures { IfOk result (λ graph. graph ≡ declared.type_graph declarations.now (declared.types schema.now)) }
+{
+    let types = types(alloc, schema)?;
+    type_graph(alloc, declarations, &types)
 }
 
 /// Whether the schema declares each name once.
@@ -60,20 +94,21 @@ fn names_once(alloc: Global, schema: &Schema) -> Binding<()>
 }
 
 /// The types and the entities.
+#[tactic(auto, using(crate::proofs::Numbers::held_length, crate::proofs::Numbers::above_length))]
 fn classes(
     alloc: Global,
     declarations: &Declarations<'_>,
     supertypes: &[Rows<usize>],
-    entities: &[&Entity],
-    schema: &Schema,
+    held: &[Rows<usize>],
+    entities: Queue<Entity>,
+    types: Queue<TypeDeclaration>,
 ) -> Binding<Classes>
-    requires declared { declarations.now ≡ declared.declarations schema.now }
-    requires listed { map (λ e. e.now) entities.now ≡ declared.entities schema.now }
-    requires above { supertypes.now ≡ declared.supertype_graph declarations.now (declared.entities schema.now) }
-    ensures { Binds result (both_of (spec.named_types schema.now) (spec.named_entities schema.now)) }
+    requires above { supertypes.now ≡ declared.supertype_graph declarations.now entities }
+    requires held { held.now ≡ declared.type_graph declarations.now types }
+    ensures { Binds result (both_of (spec.types_of declarations.now types) (spec.entities_of declarations.now entities)) }
 {
-    let types = parts::types(alloc, declarations, schema);
-    let entities = parts::entities(alloc, declarations, supertypes, entities, schema);
+    let types = parts::types(alloc, declarations, held, types);
+    let entities = parts::entities(alloc, declarations, supertypes, entities);
     both(types, entities)
 }
 
@@ -81,35 +116,41 @@ fn classes(
 fn algorithms(
     alloc: Global,
     declarations: &Declarations<'_>,
-    schema: &Schema,
+    functions: Queue<Function>,
+    rules: Queue<Rule>,
 ) -> Binding<Algorithms>
-    requires { declarations.now ≡ declared.declarations schema.now }
-    ensures { Binds result (both_of (spec.named_functions schema.now) (spec.named_rules schema.now)) }
+    ensures { Binds result (both_of (each (algorithms_spec.named_function declarations.now) functions) (each (algorithms_spec.named_rule declarations.now) rules)) }
 {
-    let functions = parts::functions(alloc, declarations, schema);
-    let rules = parts::rules(alloc, declarations, schema);
+    let functions = parts::functions(alloc, declarations, functions);
+    let rules = parts::rules(alloc, declarations, rules);
     both(functions, rules)
 }
 
-/// All that the schema declares. All parts are bound before the least of their faults is told.
-#[tactic(auto, unfolding(crate::specs::Schemas::schema_parts))]
-fn schema_parts(
+/// All declarations of a schema. All are bound before the least of their faults is told.
+fn all_bound(
     alloc: Global,
     declarations: &Declarations<'_>,
     supertypes: &[Rows<usize>],
-    entities: &[&Entity],
-    schema: &Schema,
-) -> Binding<((), SchemaParts)>
-    requires declared { declarations.now ≡ declared.declarations schema.now }
-    requires listed { map (λ e. e.now) entities.now ≡ declared.entities schema.now }
-    requires above { supertypes.now ≡ declared.supertype_graph declarations.now (declared.entities schema.now) }
-    ensures { Binds result (spec.schema_parts schema.now) }
+    held: &[Rows<usize>],
+    constants: Items<Constant>,
+    trees: Items<Declaration>,
+) -> Binding<SchemaParts>
+    requires above { supertypes.now ≡ declared.supertype_graph declarations.now (filter_map declared.entity_of trees) }
+    requires held { held.now ≡ declared.type_graph declarations.now (filter_map declared.type_of trees) }
+    ensures { Binds result (spec.all_bound declarations.now constants trees) }
 {
-    let names = names_once(alloc, schema);
-    let constants = parts::constants(alloc, declarations, schema);
-    let classes = classes(alloc, declarations, supertypes, entities, schema);
-    let algorithms = algorithms(alloc, declarations, schema);
-    both(names, both(constants, both(classes, algorithms)))
+    let constants = in_order(alloc, constants)?;
+    let sorted = sort_declarations(alloc, trees)?;
+    let Sorted {
+        entities,
+        functions,
+        rules,
+        types,
+    } = sorted;
+    let constants = parts::constants(alloc, declarations, constants);
+    let classes = classes(alloc, declarations, supertypes, held, entities, types);
+    let algorithms = algorithms(alloc, declarations, functions, rules);
+    both(constants, both(classes, algorithms))
 }
 
 #[tactic(auto, unfolding(crate::specs::Schemas::named_schema))]
@@ -117,25 +158,45 @@ fn named_schema(
     alloc: Global,
     declarations: &Declarations<'_>,
     supertypes: &[Rows<usize>],
-    entities: &[&Entity],
-    schema: &Schema,
+    held: &[Rows<usize>],
+    schema: Schema,
 ) -> Binding<NamedSchema>
-    requires declared { declarations.now ≡ declared.declarations schema.now }
-    requires listed { map (λ e. e.now) entities.now ≡ declared.entities schema.now }
-    requires above { supertypes.now ≡ declared.supertype_graph declarations.now (declared.entities schema.now) }
-    ensures { Binds result (spec.named_schema schema.now) }
+    requires declared { declarations.now ≡ declared.declarations schema }
+    requires above { supertypes.now ≡ declared.supertype_graph declarations.now (declared.entities schema) }
+    requires held { held.now ≡ declared.type_graph declarations.now (declared.types schema) }
+    ensures { Binds result (spec.named_schema schema) }
 {
-    let name = copy_name(alloc, &schema.name)?;
-    let strings = copy_strings(alloc, schema.strings.as_slice())?;
-    let ((), parts) = schema_parts(alloc, declarations, supertypes, entities, schema)?;
-    let (constants, ((types, entities), (functions, rules))) = parts;
-    Ok(NamedSchema {
+    let names = names_once(alloc, &schema);
+    let Schema {
         name,
         constants,
-        types,
-        entities,
-        functions,
-        rules,
+        declarations: trees,
         strings,
-    })
+    } = schema;
+    let all = all_bound(alloc, declarations, supertypes, held, constants, trees);
+    let parts = both(names, all);
+    made(name, strings, parts)
+}
+
+/// The schema of these parts.
+fn made(
+    name: Name,
+    strings: Items<StringToken>,
+    parts: Binding<((), SchemaParts)>,
+) -> Binding<NamedSchema>
+    ensures { (o : Outcome (Unit {0} × spec.SchemaParts)) → Binds parts o → Binds result (given (λ p. record { name = name; constants = p.1.0; types = p.1.1.0.0; entities = p.1.1.0.1; functions = p.1.1.1.0; rules = p.1.1.1.1; strings = strings }) o) }
+{
+    match parts {
+        Ok(((), (constants, ((types, entities), (functions, rules))))) => Ok(NamedSchema {
+            name,
+            constants,
+            types,
+            entities,
+            functions,
+            rules,
+            strings,
+        }),
+        Err(Failure::NoMemory) => Err(Failure::NoMemory),
+        Err(Failure::Fault(fault)) => Err(Failure::Fault(fault)),
+    }
 }

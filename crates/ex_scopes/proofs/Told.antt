@@ -9,18 +9,9 @@ use Rattle.ex_named.specs.declared.reference.AttributePlace.{AttributePlace}
 use Rattle.ex_named.specs.declared.reference.AttributeSort.{AttributeSort}
 use Rattle.ex_named.specs.Scopes.{first, meaning_of}
 use Rattle.ex_scopes.specs.declared.seen.Seen.{Seen}
-use Rattle.ex_scopes.specs.Attributes.{meaning_if, nothing_seen, and_seen, seen_after, settled_by, is_settled, told}
+use Rattle.ex_scopes.specs.declared.seen.Seen.TheVariants as s
+use Rattle.ex_scopes.specs.Attributes.{meaning_if, stands, and_seen, seen_after, is_settled, told}
 use Rattle.ex_scopes.specs.Sorts.{any_sort}
-
-abbrev several : Bool → Seen
-several admitted = record { meaning = Some m.Several; is_admitted = admitted }
-
-settled_as : (meaning : Option AttributeMeaning) (admitted : Bool) → settled_by meaning admitted ≡ true
-    → let seen : Seen = record { meaning = meaning; is_admitted = admitted } in seen ≡ several true
-settled_as None admitted h = absurd cc
-settled_as (Some (m.One a)) admitted h = absurd cc
-settled_as (Some m.Several) true h = refl
-settled_as (Some m.Several) false h = absurd cc
 
 pub any_meaning : (places : List AttributePlace) → meaning_if any_sort places ≡ meaning_of places
 any_meaning [] = refl
@@ -32,15 +23,16 @@ some_meaning (a ∷ []) = refl
 some_meaning (a ∷ b ∷ others) = refl
 
 module _ (can_stand : AttributeSort → Bool) where
-  stays : (xs : List AttributePlace) → seen_after can_stand (several true) xs ≡ several true
-  stays [] = refl
-  stays (x ∷ xs) = stays xs
+  stays : (sort : AttributeSort) (xs : List AttributePlace) → seen_after can_stand (s.Several sort true) xs ≡ s.Several sort true
+  stays sort [] = refl
+  stays sort (x ∷ xs) = stays sort xs
 
   -- what is settled stays as it is
   pub settled : (seen : Seen) (xs : List AttributePlace) → is_settled seen ≡ true → seen_after can_stand seen xs ≡ seen
-  settled seen xs h =
-      let is : seen ≡ several true = settled_as seen.meaning seen.is_admitted h in
-      ap (λ s. seen_after can_stand s xs) is ∙ stays xs ∙ sym is
+  settled s.Nothing xs h = absurd cc
+  settled (s.One a) xs h = absurd cc
+  settled (s.Several sort true) xs h = stays sort xs
+  settled (s.Several sort false) xs h = absurd cc
 
   pub seen_append : (xs : List AttributePlace) (seen : Seen) (ys : List AttributePlace) → seen_after can_stand seen (xs ++ ys) ≡ seen_after can_stand (seen_after can_stand seen xs) ys
   seen_append [] seen ys = refl
@@ -54,23 +46,28 @@ module _ (can_stand : AttributeSort → Bool) where
       let parts : drop i es ≡ e ∷ drop (i + 1) es = drop-cons es i 0 within ∙ ap (λ y. y ∷ drop (suc i) es) is ∙ ap (λ k. e ∷ drop k es) one in
       sym (seen_append (f e) seen (flat_map f (drop (i + 1) es))) ∙ ap (λ (l : List ℕ). seen_after can_stand seen (flat_map f l)) (sym parts)
 
-  told_several : (admitted : Bool) (xs : List AttributePlace) → told (seen_after can_stand (several admitted) xs) ≡ (if admitted || list_any (λ a. can_stand a.sort) xs then Some m.Several else None)
-  told_several true [] = refl
-  told_several false [] = refl
-  told_several true (x ∷ xs) = told_several true xs
-  told_several false (x ∷ xs) = told_several (can_stand x.sort) xs
+  told_several : (sort : AttributeSort) (admitted : Bool) (xs : List AttributePlace)
+      → told can_stand (seen_after can_stand (s.Several sort admitted) xs) ≡ (if admitted || list_any (stands can_stand sort) xs then Some m.Several else None)
+  told_several sort true [] = refl
+  told_several sort false [] = refl
+  told_several sort true (x ∷ xs) = told_several sort true xs
+  told_several sort false (x ∷ xs) = told_several sort (stands can_stand sort x) xs
 
-  told_one : (a : AttributePlace) (admitted : Bool) (xs : List AttributePlace)
-      → told (seen_after can_stand (record { meaning = Some (m.One a); is_admitted = admitted }) xs) ≡ (if admitted || list_any (λ b. can_stand b.sort) xs then meaning_of (a ∷ xs) else None)
-  told_one a true [] = refl
-  told_one a false [] = refl
-  told_one a true (x ∷ xs) = told_several true xs
-  told_one a false (x ∷ xs) = told_several (can_stand x.sort) xs
+  told_one : (a : AttributePlace) (b : Bool) → (if b then Some (m.One a) else None) ≡ (if b || false then Some (m.One a) else None)
+  told_one a true = refl
+  told_one a false = refl
+
+  or_in_turn : (a b c : Bool) → ((a || b) || c) ≡ (a || (b || c))
+  or_in_turn true b c = refl
+  or_in_turn false b c = refl
 
   -- what is told once all are seen
-  pub told_all : (xs : List AttributePlace) → told (seen_after can_stand nothing_seen xs) ≡ meaning_if can_stand xs
+  pub told_all : (xs : List AttributePlace) → told can_stand (seen_after can_stand s.Nothing xs) ≡ meaning_if can_stand xs
   told_all [] = refl
-  told_all (x ∷ xs) = told_one x (can_stand x.sort) xs
+  told_all (a ∷ []) = told_one a (can_stand a.sort)
+  told_all (a ∷ b ∷ xs) =
+      told_several a.sort (can_stand a.sort || stands can_stand a.sort b) xs
+      ∙ ap (λ t. if t then Some m.Several else None) (or_in_turn (can_stand a.sort) (stands can_stand a.sort b) (list_any (stands can_stand a.sort) xs))
 
   -- the first so many, and then the others
   pub seen_split : (seen : Seen) (keep : AttributePlace → Bool) (xs : List AttributePlace) (n : ℕ)

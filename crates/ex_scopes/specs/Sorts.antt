@@ -18,6 +18,12 @@ explicit_or_derived Explicit = true
 explicit_or_derived Derived = true
 explicit_or_derived Inverse = false
 
+abbrev pub same_sort : AttributeSort → AttributeSort → Bool
+same_sort Explicit Explicit = true
+same_sort Derived Derived = true
+same_sort Inverse Inverse = true
+same_sort _ _ = false
+
 abbrev pub admitted : Sorts → AttributeSort → Bool
 admitted s.Any = any_sort
 admitted s.Explicit = explicit_alone

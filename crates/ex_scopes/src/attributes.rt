@@ -61,7 +61,7 @@ impl<'a> AttributeRows<'a> {
         Ok(())
     }
 
-    /// What this name means in a family, if one of its declarations there is of these sorts.
+    /// What this name means in a family, if one of its declarations there is of these sorts, or two are of two sorts.
     pub(crate) fn meaning(
         &self,
         alloc: Global,
@@ -72,17 +72,16 @@ impl<'a> AttributeRows<'a> {
         ensures { IfOk result (λ found. found ≡ spec.meaning_if (admitted sorts) (filter (λ a. is_among family.now a.entity) (named name.now self.now))) }
     {
         let places = self.rows.get(name);
-        let nothing = Seen::nothing();
         let seen = and_left(
             alloc,
-            nothing,
+            Seen::Nothing,
             family,
             sorts,
             self.is_ascending,
             FIRST_LOOK,
             places,
         )?;
-        Ok(seen.meaning())
+        Ok(seen.meaning(sorts))
     }
 
     /// The attributes of this name that a family declares.

@@ -157,7 +157,7 @@ impl<'a> Declarations<'a> {
         }
     }
 
-    /// What `type.item` means, if the first name is one of a type.
+    /// What `type.item` means, if no value has the first name.
     pub fn item_of(
         &self,
         alloc: Global,
@@ -171,7 +171,7 @@ impl<'a> Declarations<'a> {
             return Ok(None);
         }
         let Some(Declared::Type(number)) = self.declares(type_name.text.as_bytes()) else {
-            return Ok(None);
+            return refused(NameFaultKind::Undeclared, type_name.at);
         };
         Ok(Some(self.enumeration_item(type_name, number, item)?))
     }

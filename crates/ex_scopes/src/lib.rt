@@ -5,10 +5,12 @@ mod attributes;
 mod declarations;
 mod items;
 mod lookup;
+mod owned;
 mod scope;
 mod seen;
 mod sorts;
 
 pub use declarations::Declarations;
+pub use owned::OwnedDeclarations;
 pub use scope::Scope;
 pub use sorts::Sorts;

@@ -95,12 +95,13 @@ impl<S: Fn(Global, &mut Cursor<'_>, u8, Place) -> Read<Statement>> Level<S> {
         let otherwise = self.otherwise(cursor)?;
         cursor.expect(TokenKind::EndCase)?;
         cursor.expect(TokenKind::Semicolon)?;
-        Ok(Statement::Case(Case {
+        let case = Case {
             at,
             selector,
             actions,
             otherwise,
-        }))
+        };
+        Ok(Statement::Case(Boxed::new(self.alloc, case)?))
     }
 
     #[tactic(auto, unfolding(crate::specs::Statements::compound_stmt))]
@@ -175,7 +176,7 @@ impl<S: Fn(Global, &mut Cursor<'_>, u8, Place) -> Read<Statement>> Level<S> {
         cursor.enter(self.levels, TokenKind::Repeat)?;
         let control = repeat_control(self.alloc, cursor, self.levels - 1)?;
         let found = self.repeat_body(cursor)?;
-        Ok(Statement::Repeat(control, found))
+        Ok(Statement::Repeat(Boxed::new(self.alloc, control)?, found))
     }
 
     #[tactic(auto, unfolding(crate::specs::Statements::stmt))]

@@ -157,6 +157,8 @@ pub struct Rule {
     pub domain_rules: Items<DomainRule>,
 }
 
+/// It is taken apart where declarations are sorted, so that its `Drop` is derived.
+#[derive(Drop)]
 pub enum Declaration {
     Entity(Entity),
     Function(Function),
@@ -207,17 +209,6 @@ impl Drop for SupertypeExpression {
             SupertypeExpression::OneOf(parts) => drop(parts),
             SupertypeExpression::And(parts) => drop(parts),
             SupertypeExpression::AndOr(parts) => drop(parts),
-        }
-    }
-}
-
-impl Drop for Declaration {
-    fn drop(self) {
-        match self {
-            Declaration::Entity(entity) => drop(entity),
-            Declaration::Function(function) => drop(function),
-            Declaration::Rule(rule) => drop(rule),
-            Declaration::Type(declared) => drop(declared),
         }
     }
 }

@@ -92,7 +92,7 @@ pub enum Qualifier {
     Group(usize, Name),
     Index(usize, Expression),
     /// From the first index to the second.
-    Range(usize, Expression, Expression),
+    Range(usize, Boxed<Expression>, Boxed<Expression>),
 }
 
 /// `{ low < item <= high }`, each operator with its first byte.

@@ -41,12 +41,12 @@ pub struct Case {
 pub enum Statement {
     Null,
     Assignment(Name, Expression),
-    Case(Case),
+    Case(Boxed<Case>),
     Compound(Items<Statement>),
     Escape,
     /// The condition, what follows THEN, and what follows ELSE: nothing where it is not there.
     If(Expression, Items<Statement>, Items<Statement>),
-    Repeat(RepeatControl, Items<Statement>),
+    Repeat(Boxed<RepeatControl>, Items<Statement>),
     /// With the first byte of its word.
     Return(usize, Expression),
     Skip,

@@ -7,7 +7,7 @@ mod declarations;
 mod defined_types;
 mod entities;
 mod known;
-mod redeclared;
+mod names;
 mod rules;
 mod schema;
 mod uses;

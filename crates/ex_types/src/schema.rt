@@ -4,35 +4,53 @@ ghost use Rattle.std.specs.Prelude.{◌≡◌, ◌↔◌, ℕ, IfOk, IsTrue, Som
 ghost use Rattle.std.specs.List.Sorted.{IsStrictlyIncreasing};
 ghost use Rattle.text_forms.specs.Gives.{Gives};
 ghost use Rattle.lineage.specs.Lineage as lineage;
+ghost use Rattle.name_order.specs.Order.{rank};
+ghost use Rattle.name_tables.specs.Names.{place_of};
 ghost use Rattle.ex_resolve.specs.Schemas as schemas;
 ghost use Rattle.ex_types.specs.Checked as spec;
 ghost use Rattle.ex_types.specs.Declarations as declarations;
-ghost use Rattle.ex_types.specs.Redeclarations as redeclarations;
 
 use crate::declarations::fault_of;
 use crate::known::known;
-use crate::redeclared::redeclared_by;
+use crate::names::{entity_order, type_order};
 use ex_kinds::TypeFault;
-use ex_named::{
-    AttributePlace, NamedConstant, NamedEntity, NamedFunction, NamedRedeclaration, NamedRule,
-    NamedType,
-};
+use ex_named::{AttributePlace, NamedConstant, NamedEntity, NamedFunction, NamedRule, NamedType};
 use ex_resolve::Named;
 use ex_typing::Known;
 use ex_warnings::warnings;
+use name_order::NameOrder;
 use plain_data::{Rows, Text};
 use std::alloc::{AllocError, Global};
 use std::marker::Model;
 use text_forms::Failure;
 
 /// A schema whose types are checked: the one that its named schema is accepted as.
-#[derive(Drop)]
 pub struct CheckedSchema {
     named: Named,
     /// What its declarations say of kinds.
     known: Known,
     /// The first bytes of the literals that are warned of.
     warnings: Rows<usize>,
+    /// The names of its entities, and of its types, in the order of their bytes.
+    entity_order: NameOrder,
+    type_order: NameOrder,
+}
+
+impl Drop for CheckedSchema {
+    fn drop(self) {
+        let CheckedSchema {
+            named,
+            known,
+            warnings,
+            entity_order,
+            type_order,
+        } = self;
+        drop(named);
+        drop(known);
+        drop(warnings);
+        drop(entity_order);
+        drop(type_order);
+    }
 }
 
 impl Model for CheckedSchema {
@@ -44,8 +62,10 @@ impl Model for CheckedSchema {
 
     ghost use Rattle.std.specs.Prelude.{◌≡◌, Ok};
     ghost use Rattle.ex_types.specs.Declarations.{known as known_of};
+    ghost use Rattle.name_order.specs.Order.{IsOrderOf};
 
-    ghost invariant = { λ s. (s.known ≡ known_of s.named.schema) × (spec.checked s.named ≡ Ok (record { named = s.named; warnings = s.warnings })) };
+    ghost invariant = { λ s. (s.known ≡ known_of s.named.schema) × (spec.checked s.named ≡ Ok (record { named = s.named; warnings = s.warnings }))
+        × IsOrderOf (spec.entity_names s.named.schema.entities) s.entity_order × IsOrderOf (spec.type_names s.named.schema.types) s.type_order };
 
     ghost use Rattle.std.specs.Coded.{codes};
     ghost use Rattle.ex_resolve.specs.contracts.named.Named as named_schema;
@@ -125,12 +145,47 @@ impl CheckedSchema {
         self.functions().len()
     }
 
+    /// The number of the entity of this name, which is in upper case.
+    pub fn entity_named(&self, name: &Text) -> Option<usize>
+        ensures { result ≡ place_of name.now (spec.entity_names self.now.named.schema.entities) }
+    {
+        self.entity_order.number(name)
+    }
+
+    /// How many of its entities have names that come before this one, in the order of their bytes.
+    pub fn entity_rank(&self, name: &Text) -> usize
+        ensures { result ≡ rank (spec.entity_names self.now.named.schema.entities) name.now }
+    {
+        self.entity_order.rank(name)
+    }
+
+    /// The number of the type of this name, which is in upper case.
+    pub fn type_named(&self, name: &Text) -> Option<usize>
+        ensures { result ≡ place_of name.now (spec.type_names self.now.named.schema.types) }
+    {
+        self.type_order.number(name)
+    }
+
+    /// How many of its types have names that come before this one, in the order of their bytes.
+    pub fn type_rank(&self, name: &Text) -> usize
+        ensures { result ≡ rank (spec.type_names self.now.named.schema.types) name.now }
+    {
+        self.type_order.rank(name)
+    }
+
     /// The entities above one, by their numbers in ascending order.
     pub fn ancestors(&self, alloc: Global, entity: usize) -> Result<Rows<usize>, AllocError>
         ensures ascending { IfOk result (λ found. IsStrictlyIncreasing found) }
         ensures exact { IfOk result (λ found. (a : ℕ) → IsTrue (lineage.is_among found a) ↔ lineage.IsAncestor self.now.named.supertypes entity a) }
     {
         self.named.ancestors(alloc, entity)
+    }
+
+    /// The entities above one and itself, in the order in which files write their values.
+    pub fn line(&self, alloc: Global, entity: usize) -> Result<Rows<usize>, AllocError>
+        ensures { IfOk result (λ found. lineage.line self.now.named.supertypes entity ≡ Some found) }
+    {
+        self.named.line(alloc, entity)
     }
 
     /// The inherited and own explicit attributes of an entity, in the order in which files write their values.
@@ -142,20 +197,6 @@ impl CheckedSchema {
         ensures { IfOk result (λ found. schemas.attributes self.now.named entity ≡ Some found) }
     {
         self.named.attributes(alloc, entity)
-    }
-
-    /// The inherited attributes that an entity redeclares, explicit ones and then derived ones, in order.
-    pub fn redeclarations(
-        &self,
-        alloc: Global,
-        entity: usize,
-    ) -> Result<Vec<&NamedRedeclaration>, AllocError>
-        ensures { IfOk result (λ found. map (λ r. r.now) found.items ≡ redeclarations.redeclarations_of self.now.named.schema.entities entity) }
-    {
-        match self.entities().get(entity) {
-            Some(entity) => redeclared_by(alloc, entity),
-            None => Ok(Vec::new(alloc)),
-        }
     }
 }
 
@@ -169,9 +210,13 @@ pub fn check(alloc: Global, named: Named) -> Result<CheckedSchema, Failure<TypeF
         return Err(Failure::Fault(fault));
     }
     let warnings = warnings(alloc, named.schema())?;
+    let entity_order = entity_order(alloc, named.schema().entities.as_slice())?;
+    let type_order = type_order(alloc, named.schema().types.as_slice())?;
     Ok(CheckedSchema {
         named,
         known,
         warnings,
+        entity_order,
+        type_order,
     })
 }

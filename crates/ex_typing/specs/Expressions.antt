@@ -1,6 +1,7 @@
 -- What the value of an expression may be, and the fault that is told of it, by recursion on the tree
 -- (ISO 10303-11:1994, clause 12).
-use Rattle.std.specs.Prelude.{ℕ, List, [], ◌∷◌, ◌++◌, Option, Some, None, slice_get, slice_index_or}
+use Rattle.std.specs.Prelude.{ℕ, Bool, nat_lt, length, List, [], ◌∷◌, ◌++◌, Option, Some, None, slice_get, slice_index_or}
+use Rattle.std.specs.Option.{option_map_or}
 use Rattle.ex_tree.specs.declared.expression.BinaryOperator.{BinaryOperator}
 use Rattle.ex_tree.specs.declared.expression.BuiltInFunction.{BuiltInFunction}
 use Rattle.ex_tree.specs.declared.expression.Literal.{Literal}
@@ -112,15 +113,18 @@ compared fault = record { kinds = logical; fault = fault }
 module _ (schema : Known) where
   -- ---- calls
 
-  abbrev pub called_by : ℕ → Option Signature → List Kinds → Typed
-  called_by at None arguments = fine []
-  called_by at (Some s) arguments = anyway s.result (ruled at (called schema.types s.parameters s.result arguments))
+  -- by the signature of the function of this number
+  abbrev pub called_by : ℕ → ℕ → List Kinds → Typed
+  called_by function at arguments = option_map_or (λ s. anyway s.result (ruled at (called schema.types s.parameters s.result arguments))) (slice_get schema.functions function) (fine [])
 
   abbrev pub call : ℕ → ℕ → TypedList → Typed
-  call function at arguments = behind arguments.1 (called_by at (slice_get schema.functions function) arguments.0)
+  call function at arguments = behind arguments.1 (called_by function at arguments.0)
+
+  abbrev pub has_entities : Bool
+  has_entities = nat_lt 0 (length schema.attributes.supertypes)
 
   abbrev pub built_in_at : BuiltInFunction → ℕ → List Kinds → Typed
-  built_in_at word at arguments = anyway (built_in_anyway word) (ruled at (built_in schema.types word arguments))
+  built_in_at word at arguments = anyway (built_in_anyway has_entities word) (ruled at (built_in schema.types has_entities word arguments))
 
   -- ---- operators
 

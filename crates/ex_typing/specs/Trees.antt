@@ -1,5 +1,5 @@
 -- What is said of the trees in an expression.
-use Rattle.std.specs.Prelude.{ℕ, List, map, Option, slice_get}
+use Rattle.std.specs.Prelude.{ℕ, List, map, Option}
 use Rattle.ex_tree.specs.declared.expression.BuiltInFunction.{BuiltInFunction}
 use Rattle.ex_tree.specs.declared.expression.UnaryOperator.{UnaryOperator}
 use Rattle.ex_named.specs.declared.expression.NamedExpression.{NamedExpression}
@@ -45,7 +45,7 @@ module _ (schema : Known) where
   -- ---- in a scope
 
   abbrev pub call : TypingScope → ℕ → ℕ → List NamedExpression → Typed
-  call s function at arguments = behind (expressions s arguments).1 (called_by schema at (slice_get schema.functions function) (expressions s arguments).0)
+  call s function at arguments = behind (expressions s arguments).1 (called_by schema function at (expressions s arguments).0)
 
   abbrev pub call_built_in : TypingScope → BuiltInFunction → ℕ → List NamedExpression → Typed
   call_built_in s word at arguments = behind (expressions s arguments).1 (built_in_at schema word at (expressions s arguments).0)

@@ -16,12 +16,26 @@ pub struct Signature {
 
 /// What a schema's declarations say of kinds: of its defined types, attributes, constants and functions, each in the order
 /// of the schema.
-#[derive(Drop)]
 pub struct Known {
     types: Types,
     attributes: Attributes,
     constants: Rows<Kinds>,
     functions: Rows<Signature>,
+}
+
+impl Drop for Known {
+    fn drop(self) {
+        let Known {
+            types,
+            attributes,
+            constants,
+            functions,
+        } = self;
+        drop(types);
+        drop(attributes);
+        drop(constants);
+        drop(functions);
+    }
 }
 
 impl Model for Known {

@@ -1,6 +1,6 @@
 //! What stands at the ends of expressions, and the rules that combine what is said of their parts.
 
-ghost use Rattle.std.specs.Prelude.{◌≡◌, [], ◌∷◌, true, IfOk, is_some, slice_get};
+ghost use Rattle.std.specs.Prelude.{◌≡◌, [], ◌∷◌, true, IfOk, is_some};
 ghost use Rattle.ex_kinds.specs.Faults.{fine, refused};
 ghost use Rattle.ex_kinds.specs.declared.fault.TypeFaultKind.TheVariants.{Ambiguous};
 ghost use Rattle.ex_kinds.specs.Kinds.{itself, aggregate_of as aggregate_by};
@@ -94,7 +94,7 @@ pub(crate) fn called(
     at: usize,
     arguments: &[Kinds],
 ) -> Result<Typed, AllocError>
-    ensures { IfOk result (λ typed. typed ≡ spec.called_by schema.now at (slice_get schema.now.functions function) arguments.now) }
+    ensures { IfOk result (λ typed. typed ≡ spec.called_by schema.now function at arguments.now) }
 {
     let Some(signature) = schema.function(function) else {
         return Ok(Typed::fine(Rows::new(alloc)));
@@ -133,15 +133,16 @@ pub(crate) fn built_in_at(
 ) -> Result<Typed, AllocError>
     ensures { IfOk result (λ typed. typed ≡ spec.built_in_at schema.now function at arguments.now) }
 {
+    let has_entities = schema.attributes().has_entities();
     let typed = ruled(
         alloc,
         at,
-        built_in(alloc, schema.types(), function, arguments),
+        built_in(alloc, schema.types(), has_entities, function, arguments),
     )?;
     if typed.fault.is_none() {
         return Ok(typed);
     }
-    Ok(anyway(typed, built_in_anyway(alloc, function)?))
+    Ok(anyway(typed, built_in_anyway(alloc, has_entities, function)?))
 }
 
 /// An operator on an operand of these kinds.

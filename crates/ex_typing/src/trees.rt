@@ -179,8 +179,8 @@ fn qualifier(
             index_taken(alloc, schema, base, *at, index)
         },
         NamedQualifier::Range(at, low, high) => {
-            let low = expression(alloc, schema, scope, low)?;
-            let high = expression(alloc, schema, scope, high)?;
+            let low = expression(alloc, schema, scope, low.get())?;
+            let high = expression(alloc, schema, scope, high.get())?;
             range_taken(alloc, schema, base, *at, low, high)
         },
     }

@@ -53,7 +53,7 @@ fn statement(
         NamedStatement::Assignment(slot, at, value) => {
             assigned(alloc, schema, scope, scope.variable(*slot), *at, value)
         }
-        NamedStatement::Case(case) => case_statement(alloc, schema, scope, case),
+        NamedStatement::Case(case) => case_statement(alloc, schema, scope, case.get()),
         NamedStatement::Compound(body) => statements(alloc, schema, scope, body.as_slice()),
         NamedStatement::Escape => Ok(None),
         NamedStatement::If(condition, then_part, else_part) => {
@@ -62,7 +62,9 @@ fn statement(
             let else_part = statements(alloc, schema, scope, else_part.as_slice())?;
             Ok(either(either(condition, then_part), else_part))
         }
-        NamedStatement::Repeat(control, body) => repeat(alloc, schema, scope, control, body),
+        NamedStatement::Repeat(control, body) => {
+            repeat(alloc, schema, scope, control.get(), body)
+        }
         NamedStatement::Return(at, value) => {
             assigned(alloc, schema, scope, scope.result(), *at, value)
         }

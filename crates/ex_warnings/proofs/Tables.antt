@@ -1,21 +1,21 @@
 -- Tables of what types rename.
 use Rattle.std.proofs.Common.{◌≡◌, ℕ, zero, suc, ◌+◌, ◌≤◌, ◌<◌, inl, inr, List, length, map, refl, sym, ◌∙◌, ap, arith, zero-add}
-use Rattle.std.proofs.lemmas.List.{length-map}
+use Rattle.std.proofs.lemmas.List.{get_or-map, get_or_past, length-map}
 use Rattle.std.proofs.lemmas.List.FromFn.{get_or-map-range_with_len, length-map-range_with_len}
-use Rattle.std.proofs.lemmas.Option.{slice_get-map, slice_get_past, slice_get_cases, unwrap_or-slice_get}
+use Rattle.std.proofs.lemmas.Option.{slice_get_cases}
 use Rattle.std.specs.List.{range_with_len}
 use Rattle.ex_named.specs.declared.declaration.NamedType.{NamedType}
-use Rattle.ex_warnings.specs.Selects.{renamed, renamed_times}
+use Rattle.ex_warnings.specs.Selects.{renamed, renamed_by, renamed_times}
 use Rattle.ex_warnings.specs.Steps.{target, HasRenamed}
 
 beyond : (table : List ℕ) (k : ℕ) → length table ≤ k → target table k ≡ k
-beyond table k past = rw (slice_get_past table k past) refl
+beyond table k past = get_or_past table k k past
 
 -- what a number has in a table that f was applied to
 mapped : (f : ℕ → ℕ) (table : List ℕ) (k : ℕ) → (length table ≤ k → f k ≡ k) → target (map f table) k ≡ f (target table k)
 mapped f table k stays = elim (slice_get_cases table k).1 [
-  | inl here ↦ rw (slice_get-map f table k, here.2) refl
-  | inr past ↦ rw (slice_get-map f table k, past.1) (sym (stays past.0))
+  | inl here ↦ get_or-map f table k k k here.1
+  | inr past ↦ beyond (map f table) k (omega (arith, past.0, length-map table f)) ∙ sym (stays past.0) ∙ ap f (sym (beyond table k past.0))
 ]
 
 abbrev themselves : ℕ → List ℕ
@@ -24,7 +24,7 @@ themselves n = map (λ k. k) (range_with_len 0 n)
 itself : (n k : ℕ) → target (themselves n) k ≡ k
 itself n k = elim (slice_get_cases (themselves n) k).1 [
   | inl here ↦ let within : k < n = omega (arith, here.1, length-map-range_with_len (λ k. k) 0 n) in
-      unwrap_or-slice_get (themselves n) k k ∙ get_or-map-range_with_len (λ k. k) 0 n k k k within (zero-add k)
+      get_or-map-range_with_len (λ k. k) 0 n k k k within (zero-add k)
   | inr past ↦ beyond (themselves n) k past.0
 ]
 
@@ -46,7 +46,7 @@ module _ (types : List NamedType) where
   }
 
   past_types : (k : ℕ) → length types ≤ k → renamed types k ≡ k
-  past_types k past = rw (slice_get_past types k past) refl
+  past_types k past = get_or_past (map (λ x. renamed_by k x.underlying) types) k k (omega (arith, past, length-map types (λ x. renamed_by k x.underlying)))
 
   once_more : (n : ℕ) (table : List ℕ) → HasRenamed n types table → HasRenamed (suc n) types (map (renamed types) table)
   once_more n table has = record {

@@ -1,5 +1,5 @@
 -- What the steps of this crate give.
-use Rattle.std.specs.Prelude.{◌≡◌, ℕ, List, length, Option, Some, None, slice_get, unwrap_or}
+use Rattle.std.specs.Prelude.{◌≡◌, ℕ, List, length, Option, Some, None, slice_index_or}
 use Rattle.std.specs.Borrow.{Bor}
 use Rattle.ex_named.specs.declared.declaration.NamedType.{NamedType}
 use Rattle.ex_warnings.specs.Selects.{renamed_times}
@@ -7,7 +7,7 @@ use Rattle.ex_warnings.specs.Warnings.{qualified}
 
 -- what stands in a table at a number; the number itself beyond the end
 abbrev pub target : List ℕ → ℕ → ℕ
-target table k = unwrap_or (slice_get table k) k
+target table k = slice_index_or table k k
 
 -- the table has, for each type, the one that is so many renamings further
 pub record HasRenamed (n : ℕ) (types : List NamedType) (table : List ℕ) : Type 0 where

@@ -1,6 +1,6 @@
 //! The types that are SELECTs.
 
-ghost use Rattle.std.specs.Prelude.{◌≡◌, length, map, slice_get, IfOk};
+ghost use Rattle.std.specs.Prelude.{◌≡◌, length, map, IfOk};
 ghost use Rattle.ex_warnings.specs.Selects as spec;
 ghost use Rattle.ex_warnings.specs.Steps.{HasRenamed, target as target_in};
 
@@ -89,7 +89,7 @@ fn renamed_times(alloc: Global, types: &[NamedType], count: usize) -> Result<Vec
 
 /// Whether a type lists its members.
 fn lists_members(types: &[NamedType], number: usize) -> bool
-    ensures { result ≡ spec.lists_members (slice_get types.now number) }
+    ensures { result ≡ spec.lists_members types.now number }
 {
     match types.get(number) {
         Some(declared) => is_listed(&declared.underlying),

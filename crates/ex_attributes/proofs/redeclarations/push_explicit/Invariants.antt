@@ -6,5 +6,5 @@ use Rattle.ex_attributes.proofs.redeclarations.push_explicit.Given as goal
 
 abbrev pub invariant-loop-explicit : goal.invariant-loop-explicit
 invariant-loop-explicit l =
-    l.found ++ flat_map (λ x. filter_map (spec.redeclared_as (of_type x.data_type)) x.attributes) (drop l.explicit-index l.list)
-    ≡ l.initial.found ++ flat_map (λ x. filter_map (spec.redeclared_as (of_type x.data_type)) x.attributes) l.list
+    l.found ++ flat_map (λ x. filter_map (spec.redeclared_as l.entity (of_type x.data_type)) x.attributes) (drop l.explicit-index l.list)
+    ≡ l.initial.found ++ flat_map (λ x. filter_map (spec.redeclared_as l.entity (of_type x.data_type)) x.attributes) l.list

@@ -6,5 +6,5 @@ use Rattle.ex_attributes.proofs.redeclarations.push_redeclared.Given as goal
 
 abbrev pub invariant-loop-attribute : goal.invariant-loop-attribute
 invariant-loop-attribute l =
-    l.found ++ filter_map (spec.redeclared_as (of_type l.data_type)) (drop l.attribute-index l.attributes)
-    ≡ l.initial.found ++ filter_map (spec.redeclared_as (of_type l.data_type)) l.attributes
+    l.found ++ filter_map (spec.redeclared_as l.entity (of_type l.data_type)) (drop l.attribute-index l.attributes)
+    ≡ l.initial.found ++ filter_map (spec.redeclared_as l.entity (of_type l.data_type)) l.attributes

@@ -5,6 +5,6 @@ use Rattle.ex_resolve.proofs.schema.named.Goals as goal
 
 pub new-requires : goal.new-requires
 new-requires c =
-    let graph : c.in_ok-supertypes.supertypes ≡ supertype_graph (declarations c.args.schema.now) (entities c.args.schema.now) =
-    c.in_ok-supertypes.ensures ∙ ap (supertype_graph c.args.declarations.now) c.requires.listed ∙ ap (λ d. supertype_graph d (entities c.args.schema.now)) c.requires.declared in
-    rw graph (resolved_by c.args.schema.now c.in_ok-found.found c.in_ok-found.ensures)
+    let graph : c.in_ok-supertypes.supertypes ≡ supertype_graph (declarations c.args.schema) (entities c.args.schema) =
+    c.in_ok-supertypes.ensures ∙ ap (λ d. supertype_graph d (entities c.args.schema)) c.requires in
+    rw graph (resolved_by c.args.schema c.in_ok-found.found c.in_ok-found.ensures)

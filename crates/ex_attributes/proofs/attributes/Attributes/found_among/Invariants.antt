@@ -3,4 +3,4 @@ use Rattle.ex_attributes.specs.Attributes as spec
 use Rattle.ex_attributes.proofs.attributes.Attributes.found_among.Given as goal
 
 abbrev pub invariant-loop-kind : goal.invariant-loop-kind
-invariant-loop-kind l = spec.found_after l.self l.name l.found (spec.entities_among l.self (drop l.kind-index l.kinds)) ≡ spec.found_among l.self l.kinds l.name
+invariant-loop-kind l = spec.found_after l.self l.name l.found (drop l.kind-index l.kinds) ≡ spec.found_after l.self l.name spec.found_nothing l.kinds

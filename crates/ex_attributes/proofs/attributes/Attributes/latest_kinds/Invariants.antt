@@ -3,7 +3,7 @@ use Rattle.ex_attributes.specs.Attributes as spec
 use Rattle.ex_attributes.specs.Steps.{read}
 use Rattle.ex_attributes.proofs.attributes.Attributes.latest_kinds.Given as goal
 
-abbrev pub invariant-loop-entity : goal.invariant-loop-entity
-invariant-loop-entity l =
-    spec.all_kinds l.kinds (filter (λ r. not (spec.is_overridden l.self (read l.all) r.0)) (read (drop l.entity-index l.all)))
+abbrev pub invariant-loop-redeclared : goal.invariant-loop-redeclared
+invariant-loop-redeclared l =
+    spec.all_kinds l.kinds (filter (λ r. not (spec.is_overridden l.self (read l.all) r.entity)) (read (drop l.redeclared-index l.all)))
     ≡ spec.all_kinds [] (spec.latest l.self (read l.all))

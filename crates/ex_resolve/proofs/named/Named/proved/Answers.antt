@@ -1,6 +1,6 @@
 use Rattle.std.proofs.Common.{subst}
 use Rattle.ex_resolve.proofs.Cycles.{acyclic, listed}
-use Rattle.ex_resolve.proofs.Laws.{once, held}
+use Rattle.ex_resolve.proofs.Laws.{once, held, in_range}
 use Rattle.ex_resolve.specs.Schemas.{IsResolved}
 use Rattle.ex_resolve.proofs.named.Named.proved.Goals as goal
 
@@ -13,4 +13,5 @@ returns c =
       acyclic = acyclic c.args.self.now whole;
       once = once c.args.self.now whole;
       held = held c.args.self.now whole;
+      in_range = in_range c.args.self.now whole;
     }

@@ -2,8 +2,8 @@ use Rattle.std.proofs.Common.{◌≡◌, ◌∙◌, ap, List, filter}
 use Rattle.name_tables.specs.Names.{named}
 use Rattle.ex_named.specs.declared.reference.AttributePlace.{AttributePlace}
 use Rattle.ex_named.specs.Scopes.{is_among}
-use Rattle.ex_scopes.specs.declared.seen.Seen.{Seen}
-use Rattle.ex_scopes.specs.Attributes.{nothing_seen, seen_after, told}
+use Rattle.ex_scopes.specs.Attributes.{seen_after, told}
+use Rattle.ex_scopes.specs.declared.seen.Seen.TheVariants.{Nothing}
 use Rattle.ex_scopes.specs.Sorts.{admitted}
 use Rattle.ex_scopes.proofs.Runs.{if_said}
 use Rattle.ex_scopes.proofs.Told.{told_all}
@@ -17,7 +17,6 @@ returns c =
     let can = admitted c.args.sorts in
     let keep = λ (a : AttributePlace). is_among c.args.family.now a.entity in
     let places = named c.args.name.now c.self.inside.rows in
-    let all : c.in_ok-seen.seen ≡ seen_after can nothing_seen (filter keep places) = c.in_ok-seen.ensures
-    ∙ ap (λ (s : Seen). seen_after can s (filter keep c.get-places.result.now)) c.nothing-nothing.ensures
-    ∙ ap (λ (ps : List AttributePlace). seen_after can nothing_seen (filter keep ps)) c.get-places.ensures in
-    rw (← c.self.view_is) (c.meaning.ensures ∙ ap told all ∙ told_all can (filter keep places))
+    let all : c.in_ok-seen.seen ≡ seen_after can Nothing (filter keep places) = c.in_ok-seen.ensures
+    ∙ ap (λ (ps : List AttributePlace). seen_after can Nothing (filter keep ps)) c.get-places.ensures in
+    rw (← c.self.view_is) (c.meaning.ensures ∙ ap (told can) all ∙ told_all can (filter keep places))

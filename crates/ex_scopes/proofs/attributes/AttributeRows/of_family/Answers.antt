@@ -1,6 +1,7 @@
 use Rattle.name_tables.specs.Names.{named}
 use Rattle.ex_named.specs.declared.reference.AttributePlace.{AttributePlace}
-use Rattle.ex_scopes.proofs.Runs.{of_members, said_to_rise}
+use Rattle.descent.proofs.InTurn.{of_members}
+use Rattle.ex_scopes.proofs.Runs.{said_to_rise}
 use Rattle.ex_scopes.proofs.attributes.AttributeRows.of_family.Goals as goal
 
 pub of_each-requires : goal.of_each-requires

@@ -1,0 +1,6 @@
+use Rattle.ex_attributes.specs.Tables.{declarer_key}
+use Rattle.ex_attributes.proofs.Places.{has_places}
+use Rattle.ex_attributes.proofs.declared_rows.by_declarer.Goals as goal
+
+pub returns : goal.returns
+returns c = has_places declarer_key c.args.rows.now c.in_ok-keys.keys.items c.in_ok-table.table c.in_ok-keys.ensures (rw c.deref.ensures.value at c.in_ok-table.ensures)

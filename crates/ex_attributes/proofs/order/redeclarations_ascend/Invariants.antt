@@ -1,0 +1,6 @@
+use Rattle.std.proofs.Common.{◌≤◌}
+use Rattle.std.specs.List.{AllAdjacentBelow}
+use Rattle.ex_attributes.proofs.order.redeclarations_ascend.Given as goal
+
+abbrev pub invariant-loop-next : goal.invariant-loop-next
+invariant-loop-next l = AllAdjacentBelow (λ x y. x.entity ≤ y.entity) l.rows l.next

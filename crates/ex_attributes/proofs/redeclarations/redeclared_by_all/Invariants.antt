@@ -1,0 +1,8 @@
+use Rattle.std.proofs.Common.{◌≡◌, ◌++◌, drop}
+use Rattle.std.specs.List.{flat_map}
+use Rattle.lineage.specs.Numbered.{numbered_from}
+use Rattle.ex_attributes.specs.Attributes as spec
+use Rattle.ex_attributes.proofs.redeclarations.redeclared_by_all.Given as goal
+
+abbrev pub invariant-loop-number : goal.invariant-loop-number
+invariant-loop-number l = l.found ++ flat_map (λ rows. rows) (numbered_from spec.redeclared_by l.number (drop l.number l.entities)) ≡ spec.of_each spec.redeclared_by l.entities

@@ -1,0 +1,11 @@
+use Rattle.std.proofs.Common.{◌≡◌, ◌++◌, drop}
+use Rattle.std.specs.List.{flat_map}
+use Rattle.ex_attributes.specs.Attributes.{place_key}
+use Rattle.ex_attributes.specs.Steps.{read}
+use Rattle.ex_attributes.specs.Tables as tables
+use Rattle.ex_attributes.proofs.redeclared_rows.of_members.Given as goal
+
+abbrev pub invariant-loop-member : goal.invariant-loop-member
+invariant-loop-member l =
+    read l.found.items ++ flat_map (λ e. tables.rows_at l.rows (tables.places_at (tables.behind e (place_key l.place)) l.by_redeclarer)) (drop l.member-index l.members)
+    ≡ flat_map (λ e. tables.rows_at l.rows (tables.places_at (tables.behind e (place_key l.place)) l.by_redeclarer)) l.members

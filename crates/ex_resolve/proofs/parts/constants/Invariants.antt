@@ -1,0 +1,10 @@
+use Rattle.std.proofs.Common.{◌≡◌, length}
+use Rattle.ex_named.specs.Outcomes.{each, each_after}
+use Rattle.ex_bind_algorithms.specs.Algorithms as algorithms
+use Rattle.ex_resolve.proofs.parts.constants.Given as goal
+
+abbrev pub invariant-loop-tree : goal.invariant-loop-tree
+invariant-loop-tree l = each_after (algorithms.constant l.declarations) l.found l.left ≡ each (algorithms.constant l.declarations) l.initial.left
+
+abbrev pub decreases-loop-tree : goal.decreases-loop-tree
+decreases-loop-tree l = length l.left
