@@ -1,0 +1,133 @@
+//! The steps between the members of a set, which are numbered by their places in it.
+
+ghost use Rattle.std.specs.Prelude.{◌≡◌, ℕ, ◌&&◌, ◌||◌, ◌==◌, nat_lt, length, zero, IfOk};
+ghost use Rattle.std.specs.List.{list_all};
+ghost use Rattle.lineage.specs.Lineage as lineage;
+ghost use Rattle.ex_subtypes.specs.Edges as edges;
+ghost use Rattle.ex_subtypes.specs.Legal as spec;
+
+use crate::family::supertypes_of;
+use crate::type_set::TypeSet;
+use ex_named::NamedEntity;
+use lineage::{all_above, is_in, subtypes, supertypes};
+use plain_data::Rows;
+use std::alloc::{AllocError, Global};
+use std::collections::BTreeSet;
+
+/// Whether all supertypes of the members are there.
+pub fn is_closed(entities: &[NamedEntity], set: &TypeSet) -> bool
+    ensures { result ≡ spec.is_closed (spec.graph entities.now) set.now }
+{
+    for member in set.as_slice() {
+        if !all_there(set, supertypes_of(entities, *member)) {
+            return false;
+        }
+    }
+    true
+}
+
+fn all_there(set: &TypeSet, numbers: &[usize]) -> bool
+    ensures { result ≡ list_all (lineage.is_among set.now) numbers.now }
+{
+    numbers.iter().all(|number| set.has(*number))
+}
+
+/// The places of those of the numbers that are there.
+fn places_of(alloc: Global, set: &TypeSet, numbers: &[usize]) -> Result<Rows<usize>, AllocError>
+    ensures { IfOk result (λ places. (n : ℕ) → lineage.is_among places n ≡ edges.one_stands_at set.now numbers.now n) }
+{
+    let mut places = Vec::new(alloc);
+    for number in numbers {
+        if let Some(place) = set.place(*number) {
+            places.push(place)?;
+        }
+    }
+    Ok(Rows::from_vec(places))
+}
+
+/// The steps from each member up to its supertypes.
+fn steps_up(
+    alloc: Global,
+    entities: &[NamedEntity],
+    set: &TypeSet,
+) -> Result<Vec<Rows<usize>>, AllocError>
+    ensures length { IfOk result (λ up. length up.items ≡ length set.now) }
+    ensures up { IfOk result (λ up. (e n : ℕ) → lineage.is_among (lineage.supertypes up.items e) n ≡ edges.goes_up (spec.graph entities.now) set.now e n) }
+{
+    let members = set.as_slice();
+    let mut up = Vec::with_capacity(alloc, members.len())?;
+    for place in 0..members.len() {
+        up.push(places_of(alloc, set, supertypes_of(entities, members[place]))?)?;
+    }
+    Ok(up)
+}
+
+/// The first numbers, and then the second.
+fn joined(alloc: Global, first: &[usize], second: &[usize]) -> Result<Rows<usize>, AllocError>
+    ensures { IfOk result (λ both. (n : ℕ) → lineage.is_among both n ≡ (lineage.is_among first.now n || lineage.is_among second.now n)) }
+{
+    let mut both = Vec::from_slice(alloc, first)?;
+    both.extend_from_slice(second)?;
+    Ok(Rows::from_vec(both))
+}
+
+/// The steps of both graphs, which have as many members.
+fn all_joined(
+    alloc: Global,
+    one: &[Rows<usize>],
+    other: &[Rows<usize>],
+) -> Result<Vec<Rows<usize>>, AllocError>
+    requires { length other.now ≡ length one.now }
+    ensures { IfOk result (λ both. (e n : ℕ) → lineage.is_among (lineage.supertypes both.items e) n ≡ (lineage.is_among (lineage.supertypes one.now e) n || lineage.is_among (lineage.supertypes other.now e) n)) }
+{
+    let mut both = Vec::with_capacity(alloc, one.len())?;
+    for place in 0..one.len() {
+        both.push(joined(alloc, supertypes(one, place), supertypes(other, place))?)?;
+    }
+    Ok(both)
+}
+
+/// The steps between each member and those beside it.
+fn steps(
+    alloc: Global,
+    entities: &[NamedEntity],
+    set: &TypeSet,
+) -> Result<Vec<Rows<usize>>, AllocError>
+    ensures { IfOk result (λ graph. edges.HasSameSteps graph.items (spec.steps (spec.graph entities.now) set.now)) }
+{
+    let up = steps_up(alloc, entities, set)?;
+    let down = subtypes(alloc, &up)?;
+    let both = all_joined(alloc, &up, &down)?;
+    Ok(both)
+}
+
+fn is_reached(reached: &BTreeSet<usize>, place: usize) -> bool
+    ensures { result ≡ (place == zero || lineage.is_among reached.now.keys place) }
+{
+    place == 0 || is_in(reached, place)
+}
+
+/// Whether each of so many places is 0 or was reached, and there is one.
+fn are_reached(reached: &BTreeSet<usize>, count: usize) -> bool
+    ensures { result ≡ (nat_lt zero count && list_all (λ place. place == zero || lineage.is_among reached.now.keys place) (lineage.numbers_from zero count)) }
+{
+    for place in 0..count {
+        if !is_reached(reached, place) {
+            return false;
+        }
+    }
+    0 < count
+}
+
+/// Whether every member is reached from the first.
+pub fn is_connected(
+    alloc: Global,
+    entities: &[NamedEntity],
+    set: &TypeSet,
+) -> Result<bool, AllocError>
+    ensures { IfOk result (λ found. found ≡ spec.is_connected (spec.graph entities.now) set.now) }
+{
+    let steps = steps(alloc, entities, set)?;
+    let reached = all_above(alloc, &steps, 0)?;
+    Ok(are_reached(&reached, set.as_slice().len()))
+}

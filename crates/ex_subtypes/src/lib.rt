@@ -1,0 +1,16 @@
+//! Which sets of entities an instance may have (ISO 10303-11:1994, 9.2.4 and annex B).
+#![tactic(auto)]
+
+mod build;
+mod choices;
+mod family;
+mod graph;
+mod legal;
+mod schema;
+mod sets;
+mod type_set;
+
+pub use build::{SubtypeFault, SubtypeFaultKind};
+pub use legal::Illegal;
+pub use schema::Compiled;
+pub use type_set::TypeSet;

@@ -1,0 +1,73 @@
+//! A checked schema whose supertype expressions can be read.
+
+ghost use Rattle.std.specs.Prelude.{◌≡◌, IfOk};
+ghost use Rattle.text_forms.specs.Gives.{Gives};
+ghost use Rattle.ex_subtypes.specs.Faults as faults;
+ghost use Rattle.ex_subtypes.specs.Legal as spec;
+
+use crate::build::{SubtypeFault, first_fault};
+use crate::legal::{Illegal, refusal};
+use crate::type_set::TypeSet;
+use ex_types::CheckedSchema;
+use std::alloc::{AllocError, Global};
+use std::marker::Model;
+use text_forms::Failure;
+
+/// A checked schema whose supertype expressions can be read.
+#[derive(Drop)]
+pub struct Compiled {
+    schema: CheckedSchema,
+}
+
+impl Model for Compiled {
+    ghost use Rattle.ex_types.specs.Checked.{Checked};
+    ghost use Rattle.ex_subtypes.specs.Legal as spec;
+
+    ghost Value = { Checked };
+
+    ghost view = { λ c. c.schema };
+
+    ghost invariant = { λ c. spec.AreReadable c.schema.named.schema.entities };
+
+    ghost use Rattle.std.specs.Coded.{codes};
+    ghost use Rattle.ex_types.specs.contracts.schema.CheckedSchema as checked;
+
+    ghost coded = { Prim.hlevel (codes, checked.the_row.coded) };
+}
+
+impl Compiled {
+    /// The schema, where its supertype expressions can be read. Else the fault of least offset.
+    #[tactic(auto, using(crate::proofs::Readable::readable))]
+    pub fn build(alloc: Global, schema: CheckedSchema) -> Result<Compiled, Failure<SubtypeFault>>
+        ensures { Gives (λ compiled. compiled) result (faults.built schema) }
+    {
+        if let Some(fault) = first_fault(alloc, schema.entities())? {
+            return Err(Failure::Fault(fault));
+        }
+        Ok(Compiled { schema })
+    }
+
+    /// The schema, as it was checked.
+    pub fn schema(&self) -> &CheckedSchema
+        ensures { result.now ≡ self.now }
+    {
+        &self.schema
+    }
+
+    /// What was proved when it was made: no expression names an entity twice, or one that is no direct subtype.
+    pub fn proved(&self)
+        ensures { spec.AreReadable self.now.named.schema.entities }
+    {
+        let _ = &self.schema;
+    }
+
+    /// Why no instance may have exactly these entities, the first that holds; nothing where one may.
+    /// A number beyond the schema is that of an entity without supertypes.
+    ///
+    /// Its time is near-linear in the set, its members' supertypes and their expressions.
+    pub fn legal(&self, alloc: Global, set: &TypeSet) -> Result<Option<Illegal>, AllocError>
+        ensures { IfOk result (λ found. found ≡ spec.refusal self.now.named.schema.entities set.now) }
+    {
+        refusal(alloc, self.schema.entities(), set)
+    }
+}
