@@ -135,6 +135,41 @@ def one_below_all(count):
     return schema(each(count, lambda k: entity(f"e{k}")), entity("below", "", names(count, "e")))
 
 
+# ---- supertype expressions
+
+def supertype(name, expression):
+    return f"ENTITY {name} SUPERTYPE OF ({expression}); END_ENTITY;\n"
+
+
+@family("supertypes")
+def named_by_all(count):
+    return schema(each(count, lambda k: supertype(f"e{k}", "below")), entity("below", "", names(count, "e")))
+
+
+def below_one(count, expression):
+    return schema(supertype("above", expression), each(count, lambda k: entity(f"e{k}", "", "above")))
+
+
+@family("subtypes")
+def one_of_all(count):
+    return below_one(count, f"ONEOF ({names(count, 'e')})")
+
+
+@family("subtypes")
+def one_of_all_and_the_first(count):
+    return below_one(count, f"ONEOF ({names(count, 'e')}, ⟦NamedTwice⟧e0)")
+
+
+@family("subtypes")
+def all_in_a_row(count):
+    return below_one(count, each(count, lambda k: f"e{k}", " ANDOR "))
+
+
+@family("supertypes")
+def brackets_in_each(count):
+    return schema(each(count, lambda k: supertype(f"a{k}", "(" * 60 + f"b{k}" + ")" * 60) + entity(f"b{k}", "", f"a{k}")))
+
+
 # ---- subtypes that use the first one's attribute
 
 @family("entities")

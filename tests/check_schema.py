@@ -50,6 +50,9 @@ ROWS = [
     ("SCHEMA A; ENTITY e; WHERE SELF.a; END_ENTITY; END_SCHEMA;", fault("Qualifier", 30)),
     ("SCHEMA A; TYPE t = ENUMERATION OF (x); END_TYPE; TYPE u = ENUMERATION OF (x); END_TYPE; "
      "ENTITY e; WHERE x = x; END_ENTITY; END_SCHEMA;", fault("Ambiguous", 104)),
+    # supertype expressions
+    ("SCHEMA A; ENTITY a SUPERTYPE OF (b ANDOR b); END_ENTITY; ENTITY b SUBTYPE OF (a); END_ENTITY; END_SCHEMA;", fault("NamedTwice", 41)),
+    ("SCHEMA A; ENTITY a SUPERTYPE OF (a); END_ENTITY; END_SCHEMA;", fault("NotDirectSubtype", 33)),
     # warnings, in the order of the text
     ("SCHEMA W; TYPE s = SELECT (e); END_TYPE; ENTITY e; WHERE 'W.S' IN TYPEOF(SELF); END_ENTITY; END_SCHEMA;",
      good("W", 57)),

@@ -20,6 +20,8 @@ SCHEMA = "SCHEMA A; {} END_SCHEMA;"
 CONSTANTS = "SCHEMA A; CONSTANT {} END_CONSTANT; END_SCHEMA;"
 HEAD = ("SCHEMA A; ENTITY a; END_ENTITY; ENTITY b; END_ENTITY; ENTITY c; END_ENTITY; ENTITY d; END_ENTITY; "
         "ENTITY e {}; END_ENTITY; END_SCHEMA;")
+ABOVE = ("SCHEMA A; ENTITY a SUBTYPE OF (e); END_ENTITY; ENTITY b SUBTYPE OF (e); END_ENTITY; ENTITY c SUBTYPE OF (e); END_ENTITY; "
+         "ENTITY d SUBTYPE OF (e); END_ENTITY; ENTITY f; END_ENTITY; ENTITY e {}; END_ENTITY; END_SCHEMA;")
 BODY = ("SCHEMA A; ENTITY b; a, b, c : LOGICAL; END_ENTITY; ENTITY d; g : INTEGER; END_ENTITY; "
         "ENTITY e SUBTYPE OF (b); {} END_ENTITY; END_SCHEMA;")
 TYPE = "SCHEMA A; ENTITY a; END_ENTITY; TYPE b = INTEGER; END_TYPE; TYPE t = {}; END_TYPE; END_SCHEMA;"
@@ -42,7 +44,7 @@ KINDS = ("RealArithmetic", "EntityComparison", "Operand", "Arguments", "Assign",
 # production, where the piece stands, a piece that is spelled, a piece that is not; `¬` in the first is a fault of names
 PRODUCTIONS = [
     ("abstract_supertype_declaration", HEAD, "ABSTRACT SUPERTYPE", "ABSTRACT ¿SUBTYPE OF (b)"),
-    ("abstract_supertype_declaration with OF", HEAD, "ABSTRACT SUPERTYPE OF (b)", "ABSTRACT SUPERTYPE ¿(b)"),
+    ("abstract_supertype_declaration with OF", ABOVE, "ABSTRACT SUPERTYPE OF (b)", "ABSTRACT SUPERTYPE ¿(b)"),
     ("actual_parameter_list", EXPRESSION, "f(1, 2)", "f(¿)"),
     ("add_like_op", EXPRESSION, "a + b - c OR d XOR g", "a + b ¡|| c"),
     ("aggregate_initializer", EXPRESSION, "[] = [1, 2 + 3]", "[1,¿]"),
@@ -92,7 +94,7 @@ PRODUCTIONS = [
      "WHERE TRUE; ¿UNIQUE a;"),
     ("entity_constructor", EXPRESSION, "¬e(1)", "e(¿)"),
     ("entity_decl", SCHEMA, "ENTITY e; END_ENTITY;", "ENTITY e; END_ENTITY ¿ENTITY f; END_ENTITY;"),
-    ("entity_head", HEAD, "SUPERTYPE OF (b) SUBTYPE OF (c)", "SUBTYPE OF (c) ¿SUPERTYPE OF (b)"),
+    ("entity_head", ABOVE, "SUPERTYPE OF (b) SUBTYPE OF (f)", "SUBTYPE OF (f) ¿SUPERTYPE OF (b)"),
     ("entity_id", SCHEMA, "ENTITY entity_1; END_ENTITY;", "ENTITY ¿ENTITY; END_ENTITY;"),
     ("enumeration_id", TYPE, "ENUMERATION OF (a, b)", "ENUMERATION OF (a, ¿'b')"),
     ("enumeration_reference", EXPRESSION, "-t.a = b", "t.¿.a"),
@@ -148,7 +150,7 @@ PRODUCTIONS = [
     ("null_stmt", STATEMENTS, ";", "; ¿)"),
     ("number_type", TYPE, "NUMBER", "NUMBER ¿(3)"),
     ("numeric_expression", EXPRESSION, "a[-1]", "a[¿]"),
-    ("one_of", HEAD, "SUPERTYPE OF (ONEOF (a, b AND c))", "SUPERTYPE OF (ONEOF (a ¿b))"),
+    ("one_of", ABOVE, "SUPERTYPE OF (ONEOF (a, b AND c))", "SUPERTYPE OF (ONEOF (a ¿b))"),
     ("parameter", EXPRESSION, "f(a = b)", "f(a,¿)"),
     ("parameter_id", PARAMETER, "INTEGER; b, c : REAL", "INTEGER; ¿NOT : REAL"),
     ("parameter_type", PARAMETER, "GENERIC", "¿OPTIONAL INTEGER"),
@@ -190,13 +192,13 @@ PRODUCTIONS = [
     ("stmt", STATEMENTS, "a := 1; CASE a OF END_CASE; BEGIN ; END; IF a THEN ; END_IF; ; REPEAT; ; END_REPEAT; RETURN (1);", "; ¿THEN"),
     ("string_literal", EXPRESSION, "'it''s' = \"0000004100000042\"", "'a' ¿'b'"),
     ("string_type", TYPE, "STRING (5)", "STRING (5) ¿(6)"),
-    ("subtype_constraint", HEAD, "SUPERTYPE OF (a)", "SUPERTYPE OF ¿a"),
+    ("subtype_constraint", ABOVE, "SUPERTYPE OF (a)", "SUPERTYPE OF ¿a"),
     ("subtype_declaration", HEAD, "SUBTYPE OF (a, b)", "SUBTYPE OF (a, b¿"),
-    ("supertype_constraint", HEAD, "SUPERTYPE OF (a)", "SUPERTYPE¿"),
-    ("supertype_expression", HEAD, "SUPERTYPE OF (a ANDOR b ANDOR c)", "SUPERTYPE OF (a ¿OR b)"),
-    ("supertype_factor", HEAD, "SUPERTYPE OF (a AND b AND c)", "SUPERTYPE OF (a AND ¿)"),
-    ("supertype_rule", HEAD, "SUPERTYPE OF (a)", "SUPERTYPE ¿FOR (a)"),
-    ("supertype_term", HEAD, "SUPERTYPE OF ((a ANDOR b) AND ONEOF (c, d))", "SUPERTYPE OF (¿NOT a)"),
+    ("supertype_constraint", ABOVE, "SUPERTYPE OF (a)", "SUPERTYPE¿"),
+    ("supertype_expression", ABOVE, "SUPERTYPE OF (a ANDOR b ANDOR c)", "SUPERTYPE OF (a ¿OR b)"),
+    ("supertype_factor", ABOVE, "SUPERTYPE OF (a AND b AND c)", "SUPERTYPE OF (a AND ¿)"),
+    ("supertype_rule", ABOVE, "SUPERTYPE OF (a)", "SUPERTYPE ¿FOR (a)"),
+    ("supertype_term", ABOVE, "SUPERTYPE OF ((a ANDOR b) AND ONEOF (c, d))", "SUPERTYPE OF (¿NOT a)"),
     ("syntax", WHOLE, "SCHEMA a; END_SCHEMA;", "SCHEMA a; END_SCHEMA; ¿SCHEMA b; END_SCHEMA;"),
     ("term", EXPRESSION, "a * b * c", "a * +¿"),
     ("type_decl", SCHEMA, "TYPE t = INTEGER; WHERE SELF > 0; END_TYPE;", "TYPE t ¿: INTEGER; END_TYPE;"),

@@ -3,3 +3,4 @@
 mod attributes;
 mod decimals;
 mod devices;
+mod legal;

@@ -1,8 +1,8 @@
 -- Attributes that are declared again.
-use Rattle.std.proofs.Common.{◌≡◌, ℕ, zero, suc, ◌==◌, Bool, true, false, if◌then◌else◌, List, [], ◌∷◌, ◌++◌, map, filter, Option, None, Some, option_map, is_some, Ok, Err, refl, sym, ◌∙◌, ap}
-use Rattle.std.specs.List.{cons_option, filter_map, flat_map, list_any}
+use Rattle.std.proofs.Common.{◌≡◌, ℕ, Bool, true, false, if◌then◌else◌, List, [], ◌∷◌, ◌++◌, map, Ok, Err, refl, ◌∙◌, ap}
+use Rattle.std.specs.List.{cons_option, filter_map, flat_map}
 use Rattle.std.proofs.lemmas.List.{map-append}
-use Rattle.std.proofs.lemmas.List.Elements.{filter-append, filter_map-append}
+use Rattle.std.proofs.lemmas.List.Elements.{filter_map-append}
 use Rattle.ex_tree.specs.declared.expression.Name.{Name}
 use Rattle.ex_tree.specs.declared.declaration.AttributeDeclaration.{AttributeDeclaration}
 use Rattle.ex_tree.specs.declared.declaration.AttributeDeclaration.TheVariants as a
@@ -11,7 +11,7 @@ use Rattle.ex_tree.specs.declared.declaration.EntityBody.{EntityBody}
 use Rattle.ex_tree.specs.declared.declaration.ExplicitAttribute.{ExplicitAttribute}
 use Rattle.ex_tree.specs.declared.declaration.QualifiedAttribute.{QualifiedAttribute}
 use Rattle.ex_named.specs.declared.fault.NameFaultKind.{NameFaultKind}
-use Rattle.ex_named.specs.Outcomes.{Outcome, refused, given, both, and_one, lesser}
+use Rattle.ex_named.specs.Outcomes.{Outcome, refused, given, both, and_one}
 use Rattle.ex_named.specs.Scopes.{Declarations}
 use Rattle.ex_scopes.specs.declared.sorts.Sorts.{Sorts}
 use Rattle.ex_scopes.specs.declared.sorts.Sorts.TheVariants as s

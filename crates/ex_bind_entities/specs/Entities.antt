@@ -1,5 +1,5 @@
 -- Entities and types with their names bound (ISO 10303-11:1994, 9.1 and 9.2).
-use Rattle.std.specs.Prelude.{ℕ, Bool, true, false, ◌||◌, ◌==◌, List, [], ◌∷◌, ◌++◌, map, Option, Some, None, if◌then◌else◌, Ok, Err}
+use Rattle.std.specs.Prelude.{ℕ, Bool, true, ◌||◌, ◌==◌, List, [], ◌∷◌, ◌++◌, map, Option, Some, None, if◌then◌else◌, Ok, Err}
 use Rattle.std.specs.List.{filter_map, flat_map, list_any}
 use Rattle.name_tables.specs.Names.{named}
 use Rattle.ex_tree.specs.declared.expression.Name.{Name}

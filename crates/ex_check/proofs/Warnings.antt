@@ -17,6 +17,8 @@ use Rattle.ex_warnings.specs.Warnings.{warnings, names_select}
 use Rattle.ex_types.specs.Checked.{Checked, checked, checked_by}
 use Rattle.ex_typing_statements.specs.Statements.{Told}
 use Rattle.ex_kinds.specs.declared.fault.TypeFault.{TypeFault}
+use Rattle.ex_subtypes.specs.declared.build.SubtypeFault.{SubtypeFault}
+use Rattle.ex_subtypes.specs.Faults.{built, built_by}
 
 earlier : (from before : ℕ) (ns : List ℕ) → before ≤ from → Rise from ns → Rise before ns
 earlier from before [] less rise = tt
@@ -85,3 +87,11 @@ pub warnings_rise : (named : Resolved) (schema : Checked) → Rise 0 (map (λ s.
 unfolding checked warnings
 warnings_rise named schema rise is =
     subst IsStrictlyIncreasing (given_warnings named _ schema is) (increasing 0 _ (kept 0 (λ s. names_select named.schema s.value) named.schema.strings rise))
+
+given_schema : (schema : Checked) (told : Option SubtypeFault) (compiled : Checked) → built_by schema told ≡ Ok compiled → schema ≡ compiled
+given_schema schema None compiled is = cc
+given_schema schema (Some fault) compiled is = cc
+
+-- those of a schema whose expressions can be read
+pub built_rise : (schema compiled : Checked) → IsStrictlyIncreasing schema.warnings → built schema ≡ Ok compiled → IsStrictlyIncreasing compiled.warnings
+built_rise schema compiled rise is = subst (λ s. IsStrictlyIncreasing s.warnings) (given_schema schema _ compiled is) rise

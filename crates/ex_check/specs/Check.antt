@@ -20,9 +20,13 @@ use Rattle.ex_kinds.specs.declared.fault.TypeFault.{TypeFault}
 use Rattle.ex_kinds.specs.declared.fault.TypeFaultKind.{TypeFaultKind}
 use Rattle.ex_kinds.specs.declared.fault.TypeFaultKind.TheVariants as types
 use Rattle.ex_types.specs.Checked.{Checked, checked}
+use Rattle.ex_subtypes.specs.declared.build.SubtypeFault.{SubtypeFault}
+use Rattle.ex_subtypes.specs.declared.build.SubtypeFaultKind.{SubtypeFaultKind}
+use Rattle.ex_subtypes.specs.declared.build.SubtypeFaultKind.TheVariants as subtypes
+use Rattle.ex_subtypes.specs.Faults.{built}
 use Rattle.ex_check.specs.declared.place.Position.{Position}
 use Rattle.ex_check.specs.declared.fault.SchemaFault.{SchemaFault}
-use Rattle.ex_check.specs.declared.fault.SchemaFault.TheVariants.{Lexical, Syntactic, Naming, Typing}
+use Rattle.ex_check.specs.declared.fault.SchemaFault.TheVariants.{Lexical, Syntactic, Naming, Typing, Constraining}
 use Rattle.ex_check.specs.declared.report.Verdict.{Verdict}
 use Rattle.ex_check.specs.declared.report.Verdict.TheVariants.{Accepted, Refused}
 
@@ -60,9 +64,21 @@ abbrev pub typed : Result Resolved SchemaFault → Result Checked SchemaFault
 typed (Ok schema) = fitting (checked schema)
 typed (Err fault) = Err fault
 
--- The schema of a text with its warnings, or the fault of the first phase that has one.
+-- The schema of a text with its types checked, or the fault of the first phase up to there that has one.
+unfoldable pub typing : List ℕ → Result Checked SchemaFault
+typing text = typed (resolution text)
+
+abbrev pub read : Result Checked SubtypeFault → Result Checked SchemaFault
+read (Ok schema) = Ok schema
+read (Err fault) = Err (Constraining fault)
+
+abbrev pub constrained : Result Checked SchemaFault → Result Checked SchemaFault
+constrained (Ok schema) = read (built schema)
+constrained (Err fault) = Err fault
+
+-- The schema of a text with its warnings, or the fault of the first phase that has one; supertype expressions are the last.
 unfoldable pub schema : List ℕ → Result Checked SchemaFault
-schema text = typed (resolution text)
+schema text = constrained (typing text)
 
 -- ---- where a fault lies
 
@@ -115,17 +131,23 @@ typing_name types.Assign = codes "Assign"
 typing_name types.Qualifier = codes "Qualifier"
 typing_name types.Ambiguous = codes "Ambiguous"
 
+abbrev pub constraining_name : SubtypeFaultKind → List ℕ
+constraining_name subtypes.NamedTwice = codes "NamedTwice"
+constraining_name subtypes.NotDirectSubtype = codes "NotDirectSubtype"
+
 abbrev pub name : SchemaFault → List ℕ
 name (Lexical fault) = lexical_name fault.kind
 name (Syntactic fault) = syntactic_name fault.kind
 name (Naming fault) = naming_name fault.kind
 name (Typing fault) = typing_name fault.kind
+name (Constraining fault) = constraining_name fault.kind
 
 abbrev pub place : SchemaFault → ℕ
 place (Lexical fault) = fault.at
 place (Syntactic fault) = fault.at
 place (Naming fault) = fault.at
 place (Typing fault) = fault.at
+place (Constraining fault) = fault.at
 
 -- `KIND line L column C`
 abbrev pub words_at : List ℕ → ℕ → ℕ → List ℕ

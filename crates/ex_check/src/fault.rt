@@ -4,16 +4,19 @@ ghost use Rattle.std.specs.Prelude.{◌≡◌};
 ghost use Rattle.ex_check.specs.Check as spec;
 
 use ex_named::{NameFault, NameFaultKind};
+use ex_subtypes::{SubtypeFault, SubtypeFaultKind};
 use ex_tree::{LexFault, LexFaultKind, ParseFault, ParseFaultKind};
 use ex_types::{TypeFault, TypeFaultKind};
 
-/// The first fault of a text that is no schema: of its tokens, else of its syntax, else of its names, else of its types.
+/// The first fault of a text that is no schema: of its tokens, else of its syntax, else of its names, else of its types,
+/// else of its supertype expressions.
 #[derive(Clone, Copy, PartialEq, Eq)]
 pub enum SchemaFault {
     Lexical(LexFault),
     Syntactic(ParseFault),
     Naming(NameFault),
     Typing(TypeFault),
+    Constraining(SubtypeFault),
 }
 
 impl SchemaFault {
@@ -26,6 +29,7 @@ impl SchemaFault {
             SchemaFault::Syntactic(fault) => syntactic_name(fault.kind),
             SchemaFault::Naming(fault) => naming_name(fault.kind),
             SchemaFault::Typing(fault) => typing_name(fault.kind),
+            SchemaFault::Constraining(fault) => constraining_name(fault.kind),
         }
     }
 
@@ -38,6 +42,7 @@ impl SchemaFault {
             SchemaFault::Syntactic(fault) => fault.at,
             SchemaFault::Naming(fault) => fault.at,
             SchemaFault::Typing(fault) => fault.at,
+            SchemaFault::Constraining(fault) => fault.at,
         }
     }
 }
@@ -87,5 +92,14 @@ fn typing_name(kind: TypeFaultKind) -> &'static str
         TypeFaultKind::Assign => "Assign",
         TypeFaultKind::Qualifier => "Qualifier",
         TypeFaultKind::Ambiguous => "Ambiguous",
+    }
+}
+
+fn constraining_name(kind: SubtypeFaultKind) -> &'static str
+    ensures { result.now ≡ spec.constraining_name kind }
+{
+    match kind {
+        SubtypeFaultKind::NamedTwice => "NamedTwice",
+        SubtypeFaultKind::NotDirectSubtype => "NotDirectSubtype",
     }
 }

@@ -9,4 +9,4 @@ mod schema;
 
 pub use fault::SchemaFault;
 pub use report::{CheckFault, Verdict, check_text, words_of_fault};
-pub use schema::schema_of;
+pub use schema::compile_schema;

@@ -9,7 +9,7 @@ ghost use Rattle.ex_check.specs.Check as spec;
 
 use crate::fault::SchemaFault;
 use crate::place::Position;
-use crate::schema::schema_of;
+use crate::schema::compile_schema;
 use ex_types::CheckedSchema;
 use rp_io::{Sink, write_all};
 use std::alloc::{AllocError, Global};
@@ -103,8 +103,8 @@ fn accepted(alloc: Global, text: &[u8], schema: &CheckedSchema) -> Result<String
 fn report(alloc: Global, text: &[u8]) -> Result<(String, Verdict), AllocError>
     ensures { IfOk result (λ r. (string_bytes r.0 ≡ spec.report text.now) × (r.1 ≡ spec.verdict text.now)) }
 {
-    match schema_of(alloc, text) {
-        Ok(schema) => Ok((accepted(alloc, text, &schema)?, Verdict::Accepted)),
+    match compile_schema(alloc, text) {
+        Ok(compiled) => Ok((accepted(alloc, text, compiled.schema())?, Verdict::Accepted)),
         Err(Failure::Fault(fault)) => Ok((refused(alloc, text, fault)?, Verdict::Refused)),
         Err(Failure::NoMemory) => Err(AllocError),
     }

@@ -9,6 +9,7 @@ ghost use Rattle.ex_check.specs.Check as spec;
 use crate::fault::SchemaFault;
 use ex_lex::tokens;
 use ex_resolve::{Named, resolve};
+use ex_subtypes::Compiled;
 use ex_syntax::parse;
 use ex_tree::Schema as Tree;
 use ex_types::{CheckedSchema, check};
@@ -48,17 +49,32 @@ fn named_of(alloc: Global, text: &[u8]) -> Result<Named, Failure<SchemaFault>>
     }
 }
 
-/// The schema of a text, whose warnings stand in the text's order; else the first fault of its tokens, or else of its
-/// syntax, or else of its names, or else of its types.
-#[tactic(auto, unfolding(crate::specs::Check::schema), using(crate::proofs::Warnings::warnings_rise))]
-pub fn schema_of(alloc: Global, text: &[u8]) -> Result<CheckedSchema, Failure<SchemaFault>>
-    ensures value { Gives (λ schema. schema) result (spec.schema text.now) }
+/// The schema of a text with its types checked; else the first fault of its tokens, or else of its syntax, or else of its
+/// names, or else of its types.
+#[tactic(auto, unfolding(crate::specs::Check::typing), using(crate::proofs::Warnings::warnings_rise))]
+fn checked_of(alloc: Global, text: &[u8]) -> Result<CheckedSchema, Failure<SchemaFault>>
+    ensures value { Gives (λ schema. schema) result (spec.typing text.now) }
     ensures ascending { IfOk result (λ schema. IsStrictlyIncreasing schema.warnings) }
 {
     let named = named_of(alloc, text)?;
     match check(alloc, named) {
         Ok(schema) => Ok(schema),
         Err(Failure::Fault(fault)) => Err(Failure::Fault(SchemaFault::Typing(fault))),
+        Err(Failure::NoMemory) => Err(Failure::NoMemory),
+    }
+}
+
+/// The schema of a text, whose warnings stand in the text's order; else the first fault of its tokens, or else of its
+/// syntax, or else of its names, or else of its types, or else of its supertype expressions.
+#[tactic(auto, unfolding(crate::specs::Check::schema), using(crate::proofs::Warnings::built_rise))]
+pub fn compile_schema(alloc: Global, text: &[u8]) -> Result<Compiled, Failure<SchemaFault>>
+    ensures value { Gives (λ compiled. compiled) result (spec.schema text.now) }
+    ensures ascending { IfOk result (λ compiled. IsStrictlyIncreasing compiled.warnings) }
+{
+    let schema = checked_of(alloc, text)?;
+    match Compiled::build(alloc, schema) {
+        Ok(compiled) => Ok(compiled),
+        Err(Failure::Fault(fault)) => Err(Failure::Fault(SchemaFault::Constraining(fault))),
         Err(Failure::NoMemory) => Err(Failure::NoMemory),
     }
 }

@@ -1,17 +1,16 @@
 -- What is asked of operands, and of what they are made.
 use Rattle.std.proofs.Common.{◌≡◌, ℕ, zero, suc, ◌+◌, ◌<◌, drop, get_or, Bool, true, false, ◌||◌, ◌&&◌, ◌==◌, nat_lt, List, [], ◌∷◌, length, refl, sym, ◌∙◌, ap, arith}
-use Rattle.std.specs.Prelude.{Option, Some, None, is_some}
+use Rattle.std.specs.Prelude.{Some, None}
 use Rattle.std.specs.List.{list_any, filter_map}
 use Rattle.std.proofs.lemmas.Bool.Decides.{nat_tests}
 use Rattle.std.proofs.Math.Seq.{drop-cons}
 use Rattle.ex_named.specs.Scopes.{is_among}
-use Rattle.ex_kinds.specs.declared.kind.ValueKind.{ValueKind}
 use Rattle.ex_kinds.specs.declared.kind.Sort.{Sort}
 use Rattle.ex_kinds.specs.declared.kind.Sort.TheVariants as k
 use Rattle.ex_kinds.specs.declared.kind.PlainSort.{PlainSort}
 use Rattle.ex_kinds.specs.declared.kind.PlainSort.TheVariants as p
 use Rattle.ex_kinds.specs.Kinds.{Kinds, elements, shallower, joined}
-use Rattle.ex_kinds.specs.Types.{possible, plain, some_plain, is_value, is_sort, can_be, enumeration, enumeration_at, has_elements}
+use Rattle.ex_kinds.specs.Types.{possible, plain, some_plain, is_value, is_sort, can_be, enumeration, has_elements}
 
 some_there : {A : Type 0} → (xs : List A) → nat_lt zero (suc (length xs)) ≡ true
 some_there xs = grind (arith, nat_tests)

@@ -1,5 +1,5 @@
 -- A schema with its names bound, or the fault of least offset (ISO 10303-11:1994, clause 10).
-use Rattle.std.specs.Prelude.{◌≡◌, ℕ, Bool, true, false, List, [], map, filter, Option, Some, None, option_map, slice_index_or, Ok}
+use Rattle.std.specs.Prelude.{◌≡◌, ℕ, Bool, true, false, List, [], map, filter, Option, option_map, slice_index_or, Ok}
 use Rattle.std.specs.List.{filter_map, flat_map}
 use Rattle.ex_tree.specs.declared.declaration.Constant.{Constant}
 use Rattle.ex_tree.specs.declared.declaration.Declaration.{Declaration}

@@ -1,9 +1,8 @@
 -- What is seen of the declarations of an attribute's name.
-use Rattle.std.proofs.Common.{◌≡◌, ◌<◌, ◌+◌, ◌||◌, Bool, true, false, ℕ, suc, length, get_or, drop-cons, List, [], ◌∷◌, ◌++◌, take, drop, filter, Option, None, Some, if◌then◌else◌, is_some, refl, sym, ◌∙◌, ap, arith}
+use Rattle.std.proofs.Common.{◌≡◌, ◌<◌, ◌+◌, ◌||◌, Bool, true, false, ℕ, suc, length, get_or, drop-cons, List, [], ◌∷◌, ◌++◌, take, drop, filter, None, Some, if◌then◌else◌, is_some, refl, sym, ◌∙◌, ap, arith}
 use Rattle.std.specs.List.{flat_map, list_any}
 use Rattle.std.proofs.lemmas.List.{take-append-drop}
 use Rattle.std.proofs.lemmas.List.Elements.{filter-append}
-use Rattle.ex_named.specs.declared.reference.AttributeMeaning.{AttributeMeaning}
 use Rattle.ex_named.specs.declared.reference.AttributeMeaning.TheVariants as m
 use Rattle.ex_named.specs.declared.reference.AttributePlace.{AttributePlace}
 use Rattle.ex_named.specs.declared.reference.AttributeSort.{AttributeSort}

@@ -7,8 +7,8 @@ ghost use Rattle.rp_config.specs.Loading as spec;
 use crate::config::{Config, ConfigFault, config_of};
 use crate::fault::LoadFault;
 use crate::files::{Folder, file_bytes};
-use ex_check::{SchemaFault, schema_of, words_of_fault};
-use ex_types::CheckedSchema;
+use ex_check::{SchemaFault, compile_schema, words_of_fault};
+use ex_subtypes::Compiled;
 use plain_data::{Rows, Text};
 use std::alloc::{AllocError, Global};
 use text_forms::Failure;
@@ -19,7 +19,7 @@ pub struct Loaded {
     /// The names of the partners, in their order.
     pub partners: Rows<Text>,
     /// The schemas, in the order of their files.
-    pub schemas: Rows<CheckedSchema>,
+    pub schemas: Rows<Compiled>,
 }
 
 /// All that the configuration in the file of this path names. Else the first fault: of the
@@ -56,7 +56,7 @@ fn schemas_at<D: Folder>(
     alloc: Global,
     folder: &D,
     paths: &[Text],
-) -> Result<Rows<CheckedSchema>, Failure<LoadFault>>
+) -> Result<Rows<Compiled>, Failure<LoadFault>>
     ensures { IfSome (D.files folder.now) (λ held. Gives (λ schemas. schemas) result (spec.schemas_at held paths.now)) }
 {
     let mut schemas = Rows::new(alloc);
@@ -71,11 +71,11 @@ fn schema_at<D: Folder>(
     alloc: Global,
     folder: &D,
     path: &str,
-) -> Result<CheckedSchema, Failure<LoadFault>>
+) -> Result<Compiled, Failure<LoadFault>>
     ensures { IfSome (D.files folder.now) (λ held. Gives (λ schema. schema) result (spec.schema_at held path.now)) }
 {
     let text = file_bytes(alloc, folder, path)?;
-    match schema_of(alloc, &text) {
+    match compile_schema(alloc, &text) {
         Ok(schema) => Ok(schema),
         Err(Failure::Fault(fault)) => Err(Failure::Fault(no_schema(alloc, path, &text, fault)?)),
         Err(Failure::NoMemory) => Err(Failure::NoMemory),

@@ -9,14 +9,14 @@ ghost use Rattle.rp_core.specs.Told.{plain_of, told};
 
 use crate::sight::{at_least, level};
 use crate::table::{RowRef, Table};
-use ex_types::CheckedSchema;
+use ex_subtypes::Compiled;
 use plain_data::Text;
 use rp_rows::rows::{Content, Key, Listing, Right};
 
 /// What a repository holds, as one partner asks it.
 #[derive(Clone, Copy)]
 pub struct Asking<'a> {
-    pub schemas: &'a [CheckedSchema],
+    pub schemas: &'a [Compiled],
     pub partners: &'a [Text],
     pub models: &'a Table<Content>,
     pub groups: &'a Table<Listing>,
@@ -29,10 +29,12 @@ fn has(texts: &[Text], text: &Text) -> bool
     texts.iter().any(|other| text.is(other))
 }
 
-fn is_loaded(schemas: &[CheckedSchema], name: &Text) -> bool
+fn is_loaded(schemas: &[Compiled], name: &Text) -> bool
     ensures { result ≡ HasSchema schemas.now name.now }
 {
-    schemas.iter().any(|schema| name.is(schema.name()))
+    schemas
+        .iter()
+        .any(|compiled| name.is(compiled.schema().name()))
 }
 
 /// Where the text stands among the texts.

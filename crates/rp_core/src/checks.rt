@@ -10,8 +10,8 @@ ghost use Rattle.rp_core.specs.Plans.{Plans};
 use crate::asked::Asking;
 use crate::edits::{Edits, Plan};
 use crate::faults::too_large;
-use ex_check::schema_of;
-use ex_types::CheckedSchema;
+use ex_check::compile_schema;
+use ex_subtypes::Compiled;
 use plain_data::{Rows, Text};
 use rp_plain::messages::{Refusal, Reply, Request};
 use std::alloc::{AllocError, Global};
@@ -21,16 +21,17 @@ use text_forms::Failure;
 fn told_of_text(alloc: Global, text: &Text) -> Result<Reply, AllocError>
     ensures { IfOk result (λ reply. reply ≡ of_checks.told (schema_in text.now)) }
 {
-    match schema_of(alloc, text.as_bytes()) {
-        Ok(schema) => told_of_schema(alloc, &schema),
+    match compile_schema(alloc, text.as_bytes()) {
+        Ok(compiled) => told_of_schema(alloc, &compiled),
         Err(Failure::Fault(fault)) => Ok(Reply::Faulty(fault)),
         Err(Failure::NoMemory) => Err(AllocError),
     }
 }
 
-fn told_of_schema(alloc: Global, schema: &CheckedSchema) -> Result<Reply, AllocError>
-    ensures { IfOk result (λ reply. reply ≡ Reply.Checked (schema_name schema.now) schema.now.warnings) }
+fn told_of_schema(alloc: Global, compiled: &Compiled) -> Result<Reply, AllocError>
+    ensures { IfOk result (λ reply. reply ≡ Reply.Checked (schema_name compiled.now) compiled.now.warnings) }
 {
+    let schema = compiled.schema();
     let warnings = Vec::from_slice(alloc, schema.warnings())?;
     let schema = schema.name().copy(alloc)?;
     Ok(Reply::Checked {

@@ -6,7 +6,7 @@ use crate::opening::may_open;
 use crate::plans::plan;
 use crate::steps::{Pending, make_steps};
 use crate::table::Table;
-use ex_types::CheckedSchema;
+use ex_subtypes::Compiled;
 use plain_data::Text;
 use rp_plain::messages::{NewFault, Reply, Request};
 use rp_rows::rows::{Content, Listing};
@@ -16,7 +16,7 @@ use std::marker::Model;
 /// What a repository holds, in memory.
 #[derive(Drop)]
 pub struct Holdings {
-    schemas: Vec<CheckedSchema>,
+    schemas: Vec<Compiled>,
     partners: Vec<Text>,
     models: Table<Content>,
     groups: Table<Listing>,
@@ -28,7 +28,7 @@ impl Model for Holdings {
     ghost Value = { Kept };
 
     ghost use Rattle.std.specs.Coded.{codes};
-    ghost use Rattle.ex_types.specs.contracts.schema.CheckedSchema as schema_type;
+    ghost use Rattle.ex_subtypes.specs.contracts.schema.Compiled as schema_type;
     ghost use Rattle.rp_rows.specs.contracts.rows.Content as content_type;
 
     ghost coded = { Prim.hlevel (codes, schema_type.the_row.coded, content_type.the_row.coded) };
@@ -51,11 +51,7 @@ impl Holdings {
     /// # Errors
     ///
     /// The first that holds of `TwoSchemas`, `TwoPartners`, `BadName` and `TooMany`; or `NoMemory`.
-    pub fn new(
-        alloc: Global,
-        schemas: Vec<CheckedSchema>,
-        partners: Vec<Text>,
-    ) -> Result<Self, NewFault>
+    pub fn new(alloc: Global, schemas: Vec<Compiled>, partners: Vec<Text>) -> Result<Self, NewFault>
         ensures ok { IfOk result (λ _. new_fault schemas.items partners.items ≡ None) }
         ensures content { IfOk result (λ holdings. holdings.content ≡ opened schemas.items partners.items) }
         ensures err { IfErr result (λ fault. fault ≢ NewFault.NoMemory → new_fault schemas.items partners.items ≡ Some fault) }

@@ -6,7 +6,7 @@ ghost use Rattle.rp_rows.specs.Names.{is_name};
 ghost use Rattle.rp_plain.specs.Opening.{new_fault, has_twice as IsTwice};
 
 use crate::schemas::names_of;
-use ex_types::CheckedSchema;
+use ex_subtypes::Compiled;
 use plain_data::Text;
 use rp_plain::messages::NewFault;
 use rp_rows::names::is_valid_name;
@@ -23,7 +23,7 @@ const MAX_PARTNERS: usize = 1_000;
 /// # Errors
 ///
 /// The first that holds of `TwoSchemas`, `TwoPartners`, `BadName` and `TooMany`; or `NoMemory`.
-pub fn may_open(alloc: Global, schemas: &[CheckedSchema], partners: &[Text]) -> Result<(), NewFault>
+pub fn may_open(alloc: Global, schemas: &[Compiled], partners: &[Text]) -> Result<(), NewFault>
     ensures ok { IfOk result (λ _. new_fault schemas.now partners.now ≡ None) }
     ensures err { IfErr result (λ fault. fault ≢ NewFault.NoMemory → new_fault schemas.now partners.now ≡ Some fault) }
 {

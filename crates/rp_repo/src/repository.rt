@@ -1,6 +1,6 @@
 //! The repository, whose requests are turns of its partners.
 
-use ex_types::CheckedSchema;
+use ex_subtypes::Compiled;
 use plain_data::Text;
 use rp_core::{Holdings, Pending};
 use rp_laws::{one_run, step_keeps_validity};
@@ -70,11 +70,7 @@ impl Repository {
     /// # Errors
     ///
     /// The first that holds of `TwoSchemas`, `TwoPartners`, `BadName` and `TooMany`; or `NoMemory`.
-    pub fn new(
-        alloc: Global,
-        schemas: Vec<CheckedSchema>,
-        partners: Vec<Text>,
-    ) -> Result<Self, NewFault>
+    pub fn new(alloc: Global, schemas: Vec<Compiled>, partners: Vec<Text>) -> Result<Self, NewFault>
         ensures ok { IfOk result (λ _. new_fault schemas.items partners.items ≡ None) }
         ensures content { IfOk result (λ repository. repository.content ≡ opened schemas.items partners.items) }
         ensures valid { IfOk result (λ repository. IsValid repository.content) }

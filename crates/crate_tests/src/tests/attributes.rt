@@ -1,10 +1,10 @@
 //! The attributes of an entity in the order in which files write them, and its ancestors.
 
-use ex_check::schema_of;
+use ex_check::compile_schema;
 use ex_named::{AttributePlace, AttributeSort};
 use ex_slots::{Clause, redeclarations, slots};
+use ex_types::CheckedSchema;
 use plain_data::{Rows, Text};
-use rp_repo::CheckedSchema;
 use std::alloc::{AllocError, Global};
 use std::test::*;
 
@@ -98,8 +98,8 @@ fn fourth(alloc: Global, schema: &CheckedSchema) -> Result<Told, AllocError> {
 }
 
 fn fourth_of(alloc: Global, text: &[u8]) -> Result<Told, Fail> {
-    let schema = schema_of(alloc, text).ok().ok_or("a schema")?;
-    Ok(fourth(alloc, &schema)?)
+    let compiled = compile_schema(alloc, text).ok().ok_or("a schema")?;
+    Ok(fourth(alloc, compiled.schema())?)
 }
 
 fn is_explicit(found: &AttributePlace, wanted: &(usize, usize)) -> bool {
@@ -132,7 +132,8 @@ TYPE x = REAL; END_TYPE; ENTITY a; END_ENTITY; END_SCHEMA;";
 
 #[test]
 fn names_in_the_order_of_their_bytes(rt: HostRuntime) -> Result<(), Fail> {
-    let schema = schema_of(rt.alloc(), NAMES).ok().ok_or("a schema")?;
+    let compiled = compile_schema(rt.alloc(), NAMES).ok().ok_or("a schema")?;
+    let schema = compiled.schema();
     for (name, number, rank) in [
         ("S", Some(0), 2),
         ("A_1", Some(1), 1),

@@ -1,7 +1,7 @@
 //! Runs over a reader and a writer in memory that move a byte at a time, and of which a call fails.
 ghost use Rattle.std.specs.Prelude.{None};
 
-use ex_check::schema_of;
+use ex_check::compile_schema;
 use rp_repo::{DeviceFault, Repository, RunFault, Sink, Source, Text, run_lines};
 use std::alloc::Global;
 use std::test::*;
@@ -66,7 +66,7 @@ impl Sink for Taker {
 }
 
 fn repository(alloc: Global) -> Result<Repository, Fail> {
-    let schema = schema_of(alloc, b"SCHEMA T; END_SCHEMA;")
+    let schema = compile_schema(alloc, b"SCHEMA T; END_SCHEMA;")
         .ok()
         .ok_or("a schema")?;
     let schemas = vec![in alloc; schema]?;
