@@ -2,7 +2,7 @@
 use Rattle.std.specs.Prelude.{◌≡◌, ℕ, List, [], slice_index_or, Option, Some, None}
 use Rattle.std.specs.List.{find}
 use Rattle.sorted_tables.specs.Table.{with_row}
-use Rattle.rp_rows.specs.declared.rows.Content.{Content}
+use Rattle.rp_rows.specs.declared.rows.ModelContent.{ModelContent}
 use Rattle.rp_rows.specs.declared.rows.Listing.{Listing}
 use Rattle.rp_rows.specs.Rows.{Text, text_cmp, grant_key, Key, Row, is_row, Model}
 use Rattle.rp_rows.specs.Alterations.{Holds, altered, grant_for, grants_of}
@@ -24,7 +24,7 @@ use Rattle.rp_core.specs.Stored.{Stored, rewritten, HasRoom}
 -- the content, and the tables that it is made of
 pub record Kept : Type 0 where
   pub content : Plain
-  pub models : Stored Content
+  pub models : Stored ModelContent
   pub groups : Stored Listing
 
 -- ---- what steps do
@@ -58,7 +58,7 @@ StepFits k (Put again a) table = (again ≡ k) × HasRoom table
 StepFits k Remove table = Unit {0}
 StepFits k (Regrant grants) table = Unit {0}
 
-abbrev pub StepsFit : Stored Content → Steps → Type 0
+abbrev pub StepsFit : Stored ModelContent → Steps → Type 0
 StepsFit models Nothing = Unit {0}
 StepsFit models (OfModel k step) = StepFits k step models
 

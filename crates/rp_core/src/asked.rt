@@ -11,14 +11,14 @@ use crate::sight::{at_least, level};
 use crate::table::{RowRef, Table};
 use ex_subtypes::Compiled;
 use plain_data::Text;
-use rp_rows::rows::{Content, Key, Listing, Right};
+use rp_rows::rows::{Key, Listing, ModelContent, Right};
 
 /// What a repository holds, as one partner asks it.
 #[derive(Clone, Copy)]
 pub struct Asking<'a> {
     pub schemas: &'a [Compiled],
     pub partners: &'a [Text],
-    pub models: &'a Table<Content>,
+    pub models: &'a Table<ModelContent>,
     pub groups: &'a Table<Listing>,
     pub caller: &'a Text,
 }
@@ -64,7 +64,7 @@ impl<'a> Asking<'a> {
         has(self.partners, name)
     }
 
-    fn model(&self, key: &Key) -> Option<RowRef<'a, Content>>
+    fn model(&self, key: &Key) -> Option<RowRef<'a, ModelContent>>
         ensures { option_map row_of result ≡ model_at (plain_of self.now) self.now.caller.now key.now }
     {
         let model = self.models.find(key)?;
@@ -85,7 +85,7 @@ impl<'a> Asking<'a> {
     }
 
     /// What the model holds, if the partner sees it.
-    pub fn content(&self, key: &Key) -> Option<&'a Content>
+    pub fn content(&self, key: &Key) -> Option<&'a ModelContent>
         ensures { option_copied result ≡ (told self.now).content key.now }
     {
         match self.model(key) {

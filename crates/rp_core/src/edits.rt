@@ -2,7 +2,7 @@
 
 use plain_data::Text;
 use rp_plain::messages::Reply;
-use rp_rows::rows::{Content, Key, Level};
+use rp_rows::rows::{Key, Level, ModelContent};
 
 /// What is done to what stands under a key.
 #[derive(Drop)]
@@ -17,7 +17,7 @@ pub enum Change<A> {
 #[derive(Drop)]
 pub enum Edits {
     Nothing,
-    OfModel(Key, Change<Content>),
+    OfModel(Key, Change<ModelContent>),
 }
 
 /// A request's reply, and what it changes.

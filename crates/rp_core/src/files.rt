@@ -15,7 +15,7 @@ use p21_read::{is_of_schema, read_raw};
 use p21_tree::Raw;
 use plain_data::{Rows, Text};
 use rp_plain::messages::{Refusal, Reply, Request};
-use rp_rows::rows::{Content, Key, Right};
+use rp_rows::rows::{Key, ModelContent, Right};
 use std::alloc::{AllocError, Global};
 use text_forms::Failure;
 
@@ -35,7 +35,7 @@ fn cheap_fault(asked: &Asking<'_>, key: &Key, file: &Text) -> Option<Refusal>
 }
 
 /// Whether the file is of another schema than the model.
-fn is_of_another(content: &Option<&Content>, raw: &Raw) -> bool
+fn is_of_another(content: &Option<&ModelContent>, raw: &Raw) -> bool
     ensures { result ≡ is_of_another_schema (option_copied content.now) raw.now }
 {
     match content {
@@ -45,7 +45,7 @@ fn is_of_another(content: &Option<&Content>, raw: &Raw) -> bool
 }
 
 /// What a file for the model says, or why it is refused.
-fn read_file(alloc: Global, content: &Option<&Content>, file: &Text) -> Result<Raw, Refusal>
+fn read_file(alloc: Global, content: &Option<&ModelContent>, file: &Text) -> Result<Raw, Refusal>
     ensures { FileGives (option_copied content.now) file.now result }
 {
     let raw = match read_raw(alloc, file.as_bytes()) {
@@ -66,7 +66,7 @@ fn read_file(alloc: Global, content: &Option<&Content>, file: &Text) -> Result<R
 }
 
 /// What the model holds once the file is put into it.
-fn refilled(alloc: Global, content: &Content, raw: Raw) -> Result<Content, AllocError>
+fn refilled(alloc: Global, content: &ModelContent, raw: Raw) -> Result<ModelContent, AllocError>
     ensures { IfOk result (λ h. h ≡ of_files.refilled content.now raw) }
 {
     let schema = content.schema.copy(alloc)?;
@@ -77,7 +77,7 @@ fn refilled(alloc: Global, content: &Content, raw: Raw) -> Result<Content, Alloc
         ..
     } = raw;
     let instances = in_name_order(instances)?;
-    Ok(Content {
+    Ok(ModelContent {
         schema,
         header,
         greatest,
@@ -90,7 +90,7 @@ fn refilled(alloc: Global, content: &Content, raw: Raw) -> Result<Content, Alloc
 fn filling(
     alloc: Global,
     key: Key,
-    content: &Option<&Content>,
+    content: &Option<&ModelContent>,
     raw: Raw,
 ) -> Result<Edits, AllocError>
     ensures { IfOk result (λ edits. edits_of edits ≡ of_files.filled key (option_copied content.now) (Ok raw)) }

@@ -9,7 +9,7 @@ use crate::table::Table;
 use ex_subtypes::Compiled;
 use plain_data::Text;
 use rp_plain::messages::{NewFault, Reply, Request};
-use rp_rows::rows::{Content, Listing};
+use rp_rows::rows::{Listing, ModelContent};
 use std::alloc::Global;
 use std::marker::Model;
 
@@ -18,7 +18,7 @@ use std::marker::Model;
 pub struct Holdings {
     schemas: Vec<Compiled>,
     partners: Vec<Text>,
-    models: Table<Content>,
+    models: Table<ModelContent>,
     groups: Table<Listing>,
 }
 
@@ -29,7 +29,7 @@ impl Model for Holdings {
 
     ghost use Rattle.std.specs.Coded.{codes};
     ghost use Rattle.ex_subtypes.specs.contracts.schema.Compiled as schema_type;
-    ghost use Rattle.rp_rows.specs.contracts.rows.Content as content_type;
+    ghost use Rattle.rp_rows.specs.contracts.rows.ModelContent as content_type;
 
     ghost coded = { Prim.hlevel (codes, schema_type.the_row.coded, content_type.the_row.coded) };
 

@@ -14,7 +14,7 @@ use crate::sight::{at_least, group_right, level, sees_group};
 use crate::table::RowRef;
 use plain_data::{Rows, Text};
 use rp_plain::lists::Item;
-use rp_rows::rows::{Content, Key, Listing, Right};
+use rp_rows::rows::{Key, Listing, ModelContent, Right};
 use std::alloc::{AllocError, Global};
 
 fn item(alloc: Global, key: &Key, schema: &Text, right: Right) -> Result<Item, AllocError>
@@ -34,7 +34,7 @@ fn item(alloc: Global, key: &Key, schema: &Text, right: Right) -> Result<Item, A
 fn push_model(
     alloc: Global,
     asked: &Asking<'_>,
-    model: &RowRef<'_, Content>,
+    model: &RowRef<'_, ModelContent>,
     items: &mut Vec<Item>,
 ) -> Result<(), AllocError>
     ensures { OnOk result (items.new.items ≡ items.old.items ++ (if sees asked.now.groups.now.rows asked.now.caller.now (row_of model.now) then model_item asked.now.groups.now.rows asked.now.caller.now (row_of model.now) ∷ [] else [])) }

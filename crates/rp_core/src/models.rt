@@ -12,7 +12,7 @@ use crate::sight::at_least;
 use p21_read::default_header;
 use plain_data::{Rows, Text};
 use rp_plain::messages::{Refusal, Reply, Request};
-use rp_rows::rows::{Content, Key, Right};
+use rp_rows::rows::{Key, ModelContent, Right};
 use std::alloc::{AllocError, Global};
 
 /// The most models of one owner.
@@ -27,11 +27,11 @@ pub fn own(alloc: Global, asked: &Asking<'_>, name: Text) -> Result<Key, AllocEr
 }
 
 /// What a model holds as it is created. The schema is in upper case.
-fn new_content(alloc: Global, schema: Text) -> Result<Content, AllocError>
+fn new_content(alloc: Global, schema: Text) -> Result<ModelContent, AllocError>
     ensures { IfOk result (λ h. h ≡ record { schema = schema; header = defaults.default_header; greatest = 0; instances = []; links = [] }) }
 {
     let header = default_header(alloc)?;
-    Ok(Content {
+    Ok(ModelContent {
         schema,
         header,
         greatest: 0,

@@ -8,7 +8,7 @@ ghost use Rattle.rp_core.specs.Stored.{row_of};
 
 use crate::table::{RowRef, Table};
 use plain_data::Text;
-use rp_rows::rows::{Content, Grant, Key, Level, Listing, Right};
+use rp_rows::rows::{Grant, Key, Level, Listing, ModelContent, Right};
 
 fn owns<A>(caller: &Text, row: &RowRef<'_, A>) -> bool
     ensures { result ≡ sight.owns caller.now (row_of row.now) }
@@ -73,13 +73,13 @@ fn is_granted_group(partner: &Text, grants: &[Grant]) -> bool
     grants.iter().any(|grant| grant.partner.is(partner) && is_group_level(grant.level))
 }
 
-fn may_group(partner: &Text, model: &RowRef<'_, Content>) -> bool
+fn may_group(partner: &Text, model: &RowRef<'_, ModelContent>) -> bool
     ensures { result ≡ sight.may_group partner.now (row_of model.now) }
 {
     owns(partner, model) || is_granted_group(partner, model.grants)
 }
 
-fn counts(model: &RowRef<'_, Content>, group: &RowRef<'_, Listing>) -> bool
+fn counts(model: &RowRef<'_, ModelContent>, group: &RowRef<'_, Listing>) -> bool
     ensures { result ≡ sight.counts (row_of model.now) (row_of group.now) }
 {
     has_key(model.key, group.holds.members.as_slice())
@@ -87,7 +87,7 @@ fn counts(model: &RowRef<'_, Content>, group: &RowRef<'_, Listing>) -> bool
         && may_group(&group.key.0, model)
 }
 
-fn is_counted(groups: &Table<Listing>, caller: &Text, model: &RowRef<'_, Content>) -> bool
+fn is_counted(groups: &Table<Listing>, caller: &Text, model: &RowRef<'_, ModelContent>) -> bool
     ensures { result ≡ sight.is_counted groups.now.rows caller.now (row_of model.now) }
 {
     for i in 0..groups.len() {
@@ -109,7 +109,7 @@ fn right_of(level: Level) -> Right
     }
 }
 
-pub fn level(groups: &Table<Listing>, caller: &Text, model: &RowRef<'_, Content>) -> Right
+pub fn level(groups: &Table<Listing>, caller: &Text, model: &RowRef<'_, ModelContent>) -> Right
     ensures { result ≡ sight.level groups.now.rows caller.now (row_of model.now) }
 {
     if owns(caller, model) {

@@ -10,7 +10,7 @@ use crate::regranted::regranted_for;
 use crate::table::Table;
 use plain_data::Rows;
 use rp_plain::messages::{Refusal, Reply};
-use rp_rows::rows::{Content, Grant, Key};
+use rp_rows::rows::{Grant, Key, ModelContent};
 use std::alloc::{AllocError, Global};
 
 /// A change of what stands under a key, with all the memory that it needs.
@@ -27,7 +27,7 @@ pub enum Step<A> {
 #[derive(Drop)]
 pub enum Steps {
     Nothing,
-    OfModel(Key, Step<Content>),
+    OfModel(Key, Step<ModelContent>),
 }
 
 /// A request's reply, and what is still to be done. Dropped, it changes nothing.
@@ -71,7 +71,11 @@ fn step_for<A: Drop>(
 }
 
 /// The steps that edits come to, with room for them.
-fn steps_for(alloc: Global, models: &mut Table<Content>, edits: Edits) -> Result<Steps, AllocError>
+fn steps_for(
+    alloc: Global,
+    models: &mut Table<ModelContent>,
+    edits: Edits,
+) -> Result<Steps, AllocError>
     ensures models { models.new.rows ≡ models.old.rows }
     ensures fits { IfOk result (λ steps. StepsFit models.new steps) }
     ensures steps { IfOk result (λ steps. steps ≡ steps_of models.old.rows edits) }
@@ -97,7 +101,7 @@ fn make_step<A: Drop>(table: &mut Table<A>, key: Key, step: Step<A>)
 }
 
 /// Makes the steps. It takes no memory.
-pub fn make_steps(models: &mut Table<Content>, steps: Steps)
+pub fn make_steps(models: &mut Table<ModelContent>, steps: Steps)
     requires { StepsFit models.old steps }
     ensures { models.new.rows ≡ made_models steps models.old.rows }
 {
@@ -121,7 +125,7 @@ impl Pending {
     /// What is pending of a plan, with room for it.
     pub(crate) fn of_plan(
         alloc: Global,
-        models: &mut Table<Content>,
+        models: &mut Table<ModelContent>,
         plan: Plan,
     ) -> Result<Pending, AllocError>
         ensures models { models.new.rows ≡ models.old.rows }

@@ -16,7 +16,7 @@ use Rattle.p21_tree.specs.declared.raw.Raw.{Raw}
 use Rattle.p21_read.specs.File.{file_of}
 use Rattle.p21_instances.specs.Instances.{placed, by_name, names, greatest_name, is_among, has_twice, keywords, references_of, fault, or_else, first_fault_after, first_fault}
 use Rattle.p21_instances.proofs.Sets.{list_all-same}
-use Rattle.rp_rows.specs.declared.rows.Content.{Content}
+use Rattle.rp_rows.specs.declared.rows.ModelContent.{ModelContent}
 use Rattle.sorted_tables.specs.Table.{is_after, IsAscending}
 use Rattle.sorted_tables.proofs.Ascending.{follows_all}
 use Rattle.rp_plain.specs.Files.{refilled}
@@ -163,7 +163,7 @@ neither false false true e = (refl, refl)
 neither false false false e = cc
 
 -- where the names of the file are those of the instances and links of the content
-module _ (h : Content) (defined : List ℕ) (same : (n : ℕ) → is_among defined n ≡ is_among (names h.instances ++ link_names h.links) n) where
+module _ (h : ModelContent) (defined : List ℕ) (same : (n : ℕ) → is_among defined n ≡ is_among (names h.instances ++ link_names h.links) n) where
   is_sound : (before : List ℕ) (i : Instance) → fault defined before i ≡ None → IsSound h i
   unfolding fault
   is_sound before i e =
@@ -180,7 +180,7 @@ names_kept : (is : List Instance) (n : ℕ) → is_among (names is) n ≡ is_amo
 names_kept is n = among_in_order n is ∙ ap (λ l. is_among l n) (sym (append-nil (names (by_name is))))
 
 -- a put brings no links
-pub refilled_sound : (h : Content) (raw : Raw) → first_fault raw.instances ≡ None → AllByRecursion (IsSound (refilled h raw)) (by_name raw.instances)
+pub refilled_sound : (h : ModelContent) (raw : Raw) → first_fault raw.instances ≡ None → AllByRecursion (IsSound (refilled h raw)) (by_name raw.instances)
 unfolding first_fault
 refilled_sound h raw faultless = all-by_name (IsSound (refilled h raw)) raw.instances (each_sound (refilled h raw) (names raw.instances) (names_kept raw.instances) [] raw.instances faultless)
 

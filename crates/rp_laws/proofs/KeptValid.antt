@@ -13,7 +13,7 @@ use Rattle.p21_tree.specs.declared.fault.InstanceFault.{InstanceFault}
 use Rattle.p21_read.specs.File.{file_of}
 use Rattle.p21_instances.specs.Instances.{first_fault}
 use Rattle.rp_rows.specs.declared.rows.Level.{Level}
-use Rattle.rp_rows.specs.declared.rows.Content.{Content}
+use Rattle.rp_rows.specs.declared.rows.ModelContent.{ModelContent}
 use Rattle.rp_rows.specs.Names.{is_name}
 use Rattle.rp_rows.specs.Rows.{Text, Key, is_row, Model}
 use Rattle.rp_rows.specs.Sight.{owns, sees}
@@ -89,7 +89,7 @@ there p q (x ∷ xs) m found none = by (there p q xs m) (p x) found none
     by rest false f n = rest f n
 
 -- a model that is seen may hold what is as valid as what it holds
-held_there : (r : Plain) (c : Text) (k : Key) (h : Content) (m : Model) → model_at r c k ≡ Some m → (IsValidContent r.schemas m.holds → IsValidContent r.schemas h) → IsValid r
+held_there : (r : Plain) (c : Text) (k : Key) (h : ModelContent) (m : Model) → model_at r c k ≡ Some m → (IsValidContent r.schemas m.holds → IsValidContent r.schemas h) → IsValid r
     → MayHold r.partners (IsValidContent r.schemas) Anything max_models r.models k h
 held_there r c k h m seen content valid =
     let old = all_found (IsValidModel r.schemas r.partners) (λ x. is_row k x && sees r.groups c x) r.models m seen valid.models in
@@ -107,7 +107,7 @@ no_fault : (o : Option InstanceFault) → option_map refusal.InstanceFault o ≡
 no_fault None h = refl
 no_fault (Some fault) h = cc
 
-refilled_valid : (schemas : List Checked) (h : Content) (file : Text) (raw : Raw) → file_of file ≡ Ok raw → first_fault raw.instances ≡ None → nat_lt max_instances (length raw.instances) ≡ false
+refilled_valid : (schemas : List Checked) (h : ModelContent) (file : Text) (raw : Raw) → file_of file ≡ Ok raw → first_fault raw.instances ≡ None → nat_lt max_instances (length raw.instances) ≡ false
     → IsValidContent schemas h → IsValidContent schemas (refilled h raw)
 refilled_valid schemas h file raw reads sound few valid =
     let as_many = length-by_name raw.instances in

@@ -14,7 +14,7 @@ use Rattle.rp_rows.specs.declared.rows.Level.TheVariants.{Read, Group, Write}
 use Rattle.rp_rows.specs.declared.rows.Right.TheVariants.{Reads, Owns}
 use Rattle.rp_rows.specs.declared.rows.Grant.{Grant}
 use Rattle.rp_rows.specs.declared.rows.Listing.{Listing}
-use Rattle.rp_rows.specs.declared.rows.Content.{Content}
+use Rattle.rp_rows.specs.declared.rows.ModelContent.{ModelContent}
 use Rattle.rp_plain.specs.declared.messages.Request.{Request}
 use Rattle.rp_rows.specs.Rows.{Text, text_cmp, Key, key_cmp, grant_key, Row, row_key, is_row, Model, GroupRow}
 use Rattle.rp_rows.specs.Sight.{at_least, right_of, owns, is_grant_to, is_granted, granted_right, is_counted, lists, sees_group, sees, shown, shown_group, seen_models, seen_groups, is_listed}
@@ -104,7 +104,7 @@ new_row c k a xs other not_to none y e =
     let there = new_owner k a (find (is_row k) xs) (λ x f. found_at (is_row k) xs x f) y e in
     (there, ap (λ (j : Key). bytes_eq j.0 c) there ∙ other, ap (λ o. list_any (is_grant_to c) (grants_of o)) (sym e) ∙ new_grants c k a (find (is_row k) xs) not_to none)
 
-hidden_models : (gs : List GroupRow) (c : Text) (k : Key) (a : Alteration Content) (ms : List Model) → IsAscending key_cmp row_key ms
+hidden_models : (gs : List GroupRow) (c : Text) (k : Key) (a : Alteration ModelContent) (ms : List Model) → IsAscending key_cmp row_key ms
     → bytes_eq k.0 c ≡ false → is_some (find (λ m. is_row k m && sees gs c m) ms) ≡ false → is_listed gs c k ≡ false → gives_to c a ≡ false → seen_models gs c (altered k a ms) ≡ seen_models gs c ms
 hidden_models gs c k a ms order other none away not_to =
     hidden_rows key_cmp row_key key_total (sees gs c) (shown gs c) k (alter k a (find (is_row k) ms)) ms order none

@@ -7,7 +7,7 @@ use Rattle.sorted_tables.specs.Table.{IsAscending}
 use Rattle.sorted_tables.proofs.Altered.{same_rows, same_at, whole_at, seen_there, any-with_row}
 use Rattle.rp_rows.specs.declared.rows.Grant.{Grant}
 use Rattle.rp_rows.specs.declared.rows.Listing.{Listing}
-use Rattle.rp_rows.specs.declared.rows.Content.{Content}
+use Rattle.rp_rows.specs.declared.rows.ModelContent.{ModelContent}
 use Rattle.rp_rows.specs.Rows.{Text, Key, key_cmp, Row, row_key, is_row, Model, GroupRow}
 use Rattle.rp_rows.specs.Sight.{owns, is_grant_to, sees_group, sees, is_shown, shown_grant, shown_grants, shown, shown_group, seen_models, seen_groups}
 use Rattle.rp_rows.specs.Alterations.{Alteration, Holds, Grants, alter, altered, granting, grants_of}
@@ -46,7 +46,7 @@ own_shown_group c g own = ap (λ t. record g { grants = if t then g.grants else 
 
 -- ---- what is put into a seen model is seen alike
 
-abbrev join : Key → Content → List Grant → Model
+abbrev join : Key → ModelContent → List Grant → Model
 join k h xs = record { owner = k.0; name = k.1; holds = h; grants = xs }
 
 abbrev kept_grants : List GroupRow → Text → Key → List Grant → List Grant
@@ -62,10 +62,10 @@ view_shown gs c m = by (sees gs c m) refl
     by true e = rw (e, shown-sees gs c m ∙ e) (ap (λ x. x ∷ []) (sym (shown_twice gs c m)))
     by false e = rw (e, shown-sees gs c m ∙ e) refl
 
-view_join : (gs : List GroupRow) (c : Text) (k : Key) (h : Content) (m : Model) → is_row k m ≡ true → view gs c (Some (join k h m.grants)) ≡ view gs c (Some (join k h (shown_grants gs c m)))
+view_join : (gs : List GroupRow) (c : Text) (k : Key) (h : ModelContent) (m : Model) → is_row k m ≡ true → view gs c (Some (join k h m.grants)) ≡ view gs c (Some (join k h (shown_grants gs c m)))
 view_join gs c k h m at = view_shown gs c (join k h m.grants) ∙ ap (λ j. view gs c (Some (join k h (kept_grants gs c j m.grants)))) (sym (key_at k m at))
 
-filled_alike : (gs : List GroupRow) (c : Text) (k : Key) (h : Content) (o u : Option Model) → ((m : Model) → o ≡ Some m → is_row k m ≡ true) → ((m : Model) → u ≡ Some m → is_row k m ≡ true)
+filled_alike : (gs : List GroupRow) (c : Text) (k : Key) (h : ModelContent) (o u : Option Model) → ((m : Model) → o ≡ Some m → is_row k m ≡ true) → ((m : Model) → u ≡ Some m → is_row k m ≡ true)
     → list_any (sees gs c) (option_to_list o) ≡ true → view gs c o ≡ view gs c u → view gs c (alter k (Holds (Some h)) o) ≡ view gs c (alter k (Holds (Some h)) u)
 filled_alike gs c k h None u at at' seen same = cc
 filled_alike gs c k h (Some m) None at at' seen same = by (sees gs c m) refl seen same
@@ -84,7 +84,7 @@ filled_alike gs c k h (Some m) (Some n) at at' seen same = by (sees gs c m) seen
 
 -- ---- one edit
 
-same_models : (gs : List GroupRow) (c : Text) (k : Key) (a : Alteration Content) (ms ns : List Model) → IsAscending key_cmp row_key ms → IsAscending key_cmp row_key ns → seen_models gs c ms ≡ seen_models gs c ns
+same_models : (gs : List GroupRow) (c : Text) (k : Key) (a : Alteration ModelContent) (ms ns : List Model) → IsAscending key_cmp row_key ms → IsAscending key_cmp row_key ns → seen_models gs c ms ≡ seen_models gs c ns
     → (bytes_eq k.0 c ≡ true) ⊎ (MayAlter a × (is_some (find (λ m. is_row k m && sees gs c m) ms) ≡ true)) → seen_models gs c (altered k a ms) ≡ seen_models gs c (altered k a ns)
 same_models gs c k a ms ns order order' same may =
     same_rows key_cmp row_key (sees gs c) (shown gs c) (λ m. refl) k (alter k a (find (is_row k) ms)) (alter k a (find (is_row k) ns)) ms ns same (elim may [ inl own ↦ of_own own | inr more ↦ of_seen a more.0 more.1 ])
@@ -95,7 +95,7 @@ same_models gs c k a ms ns order order' same may =
         (whole_at key_cmp row_key key_total (sees gs c) (shown gs c) (λ m. refl) k
         (λ m at. (own_sees gs c m (own_at c k own m at), own_shown gs c m (own_at c k own m at))) ms ns order order' same)
 
-    of_seen : (b : Alteration Content) → MayAlter b → is_some (find (λ m. is_row k m && sees gs c m) ms) ≡ true → view gs c (alter k b (find (is_row k) ms)) ≡ view gs c (alter k b (find (is_row k) ns))
+    of_seen : (b : Alteration ModelContent) → MayAlter b → is_some (find (λ m. is_row k m && sees gs c m) ms) ≡ true → view gs c (alter k b (find (is_row k) ms)) ≡ view gs c (alter k b (find (is_row k) ns))
     of_seen (Holds None) m s = absurd m
     of_seen (Grants to l) m s = absurd m
     of_seen (Holds (Some h)) m s =

@@ -3,7 +3,7 @@ use Rattle.std.specs.Prelude.{ℕ, List, map, filter, length, Option, Some, None
 use Rattle.ex_types.specs.Checked.{Checked}
 use Rattle.rp_rows.specs.declared.rows.Right.{Right}
 use Rattle.rp_rows.specs.declared.rows.Right.TheVariants.{Unseen}
-use Rattle.rp_rows.specs.declared.rows.Content.{Content}
+use Rattle.rp_rows.specs.declared.rows.ModelContent.{ModelContent}
 use Rattle.rp_rows.specs.Rows.{Text, Row, Model, GroupRow}
 use Rattle.rp_rows.specs.Sight.{owns, level, sees, group_right, sees_group}
 use Rattle.rp_plain.specs.declared.lists.Item.{Item}
@@ -15,7 +15,7 @@ pub record Asked : Type 0 where
   -- what he may do with the model
   pub model_right : List ℕ × List ℕ → Right
   -- what it holds, if he sees it
-  pub content : List ℕ × List ℕ → Option Content
+  pub content : List ℕ × List ℕ → Option ModelContent
   -- how many he owns
   pub model_count : ℕ
   -- all that he sees

@@ -1,7 +1,7 @@
 -- What a request changes: rows of models and of groups.
 use Rattle.std.specs.Prelude.{◌≡◌, ℕ, Bool, false, List, [], ◌∷◌, map}
 use Rattle.std.specs.List.{AllByRecursion}
-use Rattle.rp_rows.specs.declared.rows.Content.{Content}
+use Rattle.rp_rows.specs.declared.rows.ModelContent.{ModelContent}
 use Rattle.rp_rows.specs.declared.rows.Listing.{Listing}
 use Rattle.rp_rows.specs.Rows.{Text, Key}
 use Rattle.rp_rows.specs.Alterations.{Alteration, altered, gives_to}
@@ -9,7 +9,7 @@ use Rattle.rp_plain.specs.Plain.{Plain, Kind, OfModel, OfGroup, reaches}
 
 -- a kind, a name and what is done there
 pub data Edit : Type 0 where
-  EditModel : List ℕ × List ℕ → Alteration Content → Edit
+  EditModel : List ℕ × List ℕ → Alteration ModelContent → Edit
   EditGroup : List ℕ × List ℕ → Alteration Listing → Edit
 
 abbrev pub edited_by : Edit → Plain → Plain

@@ -5,7 +5,7 @@ use Rattle.p21_tree.specs.declared.fault.FileFault.{FileFault}
 use Rattle.p21_read.specs.File.{file_of}
 use Rattle.p21_read.specs.Schemas.{is_of_schema}
 use Rattle.p21_instances.specs.Instances.{first_fault, by_name, greatest_name}
-use Rattle.rp_rows.specs.declared.rows.Content.{Content}
+use Rattle.rp_rows.specs.declared.rows.ModelContent.{ModelContent}
 use Rattle.rp_rows.specs.declared.rows.Right.TheVariants.{Writes}
 use Rattle.rp_rows.specs.Rows.{Text, Key}
 use Rattle.rp_rows.specs.Alterations.{Holds}
@@ -29,7 +29,7 @@ abbrev pub max_instances : ℕ
 max_instances = 200000
 
 -- a file that reads is of the model's schema
-abbrev pub other_schema : Option Content → Result Raw FileFault → Option Refusal
+abbrev pub other_schema : Option ModelContent → Result Raw FileFault → Option Refusal
 other_schema (Some h) (Ok raw) = when (not (is_of_schema h.schema raw)) refusal.WrongSchema
 other_schema _ _ = None
 
@@ -50,10 +50,10 @@ stored (Ok raw) = Stored (length raw.instances)
 stored (Err fault) = Stored 0
 
 -- a model with this content, whose header and instances are those of the file from now on
-abbrev pub refilled : Content → Raw → Content
+abbrev pub refilled : ModelContent → Raw → ModelContent
 refilled h raw = record h { header = raw.header; greatest = greatest_name h.greatest raw.instances; instances = by_name raw.instances; links = [] }
 
-abbrev pub filled : Key → Option Content → Result Raw FileFault → List Edit
+abbrev pub filled : Key → Option ModelContent → Result Raw FileFault → List Edit
 filled k (Some h) (Ok raw) = EditModel k (Holds (Some (refilled h raw))) ∷ []
 filled k _ _ = []
 

@@ -4,14 +4,14 @@ use Rattle.std.specs.Ordering.{is_lt}
 use Rattle.p21_tree.specs.declared.instance.Instance.{Instance}
 use Rattle.p21_instances.specs.Instances.{in_order, type_of}
 use Rattle.ex_types.specs.Checked.{Checked}
-use Rattle.rp_rows.specs.declared.rows.Content.{Content}
+use Rattle.rp_rows.specs.declared.rows.ModelContent.{ModelContent}
 use Rattle.rp_rows.specs.Rows.{Text, text_cmp, Key}
 use Rattle.rp_plain.specs.declared.lists.NamedType.{NamedType}
 use Rattle.rp_plain.specs.declared.messages.Reply.TheVariants as reply
 use Rattle.rp_plain.specs.Asked.{Asked}
 use Rattle.rp_plain.specs.Meaning.{Meaning, schema_name, key_fault, is_no_partner, unseen}
 
-abbrev pub instances_of : Option Content → List Instance
+abbrev pub instances_of : Option ModelContent → List Instance
 instances_of None = []
 instances_of (Some h) = h.instances
 

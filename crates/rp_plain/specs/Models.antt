@@ -2,7 +2,7 @@
 use Rattle.std.specs.Prelude.{ℕ, nat_le, [], ◌∷◌, Some, None}
 use Rattle.std.specs.Str.{str_to_ascii_uppercase}
 use Rattle.p21_read.specs.Defaults.{default_header}
-use Rattle.rp_rows.specs.declared.rows.Content.{Content}
+use Rattle.rp_rows.specs.declared.rows.ModelContent.{ModelContent}
 use Rattle.rp_rows.specs.declared.rows.Right.TheVariants.{Reads}
 use Rattle.rp_rows.specs.Rows.{Text}
 use Rattle.rp_rows.specs.Sight.{at_least}
@@ -18,7 +18,7 @@ abbrev pub max_models : ℕ
 max_models = 100
 
 -- a model as it is created
-abbrev pub new_content : Text → Content
+abbrev pub new_content : Text → ModelContent
 new_content schema = record { schema = str_to_ascii_uppercase schema; header = default_header; greatest = 0; instances = []; links = [] }
 
 abbrev pub create_model : Asked → Text → Text → Text → Meaning

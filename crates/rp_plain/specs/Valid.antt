@@ -14,7 +14,7 @@ use Rattle.sorted_tables.specs.Table.{IsAscending}
 use Rattle.rp_rows.specs.declared.rows.Level.TheVariants.{Read}
 use Rattle.rp_rows.specs.declared.rows.Grant.{Grant}
 use Rattle.rp_rows.specs.declared.rows.Link.{Link}
-use Rattle.rp_rows.specs.declared.rows.Content.{Content}
+use Rattle.rp_rows.specs.declared.rows.ModelContent.{ModelContent}
 use Rattle.rp_rows.specs.Names.{is_name}
 use Rattle.rp_rows.specs.Rows.{text_cmp, Key, key_cmp, grant_key, Row, row_key, Model, GroupRow}
 use Rattle.rp_rows.specs.Sight.{owns}
@@ -60,7 +60,7 @@ abbrev pub link_names : List Link → List ℕ
 link_names = map (λ l. l.name)
 
 -- no type stands twice in the instance, and each name that it refers to is an instance or a link of the model
-pub record IsSound (h : Content) (i : Instance) : Type 0 where
+pub record IsSound (h : ModelContent) (i : Instance) : Type 0 where
   pub types : has_twice bytes_eq (keywords i.mapping) ≡ false
   pub references : list_all (is_among (names h.instances ++ link_names h.links)) (references_of i.mapping) ≡ true
 
@@ -71,7 +71,7 @@ instance_name i = i.name
 abbrev pub max_name : ℕ
 max_name = 999999999999999999
 
-pub record IsValidContent (schemas : List Checked) (h : Content) : Type 0 where
+pub record IsValidContent (schemas : List Checked) (h : ModelContent) : Type 0 where
   pub schema : has_schema schemas h.schema ≡ true
   pub header : (h.header ≡ default_header) ⊎ IsHeaderOfFile h.header
   -- each name once, in order

@@ -6,7 +6,7 @@ use Rattle.std.specs.declared.cmp.Ordering.{Ordering}
 use Rattle.std.specs.Ordering.{nat_cmp, ordering_then}
 use Rattle.sorted_tables.specs.Table.{is_at}
 use Rattle.rp_rows.specs.declared.rows.Grant.{Grant}
-use Rattle.rp_rows.specs.declared.rows.Content.{Content}
+use Rattle.rp_rows.specs.declared.rows.ModelContent.{ModelContent}
 use Rattle.rp_rows.specs.declared.rows.Listing.{Listing}
 
 -- a text is its bytes
@@ -43,7 +43,7 @@ abbrev pub is_row : {A : Type 0} → Key → Row A → Bool
 is_row = is_at key_cmp row_key
 
 abbrev pub Model : Type 0
-Model = Row Content
+Model = Row ModelContent
 
 abbrev pub GroupRow : Type 0
 GroupRow = Row Listing

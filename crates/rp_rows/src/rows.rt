@@ -43,7 +43,7 @@ pub struct Link {
 
 /// What a model holds.
 #[derive(Drop)]
-pub struct Content {
+pub struct ModelContent {
     /// The schema's name, in upper case.
     pub schema: Text,
     /// That of the last file, or the default one.
