@@ -4,3 +4,5 @@ mod attributes;
 mod decimals;
 mod devices;
 mod legal;
+mod strings;
+mod values;

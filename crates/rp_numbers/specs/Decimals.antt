@@ -22,6 +22,10 @@ places x = unsigned_abs (x.exponent +ℤ pos 1000)
 abbrev pub scaled : Decimal → ℤ
 scaled x = x.coefficient *ℤ pos (10 ^ places x)
 
+-- the whole number times 10 ^ 1000
+unfoldable pub scaled_whole : ℤ → ℤ
+scaled_whole n = n *ℤ pos (10 ^ 1000)
+
 unfoldable pub compare : Decimal → Decimal → Ordering
 compare x y = int_cmp (scaled x) (scaled y)
 

@@ -1,3 +1,4 @@
 pub mod Decimals
 pub mod Spelling
 pub mod Whole
+pub mod Written

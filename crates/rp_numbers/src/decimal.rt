@@ -4,11 +4,17 @@ ghost use Rattle.std.specs.Prelude.{◌≡◌};
 ghost use Rattle.rp_numbers.specs.Decimals as spec;
 
 use crate::order::compare_magnitudes;
-use crate::spelling::Real;
+use crate::spelling::{MAX_COEFFICIENT, Real};
+use crate::whole::without_zeros;
+use crate::writing::{write_power, write_signed};
+use std::alloc::AllocError;
 use std::cmp::Ordering;
 use std::marker::Model;
 
 const MAX_EXPONENT: i16 = 1000;
+
+/// 36 digits and the 4 of an exponent, with their signs, a point and an `E`.
+const MAX_WRITTEN: usize = 44;
 
 /// Why a spelling has no decimal.
 #[derive(Clone, Copy, PartialEq, Eq)]
@@ -41,9 +47,10 @@ impl Model for Decimal {
 }
 
 impl Decimal {
-    ghost use Rattle.std.specs.Prelude.{◌≡◌, int_lt, pos, unsigned_abs};
+    ghost use Rattle.std.specs.Prelude.{◌≡◌, ◌++◌, int_lt, pos, unsigned_abs, IfSome, None, Ok, OnOk, OnErr};
     ghost use Rattle.rp_numbers.specs.Decimals as spec;
     ghost use Rattle.rp_numbers.specs.Spelling as spelt;
+    ghost use Rattle.rp_numbers.specs.Written.{written};
 
     const ZERO: Decimal = Decimal {
         coefficient: 0,
@@ -74,6 +81,41 @@ impl Decimal {
             magnitude
         };
         Ok(Decimal {
+            coefficient,
+            exponent,
+        })
+    }
+
+    /// The decimal that is this whole number.
+    pub fn of_integer(number: i64) -> Decimal
+        ensures { spec.scaled result ≡ spec.scaled_whole number }
+    {
+        if number == 0 {
+            return Decimal::ZERO;
+        }
+        let (magnitude, zeros) = without_zeros(number.unsigned_abs());
+        let magnitude = i128::from(magnitude);
+        let coefficient = if number < 0 { -magnitude } else { magnitude };
+        Decimal {
+            coefficient,
+            exponent: i16::from(zeros),
+        }
+    }
+
+    /// The decimal of this coefficient and exponent, where they are its normal form.
+    pub fn of_parts(coefficient: i128, exponent: i16) -> Option<Decimal>
+        ensures some { IfSome result (λ d. d ≡ record { coefficient = coefficient; exponent = exponent }) }
+        ensures none { result ≡ None → ¬ spec.IsNormal (record { coefficient = coefficient; exponent = exponent }) }
+    {
+        let magnitude = coefficient.unsigned_abs();
+        let is_wide = magnitude > MAX_COEFFICIENT
+            || exponent < -MAX_EXPONENT
+            || exponent > MAX_EXPONENT;
+        let is_zero = magnitude == 0 && exponent == 0;
+        if is_wide || (magnitude % 10 == 0 && !is_zero) {
+            return None;
+        }
+        Some(Decimal {
             coefficient,
             exponent,
         })
@@ -141,5 +183,23 @@ impl Decimal {
             coefficient: -self.coefficient,
             exponent: self.exponent,
         }
+    }
+
+    /// Appends this decimal as an exchange file has it, such as `125.E-1`. Where memory runs out, nothing is appended.
+    #[tactic(auto, using(crate::proofs::Rereading::rereading), unfolding(crate::specs::Written::written))]
+    pub fn write(&self, out: &mut Vec<u8>) -> Result<(), AllocError>
+        ensures ok { OnOk result (out.new.items ≡ out.old.items ++ written self.now) }
+        ensures err { OnErr result (out.new.items ≡ out.old.items) }
+        ensures law { spelt.parse (written self.now) ≡ Ok self.now }
+    {
+        let Decimal {
+            coefficient,
+            exponent,
+        } = *self;
+        out.reserve(MAX_WRITTEN)?;
+        write_signed(coefficient, out);
+        out.push_reserved(b'.');
+        write_power(exponent, out);
+        Ok(())
     }
 }

@@ -5,6 +5,7 @@ mod decimal;
 mod order;
 mod spelling;
 mod whole;
+mod writing;
 
 pub use decimal::{Decimal, DecimalFault};
 pub use whole::whole_number;

@@ -9,7 +9,7 @@ ghost use Rattle.rp_numbers.specs.Whole.{value_after, value};
 use crate::whole::{are_digits, number_after};
 use std::marker::Model;
 
-const MAX_COEFFICIENT: u128 = 999_999_999_999_999_999_999_999_999_999_999_999;
+pub(crate) const MAX_COEFFICIENT: u128 = 999_999_999_999_999_999_999_999_999_999_999_999;
 
 const MAX_EXPONENT: i128 = 1000;
 

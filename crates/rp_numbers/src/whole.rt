@@ -1,6 +1,6 @@
 //! Whole numbers as they are spelled.
 
-ghost use Rattle.std.specs.Prelude.{◌≡◌, ◌≤◌, nat_le, if◌then◌else◌, Some, None};
+ghost use Rattle.std.specs.Prelude.{◌≡◌, ◌≢◌, ◌<◌, ◌≤◌, ◌*◌, ◌%◌, ◌^◌, nat_le, if◌then◌else◌, Some, None};
 ghost use Rattle.std.specs.List.{list_all};
 ghost use Rattle.std.specs.Char.{is_ascii_digit};
 ghost use Rattle.rp_numbers.specs.Whole as spec;
@@ -42,4 +42,20 @@ pub fn whole_number(digits: &[u8]) -> Option<u64>
         return None;
     };
     Some(value as u64)
+}
+
+/// The number without the zeros at its end, and how many these are.
+pub(crate) fn without_zeros(number: u64) -> (u64, u8)
+    requires { 0 < number }
+    ensures value { result.0 * 10 ^ result.1 ≡ number }
+    ensures last { result.0 % 10 ≢ 0 }
+    ensures few { result.1 < 20 }
+{
+    let mut rest = number;
+    let mut zeros = 0;
+    'zeros: while rest % 10 == 0 {
+        rest /= 10;
+        zeros += 1;
+    }
+    (rest, zeros)
 }

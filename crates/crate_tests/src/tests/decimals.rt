@@ -78,8 +78,31 @@ static ORDERED: [(&[u8], Ordering, &[u8]); 11] = [
     (b"1.E35", Ordering::Less, NINES),
 ];
 
+/// A real, and the one spelling of its decimal.
+static WRITTEN: [(&[u8], &[u8]); 10] = [
+    (b"0.10", b"1.E-1"),
+    (b"-0.E7", b"0."),
+    (b"2.", b"2."),
+    (b"12.5", b"125.E-1"),
+    (b"+1000.", b"1.E3"),
+    (b"-5.", b"-5."),
+    (b"-1.E-1000", b"-1.E-1000"),
+    (b"1.E1000", b"1.E1000"),
+    (b"0.0000000001", b"1.E-10"),
+    (NINES, NINES),
+];
+
+/// A whole number, and the spelling of the decimal that it is.
+static WHOLE: [(i64, &[u8]); 5] = [
+    (0, b"0."),
+    (1200, b"12.E2"),
+    (-7, b"-7."),
+    (i64::MIN, b"-9223372036854775808."),
+    (i64::MAX, b"9223372036854775807."),
+];
+
 #[test]
-fn a_real_spells_one_decimal(rt: HostRuntime) -> Result<(), Fail> {
+fn a_real_spells_one_decimal_and_these_are_ordered(rt: HostRuntime) -> Result<(), Fail> {
     for (spelling, coefficient, exponent) in SPELLED.iter() {
         let decimal = Decimal::parse(spelling).ok().ok_or("no decimal")?;
         assert_eq!(rt; decimal.coefficient(), *coefficient);
@@ -91,16 +114,31 @@ fn a_real_spells_one_decimal(rt: HostRuntime) -> Result<(), Fail> {
     for (text, fault) in REFUSED.iter() {
         assert!(rt; Decimal::parse(text).err() == Some(*fault));
     }
-    Ok(())
-}
-
-#[test]
-fn decimals_are_ordered_exactly(rt: HostRuntime) -> Result<(), Fail> {
     for (left, order, right) in ORDERED.iter() {
         let left = Decimal::parse(left).ok().ok_or("no decimal")?;
         let right = Decimal::parse(right).ok().ok_or("no decimal")?;
         assert!(rt; left.cmp(&right) == *order);
         assert!(rt; right.cmp(&left) == order.reverse());
     }
+    Ok(())
+}
+
+#[test]
+fn a_decimal_is_written(rt: HostRuntime) -> Result<(), Fail> {
+    for (spelling, written) in WRITTEN.iter() {
+        let decimal = Decimal::parse(spelling).ok().ok_or("no decimal")?;
+        let mut out = Vec::new(rt.alloc());
+        decimal.write(&mut out)?;
+        assert!(rt; out.as_slice() == *written);
+        let parts = Decimal::of_parts(decimal.coefficient(), decimal.exponent());
+        assert!(rt; parts.ok_or("no normal form")?.cmp(&decimal) == Ordering::Equal);
+    }
+    for (number, written) in WHOLE.iter() {
+        let mut out = Vec::new(rt.alloc());
+        Decimal::of_integer(*number).write(&mut out)?;
+        assert!(rt; out.as_slice() == *written);
+    }
+    assert!(rt; Decimal::of_parts(10, 0).is_none());
+    assert!(rt; Decimal::of_parts(0, 1).is_none());
     Ok(())
 }

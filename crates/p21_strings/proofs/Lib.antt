@@ -1,0 +1,5 @@
+pub mod Escapes
+pub mod Fronts
+pub mod Kept
+pub mod Runs
+pub mod Spelling

@@ -1,0 +1,33 @@
+//! The content of a model.
+
+use crate::header::Header;
+use crate::instance::Instance;
+use crate::link::Link;
+use plain_data::Items;
+use std::alloc::{AllocError, Global};
+
+/// What a model holds.
+#[derive(Drop)]
+pub struct Content {
+    pub header: Header,
+    /// In order of name.
+    pub instances: Items<Instance>,
+    /// In order of name.
+    pub links: Items<Link>,
+}
+
+impl Content {
+    ghost use Rattle.std.specs.Prelude.{◌≡◌, [], IfOk};
+    ghost use Rattle.rp_content.specs.Headers.{default_header};
+
+    /// That of a model that nothing was put into.
+    pub fn new(alloc: Global) -> Result<Content, AllocError>
+        ensures { IfOk result (λ content. content ≡ (record { header = default_header; instances = []; links = [] })) }
+    {
+        Ok(Content {
+            header: Header::new(alloc)?,
+            instances: Items::new(alloc),
+            links: Items::new(alloc),
+        })
+    }
+}

@@ -1,0 +1,12 @@
+//! What a model holds: a header, instances, and links to instances of other models.
+#![tactic(auto)]
+
+mod content;
+mod header;
+mod instance;
+mod link;
+
+pub use content::Content;
+pub use header::Header;
+pub use instance::{Instance, Types};
+pub use link::Link;
