@@ -1,9 +1,9 @@
 #!/usr/bin/env python3
-"""Runs the examples of README.md and compares what they print byte for byte.
+"""Runs the examples of README.md and of docs/EXCHANGE-FILES.md, and compares what they print byte for byte.
 
     .ci/check_readme.py [PROGRAM]
 
-Fenced blocks of README.md whose first line has one of these forms make up its examples:
+Fenced blocks of a page whose first line has one of these forms make up its examples:
 
     ```json file=config.json     the block is the file config.json of the folder that examples run in
     ```sh example                the block is a command, run there by bash; rp_server is in its PATH
@@ -20,6 +20,7 @@ import tempfile
 
 TOP = os.path.dirname(os.path.dirname(os.path.abspath(__file__)))
 PROGRAM = os.path.join(TOP, "crates/rp_server/out/rp_server")
+PAGES = ("README.md", "docs/EXCHANGE-FILES.md")
 
 
 def blocks_of(text):
@@ -48,17 +49,15 @@ def examples_of(text):
     return files, commands
 
 
-def main(words):
-    program = os.path.abspath(words[0] if words else PROGRAM)
-    if not os.access(program, os.X_OK):
-        sys.exit(f"check_readme: there is no program {program}: run rt ci first, or name it")
+def run_examples(program, page):
+    """Runs the examples of a page in a folder of their own, and gives their number."""
     try:
-        with open(os.path.join(TOP, "README.md"), encoding="utf-8") as it:
+        with open(os.path.join(TOP, page), encoding="utf-8") as it:
             files, commands = examples_of(it.read())
     except OSError as fault:
         sys.exit(f"check_readme: {fault}")
     if not commands:
-        sys.exit("check_readme: README.md has no example")
+        sys.exit(f"check_readme: {page} has no example")
     with tempfile.TemporaryDirectory() as folder:
         bin_folder = os.path.join(folder, "crates/rp_server/out")
         os.makedirs(bin_folder)
@@ -76,7 +75,14 @@ def main(words):
                 sys.exit(f"check_readme: {command!r} gave status {done.returncode} and\n"
                          f"{done.stdout.decode(errors='replace')}{done.stderr.decode(errors='replace')}"
                          f"in place of\n{output}")
-    print(f"check_readme: {len(commands)} examples")
+    return len(commands)
+
+
+def main(words):
+    program = os.path.abspath(words[0] if words else PROGRAM)
+    if not os.access(program, os.X_OK):
+        sys.exit(f"check_readme: there is no program {program}: run rt ci first, or name it")
+    print(f"check_readme: {sum(run_examples(program, page) for page in PAGES)} examples")
 
 
 if __name__ == "__main__":

@@ -88,7 +88,19 @@ VALUES = [
     ("an integer over the greatest, with its sign", "⟦Number⟧+9223372036854775808"),
     ("the least integer", "-9223372036854775808"),
     ("an integer below the least", "⟦Number⟧-9223372036854775809"),
-    ("a real is of any size", "9223372036854775808.,-9223372036854775809.E+99999"),
+    ("reals over the greatest integer", "9223372036854775808.,-9223372036854775809.E+100"),
+    ("reals of 36 digits", "-123456789012345678901234567890.123456,+0.123456789012345678901234567890123456"),
+    ("a real of 37 digits", "⟦Number⟧1234567890123456789012345678901.123456"),
+    ("a real of 37 digits, with its sign", "⟦Number⟧-1234567890123456789012345678901.123456"),
+    ("zeros at both ends of 36 digits", "00123456789012345678901234567890.1234560000"),
+    ("a digit behind 41 zeros", "0." + 40 * "0" + "1"),
+    ("the greatest and the least exponent", "1.E1000,10.E999,1.e-1000,100.E-1002"),
+    ("an exponent over the greatest", "⟦Number⟧1.E1001"),
+    ("an exponent over the greatest by a zero", "⟦Number⟧10.E1000"),
+    ("an exponent below the least", "⟦Number⟧1.E-1001"),
+    ("an exponent below the least by a digit", "⟦Number⟧0.1E-1000"),
+    ("zeros of any exponent", "0.E99999,-0.00E-99999"),
+    ("a real past its limits that can't stand there", "1 ⟦Number⟧1.E1001"),
     ("an item that isn't closed", " ⟦Token⟧.T"),
     ("an item of digits", "⟦Token⟧.5."),
     ("an item of the file's mark", "⟦Token⟧.ISO-10303-21."),
@@ -97,7 +109,56 @@ VALUES = [
     ("a sign without digits", "⟦Token⟧-"),
     ("a letter above 7F outside of a string", "⟦Token⟧é"),
     ("a reference over the greatest name", "⟦Number⟧#1000000000000000000"),
+    ("an escape in a string that can't stand there", "1⟦Escape⟧'\\Q'"),
+    ("an escape in a string that isn't closed", "⟦Open⟧'\\Q"),
 ]
+
+# what stands between apostrophes, and before them the kind of its fault
+STRINGS = [
+    ("apostrophes and backslashes", "''''\\\\''"),
+    ("letters of two digits", "\\X\\E9\\X\\e9\\X\\27"),
+    ("groups of four digits", "\\X2\\00E900e903C0\\X0\\"),
+    ("two groups that are one character", "\\X2\\D83DDE00\\X0\\"),
+    ("groups of eight digits", "\\X4\\0001F600000000e9\\X0\\"),
+    ("the upper half of a page", "\\S\\i\\S\\ \\S\\~"),
+    ("an apostrophe and a backslash in the upper half", "\\S\\''\\S\\\\"),
+    ("the first page", "\\PA\\\\S\\i"),
+    ("directives", "\\N\\\\F\\"),
+    ("letters above 7F", "é\U0001f600"),
+    ("line ends within escapes", "\\X\n2\\00\rE\r\n9\\X0\n\\\\\n\\"),
+    ("three digits in a group", "⟦Escape⟧\\X2\\0E9\\X0\\"),
+    ("three digits in a group behind one of four", "⟦Escape⟧\\X2\\00E90E9\\X0\\"),
+    ("no group of four", "⟦Escape⟧\\X2\\\\X0\\"),
+    ("no group of eight", "⟦Escape⟧\\X4\\\\X0\\"),
+    ("four digits in place of eight", "⟦Escape⟧\\X4\\00E9\\X0\\"),
+    ("a group without an end", "⟦Escape⟧\\X2\\00E9"),
+    ("a letter as a digit", "⟦Escape⟧\\X2\\00G9\\X0\\"),
+    ("one digit", "⟦Escape⟧\\X\\E"),
+    ("an escape in lower case", "⟦Escape⟧\\x2\\00E9\\X0\\"),
+    ("a directive within groups", "⟦Escape⟧\\X2\\00E9\\N\\\\X0\\"),
+    ("an escape of another letter", "⟦Escape⟧a\\Q\\"),
+    ("a backslash at the end", "⟦Escape⟧a\\"),
+    ("a letter above 7F in the upper half", "⟦Escape⟧\\S\\é"),
+    ("nothing in the upper half", "⟦Escape⟧\\S\\"),
+    ("a page that there isn't", "⟦Escape⟧\\PJ\\"),
+    ("the second page", "⟦Page⟧\\PB\\a"),
+    ("the last page", "⟦Page⟧\\PI\\"),
+    ("a high surrogate alone", "⟦Code⟧\\X2\\D800\\X0\\"),
+    ("a low surrogate alone", "⟦Code⟧\\X2\\DC00\\X0\\"),
+    ("two high surrogates", "⟦Code⟧\\X2\\D800D800DC00\\X0\\"),
+    ("surrogates in groups of eight", "⟦Code⟧\\X4\\0000D83D0000DE00\\X0\\"),
+    ("a code past the last", "⟦Code⟧\\X4\\00110000\\X0\\"),
+    ("an escape's form before its codes", "⟦Escape⟧\\X2\\D8000\\X0\\"),
+    ("a code in front of an escape", "⟦Code⟧\\X2\\D800\\X0\\\\Q"),
+    ("an escape in front of a page", "⟦Escape⟧\\Q\\PB\\"),
+]
+
+
+def quoted(content):
+    """A string. Its fault lies at its first apostrophe."""
+    kind, mark, plain = content.rpartition("⟧")
+    return f"{kind}{mark}'{plain}'"
+
 
 # whole texts
 FRONTS = [
@@ -120,6 +181,7 @@ FRONTS = [
     ("a header's entity without values", "ISO-10303-21;HEADER;FILE_DESCRIPTION⟦Syntax⟧", None),
     ("one value too few", "ISO-10303-21;HEADER;FILE_DESCRIPTION(''⟦Syntax⟧)", None),
     ("one value too many", "ISO-10303-21;HEADER;FILE_DESCRIPTION($,()⟦Syntax⟧,$", None),
+    ("an escape in the header", "ISO-10303-21;HEADER;FILE_DESCRIPTION((⟦Escape⟧'\\Q'", None),
     ("an integer in the header", "ISO-10303-21;HEADER;FILE_DESCRIPTION((⟦Syntax⟧1))", None),
     ("16 levels in the header", "ISO-10303-21;HEADER;FILE_DESCRIPTION(" + "(" * 16 + "⟦Syntax⟧", None),
     ("17 levels in the header", "ISO-10303-21;HEADER;FILE_DESCRIPTION(" + "(" * 16 + "⟦Deep⟧(1", None),
@@ -133,7 +195,7 @@ def tokens(it):
         before = "".join(blank + token for blank, token in INSTANCE[:place])
         other = ";" if token == "=" else "="
         rows.append((f"{other} in place of {token}", f"{before}{blank}⟦Syntax⟧{other}", None))
-    rows += LINES + [(name, f"#1=P({value});", P) for name, value in VALUES]
+    rows += LINES + [(name, f"#1=P({value});", P) for name, value in VALUES + [(name, quoted(content)) for name, content in STRINGS]]
     looks(it, [(name, file_of(text), told) for name, text, told in rows])
     looks(it, FRONTS)
 

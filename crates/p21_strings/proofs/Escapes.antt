@@ -1,5 +1,5 @@
 -- What is written of a text is read as this text.
-use Rattle.std.proofs.Common.{◌≡◌, ◌<◌, ◌≤◌, ℕ, suc, ◌+◌, ◌-◌, ◌*◌, ◌/◌, ◌%◌, Bool, true, false, ◌||◌, ◌&&◌, ◌==◌, nat_lt, if◌then◌else◌, List, [], ◌∷◌, ◌++◌, length, take, Option, Some, None, Ok, refl, sym, ◌∙◌, ap, arith, length-append, append_assoc, append-nil, IsUtf8}
+use Rattle.std.proofs.Common.{◌≡◌, ◌<◌, ℕ, suc, ◌+◌, ◌-◌, ◌*◌, ◌/◌, ◌%◌, Bool, true, false, ◌||◌, ◌&&◌, ◌==◌, nat_lt, if◌then◌else◌, List, [], ◌∷◌, ◌++◌, length, take, Option, Some, None, Ok, refl, sym, ◌∙◌, ap, arith, length-append, append_assoc, append-nil, IsUtf8}
 use Rattle.p21_strings.proofs.Fronts.{spelled_from-drop, none_dropped}
 use Rattle.std.proofs.lemmas.Bool.{eqb-true}
 use Rattle.std.proofs.lemmas.Bool.Decides.{nat_tests}
@@ -249,10 +249,9 @@ one_step : (t rest text : List ℕ) → 0 < length t → front (t ++ rest) ≡ O
 one_step [] rest text some stands = absurd (omega arith)
 one_step (b ∷ t) rest text some stands =
     let less : length (b ∷ t) - 1 ≡ length t = omega arith in
-    let fits : length t ≤ length (t ++ rest) = omega (arith, length-append t rest) in
     ap (λ p. p >>= λ n. spelled_from (n - 1) (t ++ rest)) stands
     ∙ ap (λ n. appended text (spelled_from n (t ++ rest))) less
-    ∙ ap (appended text) (spelled_from-drop (length t) (t ++ rest) fits ∙ ap (spelled_from 0) (drop-append_seam t rest))
+    ∙ ap (appended text) (spelled_from-drop (length t) (t ++ rest) ∙ ap (spelled_from 0) (drop-append_seam t rest))
 
 all_runs : (rs : List Run) → AllByRecursion IsRun rs → spelled_from 0 (runs_text rs) ≡ Ok (tt, encode_utf8_all (flat_map characters rs))
 all_runs [] all = refl

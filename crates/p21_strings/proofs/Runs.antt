@@ -68,11 +68,11 @@ itself_plain c is = grind (arith, nat_tests)
 itself_small : (c : ℕ) → is_itself c ≡ true → c < 128
 itself_small c is = grind (arith, nat_tests)
 
-first_holds : (a b : Bool) → (a && b) ≡ true → a ≡ true
+pub first_holds : (a b : Bool) → (a && b) ≡ true → a ≡ true
 first_holds true b is = refl
 first_holds false b is = is
 
-second_holds : (a b : Bool) → (a && b) ≡ true → b ≡ true
+pub second_holds : (a b : Bool) → (a && b) ≡ true → b ≡ true
 second_holds true b is = is
 second_holds false b is = cc
 

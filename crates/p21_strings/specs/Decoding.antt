@@ -169,3 +169,11 @@ text_of (Err fault) = Err fault
 -- what the bytes between the apostrophes spell, in UTF-8; line ends are dropped before anything else, also within an escape
 unfoldable pub decoded : List ℕ → Result (List ℕ) StringFault
 decoded bytes = text_of (spelled (filter (λ b. not (is_line_end b)) bytes))
+
+abbrev pub fault_of : {A : Type 0} → Result A StringFault → Option StringFault
+fault_of (Ok a) = None
+fault_of (Err fault) = Some fault
+
+-- the fault of bytes that spell no string
+unfoldable pub fault : List ℕ → Option StringFault
+fault bytes = fault_of (decoded bytes)

@@ -1,139 +1,176 @@
 //! What the bytes of a string spell.
 
-ghost use Rattle.std.specs.Prelude.{◌≡◌, ◌<◌, ◌≤◌, ◌+◌, not, length, drop, filter, IfOk, MatchResult};
-ghost use Rattle.std.specs.List.{prefix_len, list_any};
-ghost use Rattle.std.specs.Str.{continuation_len};
+ghost use Rattle.std.specs.Prelude.{◌≡◌, ◌<◌, ◌≤◌, ◌*◌, length, take, None, IfOk, MatchResult};
 ghost use Rattle.std.specs.String.{string_bytes};
 ghost use Rattle.text_forms.specs.Gives.{Fails, Gives, Reads};
 ghost use Rattle.p21_strings.specs.Decoding as spec;
+ghost use Rattle.p21_strings.specs.Forms.{spelled_by, Fits};
 
-use crate::escape::{byte, push_escape};
+use crate::code::{character, group, long_group, raw, unit};
+use crate::escape::{Form, front};
 use crate::fault::StringFault;
+use crate::kept_bytes::Kept;
 use plain_data::Text;
-use std::alloc::{AllocError, Global};
+use std::alloc::Global;
 use text_forms::Failure;
 
-/// Appends a character that is written in UTF-8 and has so many bytes.
-#[tactic(auto, unfolding(crate::specs::Decoding::raw))]
-fn push_raw(out: &mut String, n: usize, z: &[u8]) -> Result<usize, Failure<StringFault>>
-    ensures reads { Reads (spec.appended (string_bytes out.old) (spec.raw n z.now)) result (string_bytes out.new) }
-    ensures within { IfOk result (λ taken. (taken ≡ n) × (n ≤ length z.now)) }
+fn push_character(out: &mut String, code: u64) -> Result<(), Failure<StringFault>>
+    ensures { Reads (spec.appended (string_bytes out.old) (spec.character code)) result (string_bytes out.new) }
 {
-    if z.len() < n {
-        return Err(Failure::Fault(StringFault::NotUtf8));
+    match character(code) {
+        Ok(c) => Ok(out.push(c)?),
+        Err(fault) => Err(Failure::Fault(fault)),
     }
-    match str::from_utf8(&z[..n]) {
+}
+
+/// Appends the character of a code, which `taken` bytes spell.
+#[tactic(auto, using(crate::proofs::Spelling::writer_laws))]
+fn push_coded(out: &mut String, taken: usize, code: u64) -> Result<usize, Failure<StringFault>>
+    ensures reads { Reads (spec.appended (string_bytes out.old) (spec.coded taken code)) result (string_bytes out.new) }
+    ensures taken { IfOk result (λ n. n ≡ taken) }
+{
+    push_character(out, code)?;
+    Ok(taken)
+}
+
+/// Appends a character that is written in UTF-8 and has so many bytes.
+fn push_raw(out: &mut String, z: &Kept<'_>, n: usize) -> Result<usize, Failure<StringFault>>
+    requires { (1 ≤ n) × (n ≤ 4) }
+    ensures reads { Reads (spec.appended (string_bytes out.old) (spec.raw n z.now)) result (string_bytes out.new) }
+    ensures taken { IfOk result (λ taken. taken ≡ n) }
+{
+    let four = z.four();
+    match raw(z, n, &four) {
         Ok(text) => {
             out.push_str(text)?;
             Ok(n)
         }
-        Err(_) => Err(Failure::Fault(StringFault::NotUtf8)),
+        Err(fault) => Err(Failure::Fault(fault)),
     }
 }
 
-fn raw_len(b: u8) -> usize
-    ensures value { result ≡ 1 + continuation_len b }
-    ensures some { 1 ≤ result }
+/// Appends what a group of four digits spells after a high surrogate or after none, and says
+/// which high surrogate waits then.
+fn push_unit(
+    out: &mut String,
+    high: Option<u32>,
+    group: u32,
+) -> Result<Option<u32>, Failure<StringFault>>
+    ensures { Reads (spec.appended (string_bytes out.old) (spec.unit high group)) result (string_bytes out.new) }
 {
-    if b < 128 {
-        1
-    } else if b < 224 {
-        2
-    } else if b < 240 {
-        3
-    } else {
-        4
+    match unit(high, group) {
+        Ok((Some(c), next)) => {
+            out.push(c)?;
+            Ok(next)
+        }
+        Ok((None, next)) => Ok(next),
+        Err(fault) => Err(Failure::Fault(fault)),
     }
 }
 
-/// Appends what a string that isn't empty begins with, and says how many bytes that takes.
-#[tactic(auto, unfolding(crate::specs::Decoding::front))]
-fn push_front(out: &mut String, z: &[u8]) -> Result<usize, Failure<StringFault>>
-    requires { 0 < length z.now }
-    ensures reads { Reads (spec.appended (string_bytes out.old) (spec.front z.now)) result (string_bytes out.new) }
-    ensures within { IfOk result (λ n. (1 ≤ n) × (n ≤ length z.now)) }
+/// Appends what so many groups of four digits spell.
+fn push_short(out: &mut String, mut z: Kept<'_>, mut n: usize) -> Result<(), Failure<StringFault>>
+    requires { 4 * n ≤ length z }
+    ensures { Reads (spec.appended (string_bytes out.old) (spec.short None (take (4 * n) z.entry))) result (string_bytes out.new) }
 {
-    let b = z[0];
-    if b == b'\\' {
-        return push_escape(out, z);
+    let mut high = None;
+    'groups: while n > 0 {
+        high = push_unit(out, high, group(&z))?;
+        z = z.after(4);
+        n -= 1;
     }
-    if b >= 128 {
-        return push_raw(out, raw_len(b), z);
+    match high {
+        None => Ok(()),
+        Some(_) => Err(Failure::Fault(StringFault::BadCode)),
     }
-    if b != b'\'' {
-        out.push(char::from(b))?;
-        return Ok(1);
-    }
-    if byte(z, 1) != b'\'' {
-        return Err(Failure::Fault(StringFault::BadEscape));
-    }
-    out.push('\'')?;
-    Ok(2)
 }
 
-fn bare_len(z: &[u8]) -> usize
-    ensures value { result ≡ prefix_len spec.is_bare z.now }
-    ensures within { result ≤ length z.now }
+/// Appends what groups of eight digits spell, so many of four.
+fn push_long(out: &mut String, mut z: Kept<'_>, mut n: usize) -> Result<(), Failure<StringFault>>
+    requires { 4 * n ≤ length z }
+    ensures { Reads (spec.appended (string_bytes out.old) (spec.long (take (4 * n) z.entry))) result (string_bytes out.new) }
 {
-    z.iter()
-        .take_while(|b| **b < 128 && **b != b'\'' && **b != b'\\')
-        .count()
-}
-
-/// Appends what comes first, and says how many bytes that takes.
-fn push_piece(out: &mut String, z: &[u8]) -> Result<usize, Failure<StringFault>>
-    requires { 0 < length z.now }
-    ensures reads { MatchResult result (λ n. spec.appended (string_bytes out.new) (spec.spelled (drop n z.now)) ≡ spec.appended (string_bytes out.old) (spec.spelled z.now)) (λ e. Fails e (spec.appended (string_bytes out.old) (spec.spelled z.now))) }
-    ensures within { IfOk result (λ n. (1 ≤ n) × (n ≤ length z.now)) }
-{
-    let n = bare_len(z);
-    if n == 0 {
-        return push_front(out, z);
-    }
-    out.push_str(str::from_utf8(&z[..n]).unwrap())?;
-    Ok(n)
-}
-
-#[tactic(auto, unfolding(crate::specs::Decoding::spelled))]
-fn push_spelled(out: &mut String, mut z: &[u8]) -> Result<(), Failure<StringFault>>
-    ensures { Reads (spec.appended (string_bytes out.old) (spec.spelled z.entry.now)) result (string_bytes out.new) }
-{
-    'pieces: while !z.is_empty() {
-        let n = push_piece(out, z)?;
-        z = &z[n..];
+    'groups: while n > 1 {
+        push_character(out, long_group(&z))?;
+        z = z.after(8);
+        n -= 2;
     }
     Ok(())
 }
 
-fn spelled(alloc: Global, bytes: &[u8]) -> Result<Text, Failure<StringFault>>
-    ensures { Gives (λ text. text) result (spec.text_of (spec.spelled bytes.now)) }
+#[tactic(auto, using(crate::proofs::Spelling::writer_laws))]
+fn push_short_groups(
+    out: &mut String,
+    z: &Kept<'_>,
+    n: usize,
+) -> Result<usize, Failure<StringFault>>
+    requires { Fits (Form.ShortGroups n) z.now }
+    ensures reads { Reads (spec.appended (string_bytes out.old) (spelled_by (Form.ShortGroups n) z.now)) result (string_bytes out.new) }
+    ensures some { IfOk result (λ taken. 1 ≤ taken) }
 {
-    // No escape is shorter than what it spells.
-    let mut out = String::with_capacity(alloc, bytes.len())?;
-    push_spelled(&mut out, bytes)?;
-    Ok(Text::new(out))
+    push_short(out, z.after(4), n)?;
+    Ok(4 * n + 8)
 }
 
-fn is_line_end(b: u8) -> bool
-    ensures { result ≡ spec.is_line_end b }
+#[tactic(auto, using(crate::proofs::Spelling::writer_laws))]
+fn push_long_groups(out: &mut String, z: &Kept<'_>, n: usize) -> Result<usize, Failure<StringFault>>
+    requires { Fits (Form.LongGroups n) z.now }
+    ensures reads { Reads (spec.appended (string_bytes out.old) (spelled_by (Form.LongGroups n) z.now)) result (string_bytes out.new) }
+    ensures some { IfOk result (λ taken. 1 ≤ taken) }
 {
-    b == b'\n' || b == b'\r'
+    push_long(out, z.after(4), n)?;
+    Ok(4 * n + 8)
 }
 
-fn has_line_ends(bytes: &[u8]) -> bool
-    ensures { result ≡ list_any spec.is_line_end bytes.now }
+/// Appends what stands in front, and says how many bytes that takes.
+fn push_form(out: &mut String, form: Form, z: &Kept<'_>) -> Result<usize, Failure<StringFault>>
+    requires { Fits form z.now }
+    ensures reads { Reads (spec.appended (string_bytes out.old) (spelled_by form z.now)) result (string_bytes out.new) }
+    ensures some { IfOk result (λ taken. 1 ≤ taken) }
 {
-    bytes.iter().any(|b| is_line_end(*b))
+    match form {
+        Form::Nothing(n) => Ok(n),
+        Form::Coded(n, code) => push_coded(out, n, code),
+        Form::Raw(n) => push_raw(out, z, n),
+        Form::ShortGroups(n) => push_short_groups(out, z, n),
+        Form::LongGroups(n) => push_long_groups(out, z, n),
+    }
 }
 
-fn without_line_ends(alloc: Global, bytes: &[u8]) -> Result<Vec<u8>, AllocError>
-    ensures { IfOk result (λ kept. kept.items ≡ filter (λ b. not (spec.is_line_end b)) bytes.now) }
+/// Appends what a string that isn't empty begins with, and says how many bytes that takes.
+fn push_front(out: &mut String, z: &Kept<'_>) -> Result<usize, Failure<StringFault>>
+    ensures reads { Reads (spec.appended (string_bytes out.old) (spec.front z.now)) result (string_bytes out.new) }
+    ensures some { IfOk result (λ taken. 1 ≤ taken) }
 {
-    bytes
-        .iter()
-        .copied()
-        .filter(|b| !is_line_end(*b))
-        .collect(alloc)
+    match front(z) {
+        Ok(form) => push_form(out, form, z),
+        Err(fault) => Err(Failure::Fault(fault)),
+    }
+}
+
+/// Appends what comes first, and says what follows it.
+fn push_piece<'a>(out: &mut String, z: &Kept<'a>) -> Result<Kept<'a>, Failure<StringFault>>
+    requires { 0 < length z.now }
+    ensures reads { MatchResult result (λ rest. spec.appended (string_bytes out.new) (spec.spelled rest) ≡ spec.appended (string_bytes out.old) (spec.spelled z.now)) (λ e. Fails e (spec.appended (string_bytes out.old) (spec.spelled z.now))) }
+    ensures shorter { IfOk result (λ rest. length rest < length z.now) }
+{
+    let (run, rest) = z.run();
+    if run.is_empty() {
+        let taken = push_front(out, z)?;
+        return Ok(z.after(taken));
+    }
+    out.push_str(str::from_utf8(run).unwrap())?;
+    Ok(rest)
+}
+
+#[tactic(auto, unfolding(crate::specs::Decoding::spelled))]
+fn push_spelled(out: &mut String, mut z: Kept<'_>) -> Result<(), Failure<StringFault>>
+    ensures { Reads (spec.appended (string_bytes out.old) (spec.spelled z.entry)) result (string_bytes out.new) }
+{
+    'pieces: while !z.is_empty() {
+        z = push_piece(out, &z)?;
+    }
+    Ok(())
 }
 
 /// The characters that the bytes between the apostrophes of a string spell. A lone apostrophe,
@@ -143,13 +180,12 @@ fn without_line_ends(alloc: Global, bytes: &[u8]) -> Result<Vec<u8>, AllocError>
 ///
 /// The fault of the leftmost faulty escape or byte, where an escape's form is tested before its
 /// codes; or want of memory.
-#[tactic(auto, unfolding(crate::specs::Decoding::decoded))]
+#[tactic(auto, unfolding(crate::specs::Decoding::decoded, crate::specs::LineEnds::kept))]
 pub fn decode_string(alloc: Global, bytes: &[u8]) -> Result<Text, Failure<StringFault>>
     ensures { Gives (λ text. text) result (spec.decoded bytes.now) }
 {
-    if has_line_ends(bytes) {
-        let kept = without_line_ends(alloc, bytes)?;
-        return spelled(alloc, kept.as_slice());
-    }
-    spelled(alloc, bytes)
+    // No escape is shorter than what it spells.
+    let mut out = String::with_capacity(alloc, bytes.len())?;
+    push_spelled(&mut out, Kept::new(bytes))?;
+    Ok(Text::new(out))
 }

@@ -1,103 +1,30 @@
-//! Escapes in a string.
+//! What a string begins with, by its form.
 
-ghost use Rattle.std.specs.Prelude.{◌≡◌, ℕ, List, ◌≢◌, ◌<◌, ◌≤◌, ◌+◌, ◌*◌, ◌^◌, length, slice_index, true, None, IfOk, IfSome};
-ghost use Rattle.std.specs.String.{string_bytes};
-ghost use Rattle.text_forms.specs.Gives.{Reads};
-ghost use Rattle.p21_strings.specs.Digits as digits;
+ghost use Rattle.std.specs.Prelude.{◌≡◌, ◌<◌, ◌≤◌, ◌+◌, ◌*◌, ◌^◌, length, drop, IfOk, IfSome};
+ghost use Rattle.std.specs.Str.{continuation_len};
 ghost use Rattle.p21_strings.specs.Decoding as spec;
+ghost use Rattle.p21_strings.specs.Forms.{told, Fits};
 
-use crate::digits::{are_four, digit_value, is_digit, value_of_four};
+use crate::digits::{are_four, digit_value, is_digit};
 use crate::fault::StringFault;
-use text_forms::Failure;
+use crate::kept_bytes::Kept;
 
-const BAD_ESCAPE: Failure<StringFault> = Failure::Fault(StringFault::BadEscape);
-
-const BAD_CODE: Failure<StringFault> = Failure::Fault(StringFault::BadCode);
-
-pub fn byte(z: &[u8], at: usize) -> u8
-    ensures value { result ≡ slice_index z.now at }
-    ensures within { result ≢ 0 → at < length z.now }
-{
-    if at < z.len() { z[at] } else { 0 }
+/// What a string begins with, by its form. Its codes are yet to be looked at.
+#[derive(Clone, Copy)]
+pub enum Form {
+    /// So many bytes, which spell nothing.
+    Nothing(usize),
+    /// So many bytes, which spell the character of a code.
+    Coded(usize, u64),
+    /// A character in UTF-8, of so many bytes.
+    Raw(usize),
+    /// `\X2\`, so many groups of four digits, and `\X0\`.
+    ShortGroups(usize),
+    /// `\X4\`, groups of eight digits, that is so many of four, and `\X0\`.
+    LongGroups(usize),
 }
 
-fn push_character(out: &mut String, code: u64) -> Result<(), Failure<StringFault>>
-    ensures { Reads (spec.appended (string_bytes out.old) (spec.character code)) result (string_bytes out.new) }
-{
-    let code = match u32::try_from(code) {
-        Ok(code) => code,
-        Err(_) => return Err(BAD_CODE),
-    };
-    match char::from_u32(code) {
-        Some(c) => Ok(out.push(c)?),
-        None => Err(BAD_CODE),
-    }
-}
-
-/// Appends the character of a code, which `taken` bytes spell.
-#[tactic(auto, using(crate::proofs::Spelling::writer_laws))]
-fn push_coded(out: &mut String, taken: usize, code: u64) -> Result<usize, Failure<StringFault>>
-    ensures reads { Reads (spec.appended (string_bytes out.old) (spec.coded taken code)) result (string_bytes out.new) }
-    ensures taken { IfOk result (λ n. n ≡ taken) }
-{
-    push_character(out, code)?;
-    Ok(taken)
-}
-
-/// Appends what a group of four digits spells after a high surrogate or after none, and says
-/// which high surrogate waits then.
-#[tactic(auto, using(crate::proofs::Spelling::writer_laws))]
-fn push_unit(
-    out: &mut String,
-    high: Option<u32>,
-    unit: u32,
-) -> Result<Option<u32>, Failure<StringFault>>
-    ensures { Reads (spec.appended (string_bytes out.old) (spec.unit high unit)) result (string_bytes out.new) }
-{
-    match high {
-        None => {
-            if (0xD800..0xDC00).contains(&unit) {
-                return Ok(Some(unit));
-            }
-            push_character(out, u64::from(unit))?;
-        }
-        Some(high) => {
-            if !(0xDC00..0xE000).contains(&unit) {
-                return Err(BAD_CODE);
-            }
-            let above = u64::from(high.saturating_sub(0xD800)) * 1024;
-            push_character(out, above + u64::from(unit - 0xDC00) + 65536)?;
-        }
-    }
-    Ok(None)
-}
-
-/// Appends what groups of four digits spell.
-fn push_short(out: &mut String, mut digits: &[u8]) -> Result<(), Failure<StringFault>>
-    ensures { Reads (spec.appended (string_bytes out.old) (spec.short None digits.entry.now)) result (string_bytes out.new) }
-{
-    let mut high = None;
-    'groups: while let [a, b, c, d, rest @ ..] = digits {
-        high = push_unit(out, high, value_of_four(*a, *b, *c, *d))?;
-        digits = rest;
-    }
-    match high {
-        None => Ok(()),
-        Some(_) => Err(BAD_CODE),
-    }
-}
-
-/// Appends what groups of eight digits spell.
-fn push_long(out: &mut String, mut digits: &[u8]) -> Result<(), Failure<StringFault>>
-    ensures { Reads (spec.appended (string_bytes out.old) (spec.long digits.entry.now)) result (string_bytes out.new) }
-{
-    'groups: while let [a, b, c, d, e, f, g, h, rest @ ..] = digits {
-        let high = u64::from(value_of_four(*a, *b, *c, *d));
-        push_character(out, high * 65536 + u64::from(value_of_four(*e, *f, *g, *h)))?;
-        digits = rest;
-    }
-    Ok(())
-}
+const BAD_ESCAPE: StringFault = StringFault::BadEscape;
 
 fn is_end(a: u8, b: u8, c: u8, d: u8) -> bool
     ensures { result ≡ spec.is_end a b c d }
@@ -105,58 +32,41 @@ fn is_end(a: u8, b: u8, c: u8, d: u8) -> bool
     a == b'\\' && b == b'X' && c == b'0' && d == b'\\'
 }
 
-/// How many groups of four digits there are up to `\X0\`, if nothing else is there.
-fn groups(mut z: &[u8]) -> Option<usize>
-    ensures value { result ≡ spec.groups z.entry.now }
-    ensures within { IfSome result (λ n. 4 * n + 4 ≤ length z.entry.now) }
+/// How many groups of four digits there are behind the first four bytes and up to `\X0\`, if
+/// nothing else is there.
+fn groups(z: &Kept<'_>) -> Option<usize>
+    ensures value { result ≡ spec.groups (drop 4 z.now) }
+    ensures fits { IfSome result (λ n. (n < 2 ^ 61) × (4 * n ≤ length (drop 4 z.now))) }
 {
+    let mut z = z.after(4);
     let mut n = 0;
-    'groups: while let [a, b, c, d, rest @ ..] = z {
-        if is_end(*a, *b, *c, *d) {
+    'groups: while !z.is_empty() {
+        let [a, b, c, d] = z.four();
+        if is_end(a, b, c, d) {
             return Some(n);
         }
-        if !are_four(*a, *b, *c, *d) {
+        if !are_four(a, b, c, d) {
             return None;
         }
         n += 1;
-        z = rest;
+        z = z.after(4);
     }
     None
 }
 
-#[tactic(auto, using(crate::proofs::Spelling::writer_laws))]
-fn push_short_enclosed(out: &mut String, n: usize, z: &[u8]) -> Result<usize, Failure<StringFault>>
-    requires { 4 * n + 4 ≤ length z.now }
-    ensures reads { Reads (spec.appended (string_bytes out.old) (spec.enclosed n (spec.short None) z.now)) result (string_bytes out.new) }
-    ensures taken { IfOk result (λ taken. taken ≡ 4 * n + 8) }
-{
-    push_short(out, &z[..4 * n])?;
-    Ok(4 * n + 8)
-}
-
-fn push_short_groups(out: &mut String, z: &[u8]) -> Result<usize, Failure<StringFault>>
-    ensures reads { Reads (spec.appended (string_bytes out.old) (spec.short_groups (spec.groups z.now) z.now)) result (string_bytes out.new) }
-    ensures within { IfOk result (λ n. (4 ≤ n) × (n ≤ length z.now + 4)) }
+fn short_groups(z: &Kept<'_>) -> Result<Form, StringFault>
+    ensures told { spec.short_groups (spec.groups (drop 4 z.now)) (drop 4 z.now) ≡ told result z.now }
+    ensures fits { IfOk result (λ form. Fits form z.now) }
 {
     match groups(z) {
         None | Some(0) => Err(BAD_ESCAPE),
-        Some(n) => push_short_enclosed(out, n, z),
+        Some(n) => Ok(Form::ShortGroups(n)),
     }
 }
 
-#[tactic(auto, using(crate::proofs::Spelling::writer_laws))]
-fn push_long_enclosed(out: &mut String, n: usize, z: &[u8]) -> Result<usize, Failure<StringFault>>
-    requires { 4 * n + 4 ≤ length z.now }
-    ensures reads { Reads (spec.appended (string_bytes out.old) (spec.enclosed n spec.long z.now)) result (string_bytes out.new) }
-    ensures taken { IfOk result (λ taken. taken ≡ 4 * n + 8) }
-{
-    push_long(out, &z[..4 * n])?;
-    Ok(4 * n + 8)
-}
-
-fn push_long_groups(out: &mut String, z: &[u8]) -> Result<usize, Failure<StringFault>>
-    ensures reads { Reads (spec.appended (string_bytes out.old) (spec.long_groups (spec.groups z.now) z.now)) result (string_bytes out.new) }
-    ensures within { IfOk result (λ n. (4 ≤ n) × (n ≤ length z.now + 4)) }
+fn long_groups(z: &Kept<'_>) -> Result<Form, StringFault>
+    ensures told { spec.long_groups (spec.groups (drop 4 z.now)) (drop 4 z.now) ≡ told result z.now }
+    ensures fits { IfOk result (λ form. Fits form z.now) }
 {
     let Some(n) = groups(z) else {
         return Err(BAD_ESCAPE);
@@ -164,105 +74,137 @@ fn push_long_groups(out: &mut String, z: &[u8]) -> Result<usize, Failure<StringF
     if n == 0 || n % 2 == 1 {
         return Err(BAD_ESCAPE);
     }
-    push_long_enclosed(out, n, z)
+    Ok(Form::LongGroups(n))
 }
 
 /// `\X\hh`
 #[tactic(auto, unfolding(crate::specs::Decoding::byte))]
-fn push_byte(out: &mut String, z: &[u8]) -> Result<usize, Failure<StringFault>>
-    ensures reads { Reads (spec.appended (string_bytes out.old) (spec.byte z.now)) result (string_bytes out.new) }
-    ensures within { IfOk result (λ n. (1 ≤ n) × (n ≤ length z.now)) }
+fn single_byte(z: &Kept<'_>) -> Result<Form, StringFault>
+    ensures told { spec.byte z.now ≡ told result z.now }
+    ensures fits { IfOk result (λ form. Fits form z.now) }
 {
-    let high = byte(z, 3);
-    let low = byte(z, 4);
+    let (high, low) = (z.byte(3), z.byte(4));
     if !is_digit(high) || !is_digit(low) {
         return Err(BAD_ESCAPE);
     }
-    push_coded(out, 5, u64::from(digit_value(high) * 16 + digit_value(low)))
+    let code = digit_value(high) * 16 + digit_value(low);
+    Ok(Form::Coded(5, u64::from(code)))
 }
 
 #[tactic(auto, unfolding(crate::specs::Decoding::hexadecimal))]
-fn push_hexadecimal(out: &mut String, z: &[u8]) -> Result<usize, Failure<StringFault>>
-    ensures reads { Reads (spec.appended (string_bytes out.old) (spec.hexadecimal z.now)) result (string_bytes out.new) }
-    ensures within { IfOk result (λ n. (1 ≤ n) × (n ≤ length z.now)) }
+fn hexadecimal(z: &Kept<'_>) -> Result<Form, StringFault>
+    ensures told { spec.hexadecimal z.now ≡ told result z.now }
+    ensures fits { IfOk result (λ form. Fits form z.now) }
 {
-    let kind = byte(z, 2);
+    let kind = z.byte(2);
     if kind == b'\\' {
-        return push_byte(out, z);
+        return single_byte(z);
     }
-    if byte(z, 3) != b'\\' {
+    if z.byte(3) != b'\\' {
         return Err(BAD_ESCAPE);
     }
     match kind {
-        b'2' => push_short_groups(out, &z[4..]),
-        b'4' => push_long_groups(out, &z[4..]),
+        b'2' => short_groups(z),
+        b'4' => long_groups(z),
         _ => Err(BAD_ESCAPE),
     }
 }
 
 /// `\S\c`
 #[tactic(auto, unfolding(crate::specs::Decoding::upper_half))]
-fn push_upper_half(out: &mut String, z: &[u8]) -> Result<usize, Failure<StringFault>>
-    ensures reads { Reads (spec.appended (string_bytes out.old) (spec.upper_half z.now)) result (string_bytes out.new) }
-    ensures within { IfOk result (λ n. (1 ≤ n) × (n ≤ length z.now)) }
+fn upper_half(z: &Kept<'_>) -> Result<Form, StringFault>
+    ensures told { spec.upper_half z.now ≡ told result z.now }
+    ensures fits { IfOk result (λ form. Fits form z.now) }
 {
-    let c = byte(z, 3);
-    if byte(z, 2) != b'\\' || c < b' ' || c > b'~' {
+    let c = z.byte(3);
+    if z.byte(2) != b'\\' || c < b' ' || c > b'~' {
         return Err(BAD_ESCAPE);
     }
     if c != b'\'' {
-        return push_coded(out, 4, u64::from(c) + 128);
+        return Ok(Form::Coded(4, u64::from(c) + 128));
     }
-    if byte(z, 4) != b'\'' {
+    if z.byte(4) != b'\'' {
         return Err(BAD_ESCAPE);
     }
-    push_coded(out, 5, 167)
+    Ok(Form::Coded(5, 167))
 }
 
 /// `\PA\` to `\PI\`, which spell nothing.
 #[tactic(auto, unfolding(crate::specs::Decoding::page))]
-fn page(z: &[u8]) -> Result<usize, Failure<StringFault>>
-    ensures reads { (out : List ℕ) → Reads (spec.appended out (spec.page z.now)) result out }
-    ensures within { IfOk result (λ n. (1 ≤ n) × (n ≤ length z.now)) }
+fn page(z: &Kept<'_>) -> Result<Form, StringFault>
+    ensures told { spec.page z.now ≡ told result z.now }
+    ensures fits { IfOk result (λ form. Fits form z.now) }
 {
-    let part = byte(z, 2);
-    if byte(z, 3) != b'\\' || part < b'A' || part > b'I' {
+    let part = z.byte(2);
+    if z.byte(3) != b'\\' || part < b'A' || part > b'I' {
         return Err(BAD_ESCAPE);
     }
     if part != b'A' {
-        return Err(Failure::Fault(StringFault::PageUnsupported));
+        return Err(StringFault::PageUnsupported);
     }
-    Ok(4)
+    Ok(Form::Nothing(4))
 }
 
 /// `\N\` and `\F\`, which spell nothing.
 #[tactic(auto, unfolding(crate::specs::Decoding::directive))]
-fn directive(z: &[u8]) -> Result<usize, Failure<StringFault>>
-    ensures reads { (out : List ℕ) → Reads (spec.appended out (spec.directive z.now)) result out }
-    ensures within { IfOk result (λ n. (1 ≤ n) × (n ≤ length z.now)) }
+fn directive(z: &Kept<'_>) -> Result<Form, StringFault>
+    ensures told { spec.directive z.now ≡ told result z.now }
+    ensures fits { IfOk result (λ form. Fits form z.now) }
 {
-    if byte(z, 2) != b'\\' {
+    if z.byte(2) != b'\\' {
         return Err(BAD_ESCAPE);
     }
-    Ok(3)
+    Ok(Form::Nothing(3))
 }
 
-/// Appends what an escape spells, and says how many bytes that takes.
 #[tactic(auto, unfolding(crate::specs::Decoding::escape))]
-pub fn push_escape(out: &mut String, z: &[u8]) -> Result<usize, Failure<StringFault>>
-    requires { 0 < length z.now }
-    ensures reads { Reads (spec.appended (string_bytes out.old) (spec.escape z.now)) result (string_bytes out.new) }
-    ensures within { IfOk result (λ n. (1 ≤ n) × (n ≤ length z.now)) }
+fn escape(z: &Kept<'_>) -> Result<Form, StringFault>
+    ensures told { spec.escape z.now ≡ told result z.now }
+    ensures fits { IfOk result (λ form. Fits form z.now) }
 {
-    match byte(z, 1) {
-        b'\\' => {
-            out.push('\\')?;
-            Ok(2)
-        }
-        b'X' => push_hexadecimal(out, z),
-        b'S' => push_upper_half(out, z),
+    match z.byte(1) {
+        b'\\' => Ok(Form::Coded(2, u64::from(b'\\'))),
+        b'X' => hexadecimal(z),
+        b'S' => upper_half(z),
         b'P' => page(z),
         b'N' | b'F' => directive(z),
         _ => Err(BAD_ESCAPE),
     }
+}
+
+fn raw_len(b: u8) -> usize
+    ensures value { result ≡ 1 + continuation_len b }
+    ensures within { (1 ≤ result) × (result ≤ 4) }
+{
+    if b < 128 {
+        1
+    } else if b < 224 {
+        2
+    } else if b < 240 {
+        3
+    } else {
+        4
+    }
+}
+
+/// What a string that isn't empty begins with.
+#[tactic(auto, using(crate::proofs::Fronts::bare_coded), unfolding(crate::specs::Decoding::front))]
+pub fn front(z: &Kept<'_>) -> Result<Form, StringFault>
+    ensures told { spec.front z.now ≡ told result z.now }
+    ensures fits { IfOk result (λ form. Fits form z.now) }
+{
+    let b = z.byte(0);
+    if b == b'\\' {
+        return escape(z);
+    }
+    if b >= 128 {
+        return Ok(Form::Raw(raw_len(b)));
+    }
+    if b != b'\'' {
+        return Ok(Form::Coded(1, u64::from(b)));
+    }
+    if z.byte(1) != b'\'' {
+        return Err(BAD_ESCAPE);
+    }
+    Ok(Form::Coded(2, u64::from(b'\'')))
 }

@@ -5,11 +5,12 @@ use Rattle.std.proofs.lemmas.Str.Ascii.{IsAscii-nil, IsAscii-cons}
 use Rattle.std.specs.Char.{is_ascii_digit}
 use Rattle.std.specs.List.{prefix_len, slice_index}
 use Rattle.std.specs.Str.{IsAscii}
+use Rattle.p21_strings.specs.declared.fault.StringFault.{StringFault}
 use Rattle.p21_text.specs.declared.token.TokenKind.{TokenKind}
 use Rattle.p21_text.specs.declared.token.TokenKind.TheVariants as k
 use Rattle.p21_text.specs.declared.front.Start.{Start}
 use Rattle.p21_text.specs.declared.front.Start.TheVariants.{Blank, Token}
-use Rattle.p21_text.specs.Lexical.{is_letter, is_mark_byte, is_sign, word, number, name, item, closed, string, binary, commented, slash, directive, single, punctuation, front}
+use Rattle.p21_text.specs.Lexical.{is_letter, is_mark_byte, is_sign, word, number, name, item, quoted, closed, string, binary, commented, slash, directive, single, punctuation, front}
 
 -- ---- nothing else is a word
 
@@ -29,13 +30,17 @@ item_is : (z : List ℕ) → is_word (item z) ≡ false
 unfolding item
 item_is z = grind arith
 
-closed_is : (end : Option ℕ) → is_word (closed k.Text end) ≡ false
-closed_is None = refl
-closed_is (Some end) = refl
+quoted_is : (n : ℕ) (fault : Option StringFault) → is_word (quoted n fault) ≡ false
+quoted_is n None = refl
+quoted_is n (Some fault) = refl
+
+closed_is : (z : List ℕ) (end : Option ℕ) → is_word (closed z end) ≡ false
+closed_is z None = refl
+closed_is z (Some end) = quoted_is end _
 
 string_is : (z : List ℕ) → is_word (string z) ≡ false
 unfolding string
-string_is z = closed_is _
+string_is z = closed_is z _
 
 binary_is : (z : List ℕ) → is_word (binary z) ≡ false
 unfolding binary
