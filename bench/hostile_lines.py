@@ -254,6 +254,22 @@ def string_of_lines(count):
     return value_of("'" + "\n" * count + "'")
 
 
+@family(FILES, "lines")
+def lines_in_an_escape(count):
+    return value_of("'\\X2" + "\n" * count + "\\00E9\\X0\\'")
+
+
+@family(FILES, "groups")
+def groups_of_lines(count):
+    return value_of("'\\X2\\" + "0\n0\nE\n9\n" * count + "\\X0\\'")
+
+
+@family(FILES, "groups")
+def groups_without_end(count):
+    text, _ = value_of("@")
+    return text.replace("@", "'\\X2\\" + "00E9" * count + "'"), file_fault("Escape", text.index("@"))
+
+
 @family(FILES, "strings")
 def strings(count):
     return value_of("('a'" + ",'a'" * count + ")")
@@ -284,6 +300,17 @@ def integer_too_long(count):
 @family(FILES, "digits")
 def real_long(count):
     return value_of("0" * (count // 2) + "1." + "0" * (count // 2))
+
+
+@family(FILES, "digits")
+def real_too_long(count):
+    text, _ = value_of("@")
+    return text.replace("@", "9" * count + "."), file_fault("Number", text.index("@"))
+
+
+@family(FILES, "reals")
+def reals_of_many_digits(count):
+    return value_of("(1." + ",-123456789012345678901234567890.123456E-900" * count + ")")
 
 
 @family(FILES, "digits")
