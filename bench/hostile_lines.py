@@ -137,6 +137,12 @@ def value_of(value, instances=1):
     return file_of(f"#1=A({value});"), put(instances)
 
 
+def faulty_value(value, kind):
+    """A file of one instance with a value whose fault lies at its first byte."""
+    text, _ = value_of("@")
+    return text.replace("@", value), file_fault(kind, text.index("@"))
+
+
 @family(FILES, "values")
 def values_of_one(count):
     return value_of("1" + ",1" * count)
@@ -266,8 +272,7 @@ def groups_of_lines(count):
 
 @family(FILES, "groups")
 def groups_without_end(count):
-    text, _ = value_of("@")
-    return text.replace("@", "'\\X2\\" + "00E9" * count + "'"), file_fault("Escape", text.index("@"))
+    return faulty_value("'\\X2\\" + "00E9" * count + "'", "Escape")
 
 
 @family(FILES, "strings")
@@ -292,9 +297,7 @@ def integer_long(count):
 
 @family(FILES, "digits")
 def integer_too_long(count):
-    text, _ = value_of("@")
-    at = text.index("@")
-    return text.replace("@", "9" * count), file_fault("Number", at)
+    return faulty_value("9" * count, "Number")
 
 
 @family(FILES, "digits")
@@ -304,8 +307,7 @@ def real_long(count):
 
 @family(FILES, "digits")
 def real_too_long(count):
-    text, _ = value_of("@")
-    return text.replace("@", "9" * count + "."), file_fault("Number", text.index("@"))
+    return faulty_value("9" * count + ".", "Number")
 
 
 @family(FILES, "reals")
