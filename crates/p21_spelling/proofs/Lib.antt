@@ -1,0 +1,14 @@
+pub mod Runs
+pub mod Fronts
+pub mod Names
+pub mod Steps
+pub mod Lists
+pub mod Values
+pub mod Lines
+pub mod Headers
+pub mod Files
+pub mod Written
+pub mod Equations
+pub mod Gives
+pub mod Found
+pub mod Spelled

@@ -1,0 +1,5 @@
+use Rattle.p21_spelling.proofs.Spelled.{instance_is}
+use Rattle.p21_spelling.proofs.law.only_these_are_read.Goals as goal
+
+pub returns-clause-instance : goal.returns-clause-instance
+returns-clause-instance c = instance_is
