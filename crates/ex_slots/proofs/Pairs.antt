@@ -1,5 +1,5 @@
 -- Pairs among a list, and one pair more.
-use Rattle.std.proofs.Common.{◌≡◌, ℕ, Bool, true, false, ◌||◌, ◌&&◌, ◌==◌, List, [], ◌∷◌, ◌++◌, refl, ◌∙◌, ap, Ordering, Less, Equal, Greater}
+use Rattle.std.proofs.Common.{◌≡◌, ℕ, Bool, true, false, ◌||◌, ◌&&◌, ◌==◌, List, [], ◌∷◌, ◌++◌, map, refl, ◌∙◌, ap, Ordering, Less, Equal, Greater}
 use Rattle.std.specs.BTreeSet.{insert_key}
 use Rattle.std.specs.List.{list_any, flat_map}
 use Rattle.std.proofs.lemmas.List.Folds.{list_any-append}
@@ -45,6 +45,10 @@ told_of_both xs ys e p = list_any-append (spec.is_explicit_at e p) xs ys
 pub given_again : (entities : List NamedEntity) (types : List ℕ) (pairs : List (ℕ × ℕ)) (places : List AttributePlace) → spec.AreExplicit pairs places
     → flat_map (spec.slots_of entities (spec.has pairs)) types ≡ flat_map (spec.slots_of entities (spec.is_derived places)) types
 given_again entities types pairs places same = λ i. flat_map (spec.slots_of entities (λ e p. same e p i)) types
+
+pub each_again : (entities : List NamedEntity) (types : List ℕ) (pairs : List (ℕ × ℕ)) (places : List AttributePlace) → spec.AreExplicit pairs places
+    → map (spec.slots_of entities (spec.has pairs)) types ≡ map (spec.slots_of entities (spec.is_derived places)) types
+each_again entities types pairs places same = λ i. map (spec.slots_of entities (λ e p. same e p i)) types
 
 and_so : (a b : Bool) → (a && b) ≡ (a && true && b)
 and_so true b = refl

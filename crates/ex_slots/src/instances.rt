@@ -1,6 +1,6 @@
 //! The explicit attributes of an instance.
 
-ghost use Rattle.std.specs.Prelude.{◌≡◌, ◌++◌, ◌||◌, ℕ, IfOk, OnOk};
+ghost use Rattle.std.specs.Prelude.{◌≡◌, ◌++◌, ◌||◌, ℕ, map, IfOk, OnOk};
 ghost use Rattle.std.specs.List.{filter_map, flat_map};
 ghost use Rattle.lineage.specs.Numbered.{numbered};
 ghost use Rattle.ex_slots.specs.Slots as spec;
@@ -11,6 +11,7 @@ use ex_named::{
     NamedExplicit,
 };
 use ex_tree::Name;
+use plain_data::Rows;
 use std::alloc::{AllocError, Global};
 use std::collections::BTreeSet;
 
@@ -192,4 +193,47 @@ pub fn slots<'s>(
 {
     let derived = derived_among(alloc, entities, types)?;
     slots_given(alloc, entities, types, &derived)
+}
+
+/// The slots of one type, given what the instance's types redeclare in DERIVE.
+fn slots_of_one<'s>(
+    alloc: Global,
+    entities: &'s [NamedEntity],
+    number: usize,
+    derived: &Places,
+) -> Result<Rows<Slot<'s>>, AllocError>
+    ensures { IfOk result (λ found. found ≡ spec.slots_of entities.now (spec.has derived.now.keys) number) }
+{
+    let mut found = Vec::new(alloc);
+    push_slots_of(alloc, &mut found, entities, number, derived)?;
+    Ok(Rows::from_vec(found))
+}
+
+/// The slots of each type, given what they redeclare in DERIVE.
+fn each_given<'s>(
+    alloc: Global,
+    entities: &'s [NamedEntity],
+    types: &[usize],
+    derived: &Places,
+) -> Result<Vec<Rows<Slot<'s>>>, AllocError>
+    ensures { IfOk result (λ found. found.items ≡ map (spec.slots_of entities.now (spec.has derived.now.keys)) types.now) }
+{
+    let mut found = Vec::with_capacity(alloc, types.len())?;
+    for number in types {
+        found.push(slots_of_one(alloc, entities, *number, derived)?)?;
+    }
+    Ok(found)
+}
+
+/// The slots of an instance of these types, those of each type by themselves, as files write them in the list of values of each.
+#[tactic(auto, using(crate::proofs::Pairs::each_again))]
+pub fn slots_of_each<'s>(
+    alloc: Global,
+    entities: &'s [NamedEntity],
+    types: &[usize],
+) -> Result<Vec<Rows<Slot<'s>>>, AllocError>
+    ensures { IfOk result (λ found. found.items ≡ map (spec.slots_of entities.now (spec.is_derived (flat_map (spec.derived_by entities.now) types.now))) types.now) }
+{
+    let derived = derived_among(alloc, entities, types)?;
+    each_given(alloc, entities, types, &derived)
 }

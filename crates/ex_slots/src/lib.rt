@@ -9,6 +9,6 @@ mod instances;
 mod redeclared;
 mod slot;
 
-pub use instances::slots;
+pub use instances::{slots, slots_of_each};
 pub use redeclared::{Clause, Redeclaration, redeclarations};
 pub use slot::Slot;

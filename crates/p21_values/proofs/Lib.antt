@@ -1,0 +1,4 @@
+pub mod Ended
+pub mod Digits
+pub mod Beyond
+pub mod Several

@@ -1,0 +1,5 @@
+pub mod Ends
+pub mod Seen
+pub mod Tokens
+pub mod Selects
+pub mod Taking

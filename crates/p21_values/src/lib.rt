@@ -1,0 +1,12 @@
+//! What a declared type takes of a value as an exchange file spells it (ISO 10303-21:2002, clause 10).
+#![tactic(auto)]
+
+mod ends;
+mod items;
+mod selects;
+mod taking;
+mod tokens;
+mod types;
+
+pub use taking::bound;
+pub use types::DefinedTypes;

@@ -1,0 +1,333 @@
+//! What a declared type takes of a value as a file spells it.
+
+ghost use Rattle.std.specs.Prelude.{◌≡◌, ◌++◌, ◌∷◌, [], map, Some, None, IfOk, OnOk};
+ghost use Rattle.std.specs.List.{filter_map};
+ghost use Rattle.std.specs.Option.{option_map};
+ghost use Rattle.std.specs.Str.{str_to_ascii_uppercase};
+ghost use Rattle.lineage.specs.Lineage.{is_among};
+ghost use Rattle.name_tables.specs.Names.{place_of};
+ghost use Rattle.p21_strings.specs.Decoding.{decoded};
+ghost use Rattle.rp_numbers.specs.Spelling.{parse};
+ghost use Rattle.rp_value.specs.declared.value.Value.TheVariants as v;
+ghost use Rattle.p21_values.specs.Ends as ends;
+ghost use Rattle.p21_values.specs.Seen.{seen, seen_target};
+ghost use Rattle.p21_values.specs.Tokens.{ok};
+ghost use Rattle.p21_values.specs.Taking as spec;
+
+use crate::ends::{Base, Target, base_of, inside, target_of};
+use crate::items::item_place;
+use crate::tokens::{bits, boolean, in_upper_case, integer, logical};
+use crate::types::DefinedTypes;
+use ex_named::NamedDataType;
+use ex_tree::SimpleType;
+use p21_strings::decode_string;
+use p21_tree::Value as Spelled;
+use plain_data::Items;
+use rp_value::{AggregateKind, Decimal, Value};
+use std::alloc::{AllocError, Global};
+use text_forms::Failure;
+
+/// A value that a type takes; nothing where it takes none.
+type Taken = Result<Option<Value>, AllocError>;
+
+/// The decimal of a real.
+fn decimal(alloc: Global, token: &[u8]) -> Taken
+    ensures { IfOk result (λ taken. taken ≡ option_map v.Dec (ok (parse token.now))) }
+{
+    match Decimal::parse(token) {
+        Ok(decimal) => Ok(Some(Value::decimal(alloc, decimal)?)),
+        Err(_) => Ok(None),
+    }
+}
+
+/// The decimal of an integer.
+fn decimal_of_integer(alloc: Global, token: &[u8]) -> Taken
+    ensures { IfOk result (λ taken. taken ≡ option_map v.Dec (ok (parse (token.now ++ 46 ∷ [])))) }
+{
+    let mut real = Vec::with_capacity(alloc, token.len() + 1)?;
+    real.extend_from_slice(token)?;
+    real.push(b'.')?;
+    decimal(alloc, &real)
+}
+
+fn of_integer(alloc: Global, token: &[u8], base: &Base<'_>) -> Taken
+    ensures { IfOk result (λ taken. taken ≡ spec.of_integer token.now (seen base.now)) }
+{
+    match base {
+        Base::Plain(SimpleType::Integer | SimpleType::Number) => Ok(integer(token).map(Value::Int)),
+        Base::Plain(SimpleType::Real) => decimal_of_integer(alloc, token),
+        _ => Ok(None),
+    }
+}
+
+fn of_real(alloc: Global, token: &[u8], base: &Base<'_>) -> Taken
+    ensures { IfOk result (λ taken. taken ≡ spec.of_real token.now (seen base.now)) }
+{
+    match base {
+        Base::Plain(SimpleType::Real | SimpleType::Number) => decimal(alloc, token),
+        _ => Ok(None),
+    }
+}
+
+/// The string that the bytes between its apostrophes spell.
+fn text(alloc: Global, token: &[u8]) -> Taken
+    ensures { IfOk result (λ taken. taken ≡ option_map v.Str (ok (decoded token.now))) }
+{
+    match decode_string(alloc, token) {
+        Ok(text) => Ok(Some(Value::text(alloc, text)?)),
+        Err(Failure::Fault(_)) => Ok(None),
+        Err(Failure::NoMemory) => Err(AllocError),
+    }
+}
+
+fn of_text(alloc: Global, token: &[u8], base: &Base<'_>) -> Taken
+    ensures { IfOk result (λ taken. taken ≡ spec.of_text token.now (seen base.now)) }
+{
+    match base {
+        Base::Plain(SimpleType::String(_)) => text(alloc, token),
+        _ => Ok(None),
+    }
+}
+
+fn of_binary(alloc: Global, token: &[u8], base: &Base<'_>) -> Taken
+    ensures { IfOk result (λ taken. taken ≡ spec.of_binary token.now (seen base.now)) }
+{
+    match base {
+        Base::Plain(SimpleType::Binary(_)) => {
+            let bits = bits(alloc, token)?;
+            Ok(Some(Value::binary(alloc, bits)?))
+        }
+        _ => Ok(None),
+    }
+}
+
+/// The item of an enumeration.
+fn item(types: &DefinedTypes<'_>, number: usize, name: &[u8]) -> Option<Value>
+    ensures { result ≡ option_map (v.Item number) (place_of name.now (spec.items types.now number)) }
+{
+    match item_place(types.types(), number, name) {
+        Some(place) => Some(Value::Item {
+            enumeration: number,
+            place,
+        }),
+        None => None,
+    }
+}
+
+/// What an item in upper case is.
+fn of_item(types: &DefinedTypes<'_>, name: &[u8], base: &Base<'_>) -> Option<Value>
+    ensures { result ≡ spec.of_item types.now name.now (seen base.now) }
+{
+    match base {
+        Base::Plain(SimpleType::Boolean) => boolean(name).map(Value::Log),
+        Base::Plain(SimpleType::Logical) => logical(name).map(Value::Log),
+        Base::Enumeration(number) => item(types, *number, name),
+        _ => None,
+    }
+}
+
+/// What a type takes of a reference.
+fn reference(types: &DefinedTypes<'_>, name: u64, base: &Base<'_>) -> Option<Value>
+    ensures { result ≡ spec.reference_at types.now name (seen base.now) }
+{
+    let takes = match base {
+        Base::Instance => true,
+        Base::Select(number) => types.chooses_instances(*number),
+        _ => false,
+    };
+    if takes { Some(Value::Inst(name)) } else { None }
+}
+
+/// A value under the name of a defined type.
+fn under_name(alloc: Global, number: usize, taken: Option<Value>) -> Taken
+    ensures { IfOk result (λ under. under ≡ option_map (v.Named number) taken) }
+{
+    match taken {
+        Some(value) => Ok(Some(Value::named(alloc, number, value)?)),
+        None => Ok(None),
+    }
+}
+
+fn aggregate(alloc: Global, kind: AggregateKind, low: i64, items: Option<Items<Value>>) -> Taken
+    ensures { IfOk result (λ taken. taken ≡ option_map (λ xs. v.Agg kind (record { low = low; items = xs })) items) }
+{
+    match items {
+        Some(items) => Ok(Some(Value::aggregate(alloc, kind, low, items)?)),
+        None => Ok(None),
+    }
+}
+
+/// Whether the numbers, which are few, have this one.
+fn has(numbers: &[usize], number: usize) -> bool
+    ensures { result ≡ is_among numbers.now number }
+{
+    numbers.iter().any(|other| *other == number)
+}
+
+/// What a type that is no SELECT takes of a value without a keyword.
+#[cycle(taking)]
+#[tactic(auto, unfolding(crate::specs::Taking::meaning))]
+fn plain(alloc: Global, types: &DefinedTypes<'_>, value: &Spelled, base: &Base<'_>) -> Taken
+    ensures { IfOk result (λ taken. taken ≡ (spec.meaning types.now value.now).plain (seen base.now)) }
+{
+    match value {
+        Spelled::Integer(token) => of_integer(alloc, token.as_slice(), base),
+        Spelled::Real(token) => of_real(alloc, token.as_slice(), base),
+        Spelled::Text(token) => of_text(alloc, token.as_slice(), base),
+        Spelled::Binary(token) => of_binary(alloc, token.as_slice(), base),
+        Spelled::Item(token) => {
+            let name = in_upper_case(alloc, token.as_slice())?;
+            Ok(of_item(types, &name, base))
+        }
+        Spelled::List(values) => list(alloc, types, values.as_slice(), base),
+        Spelled::Unset | Spelled::Derived => Ok(None),
+        Spelled::Reference(_) | Spelled::Typed(_, _) => Ok(None),
+    }
+}
+
+/// What a type that is no SELECT takes of a list.
+#[cycle(taking)]
+fn list(alloc: Global, types: &DefinedTypes<'_>, values: &[Spelled], base: &Base<'_>) -> Taken
+    ensures { IfOk result (λ taken. taken ≡ spec.of_list types.now (map (spec.meaning types.now) values.now) (seen base.now)) }
+{
+    let Base::Aggregate(kind, low, element) = base else {
+        return Ok(None);
+    };
+    let target = target_of(types.types(), element);
+    let items = elements(alloc, types, values, &target)?;
+    aggregate(alloc, *kind, *low, items)
+}
+
+/// The elements, where the type takes each.
+#[cycle(taking)]
+fn elements(
+    alloc: Global,
+    types: &DefinedTypes<'_>,
+    values: &[Spelled],
+    target: &Target<'_>,
+) -> Result<Option<Items<Value>>, AllocError>
+    ensures { IfOk result (λ taken. taken ≡ spec.all_there (map (λ m. spec.place m (seen_target target.now)) (map (spec.meaning types.now) values.now))) }
+{
+    let mut items = Items::new(alloc);
+    'values: for value in values {
+        match placed(alloc, types, value, target)? {
+            Some(item) => items.push(item)?,
+            None => return Ok(None),
+        }
+    }
+    Ok(Some(items))
+}
+
+/// What the type of an attribute or an element takes.
+#[cycle(taking)]
+#[tactic(auto, unfolding(crate::specs::Taking::meaning))]
+fn placed(alloc: Global, types: &DefinedTypes<'_>, value: &Spelled, target: &Target<'_>) -> Taken
+    ensures { IfOk result (λ taken. taken ≡ spec.place (spec.meaning types.now value.now) (seen_target target.now)) }
+{
+    match value {
+        Spelled::Unset => Ok(Some(Value::Indet)),
+        _ => fitting(alloc, types, value, target),
+    }
+}
+
+/// What a type takes.
+#[cycle(taking)]
+#[tactic(auto, unfolding(crate::specs::Taking::meaning))]
+fn fitting(alloc: Global, types: &DefinedTypes<'_>, value: &Spelled, target: &Target<'_>) -> Taken
+    ensures { IfOk result (λ taken. taken ≡ (spec.meaning types.now value.now).fit (seen_target target.now)) }
+{
+    match value {
+        Spelled::Unset | Spelled::Derived => Ok(None),
+        Spelled::Reference(name) => Ok(reference(types, *name, &target.base)),
+        Spelled::Typed(keyword, value) => {
+            let number = types.number(alloc, keyword.as_slice())?;
+            named(alloc, types, number, value.get(), target)
+        }
+        _ => bare(alloc, types, value, &target.base),
+    }
+}
+
+/// What a type takes of a value without a keyword.
+#[cycle(taking)]
+fn bare(alloc: Global, types: &DefinedTypes<'_>, value: &Spelled, base: &Base<'_>) -> Taken
+    ensures { IfOk result (λ taken. taken ≡ spec.bare_at types.now (spec.meaning types.now value.now).plain (seen base.now)) }
+{
+    match base {
+        Base::Select(number) => only(alloc, types, value, types.choices(*number)),
+        _ => plain(alloc, types, value, base),
+    }
+}
+
+/// What the only one of the defined types takes that takes the value.
+#[cycle(taking)]
+fn only(alloc: Global, types: &DefinedTypes<'_>, value: &Spelled, numbers: &[usize]) -> Taken
+    ensures { IfOk result (λ taken. taken ≡ spec.only (filter_map (spec.by_choice types.now (spec.meaning types.now value.now).plain) numbers.now)) }
+{
+    let mut found = None;
+    'choices: for number in numbers {
+        let base = base_of(types.types(), *number);
+        let taken = plain(alloc, types, value, &base)?;
+        if let Some(value) = under_name(alloc, *number, taken)? {
+            if found.is_some() {
+                return Ok(None);
+            }
+            found = Some(value);
+        }
+    }
+    Ok(found)
+}
+
+/// What a type takes of the value under a keyword, which is the name of this type.
+#[cycle(taking)]
+fn named(
+    alloc: Global,
+    types: &DefinedTypes<'_>,
+    number: Option<usize>,
+    value: &Spelled,
+    target: &Target<'_>,
+) -> Taken
+    ensures { IfOk result (λ taken. taken ≡ spec.named_by types.now (spec.meaning types.now value.now) number (seen_target target.now)) }
+{
+    let Some(number) = number else {
+        return Ok(None);
+    };
+    if target.name == Some(number) {
+        return fitting(alloc, types, value, &inside(types.types(), number));
+    }
+    chosen(alloc, types, number, value, &target.base)
+}
+
+/// What a SELECT takes of the value under the name of a type that it chooses from.
+#[cycle(taking)]
+fn chosen(
+    alloc: Global,
+    types: &DefinedTypes<'_>,
+    number: usize,
+    value: &Spelled,
+    base: &Base<'_>,
+) -> Taken
+    ensures { IfOk result (λ taken. taken ≡ spec.chosen types.now (spec.meaning types.now value.now) number (seen base.now)) }
+{
+    let Base::Select(select) = base else {
+        return Ok(None);
+    };
+    if !has(types.choices(*select), number) {
+        return Ok(None);
+    }
+    let taken = fitting(alloc, types, value, &inside(types.types(), number))?;
+    under_name(alloc, number, taken)
+}
+
+/// The value of an attribute of this type, where the type takes what is spelled. It takes time for each element, and at a SELECT
+/// for each of the types that it chooses from.
+#[tactic(auto, unfolding(crate::specs::Taking::bound))]
+pub fn bound(
+    alloc: Global,
+    types: &DefinedTypes<'_>,
+    data_type: &NamedDataType,
+    value: &Spelled,
+) -> Taken
+    ensures { IfOk result (λ taken. taken ≡ spec.bound types.now data_type.now value.now) }
+{
+    placed(alloc, types, value, &target_of(types.types(), data_type))
+}
