@@ -1,0 +1,257 @@
+//! An instance, from its mapping.
+
+ghost use Rattle.std.specs.Prelude.{◌≡◌, ◌&&◌, ◌++◌, ◌∷◌, [], true, length, map, slice_index_or, IfOk, OnOk};
+ghost use Rattle.std.specs.List.{flat_map, zip};
+ghost use Rattle.std.specs.Str.{str_to_ascii_uppercase};
+ghost use Rattle.name_tables.specs.Names.{place_of};
+ghost use Rattle.p21_instances.specs.Instances.{is_among};
+ghost use Rattle.text_forms.specs.Gives.{Gives};
+ghost use Rattle.p21_bind.specs.Plans as plans;
+ghost use Rattle.p21_bind.specs.Instances as spec;
+
+use crate::names::Names;
+use crate::plan::{Plan, external, internal};
+use crate::reader::{Reader, in_upper_case};
+use crate::value::{Reading, part_values};
+use ex_slots::Slot;
+use name_tables::NameTable;
+use p21_tree::{Instance as Spelled, InstanceFaultKind, Mapping, Record};
+use plain_data::{Items, Rows, Text};
+use rp_content::Instance;
+use rp_value::Value;
+use std::alloc::{AllocError, Global};
+use std::slice;
+use text_forms::Failure;
+
+/// The keywords of parts in upper case.
+fn keywords(alloc: Global, parts: &[Record]) -> Result<Vec<Text>, AllocError>
+    ensures { IfOk result (λ keywords. keywords.items ≡ spec.keywords parts.now) }
+{
+    let mut keywords = Vec::with_capacity(alloc, parts.len())?;
+    for part in parts {
+        keywords.push(in_upper_case(alloc, &part.keyword)?)?;
+    }
+    Ok(keywords)
+}
+
+/// Whether one of the keywords stood before.
+fn repeats(alloc: Global, keywords: &[Text]) -> Result<bool, AllocError>
+    ensures { IfOk result (λ found. found ≡ spec.repeats [] keywords.now) }
+{
+    let mut before = NameTable::new(alloc);
+    for keyword in keywords {
+        if before.place(keyword.as_bytes()).is_some() {
+            return Ok(true);
+        }
+        before.push(keyword.as_bytes())?;
+    }
+    Ok(false)
+}
+
+/// Whether a type stands twice.
+fn has_twice(alloc: Global, mapping: &Mapping) -> Result<bool, AllocError>
+    ensures { IfOk result (λ found. found ≡ spec.has_twice mapping.now) }
+{
+    match mapping {
+        Mapping::Internal(_) => Ok(false),
+        Mapping::External(parts) => {
+            let keywords = keywords(alloc, parts.as_slice())?;
+            repeats(alloc, &keywords)
+        }
+    }
+}
+
+/// The entities of parts, where each keyword is the name of one.
+fn entities_of(
+    alloc: Global,
+    reader: &Reader<'_>,
+    parts: &[Record],
+) -> Result<Option<Vec<usize>>, AllocError>
+    ensures { IfOk result (λ found. spec.numbers_in found ≡ spec.all_there (map (λ r. plans.entity_named reader.now r.keyword) parts.now)) }
+{
+    let mut entities = Vec::with_capacity(alloc, parts.len())?;
+    for part in parts {
+        match reader.entity_named(alloc, &part.keyword)? {
+            Some(entity) => entities.push(entity)?,
+            None => return Ok(None),
+        }
+    }
+    Ok(Some(entities))
+}
+
+/// Whether each part has as many values as it has attributes.
+fn same_counts(mut slots: &[Rows<Slot<'_>>], mut parts: &[Record]) -> bool
+    ensures { result ≡ spec.same_counts slots.entry.now parts.entry.now }
+{
+    'parts: while let [first, more_slots @ ..] = slots {
+        let [part, more_parts @ ..] = parts else {
+            return true;
+        };
+        if first.len() != part.values.len() {
+            return false;
+        }
+        slots = more_slots;
+        parts = more_parts;
+    }
+    true
+}
+
+/// The values of all parts, or what is wrong with the first that is faulty.
+fn all_values(
+    alloc: Global,
+    reader: &Reader<'_>,
+    names: &Names,
+    mut slots: &[Rows<Slot<'_>>],
+    mut parts: &[Record],
+) -> Reading<Rows<Items<Value>>>
+    ensures { Gives (λ lists. lists) result (spec.each (spec.part reader.now (is_among names.now)) (zip slots.entry.now parts.entry.now)) }
+{
+    let mut lists = Rows::new(alloc);
+    'parts: while let [first, more_slots @ ..] = slots {
+        let [part, more_parts @ ..] = parts else {
+            break;
+        };
+        let values = part.values.as_slice();
+        lists.push(part_values(alloc, reader, names, first.as_slice(), values)?)?;
+        slots = more_slots;
+        parts = more_parts;
+    }
+    Ok(lists)
+}
+
+fn list_at(lists: &[Items<Value>], place: usize) -> &[Value]
+    ensures { result.now ≡ slice_index_or lists.now place [] }
+{
+    match lists.get(place) {
+        Some(list) => list.as_slice(),
+        None => &[],
+    }
+}
+
+/// Puts the values behind the others.
+fn append(found: &mut Items<Value>, values: &[Value]) -> Result<(), AllocError>
+    ensures { OnOk result (found.new ≡ found.old ++ values.now) }
+{
+    for value in values {
+        found.push(value.copy()?)?;
+    }
+    Ok(())
+}
+
+/// The lists one after the other, as the places have them.
+fn in_places(
+    alloc: Global,
+    places: &[usize],
+    lists: &[Items<Value>],
+) -> Result<Items<Value>, AllocError>
+    ensures { IfOk result (λ values. values ≡ spec.in_places places.now lists.now) }
+{
+    let mut found = Items::new(alloc);
+    for place in places {
+        append(&mut found, list_at(lists, *place))?;
+    }
+    Ok(found)
+}
+
+fn made(
+    alloc: Global,
+    name: u64,
+    plan: &Plan<'_>,
+    lists: &[Items<Value>],
+) -> Result<Instance, AllocError>
+    ensures { IfOk result (λ instance. instance ≡ spec.made name plan.now lists.now) }
+{
+    let types = plan.types.copy(alloc)?;
+    let values = in_places(alloc, plan.places.as_slice(), lists)?;
+    Ok(Instance {
+        name,
+        types,
+        values,
+    })
+}
+
+/// The instance of these parts, where there is a plan for its entities.
+fn by_plan(
+    alloc: Global,
+    reader: &Reader<'_>,
+    names: &Names,
+    name: u64,
+    parts: &[Record],
+    plan: &Option<Plan<'_>>,
+) -> Reading<Instance>
+    ensures { Gives (λ x. x) result (spec.by_plan reader.now (is_among names.now) name parts.now plan.now) }
+{
+    let Some(plan) = plan else {
+        return Err(Failure::Fault(InstanceFaultKind::IllegalCombination));
+    };
+    if !same_counts(plan.slots.as_slice(), parts) {
+        return Err(Failure::Fault(InstanceFaultKind::WrongCount));
+    }
+    let lists = all_values(alloc, reader, names, plan.slots.as_slice(), parts)?;
+    Ok(made(alloc, name, plan, lists.as_slice())?)
+}
+
+fn by_entity(
+    alloc: Global,
+    reader: &Reader<'_>,
+    names: &Names,
+    name: u64,
+    part: &Record,
+) -> Reading<Instance>
+    ensures { Gives (λ x. x) result (spec.by_entity reader.now (is_among names.now) name (part.now ∷ []) (plans.entity_named reader.now part.now.keyword)) }
+{
+    let Some(entity) = reader.entity_named(alloc, &part.keyword)? else {
+        return Err(Failure::Fault(InstanceFaultKind::UnknownEntity));
+    };
+    let plan = internal(alloc, reader, entity)?;
+    by_plan(alloc, reader, names, name, slice::from_ref(part), &plan)
+}
+
+#[tactic(auto, unfolding(crate::specs::Instances::by_several))]
+fn by_entities(
+    alloc: Global,
+    reader: &Reader<'_>,
+    names: &Names,
+    name: u64,
+    parts: &[Record],
+) -> Reading<Instance>
+    ensures { Gives (λ x. x) result (spec.by_several reader.now (is_among names.now) name parts.now) }
+{
+    let Some(entities) = entities_of(alloc, reader, parts)? else {
+        return Err(Failure::Fault(InstanceFaultKind::UnknownEntity));
+    };
+    let plan = external(alloc, reader, &entities)?;
+    by_plan(alloc, reader, names, name, parts, &plan)
+}
+
+fn by_mapping(
+    alloc: Global,
+    reader: &Reader<'_>,
+    names: &Names,
+    name: u64,
+    mapping: &Mapping,
+) -> Reading<Instance>
+    ensures { Gives (λ x. x) result (spec.by_mapping reader.now (is_among names.now) name mapping.now) }
+{
+    match mapping {
+        Mapping::Internal(part) => by_entity(alloc, reader, names, name, part),
+        Mapping::External(parts) => by_entities(alloc, reader, names, name, parts.as_slice()),
+    }
+}
+
+/// The instance, whose name stood before or not, or the first that holds of what is wrong with it.
+#[tactic(auto, unfolding(crate::specs::Instances::instance))]
+pub fn instance(
+    alloc: Global,
+    reader: &Reader<'_>,
+    names: &Names,
+    stood: bool,
+    spelled: &Spelled,
+) -> Reading<Instance>
+    ensures { Gives (λ x. x) result (spec.instance reader.now (is_among names.now) stood spelled.now) }
+{
+    if stood || has_twice(alloc, &spelled.mapping)? {
+        return Err(Failure::Fault(InstanceFaultKind::Twice));
+    }
+    by_mapping(alloc, reader, names, spelled.name, &spelled.mapping)
+}

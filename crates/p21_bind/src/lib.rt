@@ -1,0 +1,13 @@
+//! What an exchange file holds, by the schema that it is of: the content of a model, or the first fault of its instances
+//! (ISO 10303-21:2002, clauses 8 to 10).
+#![tactic(auto)]
+
+mod file;
+mod header;
+mod instance;
+mod names;
+mod plan;
+mod reader;
+mod value;
+
+pub use file::bind;

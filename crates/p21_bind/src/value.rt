@@ -1,0 +1,153 @@
+//! The values of an instance's attributes.
+
+ghost use Rattle.std.specs.Prelude.{◌≡◌, ◌++◌, ℕ, length, map, IfOk, OnOk};
+ghost use Rattle.std.specs.List.{flat_map, list_all, list_any, zip};
+ghost use Rattle.ex_types.specs.Checked.{Checked};
+ghost use Rattle.p21_instances.specs.Instances.{is_among, references};
+ghost use Rattle.text_forms.specs.Gives.{Gives};
+ghost use Rattle.p21_bind.specs.Instances as spec;
+
+use crate::names::Names;
+use crate::reader::Reader;
+use ex_slots::Slot;
+use p21_tree::{InstanceFaultKind, Value as Spelled};
+use p21_values::bound;
+use plain_data::Items;
+use rp_value::Value;
+use std::alloc::{AllocError, Global};
+use text_forms::Failure;
+
+/// What is read, or what is wrong with it.
+pub type Reading<T> = Result<T, Failure<InstanceFaultKind>>;
+
+/// Whether the value has a `*`, at any depth.
+#[cycle(stars)]
+fn has_star(value: &Spelled) -> bool
+    ensures { result ≡ spec.has_star value.now }
+{
+    match value {
+        Spelled::Derived => true,
+        Spelled::List(values) => have_star(values.as_slice()),
+        Spelled::Typed(_, value) => has_star(value.get()),
+        _ => false,
+    }
+}
+
+/// Whether one of the values has a `*`, at any depth.
+#[cycle(stars)]
+fn have_star(values: &[Spelled]) -> bool
+    ensures { result ≡ list_any spec.has_star values.now }
+{
+    for value in values {
+        if has_star(value) {
+            return true;
+        }
+    }
+    false
+}
+
+/// Whether it is `*` or `$`.
+fn is_left_out(value: &Spelled) -> bool
+    ensures { result ≡ spec.is_left_out value.now }
+{
+    match value {
+        Spelled::Unset | Spelled::Derived => true,
+        _ => false,
+    }
+}
+
+/// Whether each name that the value refers to is defined.
+#[cycle(references)]
+fn is_defined(names: &Names, value: &Spelled) -> bool
+    ensures { result ≡ list_all (is_among names.now) (references value.now) }
+{
+    match value {
+        Spelled::Reference(name) => names.has(*name),
+        Spelled::List(values) => are_defined(names, values.as_slice()),
+        Spelled::Typed(_, value) => is_defined(names, value.get()),
+        _ => true,
+    }
+}
+
+/// Whether each name that the values refer to is defined.
+#[cycle(references)]
+fn are_defined(names: &Names, values: &[Spelled]) -> bool
+    ensures { result ≡ list_all (is_among names.now) (flat_map references values.now) }
+{
+    for value in values {
+        if !is_defined(names, value) {
+            return false;
+        }
+    }
+    true
+}
+
+/// The fault of a value that no attribute takes.
+fn misplaced(value: &Spelled) -> InstanceFaultKind
+    ensures { result ≡ spec.misplaced value.now }
+{
+    if has_star(value) {
+        InstanceFaultKind::NotDerived
+    } else {
+        InstanceFaultKind::WrongKind
+    }
+}
+
+/// What an attribute has that a type of the instance derives.
+fn derived_value(value: &Spelled) -> Reading<Value>
+    ensures { Gives (λ x. x) result (spec.derived_value value.now) }
+{
+    if is_left_out(value) {
+        Ok(Value::Indet)
+    } else {
+        Err(Failure::Fault(misplaced(value)))
+    }
+}
+
+/// The value of an attribute, or the first that holds of what is wrong with it.
+fn slot_value(
+    alloc: Global,
+    reader: &Reader<'_>,
+    names: &Names,
+    slot: &Slot<'_>,
+    value: &Spelled,
+) -> Reading<Value>
+    ensures { Gives (λ x. x) result (spec.value reader.now (is_among names.now) (slot.now, value.now)) }
+{
+    if slot.is_derived() {
+        return derived_value(value);
+    }
+    if has_star(value) {
+        return Err(Failure::Fault(InstanceFaultKind::NotDerived));
+    }
+    let Some(found) = bound(alloc, reader.types(), slot.data_type(), value)? else {
+        return Err(Failure::Fault(InstanceFaultKind::WrongKind));
+    };
+    if is_defined(names, value) {
+        Ok(found)
+    } else {
+        Err(Failure::Fault(InstanceFaultKind::Undefined))
+    }
+}
+
+/// The values of a part of a mapping, or what is wrong with the first that is faulty.
+pub fn part_values(
+    alloc: Global,
+    reader: &Reader<'_>,
+    names: &Names,
+    mut slots: &[Slot<'_>],
+    mut values: &[Spelled],
+) -> Reading<Items<Value>>
+    ensures { Gives (λ xs. xs) result (spec.each (spec.value reader.now (is_among names.now)) (zip slots.entry.now values.entry.now)) }
+{
+    let mut found = Items::new(alloc);
+    'values: while let [slot, more_slots @ ..] = slots {
+        let [value, more_values @ ..] = values else {
+            break;
+        };
+        found.push(slot_value(alloc, reader, names, slot, value)?)?;
+        slots = more_slots;
+        values = more_values;
+    }
+    Ok(found)
+}
