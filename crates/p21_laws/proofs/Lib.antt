@@ -1,0 +1,10 @@
+mod Names
+mod Ends
+mod Bits
+mod Numbers
+mod Texts
+mod Decimals
+mod Items
+mod Forms
+mod Taken
+mod Read
