@@ -3,6 +3,7 @@
 mod attributes;
 mod decimals;
 mod devices;
+mod files;
 mod legal;
 mod strings;
 mod values;

@@ -1,6 +1,7 @@
 //! Decimals by hand: the one that a real spells, and how two of them stand to each other.
 
 use rp_numbers::{Decimal, DecimalFault};
+use std::alloc::Global;
 use std::cmp::Ordering;
 use std::test::*;
 
@@ -101,8 +102,30 @@ static WHOLE: [(i64, &[u8]); 5] = [
     (i64::MAX, b"9223372036854775807."),
 ];
 
+/// Whether each decimal is written as it must be, and is that of its parts.
+fn are_written(alloc: Global) -> Result<bool, Fail> {
+    for (spelling, written) in WRITTEN.iter() {
+        let decimal = Decimal::parse(spelling).ok().ok_or("no decimal")?;
+        let mut out = Vec::new(alloc);
+        decimal.write(&mut out)?;
+        let parts = Decimal::of_parts(decimal.coefficient(), decimal.exponent());
+        let parts = parts.ok_or("no normal form")?;
+        if out.as_slice() != *written || parts.cmp(&decimal) != Ordering::Equal {
+            return Ok(false);
+        }
+    }
+    for (number, written) in WHOLE.iter() {
+        let mut out = Vec::new(alloc);
+        Decimal::of_integer(*number).write(&mut out)?;
+        if out.as_slice() != *written {
+            return Ok(false);
+        }
+    }
+    Ok(Decimal::of_parts(10, 0).is_none() && Decimal::of_parts(0, 1).is_none())
+}
+
 #[test]
-fn a_real_spells_one_decimal_and_these_are_ordered(rt: HostRuntime) -> Result<(), Fail> {
+fn reals_spell_decimals_which_are_ordered_and_written(rt: HostRuntime) -> Result<(), Fail> {
     for (spelling, coefficient, exponent) in SPELLED.iter() {
         let decimal = Decimal::parse(spelling).ok().ok_or("no decimal")?;
         assert_eq!(rt; decimal.coefficient(), *coefficient);
@@ -120,25 +143,6 @@ fn a_real_spells_one_decimal_and_these_are_ordered(rt: HostRuntime) -> Result<()
         assert!(rt; left.cmp(&right) == *order);
         assert!(rt; right.cmp(&left) == order.reverse());
     }
-    Ok(())
-}
-
-#[test]
-fn a_decimal_is_written(rt: HostRuntime) -> Result<(), Fail> {
-    for (spelling, written) in WRITTEN.iter() {
-        let decimal = Decimal::parse(spelling).ok().ok_or("no decimal")?;
-        let mut out = Vec::new(rt.alloc());
-        decimal.write(&mut out)?;
-        assert!(rt; out.as_slice() == *written);
-        let parts = Decimal::of_parts(decimal.coefficient(), decimal.exponent());
-        assert!(rt; parts.ok_or("no normal form")?.cmp(&decimal) == Ordering::Equal);
-    }
-    for (number, written) in WHOLE.iter() {
-        let mut out = Vec::new(rt.alloc());
-        Decimal::of_integer(*number).write(&mut out)?;
-        assert!(rt; out.as_slice() == *written);
-    }
-    assert!(rt; Decimal::of_parts(10, 0).is_none());
-    assert!(rt; Decimal::of_parts(0, 1).is_none());
+    assert!(rt; are_written(rt.alloc())?);
     Ok(())
 }
