@@ -157,7 +157,7 @@ fn aggregate(alloc: Global, kind: AggregateKind, low: i64, items: Option<Items<V
     }
 }
 
-/// Whether the numbers, which are few, have this one.
+/// Whether the numbers have this one.
 fn has(numbers: &[usize], number: usize) -> bool
     ensures { result ≡ is_among numbers.now number }
 {
@@ -318,8 +318,10 @@ fn chosen(
     under_name(alloc, number, taken)
 }
 
-/// The value of an attribute of this type, where the type takes what is spelled. It takes time for each element, and at a SELECT
-/// for each of the types that it chooses from.
+/// The value of an attribute of this type, where the type takes what is spelled.
+///
+/// A value without a keyword is read once for each type that a SELECT chooses from; where these are lists of SELECTs, so is
+/// each element, and the time is a power of the depth.
 #[tactic(auto, unfolding(crate::specs::Taking::bound))]
 pub fn bound(
     alloc: Global,

@@ -99,6 +99,7 @@ fn write_leaf(
     let schema = leaves.schema();
     match leaves.known(leaf) {
         Some(part) => write_record(out, schema, part, values),
+        // It was just put there, but nothing proves that it is found.
         None => write_record(out, schema, &leaf_part(alloc, schema, leaf)?, values),
     }
 }

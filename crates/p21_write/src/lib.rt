@@ -1,4 +1,4 @@
-//! Canonical text: what is read again as the same model, and is the same for two models that hold the same.
+//! Canonical text: the one text of what a model holds, by its schema.
 #![tactic(auto)]
 
 mod binary;
