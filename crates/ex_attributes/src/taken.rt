@@ -165,7 +165,7 @@ impl Attributes {
     ) -> Result<Typed, AllocError>
         ensures { IfOk result (λ typed. typed ≡ spec.taken self.now kinds.now dot name.now) }
     {
-        let found = self.found_among(alloc, kinds, &name.text)?;
+        let found = self.found_among(alloc, kinds, name.text.as_text())?;
         Ok(found.told(alloc, dot, name.at))
     }
 }

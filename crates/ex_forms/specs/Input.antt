@@ -1,5 +1,5 @@
 -- What a form of the grammar reads from, and the forms that have no tree of their own.
-use Rattle.std.specs.Prelude.{ℕ, zero, suc, Bool, ◌&&◌, ◌||◌, List, [], ◌∷◌, codes, Option, Some, None, option_map, Ok, Err, if◌then◌else◌}
+use Rattle.std.specs.Prelude.{ℕ, zero, suc, Bool, ◌&&◌, ◌||◌, List, [], ◌∷◌, codes, Option, Some, None, option_and_then, Ok, Err, if◌then◌else◌}
 use Rattle.std.specs.List.{list_any}
 use Rattle.std.specs.Str.{str_eq_ignore_ascii_case, str_to_ascii_uppercase}
 use Rattle.std.specs.Str.{is_utf8}
@@ -14,6 +14,7 @@ use Rattle.ex_tree.specs.declared.kind.TokenKind.TheVariants as k
 use Rattle.ex_tree.specs.declared.fault.ParseFaultKind.TheVariants.{Syntax, TooDeep, OutOfProfile}
 use Rattle.ex_tree.specs.declared.fault.ParseFault.{ParseFault}
 use Rattle.ex_tree.specs.declared.expression.Name.{Name}
+use Rattle.ex_tree.specs.Identifiers.{as_identifier}
 use Rattle.rp_numbers.specs.Whole.{whole_number}
 
 abbrev pub Lexemes : Type 0
@@ -123,13 +124,14 @@ spelled t None = λ s. Err (refused t)
 abbrev pub utf8 : List ℕ → Option (List ℕ)
 utf8 bytes = if is_utf8 bytes then Some bytes else None
 
-abbrev pub upper_case : List ℕ → Option (List ℕ)
-upper_case text = option_map str_to_ascii_uppercase (utf8 text)
+-- the identifier in upper case that bytes spell, if they spell one
+abbrev pub identifier : List ℕ → Option (List ℕ)
+identifier bytes = option_and_then (λ text. as_identifier (str_to_ascii_uppercase text)) (utf8 bytes)
 
 unfoldable pub name : Parser Name
 name = do
   t ← expect k.Identifier
-  text ← spelled t (upper_case t.text)
+  text ← spelled t (identifier t.text)
   pure (record { text = text; at = t.at })
 
 unfoldable pub whole : Parser ℕ

@@ -1,14 +1,14 @@
 //! Identifiers and whole numbers.
 
-ghost use Rattle.std.specs.Prelude.{◌≡◌, option_map};
+ghost use Rattle.std.specs.Prelude.{◌≡◌, IfOk, option_map};
 ghost use Rattle.text_forms.specs.Gives.{Reads, Takes};
 ghost use Rattle.ex_forms.specs.Input as spec;
 
 use crate::cursor::{Cursor, Read, refused};
-use ex_tree::{Name, TokenKind};
+use ex_tree::{Identifier, Name, TokenKind};
 use plain_data::Text;
 use rp_numbers::whole_number;
-use std::alloc::Global;
+use std::alloc::{AllocError, Global};
 use text_forms::Failure;
 
 /// The bytes as a text, where they are one.
@@ -21,6 +21,18 @@ pub fn utf8(bytes: &[u8]) -> Option<&str>
     }
 }
 
+/// The identifier in upper case that the bytes spell, if they spell one.
+fn identifier(alloc: Global, bytes: &[u8]) -> Result<Option<Identifier>, AllocError>
+    ensures { IfOk result (λ found. found ≡ spec.identifier bytes.now) }
+{
+    let Some(text) = utf8(bytes) else {
+        return Ok(None);
+    };
+    let mut text = Text::from_str(alloc, text)?;
+    text.make_ascii_uppercase();
+    Ok(Identifier::new(text))
+}
+
 /// An identifier, in upper case.
 #[tactic(auto, unfolding(crate::specs::Input::name))]
 pub fn name(alloc: Global, cursor: &mut Cursor<'_>) -> Read<Name>
@@ -28,11 +40,9 @@ pub fn name(alloc: Global, cursor: &mut Cursor<'_>) -> Read<Name>
     ensures takes { Takes result cursor.old cursor.new }
 {
     let token = cursor.expect(TokenKind::Identifier)?;
-    let Some(text) = utf8(token.text) else {
+    let Some(text) = identifier(alloc, token.text)? else {
         return Err(Failure::Fault(refused(&token)));
     };
-    let mut text = Text::from_str(alloc, text)?;
-    text.make_ascii_uppercase();
     Ok(Name { text, at: token.at })
 }
 

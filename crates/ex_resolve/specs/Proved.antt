@@ -1,7 +1,9 @@
 -- What was proved of a schema when its names were bound.
-use Rattle.std.specs.Prelude.{◌≤◌, ℕ, List, [], ◌∷◌, ◌++◌, length, map, filter}
-use Rattle.std.specs.List.{flat_map}
+use Rattle.std.specs.Prelude.{◌≡◌, ◌≤◌, ℕ, Bool, true, ◌&&◌, List, [], ◌∷◌, ◌++◌, length, map, filter}
+use Rattle.std.specs.List.{flat_map, list_all}
 use Rattle.std.specs.Str.{bytes_eq}
+use Rattle.ex_tree.specs.Identifiers.{is_identifier}
+use Rattle.ex_tree.specs.declared.expression.Name.{Name}
 use Rattle.ex_named.specs.declared.declaration.NamedSchema.{NamedSchema}
 use Rattle.ex_named.specs.declared.declaration.NamedType.{NamedType}
 use Rattle.ex_named.specs.declared.declaration.NamedUnderlying.{NamedUnderlying}
@@ -50,3 +52,19 @@ held_by (u.Data data_type) = held_in data_type
 -- of each type the types that it holds other than through an entity
 unfoldable pub held_types : List NamedType → List (List ℕ)
 held_types = map (λ x. held_by x.underlying)
+
+-- ---- identifiers
+
+abbrev pub items_of : NamedUnderlying → List Name
+items_of (u.Enumeration items) = items
+items_of (u.Select members) = []
+items_of (u.Data data_type) = []
+
+abbrev pub is_type_identified : NamedType → Bool
+is_type_identified x = is_identifier x.name.text && list_all (λ n. is_identifier n.text) (items_of x.underlying)
+
+-- the names of a schema, of its entities and its types, and of the items of these, are identifiers
+pub record HasIdentifiers (s : NamedSchema) : Type 0 where
+  pub schema : is_identifier s.name.text ≡ true
+  pub entities : list_all (λ e. is_identifier e.name.text) s.entities ≡ true
+  pub types : list_all is_type_identified s.types ≡ true

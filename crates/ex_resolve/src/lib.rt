@@ -2,6 +2,7 @@
 //! entities (ISO 10303-11:1994, clause 10).
 #![tactic(auto)]
 
+mod identifiers;
 mod named;
 mod parts;
 mod queue;

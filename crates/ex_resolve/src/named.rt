@@ -31,13 +31,14 @@ impl Drop for Named {
 }
 
 impl Model for Named {
+    ghost use Rattle.ex_resolve.specs.Proved as proved;
     ghost use Rattle.ex_resolve.specs.Schemas as spec;
 
     ghost Value = { spec.Resolved };
 
     ghost view = { λ n. record { schema = n.schema; supertypes = n.supertypes } };
 
-    ghost invariant = { λ n. spec.IsResolved (record { schema = n.schema; supertypes = n.supertypes }) };
+    ghost invariant = { λ n. spec.IsResolved (record { schema = n.schema; supertypes = n.supertypes }) × proved.HasIdentifiers n.schema };
 
     ghost use Rattle.std.specs.Coded.{codes};
     ghost use Rattle.ex_named.specs.contracts.expression.NamedDataType as data_type;
@@ -50,20 +51,22 @@ impl Model for Named {
 
 impl Named {
     pub(crate) fn new(schema: NamedSchema, supertypes: Rows<Rows<usize>>) -> Named
-        requires { spec.IsResolved (record { schema = schema; supertypes = supertypes }) }
+        requires resolved { spec.IsResolved (record { schema = schema; supertypes = supertypes }) }
+        requires identified { proved.HasIdentifiers schema }
         ensures { result ≡ record { schema = schema; supertypes = supertypes } }
     {
         Named { schema, supertypes }
     }
 
     /// What was proved when it was made: some tree resolves to it, its graph is what its entities list, no entity is an
-    /// ancestor of itself, each name stands for one declaration, no type holds itself but through an entity, and each
-    /// number is that of a declaration, or of a variable that is open.
+    /// ancestor of itself, each name stands for one declaration and is an identifier, no type holds itself but through an
+    /// entity, and each number is that of a declaration, or of a variable that is open.
     pub fn proved(&self)
         ensures resolved { spec.IsResolved self.now }
         ensures listed { self.now.supertypes ≡ map (λ e. e.supertypes) self.now.schema.entities }
         ensures acyclic { lineage.IsAcyclic self.now.supertypes }
         ensures once { proved.DeclaresOnce self.now.schema }
+        ensures identified { proved.HasIdentifiers self.now.schema }
         ensures held { lineage.IsAcyclic (proved.held_types self.now.schema.types) }
         ensures in_range { ranges.InRange self.now.schema }
     {

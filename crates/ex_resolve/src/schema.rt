@@ -9,9 +9,9 @@ ghost use Rattle.ex_declarations.specs.Declared as declared;
 ghost use Rattle.ex_resolve.specs.Schemas as spec;
 
 use crate::named::Named;
-use crate::parts;
 use crate::queue::Queue;
 use crate::sorts::{Sorted, in_order, sort_declarations};
+use crate::{identifiers, parts};
 use ex_declarations::{
     declarations, declared_names, entities, once, supertype_graph, type_graph, types,
 };
@@ -58,6 +58,7 @@ fn named(alloc: Global, declarations: &Declarations<'_>, schema: Schema) -> Bind
         held.as_slice(),
         schema,
     )?;
+    identifiers::proved(&found);
     Ok(Named::new(found, supertypes))
 }
 

@@ -1,12 +1,13 @@
 //! Expressions (clause 12). An offset stands wherever a fault of names or types may lie.
 
+use crate::identifier::Identifier;
 use plain_data::{Boxed, Items, Text};
 use rp_numbers::{Decimal, Logical};
 
-/// An identifier in upper case, and its first byte.
+/// An identifier, and its first byte.
 #[derive(Drop)]
 pub struct Name {
-    pub text: Text,
+    pub text: Identifier,
     pub at: usize,
 }
 

@@ -6,6 +6,7 @@ mod data_type;
 mod declaration;
 mod expression;
 mod fault;
+mod identifier;
 mod kind;
 mod statement;
 mod token;
@@ -22,6 +23,7 @@ pub use expression::{
     Operation, Qualifier, Query, UnaryOperator,
 };
 pub use fault::{LexFault, LexFaultKind, ParseFault, ParseFaultKind};
+pub use identifier::Identifier;
 pub use kind::TokenKind;
 pub use statement::{Case, CaseAction, Increment, RepeatControl, Statement};
 pub use token::Token;

@@ -14,7 +14,7 @@ fn entity_names(alloc: Global, entities: &[NamedEntity]) -> Result<Vec<&Text>, A
 {
     let mut names = Vec::with_capacity(alloc, entities.len())?;
     for entity in entities {
-        names.push(&entity.name.text)?;
+        names.push(entity.name.text.as_text())?;
     }
     Ok(names)
 }
@@ -32,7 +32,7 @@ fn type_names(alloc: Global, types: &[NamedType]) -> Result<Vec<&Text>, AllocErr
 {
     let mut names = Vec::with_capacity(alloc, types.len())?;
     for declaration in types {
-        names.push(&declaration.name.text)?;
+        names.push(declaration.name.text.as_text())?;
     }
     Ok(names)
 }

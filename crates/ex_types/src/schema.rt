@@ -99,7 +99,7 @@ impl CheckedSchema {
     pub fn name(&self) -> &Text
         ensures { result.now ≡ self.now.named.schema.name.text }
     {
-        &self.named.schema().name.text
+        self.named.schema().name.text.as_text()
     }
 
     /// The first bytes of the literals that are warned of, in the order of the schema's strings.

@@ -1,0 +1,2 @@
+-- What the tree says in a contract.
+pub mod Identifiers
