@@ -1,11 +1,2 @@
-//! The instances of a file: their order, their types and their first fault.
+//! The instances of a file, as definitions and lemmas: elements in order, names that stand twice, and what a value refers to.
 #![tactic(auto)]
-
-mod fault;
-mod name;
-mod sorted_names;
-mod types;
-
-pub use fault::first_fault;
-pub use name::{greatest_name, in_name_order};
-pub use types::type_of;

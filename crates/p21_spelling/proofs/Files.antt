@@ -89,7 +89,7 @@ mark_again kind t stands some = λ at rest.
     let one = takes kind t stands some at (59 ∷ 10 ∷ rest) refl in
     first_then t (59 ∷ 10 ∷ []) rest _ tt one (ends_line tt one.to rest)
 
-nothing_left : (at : ℕ) → Reads finish [] tt at []
+pub nothing_left : (at : ℕ) → Reads finish [] tt at []
 nothing_left at =
     let is = lexemes-end at [] refl in
     record { to = at; reads = ap finish is ∙ ap (λ s. Ok (tt, s)) (sym is); no_more = le_refl _ }

@@ -12,3 +12,4 @@ pub mod Equations
 pub mod Gives
 pub mod Found
 pub mod Spelled
+pub mod Single

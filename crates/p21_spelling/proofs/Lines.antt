@@ -76,7 +76,7 @@ records_again r rs good at rest =
 
 -- ---- mappings
 
-mapping_again : (m : Mapping) → is_mapping m ≡ true → ReadsAnywhere mapping_form (mapping_text m) m
+pub mapping_again : (m : Mapping) → is_mapping m ≡ true → ReadsAnywhere mapping_form (mapping_text m) m
 unfolding mapping_form
 mapping_again (Internal r) good = λ at rest. other (sees k.Open) _ _ (no_open r good at rest) (maps Internal (record_again r good at rest))
 mapping_again (External []) good = cc

@@ -214,13 +214,13 @@ records_gives =
     (λ r good. gives_repeat (sees k.Word) record_form IsRecord AreRecords record_gives
     (λ l a all one. record { all = all_and_one is_record l a all.all one; some = omega (arith, length-append l (a ∷ [])) }) (r ∷ []) (record { all = rw good refl; some = omega arith }))
 
-abbrev IsMapping : Mapping → Type 0
+abbrev pub IsMapping : Mapping → Type 0
 IsMapping m = is_mapping m ≡ true
 
 some_records : (n : ℕ) → 0 < n → nat_lt 0 n ≡ true
 some_records n h = grind (arith, nat_tests)
 
-mapping_gives : Gives mapping_form IsMapping
+pub mapping_gives : Gives mapping_form IsMapping
 unfolding mapping_form
 mapping_gives =
     gives_if (sees k.Open) (expect k.Open >> (records >>= (λ rs. expect k.Close >> pure (External rs)))) (Internal <$> record_form) IsMapping
@@ -420,11 +420,12 @@ file_tokens text = by_mark (starts_with nat_eq text tokens.mark) (are_tokens 3 (
     by_mark true marked plain = marked
     by_mark false marked plain = plain
 
-of_tree : (o : Outcome Lexemes FileFault Raw) (raw : Raw) → ((after : Lexemes) → o ≡ Ok (raw, after) → IsFile raw) → tree_of o ≡ Ok raw → IsFile raw
-of_tree (Ok p) raw goes e = let same : p.0 ≡ raw = cc in goes p.1 (ap (λ r. Ok (r, p.1)) same)
-of_tree (Err fault) raw goes e = cc
+-- what holds of each tree that a form gives holds of the one that it is
+pub of_tree : {A : Type 0} (P : A → Type 0) (o : Outcome Lexemes FileFault A) (a : A) → ((after : Lexemes) → o ≡ Ok (a, after) → P a) → tree_of o ≡ Ok a → P a
+of_tree P (Ok p) a goes e = let same : p.0 ≡ a = cc in goes p.1 (ap (λ r. Ok (r, p.1)) same)
+of_tree P (Err fault) a goes e = cc
 
 pub file_is : (raw : Raw) (text : List ℕ) → file_of text ≡ Ok raw → is_file raw ≡ true
-file_is raw text e = of_tree (file (file_lexemes text)) raw (λ after is. (file_gives (file_lexemes text) after raw (file_tokens text) is).0) e
+file_is raw text e = of_tree IsFile (file (file_lexemes text)) raw (λ after is. (file_gives (file_lexemes text) after raw (file_tokens text) is).0) e
 
 pub ruleset spelled = (value_spelled, value_levels, instance_is, file_is)

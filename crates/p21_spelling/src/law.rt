@@ -6,9 +6,11 @@ ghost use Rattle.std.specs.Fmt.{signed_decimal};
 ghost use Rattle.std.specs.List.{list_all};
 ghost use Rattle.p21_read.specs.Grammar.{instance, instances, value_at};
 ghost use Rattle.p21_read.specs.File.{file_of};
+ghost use Rattle.p21_read.specs.Single.{mapping_of};
 ghost use Rattle.p21_text.specs.Tokens.{Lexemes, lexemes, sees};
 ghost use Rattle.p21_text.specs.declared.token.TokenKind.TheVariants as k;
 ghost use Rattle.p21_tree.specs.declared.instance.Instance.{Instance};
+ghost use Rattle.p21_tree.specs.declared.instance.Mapping.{Mapping};
 ghost use Rattle.p21_tree.specs.declared.raw.Raw.{Raw};
 ghost use Rattle.p21_tree.specs.declared.value.Value.{Value};
 ghost use Rattle.p21_strings.specs.Encoding.{encoded};
@@ -16,7 +18,7 @@ ghost use Rattle.rp_numbers.specs.Decimals.{Decimal, IsNormal};
 ghost use Rattle.rp_numbers.specs.Written.{written};
 ghost use Rattle.p21_spelling.specs.Again.{ReadsAgain, ReadsAnywhere};
 ghost use Rattle.p21_spelling.specs.Files.{file_text, is_file};
-ghost use Rattle.p21_spelling.specs.Instances.{instance_text, is_instance, lines};
+ghost use Rattle.p21_spelling.specs.Instances.{instance_text, is_instance, is_mapping, lines, mapping_text};
 ghost use Rattle.p21_spelling.specs.Tokens.{is_integer, is_real, is_string};
 ghost use Rattle.p21_spelling.specs.Values.{spelling};
 
@@ -33,6 +35,14 @@ pub fn read_value_again()
 pub fn read_lines_again()
     ensures instance { (i : Instance) → is_instance i ≡ true → ReadsAnywhere instance (instance_text i) i }
     ensures lines { (is : List Instance) (at : ℕ) (rest : List ℕ) → list_all is_instance is ≡ true → ((at : ℕ) → sees k.Name (lexemes at rest) ≡ false) → (to : ℕ) × (instances (lexemes at (lines is ++ rest)) ≡ Ok (is, lexemes to rest)) }
+{}
+
+/// A mapping that is well spelled is read again by itself from its text, which is what stands between `=` and `;` in the
+/// line of an instance; and what is read of a text by itself is well spelled, so that it stands in a file under any name.
+#[tactic(auto, using(crate::proofs::Single::mapping_of_again, crate::proofs::Single::mapping_of_is))]
+pub fn read_instance_again()
+    ensures mapping { (m : Mapping) → is_mapping m ≡ true → mapping_of (mapping_text m) ≡ Ok m }
+    ensures spelled { (m : Mapping) (text : List ℕ) → mapping_of text ≡ Ok m → is_mapping m ≡ true }
 {}
 
 /// A file that is well spelled is read again from its text.

@@ -4,5 +4,6 @@
 mod law;
 
 pub use law::{
-    only_these_are_read, read_file_again, read_lines_again, read_value_again, tokens_are_spelled,
+    only_these_are_read, read_file_again, read_instance_again, read_lines_again, read_value_again,
+    tokens_are_spelled,
 };

@@ -1,0 +1,36 @@
+//! One instance by itself, as a request brings it: its keyword and values, without its name.
+
+ghost use Rattle.std.specs.Prelude.{◌≡◌};
+ghost use Rattle.text_forms.specs.Gives.{Reads, Gives};
+ghost use Rattle.p21_read.specs.Single as spec;
+
+use crate::grammar::{Read, mapping};
+use p21_text::Tokens;
+use p21_tree::{FileFault, Mapping};
+use std::alloc::Global;
+use text_forms::Failure;
+
+/// A mapping, and nothing behind it.
+#[tactic(auto, unfolding(crate::specs::Single::single))]
+fn single<'t>(alloc: Global, tokens: &mut Tokens<'t>) -> Read<Mapping<'t>>
+    ensures { Reads (spec.single tokens.old) result tokens.new }
+{
+    let found = mapping(alloc, tokens)?;
+    tokens.finish()?;
+    Ok(found)
+}
+
+/// The mapping that a text spells: `KEYWORD(values)` or `(KEYWORD(values)KEYWORD(values))`, with neither a name in
+/// front nor a semicolon behind; or its first fault. Blanks and comments may stand around it, a byte order mark may not.
+/// The texts of the mapping are borrowed, so what it holds in memory is a block for each list that isn't empty and each
+/// value under a keyword.
+///
+/// # Errors
+///
+/// The fault of least place, which counts bytes from 0; or want of memory.
+pub fn read_instance(alloc: Global, text: &[u8]) -> Result<Mapping<'_>, Failure<FileFault>>
+    ensures { Gives (λ mapping. mapping) result (spec.mapping_of text.now) }
+{
+    let mut tokens = Tokens::new(text);
+    single(alloc, &mut tokens)
+}
