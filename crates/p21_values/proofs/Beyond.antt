@@ -1,5 +1,5 @@
--- What stands in the table of choices, also at numbers of no type.
-use Rattle.std.proofs.Common.{◌≡◌, ◌≤◌, ℕ, zero, suc, ◌+◌, false, not, ◌||◌, ◌==◌, List, [], ◌∷◌, length, filter, slice_get, option_map, refl, sym, ◌∙◌, ap, arith, ⊎_elim}
+-- What stands in the tables of choices and items, also at numbers of no type.
+use Rattle.std.proofs.Common.{◌≡◌, ◌≤◌, ℕ, zero, suc, ◌+◌, false, not, ◌||◌, ◌==◌, List, [], ◌∷◌, length, filter, map, slice_get, slice_index_or, option_map, refl, sym, ◌∙◌, ap, arith, ⊎_elim}
 use Rattle.std.proofs.lemmas.Bool.Decides.{nat_tests}
 use Rattle.std.proofs.lemmas.Option.{slice_get_cases}
 use Rattle.std.proofs.lemmas.List.{get_or_past}
@@ -12,6 +12,7 @@ use Rattle.p21_values.specs.Ends.{selection, choices, chooses_instances, is_enti
 use Rattle.p21_values.specs.declared.selects.Choices.{Choices}
 use Rattle.ex_warnings.specs.Selects.{is_select}
 use Rattle.p21_values.specs.Selects as tables
+use Rattle.p21_values.specs.Taking.{items, items_by}
 use Rattle.p21_values.specs.Selects.{all_choices}
 
 numbered_get : {A B : Type 0} (f : ℕ → A → B) (k : ℕ) (xs : List A) (n : ℕ) → slice_get (numbered_from f k xs) n ≡ option_map (λ x. f (k + n) x) (slice_get xs n)
@@ -70,3 +71,12 @@ pub instances_kept : (types : List NamedType) (n : ℕ) → tables.has_instances
 unfolding chooses_instances
 instances_kept types n =
     kept (λ c. c.has_instances) false types n (λ beyond. ap (λ ks. list_any (λ k. list_any is_entity (members types k)) ks) (no_family_of types n beyond))
+
+-- what is kept of a type's items
+map_get : {A B : Type 0} (f : A → B) (none : B) (xs : List A) (n : ℕ) → slice_index_or (map f xs) n none ≡ option_map_or f (slice_get xs n) none
+map_get f none [] n = refl
+map_get f none (x ∷ xs) zero = refl
+map_get f none (x ∷ xs) (suc n) = map_get f none xs n
+
+pub items_kept : (types : List NamedType) (n : ℕ) → slice_index_or (map (λ x. items_by x.underlying) types) n [] ≡ items types n
+items_kept types n = map_get (λ x. items_by x.underlying) [] types n

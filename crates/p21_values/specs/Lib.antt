@@ -3,3 +3,4 @@ pub mod Seen
 pub mod Tokens
 pub mod Selects
 pub mod Taking
+pub mod Deciding

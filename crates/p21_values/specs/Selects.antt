@@ -1,5 +1,5 @@
 -- What is kept of a schema's defined types.
-use Rattle.std.specs.Prelude.{ℕ, Bool, false, List, [], slice_get}
+use Rattle.std.specs.Prelude.{◌≤◌, ℕ, suc, Bool, false, List, [], ◌∷◌, slice_get}
 use Rattle.std.specs.Option.{option_map_or}
 use Rattle.ex_named.specs.declared.declaration.NamedType.{NamedType}
 use Rattle.lineage.specs.Numbered.{numbered}
@@ -20,3 +20,8 @@ members_at all number = option_map_or (λ c. c.members) (slice_get all number) [
 
 abbrev pub has_instances_at : List Choices → ℕ → Bool
 has_instances_at all number = option_map_or (λ c. c.has_instances) (slice_get all number) false
+
+-- numbers that rise, from this one on
+abbrev pub Rise : ℕ → List ℕ → Type 0
+Rise from [] = Unit {0}
+Rise from (n ∷ ns) = (from ≤ n) × Rise (suc n) ns

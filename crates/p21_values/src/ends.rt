@@ -12,7 +12,7 @@ use ex_tree::SimpleType;
 use rp_value::AggregateKind;
 
 /// A type behind all names.
-#[derive(Drop)]
+#[derive(Clone, Copy)]
 pub enum Base<'s> {
     Plain(SimpleType),
     Instance,
@@ -27,7 +27,7 @@ pub enum Base<'s> {
 }
 
 /// A type as a value is read by it.
-#[derive(Drop)]
+#[derive(Clone, Copy)]
 pub struct Target<'s> {
     /// The defined type whose name may stand before the value.
     pub name: Option<usize>,

@@ -1,23 +1,12 @@
-//! The items of enumerations.
+//! The items of enumerations, found by their names.
 
-ghost use Rattle.std.specs.Prelude.{◌≡◌, map};
-ghost use Rattle.name_tables.specs.Names.{place_of};
+ghost use Rattle.std.specs.Prelude.{◌≡◌, ◌++◌, map, IfOk, OnOk};
 ghost use Rattle.p21_values.specs.Taking as spec;
 
 use ex_named::{NamedType, NamedUnderlying};
 use ex_tree::Name;
-
-/// Where the first of the names is that is this one.
-fn place_among(names: &[Name], name: &[u8]) -> Option<usize>
-    ensures { result ≡ place_of name.now (map (λ n. n.text) names.now) }
-{
-    for (place, other) in names.iter().enumerate() {
-        if other.text.as_bytes() == name {
-            return Some(place);
-        }
-    }
-    None
-}
+use name_tables::NameTable;
+use std::alloc::{AllocError, Global};
 
 fn items_by(underlying: &NamedUnderlying) -> &[Name]
     ensures { map (λ n. n.text) result.now ≡ spec.items_by underlying.now }
@@ -28,19 +17,27 @@ fn items_by(underlying: &NamedUnderlying) -> &[Name]
     }
 }
 
-/// The items of an enumeration.
-fn items(types: &[NamedType], number: usize) -> &[Name]
-    ensures { map (λ n. n.text) result.now ≡ spec.items types.now number }
+/// The texts of names.
+fn table_of<'s>(alloc: Global, names: &'s [Name]) -> Result<NameTable<'s>, AllocError>
+    ensures { IfOk result (λ table. table ≡ map (λ n. n.text) names.now) }
 {
-    match types.get(number) {
-        Some(declared) => items_by(&declared.underlying),
-        None => &[],
+    let mut table = NameTable::new(alloc);
+    for name in names {
+        table.push(name.text.as_bytes())?;
     }
+    Ok(table)
 }
 
-/// The place of an enumeration's item of this name.
-pub fn item_place(types: &[NamedType], number: usize, name: &[u8]) -> Option<usize>
-    ensures { result ≡ place_of name.now (spec.items types.now number) }
+/// Of each type its items; one that is no enumeration has none.
+pub fn all_items<'s>(
+    alloc: Global,
+    types: &'s [NamedType],
+) -> Result<Vec<NameTable<'s>>, AllocError>
+    ensures { IfOk result (λ all. all.items ≡ map (λ x. spec.items_by x.underlying) types.now) }
 {
-    place_among(items(types, number), name)
+    let mut all = Vec::with_capacity(alloc, types.len())?;
+    for declared in types {
+        all.push(table_of(alloc, items_by(&declared.underlying))?)?;
+    }
+    Ok(all)
 }

@@ -1,6 +1,8 @@
 //! What a declared type takes of a value as an exchange file spells it (ISO 10303-21:2002, clause 10).
 #![tactic(auto)]
 
+mod deciding;
+mod elements;
 mod ends;
 mod items;
 mod selects;

@@ -4,7 +4,6 @@ ghost use Rattle.std.specs.Prelude.{◌≡◌, ◌++◌, ◌∷◌, [], map, Som
 ghost use Rattle.std.specs.List.{filter_map};
 ghost use Rattle.std.specs.Option.{option_map};
 ghost use Rattle.std.specs.Str.{str_to_ascii_uppercase};
-ghost use Rattle.lineage.specs.Lineage.{is_among};
 ghost use Rattle.name_tables.specs.Names.{place_of};
 ghost use Rattle.p21_strings.specs.Decoding.{decoded};
 ghost use Rattle.rp_numbers.specs.Spelling.{parse};
@@ -12,10 +11,11 @@ ghost use Rattle.rp_value.specs.declared.value.Value.TheVariants as v;
 ghost use Rattle.p21_values.specs.Ends as ends;
 ghost use Rattle.p21_values.specs.Seen.{seen, seen_target};
 ghost use Rattle.p21_values.specs.Tokens.{ok};
+ghost use Rattle.p21_values.specs.Deciding as deciding;
 ghost use Rattle.p21_values.specs.Taking as spec;
 
+use crate::deciding::only_choice;
 use crate::ends::{Base, Target, base_of, inside, target_of};
-use crate::items::item_place;
 use crate::tokens::{bits, boolean, in_upper_case, integer, logical};
 use crate::types::DefinedTypes;
 use ex_named::NamedDataType;
@@ -28,7 +28,7 @@ use std::alloc::{AllocError, Global};
 use text_forms::Failure;
 
 /// A value that a type takes; nothing where it takes none.
-type Taken = Result<Option<Value>, AllocError>;
+pub type Taken = Result<Option<Value>, AllocError>;
 
 /// The decimal of a real.
 fn decimal(alloc: Global, token: &[u8]) -> Taken
@@ -105,7 +105,7 @@ fn of_binary(alloc: Global, token: &[u8], base: &Base<'_>) -> Taken
 fn item(types: &DefinedTypes<'_>, number: usize, name: &[u8]) -> Option<Value>
     ensures { result ≡ option_map (v.Item number) (place_of name.now (spec.items types.now number)) }
 {
-    match item_place(types.types(), number, name) {
+    match types.item_place(number, name) {
         Some(place) => Some(Value::Item {
             enumeration: number,
             place,
@@ -127,7 +127,7 @@ fn of_item(types: &DefinedTypes<'_>, name: &[u8], base: &Base<'_>) -> Option<Val
 }
 
 /// What a type takes of a reference.
-fn reference(types: &DefinedTypes<'_>, name: u64, base: &Base<'_>) -> Option<Value>
+pub fn reference(types: &DefinedTypes<'_>, name: u64, base: &Base<'_>) -> Option<Value>
     ensures { result ≡ spec.reference_at types.now name (seen base.now) }
 {
     let takes = match base {
@@ -157,18 +157,10 @@ fn aggregate(alloc: Global, kind: AggregateKind, low: i64, items: Option<Items<V
     }
 }
 
-/// Whether the numbers have this one.
-fn has(numbers: &[usize], number: usize) -> bool
-    ensures { result ≡ is_among numbers.now number }
-{
-    numbers.iter().any(|other| *other == number)
-}
-
-/// What a type that is no SELECT takes of a value without a keyword.
-#[cycle(taking)]
+/// What a type that is no SELECT takes of a token.
 #[tactic(auto, unfolding(crate::specs::Taking::meaning))]
-fn plain(alloc: Global, types: &DefinedTypes<'_>, value: &Spelled, base: &Base<'_>) -> Taken
-    ensures { IfOk result (λ taken. taken ≡ (spec.meaning types.now value.now).plain (seen base.now)) }
+fn token(alloc: Global, types: &DefinedTypes<'_>, value: &Spelled<'_>, base: &Base<'_>) -> Taken
+    ensures { IfOk result (λ taken. taken ≡ deciding.alone types.now value.now (seen base.now)) }
 {
     match value {
         Spelled::Integer(token) => of_integer(alloc, token.as_slice(), base),
@@ -179,15 +171,52 @@ fn plain(alloc: Global, types: &DefinedTypes<'_>, value: &Spelled, base: &Base<'
             let name = in_upper_case(alloc, token.as_slice())?;
             Ok(of_item(types, &name, base))
         }
-        Spelled::List(values) => list(alloc, types, values.as_slice(), base),
         Spelled::Unset | Spelled::Derived => Ok(None),
-        Spelled::Reference(_) | Spelled::Typed(_, _) => Ok(None),
+        Spelled::Reference(_) | Spelled::List(_) | Spelled::Typed(_, _) => Ok(None),
+    }
+}
+
+/// What the only one of the defined types takes that takes the token.
+fn only_token(
+    alloc: Global,
+    types: &DefinedTypes<'_>,
+    value: &Spelled<'_>,
+    numbers: &[usize],
+) -> Taken
+    ensures { IfOk result (λ taken. taken ≡ spec.only (filter_map (spec.by_choice types.now (deciding.alone types.now value.now)) numbers.now)) }
+{
+    let mut found = None;
+    'choices: for number in numbers {
+        let base = base_of(types.types(), *number);
+        let taken = token(alloc, types, value, &base)?;
+        if let Some(value) = under_name(alloc, *number, taken)? {
+            if found.is_some() {
+                return Ok(None);
+            }
+            found = Some(value);
+        }
+    }
+    Ok(found)
+}
+
+/// What a type takes of a token without a keyword.
+pub fn bare_token(
+    alloc: Global,
+    types: &DefinedTypes<'_>,
+    value: &Spelled<'_>,
+    base: &Base<'_>,
+) -> Taken
+    ensures { IfOk result (λ taken. taken ≡ spec.bare_at types.now (deciding.alone types.now value.now) (seen base.now)) }
+{
+    match base {
+        Base::Select(number) => only_token(alloc, types, value, types.choices(*number)),
+        _ => token(alloc, types, value, base),
     }
 }
 
 /// What a type that is no SELECT takes of a list.
 #[cycle(taking)]
-fn list(alloc: Global, types: &DefinedTypes<'_>, values: &[Spelled], base: &Base<'_>) -> Taken
+fn list(alloc: Global, types: &DefinedTypes<'_>, values: &[Spelled<'_>], base: &Base<'_>) -> Taken
     ensures { IfOk result (λ taken. taken ≡ spec.of_list types.now (map (spec.meaning types.now) values.now) (seen base.now)) }
 {
     let Base::Aggregate(kind, low, element) = base else {
@@ -203,25 +232,30 @@ fn list(alloc: Global, types: &DefinedTypes<'_>, values: &[Spelled], base: &Base
 fn elements(
     alloc: Global,
     types: &DefinedTypes<'_>,
-    values: &[Spelled],
+    values: &[Spelled<'_>],
     target: &Target<'_>,
 ) -> Result<Option<Items<Value>>, AllocError>
     ensures { IfOk result (λ taken. taken ≡ spec.all_there (map (λ m. spec.place m (seen_target target.now)) (map (spec.meaning types.now) values.now))) }
 {
-    let mut items = Items::new(alloc);
+    let mut items = Vec::with_capacity(alloc, values.len())?;
     'values: for value in values {
         match placed(alloc, types, value, target)? {
             Some(item) => items.push(item)?,
             None => return Ok(None),
         }
     }
-    Ok(Some(items))
+    Ok(Some(Items::from_vec(items)))
 }
 
 /// What the type of an attribute or an element takes.
 #[cycle(taking)]
 #[tactic(auto, unfolding(crate::specs::Taking::meaning))]
-fn placed(alloc: Global, types: &DefinedTypes<'_>, value: &Spelled, target: &Target<'_>) -> Taken
+fn placed(
+    alloc: Global,
+    types: &DefinedTypes<'_>,
+    value: &Spelled<'_>,
+    target: &Target<'_>,
+) -> Taken
     ensures { IfOk result (λ taken. taken ≡ spec.place (spec.meaning types.now value.now) (seen_target target.now)) }
 {
     match value {
@@ -233,48 +267,57 @@ fn placed(alloc: Global, types: &DefinedTypes<'_>, value: &Spelled, target: &Tar
 /// What a type takes.
 #[cycle(taking)]
 #[tactic(auto, unfolding(crate::specs::Taking::meaning))]
-fn fitting(alloc: Global, types: &DefinedTypes<'_>, value: &Spelled, target: &Target<'_>) -> Taken
+fn fitting(
+    alloc: Global,
+    types: &DefinedTypes<'_>,
+    value: &Spelled<'_>,
+    target: &Target<'_>,
+) -> Taken
     ensures { IfOk result (λ taken. taken ≡ (spec.meaning types.now value.now).fit (seen_target target.now)) }
 {
     match value {
         Spelled::Unset | Spelled::Derived => Ok(None),
         Spelled::Reference(name) => Ok(reference(types, *name, &target.base)),
         Spelled::Typed(keyword, value) => {
-            let number = types.number(alloc, keyword.as_slice())?;
+            let number = types.number(alloc, keyword.as_bytes())?;
             named(alloc, types, number, value.get(), target)
         }
-        _ => bare(alloc, types, value, &target.base),
+        Spelled::List(values) => bare_list(alloc, types, values.as_slice(), &target.base),
+        _ => bare_token(alloc, types, value, &target.base),
     }
 }
 
-/// What a type takes of a value without a keyword.
+/// What a type takes of a list without a keyword.
 #[cycle(taking)]
-fn bare(alloc: Global, types: &DefinedTypes<'_>, value: &Spelled, base: &Base<'_>) -> Taken
-    ensures { IfOk result (λ taken. taken ≡ spec.bare_at types.now (spec.meaning types.now value.now).plain (seen base.now)) }
+fn bare_list(
+    alloc: Global,
+    types: &DefinedTypes<'_>,
+    values: &[Spelled<'_>],
+    base: &Base<'_>,
+) -> Taken
+    ensures { IfOk result (λ taken. taken ≡ spec.bare_at types.now (spec.of_list types.now (map (spec.meaning types.now) values.now)) (seen base.now)) }
 {
     match base {
-        Base::Select(number) => only(alloc, types, value, types.choices(*number)),
-        _ => plain(alloc, types, value, base),
+        Base::Select(number) => only_list(alloc, types, values, types.choices(*number)),
+        _ => list(alloc, types, values, base),
     }
 }
 
-/// What the only one of the defined types takes that takes the value.
+/// What the only one of the defined types takes that takes the list.
 #[cycle(taking)]
-fn only(alloc: Global, types: &DefinedTypes<'_>, value: &Spelled, numbers: &[usize]) -> Taken
-    ensures { IfOk result (λ taken. taken ≡ spec.only (filter_map (spec.by_choice types.now (spec.meaning types.now value.now).plain) numbers.now)) }
+fn only_list(
+    alloc: Global,
+    types: &DefinedTypes<'_>,
+    values: &[Spelled<'_>],
+    numbers: &[usize],
+) -> Taken
+    ensures { IfOk result (λ taken. taken ≡ spec.only (filter_map (spec.by_choice types.now (spec.of_list types.now (map (spec.meaning types.now) values.now))) numbers.now)) }
 {
-    let mut found = None;
-    'choices: for number in numbers {
-        let base = base_of(types.types(), *number);
-        let taken = plain(alloc, types, value, &base)?;
-        if let Some(value) = under_name(alloc, *number, taken)? {
-            if found.is_some() {
-                return Ok(None);
-            }
-            found = Some(value);
-        }
-    }
-    Ok(found)
+    let Some(number) = only_choice(alloc, types, values, numbers)? else {
+        return Ok(None);
+    };
+    let taken = list(alloc, types, values, &base_of(types.types(), number))?;
+    under_name(alloc, number, taken)
 }
 
 /// What a type takes of the value under a keyword, which is the name of this type.
@@ -283,7 +326,7 @@ fn named(
     alloc: Global,
     types: &DefinedTypes<'_>,
     number: Option<usize>,
-    value: &Spelled,
+    value: &Spelled<'_>,
     target: &Target<'_>,
 ) -> Taken
     ensures { IfOk result (λ taken. taken ≡ spec.named_by types.now (spec.meaning types.now value.now) number (seen_target target.now)) }
@@ -303,7 +346,7 @@ fn chosen(
     alloc: Global,
     types: &DefinedTypes<'_>,
     number: usize,
-    value: &Spelled,
+    value: &Spelled<'_>,
     base: &Base<'_>,
 ) -> Taken
     ensures { IfOk result (λ taken. taken ≡ spec.chosen types.now (spec.meaning types.now value.now) number (seen base.now)) }
@@ -311,7 +354,7 @@ fn chosen(
     let Base::Select(select) = base else {
         return Ok(None);
     };
-    if !has(types.choices(*select), number) {
+    if !types.chooses(*select, number) {
         return Ok(None);
     }
     let taken = fitting(alloc, types, value, &inside(types.types(), number))?;
@@ -319,15 +362,12 @@ fn chosen(
 }
 
 /// The value of an attribute of this type, where the type takes what is spelled.
-///
-/// A value without a keyword is read once for each type that a SELECT chooses from; where these are lists of SELECTs, so is
-/// each element, and the time is a power of the depth.
 #[tactic(auto, unfolding(crate::specs::Taking::bound))]
 pub fn bound(
     alloc: Global,
     types: &DefinedTypes<'_>,
     data_type: &NamedDataType,
-    value: &Spelled,
+    value: &Spelled<'_>,
 ) -> Taken
     ensures { IfOk result (λ taken. taken ≡ spec.bound types.now data_type.now value.now) }
 {

@@ -1,0 +1,9 @@
+use Rattle.std.proofs.Common.{◌≡◌, map, take}
+use Rattle.p21_values.specs.Seen.{seen_target}
+use Rattle.p21_values.specs.Taking.{meaning}
+use Rattle.p21_values.specs.Deciding.{takes_each}
+use Rattle.p21_values.proofs.deciding.+deciding.Given as goal
+
+abbrev pub invariant-take_all-values : goal.invariant-take_all-values
+invariant-take_all-values l =
+    l.taken.items ≡ map (λ t. takes_each (map (meaning l.types) (take l.value-index l.values)) (seen_target t)) l.targets
