@@ -1,5 +1,6 @@
 pub mod Ascending
 pub mod Ordered
 pub mod References
-pub mod Sets
 pub mod Reading
+pub mod Stars
+pub mod Agreement

@@ -1,3 +1,5 @@
 pub mod Plans
 pub mod Instances
+pub mod Kept
 pub mod Files
+pub mod Single

@@ -1,34 +1,37 @@
 //! A whole file.
 
-ghost use Rattle.std.specs.Prelude.{◌≡◌, ◌++◌, ◌∷◌, [], false, reverse, nat_lt, IfOk, OnOk};
+ghost use Rattle.std.specs.Prelude.{◌≡◌, ◌++◌, ◌∷◌, ◌==◌, ◌&&◌, ◌||◌, ℕ, [], false, not, reverse, nat_lt, IfOk, OnOk};
+ghost use Rattle.std.specs.List.Sorted.{IsPermutation};
 ghost use Rattle.p21_instances.specs.Instances.{in_order, is_among};
 ghost use Rattle.p21_instances.specs.Instances as order;
 ghost use Rattle.text_forms.specs.Gives.{Gives};
 ghost use Rattle.p21_bind.specs.Files as spec;
+ghost use Rattle.p21_bind.specs.Instances as instances;
 
 use crate::header::header_of;
 use crate::instance::instance;
 use crate::names::Names;
-use crate::reader::Reader;
+use crate::plans::Plans;
 use ex_subtypes::Compiled;
 use p21_tree::{Header, Instance as Spelled, InstanceFault, Raw};
 use plain_data::{Items, Rows};
 use rp_content::{Content, Instance};
 use std::alloc::{AllocError, Global};
+use std::collections::BTreeSet;
 use text_forms::Failure;
 
-/// One instance, or the first that holds of what is wrong with it.
-fn one(
+/// One instance, whose name stood before or not, or the first that holds of what is wrong with it.
+pub fn one(
     alloc: Global,
-    reader: &Reader<'_>,
+    plans: &mut Plans<'_>,
     names: &Names,
-    before: &Names,
-    spelled: &Spelled,
+    stood: bool,
+    spelled: &Spelled<'_>,
 ) -> Result<Instance, Failure<InstanceFault>>
-    ensures { Gives (λ x. x) result (spec.one reader.now (is_among names.now) (is_among before.now) spelled.now) }
+    ensures plans { plans.new ≡ plans.old }
+    ensures made { Gives (λ x. x) result (spec.told spelled.now.name (instances.instance plans.old (is_among names.now) stood spelled.now)) }
 {
-    let stood = before.has(spelled.name);
-    match instance(alloc, reader, names, stood, spelled) {
+    match instance(alloc, plans, names, stood, spelled) {
         Ok(instance) => Ok(instance),
         Err(Failure::NoMemory) => Err(Failure::NoMemory),
         Err(Failure::Fault(kind)) => Err(Failure::Fault(InstanceFault {
@@ -38,21 +41,42 @@ fn one(
     }
 }
 
+/// Whether a name stood before.
+fn stood_before(before: &BTreeSet<u64>, name: u64) -> bool
+    ensures { result ≡ is_among before.now.keys name }
+{
+    before.contains(&name)
+}
+
+/// Puts a name to those that stood before, unless no name stands twice: then there is no need.
+fn note(before: &mut BTreeSet<u64>, are_distinct: bool, name: u64) -> Result<(), AllocError>
+    ensures { OnOk result ((n : ℕ) → is_among before.new.keys n ≡ ((not are_distinct && (name == n)) || is_among before.old.keys n)) }
+{
+    if are_distinct {
+        return Ok(());
+    }
+    before.insert(name)?;
+    Ok(())
+}
+
 /// The instances of these, the last of which stands first in the file. Each is dropped as soon as it is read.
 fn all_read(
     alloc: Global,
-    reader: &Reader<'_>,
+    plans: &mut Plans<'_>,
     names: &Names,
-    reversed: Vec<Spelled>,
+    reversed: Vec<Spelled<'_>>,
 ) -> Result<Vec<Instance>, Failure<InstanceFault>>
-    ensures { Gives (λ xs. xs.items) result (spec.instances_after reader.now (is_among names.now) (λ n. false) (reverse reversed.items)) }
+    requires { IsPermutation (order.names (reverse reversed.items)) names.now }
+    ensures { Gives (λ xs. xs.items) result (spec.instances_after plans.old (is_among names.now) (λ n. false) (reverse reversed.entry.items)) }
 {
     let mut rest = reversed;
-    let mut before = Names::new(alloc);
-    let mut found = Vec::new(alloc);
+    let mut found = Vec::with_capacity(alloc, rest.len())?;
+    let are_distinct = names.are_distinct();
+    let mut before = BTreeSet::new(alloc);
     'instances: while let Some(spelled) = rest.pop() {
-        found.push(one(alloc, reader, names, &before, &spelled)?)?;
-        before.insert(spelled.name)?;
+        let stood = stood_before(&before, spelled.name);
+        found.push(one(alloc, plans, names, stood, &spelled)?)?;
+        note(&mut before, are_distinct, spelled.name)?;
     }
     Ok(found)
 }
@@ -60,15 +84,15 @@ fn all_read(
 /// The instances of a file in its order, or the first fault of the first faulty one.
 fn instances(
     alloc: Global,
-    reader: &Reader<'_>,
-    spelled: Rows<Spelled>,
+    plans: &mut Plans<'_>,
+    spelled: Rows<Spelled<'_>>,
 ) -> Result<Vec<Instance>, Failure<InstanceFault>>
-    ensures { Gives (λ xs. xs.items) result (spec.instances reader.now spelled) }
+    ensures { Gives (λ xs. xs.items) result (spec.instances plans.old spelled.entry) }
 {
     let names = Names::of(alloc, spelled.as_slice())?;
     let mut reversed = spelled.into_vec();
     reversed.reverse();
-    all_read(alloc, reader, &names, reversed)
+    all_read(alloc, plans, &names, reversed)
 }
 
 /// The instances in the order of their names.
@@ -80,8 +104,8 @@ fn in_name_order(mut instances: Vec<Instance>) -> Result<Items<Instance>, AllocE
 }
 
 /// The header of a file, and its instances.
-fn parts_of(raw: Raw) -> (Header, Rows<Spelled>)
-    ensures { result ≡ (raw.header, raw.instances) }
+fn parts_of(raw: Raw<'_>) -> (Header<'_>, Rows<Spelled<'_>>)
+    ensures { result ≡ (raw.entry.header, raw.entry.instances) }
 {
     let Raw {
         header,
@@ -95,13 +119,13 @@ fn parts_of(raw: Raw) -> (Header, Rows<Spelled>)
 /// What a model holds that a file of this header and these instances is put into.
 fn content(
     alloc: Global,
-    reader: &Reader<'_>,
-    header: &Header,
-    spelled: Rows<Spelled>,
+    plans: &mut Plans<'_>,
+    header: &Header<'_>,
+    spelled: Rows<Spelled<'_>>,
 ) -> Result<Content, Failure<InstanceFault>>
-    ensures { Gives (λ content. content) result (spec.bound_by header.now (spec.instances reader.now spelled)) }
+    ensures { Gives (λ content. content) result (spec.bound_by header.now (spec.instances plans.old spelled.entry)) }
 {
-    let found = instances(alloc, reader, spelled)?;
+    let found = instances(alloc, plans, spelled)?;
     let header = header_of(alloc, header)?;
     let instances = in_name_order(found)?;
     Ok(Content {
@@ -117,10 +141,14 @@ fn content(
 ///
 /// The first fault of the first faulty instance in the file's order; or want of memory.
 #[tactic(auto, unfolding(crate::specs::Files::bound_file))]
-pub fn bind(alloc: Global, schema: &Compiled, raw: Raw) -> Result<Content, Failure<InstanceFault>>
-    ensures { Gives (λ content. content) result (spec.bound_file schema.now raw) }
+pub fn bind(
+    alloc: Global,
+    schema: &Compiled,
+    raw: Raw<'_>,
+) -> Result<Content, Failure<InstanceFault>>
+    ensures { Gives (λ content. content) result (spec.bound_file schema.now raw.entry) }
 {
     let (header, spelled) = parts_of(raw);
-    let reader = Reader::of(alloc, schema)?;
-    content(alloc, &reader, &header, spelled)
+    let mut plans = Plans::of(alloc, schema)?;
+    content(alloc, &mut plans, &header, spelled)
 }

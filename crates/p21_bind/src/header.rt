@@ -26,7 +26,7 @@ fn text(alloc: Global, token: &[u8]) -> Result<Value, AllocError>
 
 #[cycle(header)]
 #[tactic(auto, unfolding(crate::specs::Files::header_value))]
-fn header_value(alloc: Global, value: &HeaderValue) -> Result<Value, AllocError>
+fn header_value(alloc: Global, value: &HeaderValue<'_>) -> Result<Value, AllocError>
     ensures { IfOk result (λ x. x ≡ spec.header_value value.now) }
 {
     match value {
@@ -40,7 +40,7 @@ fn header_value(alloc: Global, value: &HeaderValue) -> Result<Value, AllocError>
 }
 
 #[cycle(header)]
-fn header_values(alloc: Global, values: &[HeaderValue]) -> Result<Items<Value>, AllocError>
+fn header_values(alloc: Global, values: &[HeaderValue<'_>]) -> Result<Items<Value>, AllocError>
     ensures { IfOk result (λ xs. xs ≡ map spec.header_value values.now) }
 {
     let mut items = Items::new(alloc);
@@ -51,7 +51,7 @@ fn header_values(alloc: Global, values: &[HeaderValue]) -> Result<Items<Value>, 
 }
 
 /// What the header says, but for the schema.
-pub fn header_of(alloc: Global, header: &Spelled) -> Result<Header, AllocError>
+pub fn header_of(alloc: Global, header: &Spelled<'_>) -> Result<Header, AllocError>
     ensures { IfOk result (λ h. h ≡ spec.header header.now) }
 {
     let description = header_values(alloc, header.description.as_slice())?;

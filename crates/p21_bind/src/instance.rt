@@ -1,30 +1,31 @@
 //! An instance, from its mapping.
 
-ghost use Rattle.std.specs.Prelude.{◌≡◌, ◌&&◌, ◌++◌, ◌∷◌, [], true, length, map, slice_index_or, IfOk, OnOk};
+ghost use Rattle.std.specs.Prelude.{◌≡◌, ◌&&◌, ◌++◌, ◌∷◌, [], true, length, map, slice_index_or, Some, IfOk, OnOk};
 ghost use Rattle.std.specs.List.{flat_map, zip};
 ghost use Rattle.std.specs.Str.{str_to_ascii_uppercase};
 ghost use Rattle.name_tables.specs.Names.{place_of};
 ghost use Rattle.p21_instances.specs.Instances.{is_among};
 ghost use Rattle.text_forms.specs.Gives.{Gives};
-ghost use Rattle.p21_bind.specs.Plans as plans;
+ghost use Rattle.p21_bind.specs.Kept as kept;
+ghost use Rattle.p21_bind.specs.Plans as plans_spec;
 ghost use Rattle.p21_bind.specs.Instances as spec;
 
 use crate::names::Names;
-use crate::plan::{Plan, external, internal};
+use crate::plan::{Leaf, Plan, external, internal};
+use crate::plans::Plans;
 use crate::reader::{Reader, in_upper_case};
 use crate::value::{Reading, part_values};
 use ex_slots::Slot;
 use name_tables::NameTable;
 use p21_tree::{Instance as Spelled, InstanceFaultKind, Mapping, Record};
 use plain_data::{Items, Rows, Text};
-use rp_content::Instance;
+use rp_content::{Instance, Types};
 use rp_value::Value;
 use std::alloc::{AllocError, Global};
-use std::slice;
 use text_forms::Failure;
 
 /// The keywords of parts in upper case.
-fn keywords(alloc: Global, parts: &[Record]) -> Result<Vec<Text>, AllocError>
+fn keywords(alloc: Global, parts: &[Record<'_>]) -> Result<Vec<Text>, AllocError>
     ensures { IfOk result (λ keywords. keywords.items ≡ spec.keywords parts.now) }
 {
     let mut keywords = Vec::with_capacity(alloc, parts.len())?;
@@ -49,7 +50,7 @@ fn repeats(alloc: Global, keywords: &[Text]) -> Result<bool, AllocError>
 }
 
 /// Whether a type stands twice.
-fn has_twice(alloc: Global, mapping: &Mapping) -> Result<bool, AllocError>
+fn has_twice(alloc: Global, mapping: &Mapping<'_>) -> Result<bool, AllocError>
     ensures { IfOk result (λ found. found ≡ spec.has_twice mapping.now) }
 {
     match mapping {
@@ -64,14 +65,15 @@ fn has_twice(alloc: Global, mapping: &Mapping) -> Result<bool, AllocError>
 /// The entities of parts, where each keyword is the name of one.
 fn entities_of(
     alloc: Global,
-    reader: &Reader<'_>,
-    parts: &[Record],
+    plans: &mut Plans<'_>,
+    parts: &[Record<'_>],
 ) -> Result<Option<Vec<usize>>, AllocError>
-    ensures { IfOk result (λ found. spec.numbers_in found ≡ spec.all_there (map (λ r. plans.entity_named reader.now r.keyword) parts.now)) }
+    ensures plans { plans.new ≡ plans.old }
+    ensures found { IfOk result (λ found. spec.numbers_in found ≡ spec.all_there (map (λ r. plans_spec.entity_named plans.old r.keyword) parts.now)) }
 {
     let mut entities = Vec::with_capacity(alloc, parts.len())?;
     for part in parts {
-        match reader.entity_named(alloc, &part.keyword)? {
+        match plans.entity_named(alloc, &part.keyword)? {
             Some(entity) => entities.push(entity)?,
             None => return Ok(None),
         }
@@ -80,7 +82,7 @@ fn entities_of(
 }
 
 /// Whether each part has as many values as it has attributes.
-fn same_counts(mut slots: &[Rows<Slot<'_>>], mut parts: &[Record]) -> bool
+fn same_counts(mut slots: &[Rows<Slot<'_>>], mut parts: &[Record<'_>]) -> bool
     ensures { result ≡ spec.same_counts slots.entry.now parts.entry.now }
 {
     'parts: while let [first, more_slots @ ..] = slots {
@@ -102,7 +104,7 @@ fn all_values(
     reader: &Reader<'_>,
     names: &Names,
     mut slots: &[Rows<Slot<'_>>],
-    mut parts: &[Record],
+    mut parts: &[Record<'_>],
 ) -> Reading<Rows<Items<Value>>>
     ensures { Gives (λ lists. lists) result (spec.each (spec.part reader.now (is_among names.now)) (zip slots.entry.now parts.entry.now)) }
 {
@@ -176,7 +178,7 @@ fn by_plan(
     reader: &Reader<'_>,
     names: &Names,
     name: u64,
-    parts: &[Record],
+    parts: &[Record<'_>],
     plan: &Option<Plan<'_>>,
 ) -> Reading<Instance>
     ensures { Gives (λ x. x) result (spec.by_plan reader.now (is_among names.now) name parts.now plan.now) }
@@ -191,51 +193,99 @@ fn by_plan(
     Ok(made(alloc, name, plan, lists.as_slice())?)
 }
 
-fn by_entity(
+/// The instance of this part, which is of a leaf.
+fn by_leaf(
     alloc: Global,
     reader: &Reader<'_>,
     names: &Names,
     name: u64,
-    part: &Record,
+    part: &Record<'_>,
+    leaf: &Leaf<'_>,
 ) -> Reading<Instance>
-    ensures { Gives (λ x. x) result (spec.by_entity reader.now (is_among names.now) name (part.now ∷ []) (plans.entity_named reader.now part.now.keyword)) }
+    ensures { Gives (λ x. x) result (spec.by_plan reader.now (is_among names.now) name (part.now ∷ []) (Some (kept.leaf_plan leaf.now))) }
 {
-    let Some(entity) = reader.entity_named(alloc, &part.keyword)? else {
+    if leaf.slots.len() != part.values.len() {
+        return Err(Failure::Fault(InstanceFaultKind::WrongCount));
+    }
+    let slots = leaf.slots.as_slice();
+    let values = part_values(alloc, reader, names, slots, part.values.as_slice())?;
+    Ok(Instance {
+        name,
+        types: Types::Leaf(leaf.entity),
+        values,
+    })
+}
+
+/// The instance of this part, where there can be one of this entity and all above it. Its leaf is kept.
+fn by_new_leaf(
+    alloc: Global,
+    plans: &mut Plans<'_>,
+    names: &Names,
+    name: u64,
+    part: &Record<'_>,
+    entity: usize,
+) -> Reading<Instance>
+    ensures plans { plans.new ≡ plans.old }
+    ensures made { Gives (λ x. x) result (spec.by_plan plans.old (is_among names.now) name (part.now ∷ []) (plans_spec.internal plans.old entity)) }
+{
+    let Some(leaf) = internal(alloc, plans.reader(), entity)? else {
+        return Err(Failure::Fault(InstanceFaultKind::IllegalCombination));
+    };
+    let instance = by_leaf(alloc, plans.reader(), names, name, part, &leaf)?;
+    plans.keep_leaf(leaf)?;
+    Ok(instance)
+}
+
+fn by_entity(
+    alloc: Global,
+    plans: &mut Plans<'_>,
+    names: &Names,
+    name: u64,
+    part: &Record<'_>,
+) -> Reading<Instance>
+    ensures plans { plans.new ≡ plans.old }
+    ensures made { Gives (λ x. x) result (spec.by_entity plans.old (is_among names.now) name (part.now ∷ []) (plans_spec.entity_named plans.old part.now.keyword)) }
+{
+    let Some(entity) = plans.entity_named(alloc, &part.keyword)? else {
         return Err(Failure::Fault(InstanceFaultKind::UnknownEntity));
     };
-    let plan = internal(alloc, reader, entity)?;
-    by_plan(alloc, reader, names, name, slice::from_ref(part), &plan)
+    match plans.leaf(entity) {
+        Some(leaf) => by_leaf(alloc, plans.reader(), names, name, part, leaf),
+        None => by_new_leaf(alloc, plans, names, name, part, entity),
+    }
 }
 
 #[tactic(auto, unfolding(crate::specs::Instances::by_several))]
 fn by_entities(
     alloc: Global,
-    reader: &Reader<'_>,
+    plans: &mut Plans<'_>,
     names: &Names,
     name: u64,
-    parts: &[Record],
+    parts: &[Record<'_>],
 ) -> Reading<Instance>
-    ensures { Gives (λ x. x) result (spec.by_several reader.now (is_among names.now) name parts.now) }
+    ensures plans { plans.new ≡ plans.old }
+    ensures made { Gives (λ x. x) result (spec.by_several plans.old (is_among names.now) name parts.now) }
 {
-    let Some(entities) = entities_of(alloc, reader, parts)? else {
+    let Some(entities) = entities_of(alloc, plans, parts)? else {
         return Err(Failure::Fault(InstanceFaultKind::UnknownEntity));
     };
-    let plan = external(alloc, reader, &entities)?;
-    by_plan(alloc, reader, names, name, parts, &plan)
+    let plan = external(alloc, plans.reader(), &entities)?;
+    by_plan(alloc, plans.reader(), names, name, parts, &plan)
 }
 
 fn by_mapping(
     alloc: Global,
-    reader: &Reader<'_>,
+    plans: &mut Plans<'_>,
     names: &Names,
     name: u64,
-    mapping: &Mapping,
+    mapping: &Mapping<'_>,
 ) -> Reading<Instance>
-    ensures { Gives (λ x. x) result (spec.by_mapping reader.now (is_among names.now) name mapping.now) }
+    ensures plans { plans.new ≡ plans.old }
+    ensures made { Gives (λ x. x) result (spec.by_mapping plans.old (is_among names.now) name mapping.now) }
 {
     match mapping {
-        Mapping::Internal(part) => by_entity(alloc, reader, names, name, part),
-        Mapping::External(parts) => by_entities(alloc, reader, names, name, parts.as_slice()),
+        Mapping::Internal(part) => by_entity(alloc, plans, names, name, part),
+        Mapping::External(parts) => by_entities(alloc, plans, names, name, parts.as_slice()),
     }
 }
 
@@ -243,15 +293,16 @@ fn by_mapping(
 #[tactic(auto, unfolding(crate::specs::Instances::instance))]
 pub fn instance(
     alloc: Global,
-    reader: &Reader<'_>,
+    plans: &mut Plans<'_>,
     names: &Names,
     stood: bool,
-    spelled: &Spelled,
+    spelled: &Spelled<'_>,
 ) -> Reading<Instance>
-    ensures { Gives (λ x. x) result (spec.instance reader.now (is_among names.now) stood spelled.now) }
+    ensures plans { plans.new ≡ plans.old }
+    ensures made { Gives (λ x. x) result (spec.instance plans.old (is_among names.now) stood spelled.now) }
 {
     if stood || has_twice(alloc, &spelled.mapping)? {
         return Err(Failure::Fault(InstanceFaultKind::Twice));
     }
-    by_mapping(alloc, reader, names, spelled.name, &spelled.mapping)
+    by_mapping(alloc, plans, names, spelled.name, &spelled.mapping)
 }

@@ -2,12 +2,17 @@
 //! (ISO 10303-21:2002, clauses 8 to 10).
 #![tactic(auto)]
 
+mod alike;
 mod file;
 mod header;
+mod hints;
 mod instance;
 mod names;
 mod plan;
+mod plans;
 mod reader;
+mod single;
 mod value;
 
 pub use file::bind;
+pub use single::{DefinedNames, bind_instance};

@@ -1,79 +1,121 @@
 //! The names of a file's instances.
 
-ghost use Rattle.std.specs.Prelude.{◌≡◌, ◌∷◌, ℕ, IfOk, OnOk};
+ghost use Rattle.std.specs.Prelude.{◌≡◌, IfOk, IsTrue};
+ghost use Rattle.std.specs.List.Sorted.{IsPermutation, IsSorted};
+ghost use Rattle.std.specs.Ordering.{nat_cmp};
 ghost use Rattle.p21_instances.specs.Instances as spec;
 
 use p21_tree::Instance;
 use std::alloc::{AllocError, Global};
-use std::collections::BTreeSet;
 use std::marker::Model;
 
-/// A set of names.
+/// The names of a file's instances, in order. A name stands as often as instances have it.
 #[derive(Drop)]
 pub struct Names {
-    names: BTreeSet<u64>,
+    numbers: Vec<u64>,
+    /// How far apart two of them lie about.
+    step: u64,
 }
 
 impl Model for Names {
     ghost use Rattle.std.specs.Prelude.{List, ℕ};
+    ghost use Rattle.std.specs.List.Sorted.{IsSorted};
+    ghost use Rattle.std.specs.Ordering.{nat_cmp};
 
     ghost Value = { List ℕ };
 
-    ghost view = { λ n. n.names.keys };
+    ghost view = { λ n. n.numbers.items };
+
+    ghost invariant = { λ n. IsSorted nat_cmp n.numbers.items };
 }
 
-/// Puts a name into the set.
-fn put(names: &mut BTreeSet<u64>, name: u64) -> Result<(), AllocError>
-    ensures { OnOk result ((n : ℕ) → spec.is_among names.new.keys n ≡ spec.is_among (name ∷ names.old.keys) n) }
+/// The names of these instances, in order.
+fn sorted(alloc: Global, instances: &[Instance<'_>]) -> Result<Vec<u64>, AllocError>
+    ensures same { IfOk result (λ numbers. IsPermutation (spec.names instances.now) numbers.items) }
+    ensures sorted { IfOk result (λ numbers. IsSorted nat_cmp numbers.items) }
 {
-    names.insert(name)?;
-    Ok(())
-}
-
-/// The set of the instances' names.
-fn all(alloc: Global, instances: &[Instance]) -> Result<BTreeSet<u64>, AllocError>
-    ensures { IfOk result (λ names. (n : ℕ) → spec.is_among names.keys n ≡ spec.is_among (spec.names instances.now) n) }
-{
-    let mut names = BTreeSet::new(alloc);
+    let mut numbers = Vec::with_capacity(alloc, instances.len())?;
     for instance in instances {
-        put(&mut names, instance.name)?;
+        numbers.push(instance.name)?;
     }
-    Ok(names)
+    numbers.sort_unstable();
+    Ok(numbers)
+}
+
+/// How far apart two of the numbers lie about, of which the first is the least and the last the greatest.
+fn step_of(numbers: &[u64]) -> u64 {
+    let (Some(first), Some(last)) = (numbers.first(), numbers.last()) else {
+        return 1;
+    };
+    let count = numbers.len() as u64;
+    last.wrapping_sub(*first)
+        .wrapping_add(1)
+        .checked_div(count)
+        .unwrap_or(1)
+}
+
+/// Where the name stands if the numbers lie as far apart everywhere.
+fn place_of(numbers: &[u64], step: u64, name: u64) -> usize {
+    match numbers.first() {
+        Some(first) => name.wrapping_sub(*first).checked_div(step).unwrap_or(0) as usize,
+        None => 0,
+    }
+}
+
+/// Whether the name stands in this place.
+fn stands_at(numbers: &[u64], place: usize, name: u64) -> bool
+    ensures { IsTrue result → IsTrue (spec.is_among numbers.now name) }
+{
+    match numbers.get(place) {
+        Some(number) => *number == name,
+        None => false,
+    }
+}
+
+/// Whether the name is one of the numbers, which are in order.
+fn stands(numbers: &[u64], name: u64) -> bool
+    requires { IsSorted nat_cmp numbers.now }
+    ensures { result ≡ spec.is_among numbers.now name }
+{
+    numbers.binary_search(&name).is_ok()
 }
 
 impl Names {
-    ghost use Rattle.std.specs.Prelude.{◌≡◌, ◌∷◌, [], ℕ, IfOk, OnOk};
+    ghost use Rattle.std.specs.Prelude.{◌≡◌, ◌==◌, not, IfOk};
+    ghost use Rattle.std.specs.List.Sorted.{IsPermutation};
     ghost use Rattle.p21_instances.specs.Instances as spec;
 
-    /// No names.
-    pub fn new(alloc: Global) -> Names
-        ensures { result ≡ [] }
+    /// The names of the instances.
+    pub fn of(alloc: Global, instances: &[Instance<'_>]) -> Result<Names, AllocError>
+        ensures { IfOk result (λ names. IsPermutation (spec.names instances.now) names) }
     {
-        Names {
-            names: BTreeSet::new(alloc),
-        }
+        let numbers = sorted(alloc, instances)?;
+        let step = step_of(&numbers);
+        Ok(Names { numbers, step })
     }
 
-    /// The names of the instances.
-    pub fn of(alloc: Global, instances: &[Instance]) -> Result<Names, AllocError>
-        ensures { IfOk result (λ names. (n : ℕ) → spec.is_among names n ≡ spec.is_among (spec.names instances.now) n) }
+    /// These numbers.
+    pub fn of_numbers(mut numbers: Vec<u64>) -> Names
+        ensures { IsPermutation numbers.items result }
     {
-        Ok(Names {
-            names: all(alloc, instances)?,
-        })
+        numbers.sort_unstable();
+        let step = step_of(&numbers);
+        Names { numbers, step }
     }
 
     /// Whether the name is one of them.
     pub fn has(&self, name: u64) -> bool
         ensures { result ≡ spec.is_among self.now name }
     {
-        self.names.contains(&name)
+        // Names mostly follow each other at one distance.
+        let place = place_of(&self.numbers, self.step, name);
+        stands_at(&self.numbers, place, name) || stands(&self.numbers, name)
     }
 
-    /// Puts a name to them.
-    pub fn insert(&mut self, name: u64) -> Result<(), AllocError>
-        ensures { OnOk result ((n : ℕ) → spec.is_among self.new n ≡ spec.is_among (name ∷ self.old) n) }
+    /// Whether none of them stands twice.
+    pub fn are_distinct(&self) -> bool
+        ensures { result ≡ not (spec.has_twice (λ m n. m == n) self.now) }
     {
-        put(&mut self.names, name)
+        self.numbers.is_sorted_by(|a, b| *a < *b)
     }
 }

@@ -1,12 +1,13 @@
 //! What an instance has values of: its entities, and the explicit attributes of each part of its mapping.
 
-ghost use Rattle.std.specs.Prelude.{◌≡◌, ◌∷◌, [], ℕ, ◌==◌, if◌then◌else◌, length, map, IfOk, OnOk, Some, None, is_some};
+ghost use Rattle.std.specs.Prelude.{◌≡◌, ◌∷◌, [], ℕ, ◌==◌, if◌then◌else◌, length, map, IfOk, IfSome, OnOk, Some, None, is_some};
 ghost use Rattle.std.specs.BTreeMap.{get};
 ghost use Rattle.std.specs.List.{flat_map, list_all, find};
-ghost use Rattle.std.specs.Option.{option_or, unwrap_or};
+ghost use Rattle.std.specs.Option.{option_map, option_or, unwrap_or};
 ghost use Rattle.std.specs.Ordering.{nat_cmp};
 ghost use Rattle.ex_slots.specs.Slots as slots_spec;
 ghost use Rattle.lineage.specs.Lineage.{is_among};
+ghost use Rattle.p21_bind.specs.Kept as kept;
 ghost use Rattle.p21_bind.specs.Plans as spec;
 
 use crate::reader::Reader;
@@ -27,33 +28,12 @@ pub struct Plan<'s> {
     pub places: Rows<usize>,
 }
 
-/// One element.
-fn single<T: Drop>(alloc: Global, element: T) -> Result<Rows<T>, AllocError>
-    ensures { IfOk result (λ rows. rows ≡ element ∷ []) }
-{
-    let mut rows = Rows::new(alloc);
-    rows.push(element)?;
-    Ok(rows)
-}
-
 /// What an instance of an entity and all above it has values of.
-fn of_leaf<'s>(
-    alloc: Global,
-    reader: &Reader<'s>,
-    entity: usize,
-    line: &[usize],
-) -> Result<Plan<'s>, AllocError>
-    requires { line.now ≡ spec.line_of reader.now entity }
-    ensures { IfOk result (λ plan. plan ≡ spec.of_leaf reader.now entity) }
-{
-    let slots = slots(alloc, reader.entities(), line)?;
-    let slots = single(alloc, Rows::from_vec(slots))?;
-    let places = single(alloc, 0)?;
-    Ok(Plan {
-        types: Types::Leaf(entity),
-        slots,
-        places,
-    })
+#[derive(Drop)]
+pub struct Leaf<'s> {
+    pub entity: usize,
+    /// In the order in which files write their values.
+    pub slots: Rows<Slot<'s>>,
 }
 
 /// What an instance has values of that is of this entity and all above it; nothing where there can be none.
@@ -62,14 +42,19 @@ pub fn internal<'s>(
     alloc: Global,
     reader: &Reader<'s>,
     entity: usize,
-) -> Result<Option<Plan<'s>>, AllocError>
-    ensures { IfOk result (λ plan. plan ≡ spec.internal reader.now entity) }
+) -> Result<Option<Leaf<'s>>, AllocError>
+    ensures plan { IfOk result (λ found. option_map kept.leaf_plan found ≡ spec.internal reader.now entity) }
+    ensures entity { IfOk result (λ found. IfSome found (λ leaf. leaf.entity ≡ entity)) }
 {
     let line = reader.line_of(alloc, entity)?;
     if !reader.is_legal(alloc, line.as_slice())? {
         return Ok(None);
     }
-    Ok(Some(of_leaf(alloc, reader, entity, line.as_slice())?))
+    let slots = slots(alloc, reader.entities(), line.as_slice())?;
+    Ok(Some(Leaf {
+        entity,
+        slots: Rows::from_vec(slots),
+    }))
 }
 
 /// The entities in the order of their names.
@@ -101,7 +86,11 @@ fn is_leaf(
 
 /// The one of which all others are supertypes.
 #[tactic(auto, unfolding(crate::specs::Plans::leaf))]
-fn leaf(alloc: Global, reader: &Reader<'_>, numbers: &[usize]) -> Result<Option<usize>, AllocError>
+fn leaf_of(
+    alloc: Global,
+    reader: &Reader<'_>,
+    numbers: &[usize],
+) -> Result<Option<usize>, AllocError>
     ensures { IfOk result (λ found. found ≡ spec.leaf reader.now numbers.now) }
 {
     for number in numbers {
@@ -172,7 +161,7 @@ fn arranged(
     ensures types { IfOk result (λ found. found.0 ≡ spec.types_by reader.now numbers.now (spec.leaf reader.now numbers.now)) }
     ensures places { IfOk result (λ found. found.1 ≡ map (spec.place_in numbers.now) (spec.order_by reader.now numbers.now (spec.leaf reader.now numbers.now))) }
 {
-    match leaf(alloc, reader, numbers)? {
+    match leaf_of(alloc, reader, numbers)? {
         Some(entity) => {
             let line = reader.line_of(alloc, entity)?;
             let places = places_in(alloc, numbers, line.as_slice())?;

@@ -7,6 +7,7 @@ ghost use Rattle.p21_bind.specs.Plans as spec;
 
 use ex_named::NamedEntity;
 use ex_subtypes::{Compiled, TypeSet};
+use p21_tree::Keyword;
 use p21_values::DefinedTypes;
 use plain_data::{Rows, Text};
 use std::alloc::{AllocError, Global};
@@ -36,10 +37,10 @@ impl<'s> Model for Reader<'s> {
 }
 
 /// A keyword in upper case.
-pub fn in_upper_case(alloc: Global, keyword: &Text) -> Result<Text, AllocError>
+pub fn in_upper_case(alloc: Global, keyword: &Keyword<'_>) -> Result<Text, AllocError>
     ensures { IfOk result (λ upper. upper ≡ str_to_ascii_uppercase keyword.now) }
 {
-    let mut upper = keyword.copy(alloc)?;
+    let mut upper = Text::from_str(alloc, keyword.as_str())?;
     upper.make_ascii_uppercase();
     Ok(upper)
 }
@@ -84,7 +85,11 @@ impl<'s> Reader<'s> {
     }
 
     /// The entity of this name, in either case.
-    pub fn entity_named(&self, alloc: Global, keyword: &Text) -> Result<Option<usize>, AllocError>
+    pub fn entity_named(
+        &self,
+        alloc: Global,
+        keyword: &Keyword<'_>,
+    ) -> Result<Option<usize>, AllocError>
         ensures { IfOk result (λ entity. entity ≡ spec.entity_named self.now keyword.now) }
     {
         let keyword = in_upper_case(alloc, keyword)?;
@@ -111,7 +116,10 @@ impl<'s> Reader<'s> {
         ensures { result ≡ spec.name_rank self.now entity }
     {
         match self.entities().get(entity) {
-            Some(declared) => self.compiled.schema().entity_rank(&declared.name.text),
+            Some(declared) => self
+                .compiled
+                .schema()
+                .entity_rank(declared.name.text.as_text()),
             None => 0,
         }
     }

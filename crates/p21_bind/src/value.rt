@@ -22,7 +22,7 @@ pub type Reading<T> = Result<T, Failure<InstanceFaultKind>>;
 
 /// Whether the value has a `*`, at any depth.
 #[cycle(stars)]
-fn has_star(value: &Spelled) -> bool
+fn has_star(value: &Spelled<'_>) -> bool
     ensures { result ≡ spec.has_star value.now }
 {
     match value {
@@ -35,7 +35,7 @@ fn has_star(value: &Spelled) -> bool
 
 /// Whether one of the values has a `*`, at any depth.
 #[cycle(stars)]
-fn have_star(values: &[Spelled]) -> bool
+fn have_star(values: &[Spelled<'_>]) -> bool
     ensures { result ≡ list_any spec.has_star values.now }
 {
     for value in values {
@@ -47,7 +47,7 @@ fn have_star(values: &[Spelled]) -> bool
 }
 
 /// Whether it is `*` or `$`.
-fn is_left_out(value: &Spelled) -> bool
+fn is_left_out(value: &Spelled<'_>) -> bool
     ensures { result ≡ spec.is_left_out value.now }
 {
     match value {
@@ -58,7 +58,7 @@ fn is_left_out(value: &Spelled) -> bool
 
 /// Whether each name that the value refers to is defined.
 #[cycle(references)]
-fn is_defined(names: &Names, value: &Spelled) -> bool
+fn is_defined(names: &Names, value: &Spelled<'_>) -> bool
     ensures { result ≡ list_all (is_among names.now) (references value.now) }
 {
     match value {
@@ -71,7 +71,7 @@ fn is_defined(names: &Names, value: &Spelled) -> bool
 
 /// Whether each name that the values refer to is defined.
 #[cycle(references)]
-fn are_defined(names: &Names, values: &[Spelled]) -> bool
+fn are_defined(names: &Names, values: &[Spelled<'_>]) -> bool
     ensures { result ≡ list_all (is_among names.now) (flat_map references values.now) }
 {
     for value in values {
@@ -83,7 +83,7 @@ fn are_defined(names: &Names, values: &[Spelled]) -> bool
 }
 
 /// The fault of a value that no attribute takes.
-fn misplaced(value: &Spelled) -> InstanceFaultKind
+fn misplaced(value: &Spelled<'_>) -> InstanceFaultKind
     ensures { result ≡ spec.misplaced value.now }
 {
     if has_star(value) {
@@ -94,7 +94,7 @@ fn misplaced(value: &Spelled) -> InstanceFaultKind
 }
 
 /// What an attribute has that a type of the instance derives.
-fn derived_value(value: &Spelled) -> Reading<Value>
+fn derived_value(value: &Spelled<'_>) -> Reading<Value>
     ensures { Gives (λ x. x) result (spec.derived_value value.now) }
 {
     if is_left_out(value) {
@@ -110,18 +110,16 @@ fn slot_value(
     reader: &Reader<'_>,
     names: &Names,
     slot: &Slot<'_>,
-    value: &Spelled,
+    value: &Spelled<'_>,
 ) -> Reading<Value>
     ensures { Gives (λ x. x) result (spec.value reader.now (is_among names.now) (slot.now, value.now)) }
 {
     if slot.is_derived() {
         return derived_value(value);
     }
-    if has_star(value) {
-        return Err(Failure::Fault(InstanceFaultKind::NotDerived));
-    }
+    // No type takes a value with a `*`.
     let Some(found) = bound(alloc, reader.types(), slot.data_type(), value)? else {
-        return Err(Failure::Fault(InstanceFaultKind::WrongKind));
+        return Err(Failure::Fault(misplaced(value)));
     };
     if is_defined(names, value) {
         Ok(found)
@@ -136,11 +134,11 @@ pub fn part_values(
     reader: &Reader<'_>,
     names: &Names,
     mut slots: &[Slot<'_>],
-    mut values: &[Spelled],
+    mut values: &[Spelled<'_>],
 ) -> Reading<Items<Value>>
     ensures { Gives (λ xs. xs) result (spec.each (spec.value reader.now (is_among names.now)) (zip slots.entry.now values.entry.now)) }
 {
-    let mut found = Items::new(alloc);
+    let mut found = Vec::with_capacity(alloc, slots.len())?;
     'values: while let [slot, more_slots @ ..] = slots {
         let [value, more_values @ ..] = values else {
             break;
@@ -149,5 +147,5 @@ pub fn part_values(
         slots = more_slots;
         values = more_values;
     }
-    Ok(found)
+    Ok(Items::from_vec(found))
 }

@@ -105,7 +105,7 @@ named_there types keyword k e =
 
 -- ---- a schema's types
 
-count_both : (name : List ℕ) (ns ms : List (List ℕ)) → count name (ns ++ ms) ≡ count name ns + count name ms
+pub count_both : (name : List ℕ) (ns ms : List (List ℕ)) → count name (ns ++ ms) ≡ count name ns + count name ms
 count_both name [] ms = omega arith
 count_both name (n ∷ ns) ms = by_first (bytes_eq n name) refl (count_both name ns ms)
   where

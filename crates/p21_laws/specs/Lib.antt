@@ -1,1 +1,4 @@
 pub mod Types
+pub mod Schemas
+pub mod Instances
+pub mod Contents

@@ -4,9 +4,9 @@ ghost use Rattle.std.specs.Prelude.{◌≡◌, ◌≤◌, ℕ, true, List, Some,
 ghost use Rattle.ex_named.specs.declared.declaration.NamedSchema.{NamedSchema};
 ghost use Rattle.ex_named.specs.declared.declaration.NamedType.{NamedType};
 ghost use Rattle.ex_named.specs.declared.expression.NamedDataType.{NamedDataType};
-ghost use Rattle.ex_resolve.specs.Proved.{DeclaresOnce, held_types};
+ghost use Rattle.ex_resolve.specs.Proved.{DeclaresOnce, HasIdentifiers, held_types};
 ghost use Rattle.lineage.specs.Lineage.{IsAcyclic};
-ghost use Rattle.p21_laws.specs.Types.{AreTypes, AreWords};
+ghost use Rattle.p21_laws.specs.Types.{AreTypes};
 ghost use Rattle.p21_read.specs.Grammar.{value_at};
 ghost use Rattle.p21_spelling.specs.Again.{ReadsAgain};
 ghost use Rattle.p21_spelling.specs.Values.{spelling, text_of};
@@ -32,8 +32,7 @@ pub fn read_again()
     ensures { (types : List NamedType) → AreTypes types → (d : NamedDataType) (x : tree.Value) (w : Value) (n at : ℕ) (file : List ℕ) (after : Lexemes) → value_at n (lexemes at file) ≡ Ok (x, after) → bound types d x ≡ Some w → ReadsAgain (value_at n) (text_of (value_tree types w)) (value_tree types w) }
 {}
 
-/// The types of a schema whose names are bound and are words are such types.
-#[tactic(auto, using(crate::proofs::Names::resolved_types))]
+/// The types of a schema whose names are bound are such types: its premises are what is proved of each.
 pub fn accepted_types()
-    ensures { (s : NamedSchema) → DeclaresOnce s → IsAcyclic (held_types s.types) → AreWords s.types → AreTypes s.types }
+    ensures { (s : NamedSchema) → DeclaresOnce s → IsAcyclic (held_types s.types) → HasIdentifiers s → AreTypes s.types }
 {}

@@ -1,3 +1,4 @@
 pub mod Binaries
 pub mod Trees
+pub mod Types
 pub mod Parts

@@ -1,40 +1,43 @@
 //! Instances.
 
-ghost use Rattle.std.specs.Prelude.{◌≡◌, ◌++◌, ◌∷◌, [], OnOk, map, take, drop};
+ghost use Rattle.std.specs.Prelude.{◌≡◌, ◌++◌, ◌∷◌, [], IfOk, OnOk, map, take, drop};
 ghost use Rattle.std.specs.List.{flat_map};
 ghost use Rattle.p21_spelling.specs.Instances as spelled;
 ghost use Rattle.p21_spelling.specs.Tokens.{enclosed};
 ghost use Rattle.p21_write.specs.Trees as spec;
 
+use crate::output::Output;
 use crate::parts::{Leaves, Part, leaf_part, own_parts};
-use crate::tokens::{put, put_all, write_name};
+use crate::tokens::write_name;
 use crate::value::write_attributes;
 use ex_named::NamedEntity;
+use ex_subtypes::Compiled;
 use ex_types::CheckedSchema;
+use plain_data::Text;
 use rp_content::{Instance, Types};
 use rp_value::Value;
 use std::alloc::{AllocError, Global};
 
 /// The name of an entity, in upper case.
-fn entity_name(entities: &[NamedEntity], number: usize) -> &[u8]
+pub(crate) fn entity_name(entities: &[NamedEntity], number: usize) -> &str
     ensures { result.now ≡ spec.entity_name entities.now number }
 {
     match entities.get(number) {
-        Some(entity) => entity.name.text.as_bytes(),
-        None => &[],
+        Some(entity) => entity.name.text.as_str(),
+        None => "",
     }
 }
 
 /// `KEYWORD(values)`
 fn write_record(
-    out: &mut Vec<u8>,
+    out: &mut Output,
     schema: &CheckedSchema,
     part: &Part,
     values: &[Value],
 ) -> Result<(), AllocError>
-    ensures { OnOk result (out.new.items ≡ out.old.items ++ spelled.record_text (spec.record_of schema.now part.now values.now)) }
+    ensures { OnOk result (out.new ≡ out.old ++ spelled.record_text (spec.record_of schema.now part.now values.now)) }
 {
-    put_all(out, entity_name(schema.entities(), part.entity))?;
+    out.push_str(entity_name(schema.entities(), part.entity))?;
     write_attributes(out, schema.types(), part.marks.as_slice(), values)
 }
 
@@ -52,12 +55,12 @@ fn parted(values: &[Value], count: usize) -> (&[Value], &[Value])
 
 /// A record of each part with its own values.
 fn write_records(
-    out: &mut Vec<u8>,
+    out: &mut Output,
     schema: &CheckedSchema,
     parts: &[Part],
     values: &[Value],
 ) -> Result<(), AllocError>
-    ensures { OnOk result (out.new.items ≡ out.old.items ++ flat_map spelled.record_text (spec.records schema.now parts.now values.now)) }
+    ensures { OnOk result (out.new ≡ out.old ++ flat_map spelled.record_text (spec.records schema.now parts.now values.now)) }
 {
     let mut left = values;
     for part in parts {
@@ -71,29 +74,29 @@ fn write_records(
 /// The records of several entities in parentheses.
 fn write_several(
     alloc: Global,
-    out: &mut Vec<u8>,
+    out: &mut Output,
     schema: &CheckedSchema,
     all: &[usize],
     values: &[Value],
 ) -> Result<(), AllocError>
-    ensures { OnOk result (out.new.items ≡ out.old.items ++ enclosed (flat_map spelled.record_text (spec.records schema.now (spec.own_parts schema.now all.now) values.now))) }
+    ensures { OnOk result (out.new ≡ out.old ++ enclosed (flat_map spelled.record_text (spec.records schema.now (spec.own_parts schema.now all.now) values.now))) }
 {
     let parts = own_parts(alloc, schema, all)?;
-    put(out, b'(')?;
+    out.push(b'(')?;
     write_records(out, schema, parts.as_slice(), values)?;
-    put(out, b')')
+    out.push(b')')
 }
 
 /// The record of a leaf.
 fn write_leaf(
     alloc: Global,
-    out: &mut Vec<u8>,
+    out: &mut Output,
     leaves: &mut Leaves<'_>,
     leaf: usize,
     values: &[Value],
 ) -> Result<(), AllocError>
     ensures leaves { OnOk result (leaves.new ≡ leaves.old) }
-    ensures text { OnOk result (out.new.items ≡ out.old.items ++ spelled.record_text (spec.record_of leaves.old (spec.leaf_part leaves.old leaf) values.now)) }
+    ensures text { OnOk result (out.new ≡ out.old ++ spelled.record_text (spec.record_of leaves.old (spec.leaf_part leaves.old leaf) values.now)) }
 {
     leaves.add(alloc, leaf)?;
     let schema = leaves.schema();
@@ -107,13 +110,13 @@ fn write_leaf(
 /// The records of an instance.
 fn write_mapping(
     alloc: Global,
-    out: &mut Vec<u8>,
+    out: &mut Output,
     leaves: &mut Leaves<'_>,
     types: &Types,
     values: &[Value],
 ) -> Result<(), AllocError>
     ensures leaves { OnOk result (leaves.new ≡ leaves.old) }
-    ensures text { OnOk result (out.new.items ≡ out.old.items ++ spelled.mapping_text (spec.mapping leaves.old types.now values.now)) }
+    ensures text { OnOk result (out.new ≡ out.old ++ spelled.mapping_text (spec.mapping leaves.old types.now values.now)) }
 {
     match types {
         Types::Leaf(leaf) => write_leaf(alloc, out, leaves, *leaf, values),
@@ -122,17 +125,17 @@ fn write_mapping(
 }
 
 /// `#name=mapping;`
-fn write_instance(
+fn write_entity_instance(
     alloc: Global,
-    out: &mut Vec<u8>,
+    out: &mut Output,
     leaves: &mut Leaves<'_>,
     instance: &Instance,
 ) -> Result<(), AllocError>
     ensures leaves { OnOk result (leaves.new ≡ leaves.old) }
-    ensures text { OnOk result (out.new.items ≡ out.old.items ++ spelled.instance_text (spec.instance_tree leaves.old instance.now)) }
+    ensures text { OnOk result (out.new ≡ out.old ++ spelled.instance_text (spec.instance_tree leaves.old instance.now)) }
 {
     write_name(out, instance.name)?;
-    put(out, b'=')?;
+    out.push(b'=')?;
     write_mapping(
         alloc,
         out,
@@ -140,35 +143,49 @@ fn write_instance(
         &instance.types,
         instance.values.as_slice(),
     )?;
-    put(out, b';')
+    out.push(b';')
 }
 
 /// An instance and a line feed.
 fn write_line(
     alloc: Global,
-    out: &mut Vec<u8>,
+    out: &mut Output,
     leaves: &mut Leaves<'_>,
     instance: &Instance,
 ) -> Result<(), AllocError>
     ensures leaves { OnOk result (leaves.new ≡ leaves.old) }
-    ensures text { OnOk result (out.new.items ≡ out.old.items ++ (spelled.instance_text (spec.instance_tree leaves.old instance.now) ++ 10 ∷ [])) }
+    ensures text { OnOk result (out.new ≡ out.old ++ (spelled.instance_text (spec.instance_tree leaves.old instance.now) ++ 10 ∷ [])) }
 {
-    write_instance(alloc, out, leaves, instance)?;
-    put(out, b'\n')
+    write_entity_instance(alloc, out, leaves, instance)?;
+    out.push(b'\n')
 }
 
 /// Instances, one line each.
 pub(crate) fn write_lines(
     alloc: Global,
-    out: &mut Vec<u8>,
+    out: &mut Output,
     schema: &CheckedSchema,
     instances: &[Instance],
 ) -> Result<(), AllocError>
-    ensures { OnOk result (out.new.items ≡ out.old.items ++ spelled.lines (map (spec.instance_tree schema.now) instances.now)) }
+    ensures { OnOk result (out.new ≡ out.old ++ spelled.lines (map (spec.instance_tree schema.now) instances.now)) }
 {
     let mut leaves = Leaves::new(alloc, schema);
     for instance in instances {
         write_line(alloc, out, &mut leaves, instance)?;
     }
     Ok(())
+}
+
+/// The canonical text of one instance: its line, without the line feed.
+pub fn write_instance(
+    alloc: Global,
+    schema: &Compiled,
+    instance: &Instance,
+) -> Result<Text, AllocError>
+    ensures { IfOk result (λ text. text ≡ spelled.instance_text (spec.instance_tree schema.now instance.now)) }
+{
+    let mut out = Output::new(alloc);
+    let mut leaves = Leaves::new(alloc, schema.schema());
+    write_entity_instance(alloc, &mut out, &mut leaves, instance)?;
+    Ok(out.into_text())
 }

@@ -4,55 +4,57 @@ ghost use Rattle.std.specs.Prelude.{◌≡◌, ◌++◌, ◌∷◌, [], OnOk, de
 ghost use Rattle.std.specs.Fmt.{signed_decimal};
 ghost use Rattle.p21_spelling.specs.Tokens as spec;
 ghost use Rattle.p21_strings.specs.Encoding.{encoded};
+ghost use Rattle.rp_numbers.specs.Written.{written};
 
+use crate::output::Output;
 use itoa::Buffer;
-use p21_strings::encode_string;
+use rp_numbers::Decimal;
 use std::alloc::AllocError;
 
-/// Appends a byte.
-pub(crate) fn put(out: &mut Vec<u8>, byte: u8) -> Result<(), AllocError>
-    ensures { OnOk result (out.new.items ≡ out.old.items ++ byte ∷ []) }
-{
-    out.push(byte)?;
-    Ok(())
-}
-
-/// Appends bytes.
-pub(crate) fn put_all(out: &mut Vec<u8>, bytes: &[u8]) -> Result<(), AllocError>
-    ensures { OnOk result (out.new.items ≡ out.old.items ++ bytes.now) }
-{
-    out.extend_from_slice(bytes)
-}
-
 /// A whole number.
-pub(crate) fn write_integer(out: &mut Vec<u8>, number: i64) -> Result<(), AllocError>
-    ensures { OnOk result (out.new.items ≡ out.old.items ++ signed_decimal number) }
+pub(crate) fn write_integer(out: &mut Output, number: i64) -> Result<(), AllocError>
+    ensures { OnOk result (out.new ≡ out.old ++ signed_decimal number) }
 {
-    put_all(out, Buffer::new().format(number).as_bytes())
+    out.push_str(Buffer::new().format(number))
+}
+
+/// A decimal: its coefficient, a point, and its exponent unless that is 0.
+#[tactic(auto, using(crate::proofs::Decimals::powers), unfolding(rp_numbers::specs::Written::written))]
+pub(crate) fn write_decimal(out: &mut Output, decimal: Decimal) -> Result<(), AllocError>
+    ensures { OnOk result (out.new ≡ out.old ++ written decimal) }
+{
+    let exponent = decimal.exponent();
+    out.push_str(Buffer::new().format(decimal.coefficient()))?;
+    out.push(b'.')?;
+    if exponent == 0 {
+        return Ok(());
+    }
+    out.push(b'E')?;
+    out.push_str(Buffer::new().format(exponent))
 }
 
 /// `#` and the name of an instance.
-pub(crate) fn write_name(out: &mut Vec<u8>, name: u64) -> Result<(), AllocError>
-    ensures { OnOk result (out.new.items ≡ out.old.items ++ 35 ∷ decimal name) }
+pub(crate) fn write_name(out: &mut Output, name: u64) -> Result<(), AllocError>
+    ensures { OnOk result (out.new ≡ out.old ++ 35 ∷ decimal name) }
 {
-    put(out, b'#')?;
-    put_all(out, Buffer::new().format(name).as_bytes())
+    out.push(b'#')?;
+    out.push_str(Buffer::new().format(name))
 }
 
 /// Characters between apostrophes.
-pub(crate) fn write_string(out: &mut Vec<u8>, text: &str) -> Result<(), AllocError>
-    ensures { OnOk result (out.new.items ≡ out.old.items ++ spec.quoted (encoded text.now)) }
+pub(crate) fn write_string(out: &mut Output, text: &str) -> Result<(), AllocError>
+    ensures { OnOk result (out.new ≡ out.old ++ spec.quoted (encoded text.now)) }
 {
-    put(out, b'\'')?;
-    encode_string(out, text)?;
-    put(out, b'\'')
+    out.push(b'\'')?;
+    out.push_encoded(text)?;
+    out.push(b'\'')
 }
 
 /// An item between points.
-pub(crate) fn write_item(out: &mut Vec<u8>, name: &[u8]) -> Result<(), AllocError>
-    ensures { OnOk result (out.new.items ≡ out.old.items ++ 46 ∷ (name.now ++ 46 ∷ [])) }
+pub(crate) fn write_item(out: &mut Output, name: &str) -> Result<(), AllocError>
+    ensures { OnOk result (out.new ≡ out.old ++ 46 ∷ (name.now ++ 46 ∷ [])) }
 {
-    put(out, b'.')?;
-    put_all(out, name)?;
-    put(out, b'.')
+    out.push(b'.')?;
+    out.push_str(name)?;
+    out.push(b'.')
 }

@@ -1,5 +1,6 @@
-use Rattle.std.proofs.Common.{◌≡◌, false, length, reverse}
-use Rattle.p21_instances.specs.Instances.{is_among}
+use Rattle.std.proofs.Common.{◌≡◌, true, false, length, reverse}
+use Rattle.p21_instances.specs.Instances.{has_twice, is_among, names}
+use Rattle.p21_instances.proofs.SortedNames.{is_one}
 use Rattle.p21_bind.specs.Files as spec
 use Rattle.p21_bind.proofs.file.all_read.Given as goal
 
@@ -7,6 +8,10 @@ abbrev pub decreases-instances : goal.decreases-instances
 decreases-instances l = length l.rest.items
 
 abbrev pub invariant-instances : goal.invariant-instances
-invariant-instances l =
-    spec.behind l.found.items (spec.instances_after l.reader (is_among l.names) (is_among l.before) (reverse l.rest.items))
-    ≡ spec.instances_after l.reader (is_among l.names) (λ n. false) (reverse l.fn.reversed.items)
+invariant-instances l = record {
+  plans : l.plans ≡ l.fn.plans;
+  once : l.are_distinct ≡ true → has_twice is_one (names (reverse l.rest.items)) ≡ false;
+  read :
+      spec.behind l.found.items (spec.instances_after l.fn.plans (is_among l.names) (is_among l.before.keys) (reverse l.rest.items))
+      ≡ spec.instances_after l.fn.plans (is_among l.names) (λ n. false) (reverse l.fn.reversed.items);
+}

@@ -1,17 +1,25 @@
-use Rattle.std.proofs.Common.{false, reverse, ◌∙◌, ap, subst}
+use Rattle.std.proofs.Common.{◌==◌, false, reverse, sym, ◌∙◌, ap, subst}
 use Rattle.std.proofs.lemmas.List.{reverse-reverse}
+use Rattle.std.proofs.lemmas.List.Sorted.{list_any-IsPermutation}
+use Rattle.std.specs.List.Sorted.{IsPermutation}
 use Rattle.text_forms.specs.Gives.{Gives}
 use Rattle.p21_instances.specs.Instances.{is_among, names}
 use Rattle.p21_bind.specs.Files as spec
 use Rattle.p21_bind.proofs.file.instances.Goals as goal
 
+pub all_read-requires : goal.all_read-requires
+all_read-requires c =
+    let turned = ap reverse c.reverse.ensures.items ∙ reverse-reverse c.into_vec-reversed.result.items ∙ c.into_vec-reversed.ensures in
+    subst (λ xs. IsPermutation (names xs) c.in_ok-names.names) (c.as_slice.ensures ∙ sym turned) c.in_ok-names.ensures
+
 pub returns : goal.returns
 unfolding spec.instances
 returns c =
-    let reader = c.args.reader.now in
+    let schema = c.args.plans.now in
+    let xs = c.args.spelled in
     let turned = ap reverse c.reverse.ensures.items ∙ reverse-reverse c.into_vec-reversed.result.items ∙ c.into_vec-reversed.ensures in
-    subst (λ o. Gives (λ xs. xs.items) c.all_read.result o)
-    (ap (spec.instances_after reader (is_among c.in_ok-names.names) (λ n. false)) turned
-    ∙ (λ i. spec.instances_after reader (λ n. c.in_ok-names.ensures n i) (λ n. false) c.args.spelled)
-    ∙ ap (λ xs. spec.instances_after reader (is_among (names xs)) (λ n. false) c.args.spelled) c.as_slice.ensures)
+    let same = subst (λ ys. IsPermutation (names ys) c.in_ok-names.names) c.as_slice.ensures c.in_ok-names.ensures in
+    subst (λ o. Gives (λ ys. ys.items) c.all_read.result o)
+    (ap (spec.instances_after schema (is_among c.in_ok-names.names) (λ n. false)) turned
+    ∙ (λ i. spec.instances_after schema (λ n. sym (list_any-IsPermutation (λ m. m == n) (names xs) c.in_ok-names.names same) i) (λ n. false) xs))
     c.all_read.ensures

@@ -6,7 +6,7 @@ use Rattle.p21_bind.proofs.value.part_values.Given as goal
 
 abbrev pub invariant-values : goal.invariant-values
 invariant-values l =
-    spec.and_then (spec.each (spec.value l.reader (is_among l.names)) (zip l.slots l.values)) (λ xs. Ok (l.found ++ xs))
+    spec.and_then (spec.each (spec.value l.reader (is_among l.names)) (zip l.slots l.values)) (λ xs. Ok (l.found.items ++ xs))
     ≡ spec.each (spec.value l.reader (is_among l.names)) (zip l.initial.slots l.initial.values)
 
 abbrev pub decreases-values : goal.decreases-values

@@ -3,7 +3,7 @@ use Rattle.p21_write.specs.Binaries as spec
 use Rattle.p21_write.proofs.binary.write_groups.Given as goal
 
 abbrev pub invariant-loop-left : goal.invariant-loop-left
-invariant-loop-left l = l.out.items ++ spec.digits l.left ≡ l.fn.out.items ++ spec.digits l.bits
+invariant-loop-left l = l.out ++ spec.digits l.left ≡ l.fn.out ++ spec.digits l.bits
 
 abbrev pub decreases-loop-left : goal.decreases-loop-left
 decreases-loop-left l = length l.left

@@ -9,10 +9,10 @@ use Rattle.p21_write.proofs.file.write_header.Goals as goal
 pub returns : goal.returns
 returns c =
     let header = c.args.header.now in
-    let out = c.args.out.now.items in
-    let word = c.write_word.new.out.items in
-    let description = c.write_entity.new.out.items in
-    let written = lines_written out word description c.write_entity-2.new.out.items c.write_schema.new.out.items
+    let out = c.args.out.now in
+    let word = c.write_word.new.out in
+    let description = c.write_entity.new.out in
+    let written = lines_written out word description c.write_entity-2.new.out c.write_schema.new.out
     (codes "HEADER") (entity_text (codes "FILE_DESCRIPTION") (map header_value_tree header.description)) (entity_text (codes "FILE_NAME") (map header_value_tree header.name))
     (schema_text (encoded c.args.schema.now)) (codes "ENDSEC")
     c.in_ok-write_word.ensures

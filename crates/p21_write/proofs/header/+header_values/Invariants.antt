@@ -6,5 +6,5 @@ use Rattle.p21_write.proofs.header.+header_values.Given as goal
 
 abbrev pub invariant-write_values-values : goal.invariant-write_values-values
 invariant-write_values-values l =
-    l.out.items ++ left (l.number == 0) (map (λ v. spelled.header_spelling (spec.header_value_tree v)) (drop l.number l.values))
-    ≡ l.fn.out.items ++ 40 ∷ spelled.listed (map (λ v. spelled.header_spelling (spec.header_value_tree v)) l.values)
+    l.out ++ left (l.number == 0) (map (λ v. spelled.header_spelling (spec.header_value_tree v)) (drop l.number l.values))
+    ≡ l.fn.out ++ 40 ∷ spelled.listed (map (λ v. spelled.header_spelling (spec.header_value_tree v)) l.values)

@@ -6,4 +6,4 @@ use Rattle.p21_write.proofs.instance.write_lines.Given as goal
 abbrev pub invariant-loop-instance : goal.invariant-loop-instance
 invariant-loop-instance l =
     (l.leaves ≡ l.schema)
-    × (l.out.items ++ lines (map (instance_tree l.schema) (drop l.instance-index l.instances)) ≡ l.fn.out.items ++ lines (map (instance_tree l.schema) l.instances))
+    × (l.out ++ lines (map (instance_tree l.schema) (drop l.instance-index l.instances)) ≡ l.fn.out ++ lines (map (instance_tree l.schema) l.instances))

@@ -6,4 +6,4 @@ use Rattle.p21_write.proofs.instance.write_records.Given as goal
 
 abbrev pub invariant-loop-part : goal.invariant-loop-part
 invariant-loop-part l =
-    l.out.items ++ flat_map record_text (records l.schema (drop l.part-index l.parts) l.left) ≡ l.fn.out.items ++ flat_map record_text (records l.schema l.parts l.values)
+    l.out ++ flat_map record_text (records l.schema (drop l.part-index l.parts) l.left) ≡ l.fn.out ++ flat_map record_text (records l.schema l.parts l.values)

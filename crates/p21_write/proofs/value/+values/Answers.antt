@@ -6,13 +6,13 @@ use Rattle.p21_write.proofs.Written.{typed_written}
 use Rattle.p21_write.proofs.value.+values.Goals as goal
 
 pub write_value-returns-in-Indet : goal.write_value-returns-in-Indet
-write_value-returns-in-Indet t c = rw (form.text-Indet c.args.types.now c.args.value.now c.in-Indet.is) c.put.ensures
+write_value-returns-in-Indet t c = rw (form.text-Indet c.args.types.now c.args.value.now c.in-Indet.is) c.push.ensures
 
 pub write_value-returns-in-Int : goal.write_value-returns-in-Int
 write_value-returns-in-Int t c = rw (form.text-Int c.args.types.now c.args.value.now c.in-Int.number c.in-Int.is) (search rules)
 
 pub write_value-returns-in-Dec : goal.write_value-returns-in-Dec
-write_value-returns-in-Dec t c = rw (form.text-Dec c.args.types.now c.args.value.now c.in-Dec.decimal c.in-Dec.is, ← c.get.ensures) c.write.ensures.ok
+write_value-returns-in-Dec t c = rw (form.text-Dec c.args.types.now c.args.value.now c.in-Dec.decimal c.in-Dec.is, ← c.get.ensures) c.write_decimal.ensures
 
 pub write_value-returns-in-Str : goal.write_value-returns-in-Str
 write_value-returns-in-Str t c = rw (form.text-Str c.args.types.now c.args.value.now c.in-Str.text c.in-Str.is, ← c.as_str.ensures) c.write_string.ensures
@@ -36,9 +36,9 @@ write_value-returns-in-Agg t c =
 
 pub write_value-returns-in_ok-write_value-in-Named : goal.write_value-returns-in_ok-write_value-in-Named
 write_value-returns-in_ok-write_value-in-Named t c =
-    let whole = typed_written c.args.out.now.items c.put_all.new.out.items c.put-in-Named.new.out.items c.write_value.new.out.items
+    let whole = typed_written c.args.out.now c.push_str.new.self c.push-in-Named.new.self c.write_value.new.out
     (spec.type_name c.args.types.now c.in-Named.defined_type) (spelled.text_of (spec.value_tree c.args.types.now c.in-Named.value))
-    (c.in_ok-put_all-in-Named.ensures ∙ ap (λ l. c.args.out.now.items ++ l) c.type_name.ensures)
-    c.in_ok-put-in-Named.ensures
-    (c.in_ok-write_value-in-Named.ensures ∙ ap (λ v. c.put-in-Named.new.out.items ++ spelled.text_of (spec.value_tree c.args.types.now v)) c.get-in-Named.ensures) in
-    rw (form.text-Named c.args.types.now c.args.value.now c.in-Named.defined_type c.in-Named.value c.in-Named.is, ← whole) c.put-in-Named-2.ensures
+    (c.in_ok-push_str-in-Named.ensures ∙ ap (λ l. c.args.out.now ++ l) c.type_name.ensures)
+    c.in_ok-push-in-Named.ensures
+    (c.in_ok-write_value-in-Named.ensures ∙ ap (λ v. c.push-in-Named.new.self ++ spelled.text_of (spec.value_tree c.args.types.now v)) c.get-in-Named.ensures) in
+    rw (form.text-Named c.args.types.now c.args.value.now c.in-Named.defined_type c.in-Named.value c.in-Named.is, ← whole) c.push-in-Named-2.ensures

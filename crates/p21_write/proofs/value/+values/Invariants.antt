@@ -6,5 +6,5 @@ use Rattle.p21_write.proofs.value.+values.Given as goal
 
 abbrev pub invariant-write_values-values : goal.invariant-write_values-values
 invariant-write_values-values l =
-    l.out.items ++ left (l.number == 0) (map (λ v. spelled.spelling (spec.value_tree l.types v)) (drop l.number l.values))
-    ≡ l.fn.out.items ++ 40 ∷ spelled.listed (map (λ v. spelled.spelling (spec.value_tree l.types v)) l.values)
+    l.out ++ left (l.number == 0) (map (λ v. spelled.spelling (spec.value_tree l.types v)) (drop l.number l.values))
+    ≡ l.fn.out ++ 40 ∷ spelled.listed (map (λ v. spelled.spelling (spec.value_tree l.types v)) l.values)

@@ -2,7 +2,7 @@ use Rattle.std.proofs.Common.{◌≡◌, drop}
 use Rattle.std.specs.List.{find, list_all}
 use Rattle.lineage.specs.Lineage.{is_among}
 use Rattle.p21_bind.specs.Plans as spec
-use Rattle.p21_bind.proofs.plan.leaf.Given as goal
+use Rattle.p21_bind.proofs.plan.leaf_of.Given as goal
 
 abbrev pub invariant-loop-number : goal.invariant-loop-number
 invariant-loop-number l =

@@ -1,0 +1,21 @@
+-- What was found for some instances of a file, and is kept for those that follow.
+use Rattle.std.specs.Prelude.{◌≡◌, ℕ, zero, List, [], ◌∷◌, Some, IfSome, slice_get}
+use Rattle.ex_types.specs.Checked.{Checked}
+use Rattle.p21_bind.specs.declared.plan.Leaf.{Leaf}
+use Rattle.p21_bind.specs.declared.plan.Plan.{Plan}
+use Rattle.p21_bind.specs.declared.plans.Keyword.{Keyword}
+use Rattle.rp_content.specs.declared.instance.Types.TheVariants as types
+use Rattle.p21_bind.specs.Plans.{entity_named, internal}
+
+-- what an instance of a leaf has values of
+abbrev pub leaf_plan : Leaf → Plan
+leaf_plan leaf = record { types = types.Leaf leaf.entity; slots = leaf.slots ∷ []; places = zero ∷ [] }
+
+module _ (schema : Checked) where
+  -- each keyword is that of the entity beside it
+  abbrev pub AreNamed : List Keyword → Type 0
+  AreNamed keywords = (k : ℕ) → IfSome (slice_get keywords k) (λ x. entity_named schema x.text ≡ Some x.entity)
+
+  -- each is what an instance of its entity has values of
+  abbrev pub AreLeaves : List Leaf → Type 0
+  AreLeaves leaves = (k : ℕ) → IfSome (slice_get leaves k) (λ x. internal schema x.entity ≡ Some (leaf_plan x))

@@ -1,0 +1,203 @@
+//! What was found for some instances of a file, kept for those that follow.
+
+ghost use Rattle.std.specs.Prelude.{◌≡◌, Some, IfOk, IfSome, IsTrue, OnOk};
+ghost use Rattle.p21_bind.specs.Plans as spec;
+
+use crate::alike::are_alike;
+use crate::hints::Hints;
+use crate::plan::Leaf;
+use crate::reader::Reader;
+use ex_subtypes::Compiled;
+use p21_tree::Keyword as Spelled;
+use plain_data::Text;
+use std::alloc::{AllocError, Global};
+use std::marker::Model;
+
+/// How many keywords are kept at most.
+const KEYWORDS: usize = 4096;
+
+/// A keyword as a file spells it, with the entity of this name.
+#[derive(Drop)]
+pub struct Keyword {
+    pub text: Text,
+    pub entity: usize,
+}
+
+/// Whether two keywords are spelled alike.
+fn is_spelled(text: &Text, keyword: &Spelled<'_>) -> bool
+    ensures { IsTrue result → text.now ≡ keyword.now }
+{
+    are_alike(text.as_bytes(), keyword.as_bytes())
+}
+
+/// The letter at a place; 0 beyond the last.
+fn letter(keyword: &[u8], place: usize) -> usize {
+    match keyword.get(place) {
+        Some(letter) => *letter as usize,
+        None => 0,
+    }
+}
+
+/// Where a keyword may be kept: a number below `KEYWORDS`, by some of its letters. Another one that is kept there costs time alone.
+fn hint_of(keyword: &[u8]) -> usize {
+    let count = keyword.len();
+    let letters = [
+        count / 4,
+        count / 2,
+        count / 4 * 3,
+        count.wrapping_sub(2),
+        count.wrapping_sub(1),
+        0,
+    ];
+    let mut hash = count;
+    for place in letters {
+        hash = hash.wrapping_mul(33).wrapping_add(letter(keyword, place));
+    }
+    hash % KEYWORDS
+}
+
+/// A schema with what was found in it for some instances of a file, for those that follow.
+///
+/// A keyword is as long as it was in the file, and a leaf has as many slots as an instance had values that was made by it. So all of this is at most some times as large as the file.
+pub struct Plans<'s> {
+    reader: Reader<'s>,
+    keywords: Vec<Keyword>,
+    leaves: Vec<Leaf<'s>>,
+    // Where one stands of these, by some letters of the keyword, and by the entity.
+    keyword_hints: Hints,
+    leaf_hints: Hints,
+}
+
+impl<'s> Drop for Plans<'s> {
+    fn drop(self) {
+        let Plans {
+            reader,
+            keywords,
+            leaves,
+            keyword_hints,
+            leaf_hints,
+        } = self;
+        drop(reader);
+        drop(keywords);
+        drop(leaves);
+        drop(keyword_hints);
+        drop(leaf_hints);
+    }
+}
+
+impl<'s> Model for Plans<'s> {
+    ghost use Rattle.ex_types.specs.Checked.{Checked};
+    ghost use Rattle.p21_bind.specs.Kept as kept;
+
+    ghost Value = { Checked };
+
+    ghost view = { λ p. p.reader };
+
+    ghost invariant = { λ p. record {
+      keywords : kept.AreNamed p.reader p.keywords.items;
+      leaves : kept.AreLeaves p.reader p.leaves.items;
+    } };
+
+    ghost use Rattle.std.specs.Coded.{codes};
+    ghost use Rattle.ex_types.specs.contracts.schema.CheckedSchema as checked;
+
+    ghost coded = { Prim.hlevel (codes, checked.the_row.coded) };
+}
+
+impl<'s> Plans<'s> {
+    ghost use Rattle.std.specs.Prelude.{◌≡◌, Some, IfOk, IfSome};
+    ghost use Rattle.p21_bind.specs.Kept as kept;
+    ghost use Rattle.p21_bind.specs.Plans as spec;
+
+    pub fn of(alloc: Global, compiled: &'s Compiled) -> Result<Plans<'s>, AllocError>
+        ensures { IfOk result (λ p. p ≡ compiled.now) }
+    {
+        let reader = Reader::of(alloc, compiled)?;
+        let keyword_hints = Hints::new(alloc, KEYWORDS)?;
+        let leaf_hints = Hints::new(alloc, reader.entities().len())?;
+        Ok(Plans {
+            reader,
+            keywords: Vec::new(alloc),
+            leaves: Vec::new(alloc),
+            keyword_hints,
+            leaf_hints,
+        })
+    }
+
+    /// The schema that they are of.
+    pub fn reader(&self) -> &Reader<'s>
+        ensures { result.now ≡ self.now }
+    {
+        &self.reader
+    }
+
+    /// The entity of a keyword that was spelled so before.
+    fn known(&self, hint: usize, keyword: &Spelled<'_>) -> Option<usize>
+        ensures { IfSome result (λ entity. spec.entity_named self.now keyword.now ≡ Some entity) }
+    {
+        match self.keywords.get(self.keyword_hints.place(hint)) {
+            Some(known) if is_spelled(&known.text, keyword) => Some(known.entity),
+            _ => None,
+        }
+    }
+
+    /// Keeps a keyword with its entity, unless another one is kept in its place.
+    fn keep_keyword(
+        &mut self,
+        alloc: Global,
+        hint: usize,
+        keyword: &Spelled<'_>,
+        entity: usize,
+    ) -> Result<(), AllocError>
+        requires { spec.entity_named self.old keyword.now ≡ Some entity }
+        ensures { self.new ≡ self.old }
+    {
+        if self.keyword_hints.is_free(hint) {
+            let text = Text::from_str(alloc, keyword.as_str())?;
+            self.keyword_hints.put(hint, self.keywords.len());
+            self.keywords.push(Keyword { text, entity })?;
+        }
+        Ok(())
+    }
+
+    /// The entity of this name, in either case.
+    pub fn entity_named(
+        &mut self,
+        alloc: Global,
+        keyword: &Spelled<'_>,
+    ) -> Result<Option<usize>, AllocError>
+        ensures plans { self.new ≡ self.old }
+        ensures entity { IfOk result (λ entity. entity ≡ spec.entity_named self.old keyword.now) }
+    {
+        let hint = hint_of(keyword.as_bytes());
+        if let Some(entity) = self.known(hint, keyword) {
+            return Ok(Some(entity));
+        }
+        let found = self.reader.entity_named(alloc, keyword)?;
+        if let Some(entity) = found {
+            self.keep_keyword(alloc, hint, keyword, entity)?;
+        }
+        Ok(found)
+    }
+
+    /// What an instance of an entity and all above it has values of, if one was made before.
+    pub fn leaf(&self, entity: usize) -> Option<&Leaf<'s>>
+        ensures { IfSome result (λ leaf. spec.internal self.now entity ≡ Some (kept.leaf_plan leaf.now)) }
+    {
+        match self.leaves.get(self.leaf_hints.place(entity)) {
+            Some(leaf) if leaf.entity == entity => Some(leaf),
+            _ => None,
+        }
+    }
+
+    /// Keeps a leaf, by which an instance was made.
+    pub fn keep_leaf(&mut self, leaf: Leaf<'s>) -> Result<(), AllocError>
+        requires { spec.internal self.old leaf.entity ≡ Some (kept.leaf_plan leaf) }
+        ensures { self.new ≡ self.old }
+    {
+        let Leaf { entity, slots } = leaf;
+        self.leaf_hints.put(entity, self.leaves.len());
+        self.leaves.push(Leaf { entity, slots })?;
+        Ok(())
+    }
+}

@@ -1,0 +1,16 @@
+-- What is read of a text.
+use Rattle.std.specs.Prelude.{◌≡◌, ℕ, List, [], Ok}
+use Rattle.ex_types.specs.Checked.{Checked}
+use Rattle.p21_bind.specs.Files.{bound_file}
+use Rattle.p21_read.specs.File.{file_of}
+use Rattle.p21_tree.specs.declared.raw.Raw.{Raw}
+use Rattle.rp_content.specs.Headers.{default_header}
+use Rattle.rp_content.specs.declared.content.Content.{Content}
+
+-- the text is read as a file that has this content, by the schema that it is of
+abbrev pub IsRead : Checked → List ℕ → Content → Type 0
+IsRead schema text content = (raw : Raw) × ((file_of text ≡ Ok raw) × (bound_file schema raw ≡ Ok content))
+
+-- that of a model into which no file was put
+abbrev pub new_content : Content
+new_content = record { header = default_header; instances = []; links = [] }

@@ -1,0 +1,51 @@
+//! What was read of an instance, and of a whole file, is read again from what canonical text has for it.
+
+ghost use Rattle.std.specs.Prelude.{◌≡◌, ℕ, Bool, true, false, List, Ok, map};
+ghost use Rattle.std.specs.List.{list_all};
+ghost use Rattle.ex_resolve.specs.Proved.{DeclaresOnce, HasIdentifiers, held_types};
+ghost use Rattle.ex_resolve.specs.Schemas.{Resolved};
+ghost use Rattle.ex_types.specs.Checked.{Checked};
+ghost use Rattle.lineage.specs.Lineage.{IsAcyclic};
+ghost use Rattle.p21_bind.specs.Files.{bound_file};
+ghost use Rattle.p21_bind.specs.Instances as binding;
+ghost use Rattle.p21_laws.specs.Instances.{references_of};
+ghost use Rattle.p21_laws.specs.Contents.{IsRead, new_content};
+ghost use Rattle.p21_laws.specs.Schemas.{IsAccepted};
+ghost use Rattle.p21_read.specs.File.{file_of};
+ghost use Rattle.p21_tree.specs.declared.instance.Instance as tree;
+ghost use Rattle.p21_tree.specs.declared.raw.Raw.{Raw};
+ghost use Rattle.p21_write.specs.Trees.{canonical, content_tree, instance_tree};
+ghost use Rattle.rp_content.specs.declared.content.Content.{Content};
+ghost use Rattle.rp_content.specs.declared.instance.Instance.{Instance};
+
+/// A schema whose names are bound is one that the laws below speak of: its premises are what is proved of each.
+pub fn accepted_schema()
+    ensures { (s : Resolved) → DeclaresOnce s.schema → IsAcyclic (held_types s.schema.types) → s.supertypes ≡ map (λ e. e.supertypes) s.schema.entities → HasIdentifiers s.schema → IsAccepted s }
+{}
+
+/// An instance that was read of a mapping refers to names that are defined there. Where those names are
+/// defined, it is read again of the mapping that canonical text has for it.
+#[tactic(auto, using(crate::proofs::Contents::instance_laws))]
+pub fn instance_again()
+    ensures referred { (schema : Checked) → IsAccepted schema.named → (defined : ℕ → Bool) (stood : Bool) (x : tree.Instance) (i : Instance) → binding.instance schema defined stood x ≡ Ok i → list_all defined (references_of (instance_tree schema i).mapping) ≡ true }
+    ensures again { (schema : Checked) → IsAccepted schema.named → (defined : ℕ → Bool) (stood : Bool) (x : tree.Instance) (i : Instance) → binding.instance schema defined stood x ≡ Ok i → (now : ℕ → Bool) → list_all now (references_of (instance_tree schema i).mapping) ≡ true → binding.instance schema now false (instance_tree schema i) ≡ Ok i }
+{}
+
+/// The content of a file is the content of the tree that canonical text has for it, with its header and in
+/// its order.
+#[tactic(auto, using(crate::proofs::Contents::content_again))]
+pub fn content_again()
+    ensures { (schema : Checked) → IsAccepted schema.named → (raw : Raw) (c : Content) → bound_file schema raw ≡ Ok c → bound_file schema (content_tree schema c) ≡ Ok c }
+{}
+
+/// Where a content was read of some text, its canonical text is read as its tree, and so as this content.
+/// So it is with the content of a model into which no file was put. Contents that have one canonical text
+/// are one, and what is read of canonical text has this text again.
+#[tactic(auto, using(crate::proofs::Defaults::new_again))]
+pub fn text_again()
+    ensures tree { (schema : Checked) → IsAccepted schema.named → (text : List ℕ) (c : Content) → IsRead schema text c → file_of (canonical schema c) ≡ Ok (content_tree schema c) }
+    ensures again { (schema : Checked) → IsAccepted schema.named → (text : List ℕ) (c : Content) → IsRead schema text c → IsRead schema (canonical schema c) c }
+    ensures fresh { (schema : Checked) → IsAccepted schema.named → IsRead schema (canonical schema new_content) new_content }
+    ensures one { (schema : Checked) → IsAccepted schema.named → (text text2 : List ℕ) (c c2 : Content) → IsRead schema text c → IsRead schema text2 c2 → canonical schema c ≡ canonical schema c2 → c ≡ c2 }
+    ensures stays { (schema : Checked) → IsAccepted schema.named → (text : List ℕ) (c c2 : Content) → IsRead schema text c → IsRead schema (canonical schema c) c2 → canonical schema c2 ≡ canonical schema c }
+{}
