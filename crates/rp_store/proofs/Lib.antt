@@ -1,0 +1,4 @@
+pub mod Finding
+pub mod References
+pub mod Keeping
+pub mod Marking

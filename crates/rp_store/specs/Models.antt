@@ -1,0 +1,42 @@
+-- Lists of models in the order of owner and name.
+use Rattle.std.specs.Prelude.{ℕ, Bool, List, Option, Some, None, option_map}
+use Rattle.std.specs.List.{find}
+use Rattle.sorted_tables.specs.Table.{is_at, with_row}
+use Rattle.rp_content.specs.declared.instance.Instance.{Instance}
+use Rattle.rp_rows.specs.declared.rows.ModelContent.{ModelContent}
+use Rattle.rp_rows.specs.Rows.{Key, key_cmp}
+use Rattle.rp_store.specs.Instances.{instance_of}
+
+-- a model's owner and name, and what it holds
+pub record Held : Type 0 where
+  pub key : List ℕ × List ℕ
+  pub holds : ModelContent
+
+abbrev pub held_key : Held → Key
+held_key m = m.key
+
+abbrev pub is_held : Key → Held → Bool
+is_held = is_at key_cmp held_key
+
+-- what the model of a key holds
+abbrev pub held_at : Key → List Held → Option ModelContent
+held_at k ms = option_map (λ m. m.holds) (find (is_held k) ms)
+
+abbrev pub instance_in : ℕ → Option ModelContent → Option Instance
+instance_in n None = None
+instance_in n (Some h) = instance_of n h.content.instances
+
+-- the instance of a name in the model of a key
+abbrev pub instance_at : Key → ℕ → List Held → Option Instance
+instance_at k n ms = instance_in n (held_at k ms)
+
+abbrev pub model : Key → ModelContent → Held
+model k h = record { key = k; holds = h }
+
+-- the model of a key holds this from now on, or is gone
+abbrev pub with_model : Key → Option ModelContent → List Held → List Held
+with_model k h = with_row key_cmp held_key k (option_map (model k) h)
+
+-- what the model of a key holds is changed so, if there is one
+abbrev pub edited : Key → (ModelContent → ModelContent) → List Held → List Held
+edited k f ms = with_model k (option_map f (held_at k ms)) ms
