@@ -18,7 +18,6 @@ import collections
 import concurrent.futures
 import json
 import os
-import re
 import shutil
 import subprocess
 import sys
@@ -28,13 +27,25 @@ TOOLS = os.path.dirname(os.path.abspath(__file__))
 TOP = os.path.dirname(TOOLS)
 sys.dont_write_bytecode = True
 sys.path.insert(0, os.path.join(TOP, "tests"))
-from plain_model import File, FileFault, Instance, Repository  # noqa: E402
+from plain_binding import Aggregate, Entity, Enumeration, Schema, Select, express  # noqa: E402
+from plain_files import read  # noqa: E402
+from plain_model import FileFault, Repository  # noqa: E402
 
 PROGRAM = os.path.join(TOP, "crates/rp_server/out/rp_server")
 LINES = os.path.join(TOOLS, "lines")
 
 PARTNERS = ["ann", "bob"]
-SCHEMAS = {"t.exp": "T", "l.exp": "L"}
+SCHEMAS = {
+    "t.exp": Schema("T", {"len": "REAL", "colour": Enumeration(["red"]), "any": Select(["len", "p"])}, {
+        "p": Entity({"x": "REAL", "n": "STRING"}, optional=["n"]),
+        "q": Entity({"a": "p"}),
+        "r": Entity({"many": Aggregate("LIST [0:?]", "any"), "b": "BINARY", "c": "colour"}),
+        "u": Entity({"f": "REAL"}),
+        "v": Entity(supertypes=["u"]),
+        "w": Entity(supertypes=["u"], derived={("u", "f"): "1.0"}),
+    }),
+    "l.exp": Schema("L", {}, {}),
+}
 NO_MEMORY = b'{"refused":{"code":18,"name":"NoMemory"}}'
 
 # A schema's text, and the status and the line of a check of it.
@@ -84,24 +95,9 @@ FILE_FAULTS = {
     "ISO-10303-21;HEADER;FILE_DESCRIPTION": FileFault("Syntax", 36),
 }
 
-FILE = re.compile(
-    r"ISO-10303-21;HEADER;FILE_DESCRIPTION\(\(''\),'2;1'\);"
-    r"FILE_NAME\('','',\(''\),\(''\),'','',''\);FILE_SCHEMA\(\('(?P<schema>\w+)'\)\);ENDSEC;"
-    r"DATA;(?P<instances>(#[0-9]+=[A-Z]+\([^();]*\);)*)ENDSEC;END-ISO-10303-21;"
-)
-INSTANCE = re.compile(r"#([0-9]+)=([A-Z]+)\(([^();]*)\);")
-
-
 def file_of(text):
     """What a file of the lines says."""
-    if text in FILE_FAULTS:
-        return FILE_FAULTS[text]
-    found = FILE.fullmatch(text)
-    if not found:
-        raise Failure(f"this script can't read the file {text!r}")
-    instances = [Instance(int(name), [keyword], [int(it) for it in re.findall(r"#([0-9]+)", values)])
-                 for name, keyword, values in INSTANCE.findall(found["instances"])]
-    return File([found["schema"]], instances)
+    return FILE_FAULTS.get(text) or read(text)
 
 
 def check_replies(lines, replies):
@@ -243,7 +239,7 @@ def main(words):
             json.dump({"partners": [{"name": name, "token": name} for name in PARTNERS], "schemas": list(SCHEMAS)}, it)
         for name, schema in SCHEMAS.items():
             with open(os.path.join(folder, name), "w", encoding="ascii") as it:
-                it.write(f"SCHEMA {schema};\nEND_SCHEMA;\n")
+                it.write(express(schema))
         shim_in(folder)
         for file in files:
             with open(file, "rb") as it:

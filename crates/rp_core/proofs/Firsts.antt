@@ -1,5 +1,5 @@
 -- The first test that holds.
-use Rattle.std.proofs.Common.{◌≡◌, ℕ, zero, suc, ◌<◌, true, false, List, [], ◌∷◌, ◌++◌, length, take, get_or, Option, Some, None, is_some, refl, sym, arith}
+use Rattle.std.proofs.Common.{◌≡◌, ℕ, zero, suc, ◌<◌, true, false, List, [], ◌∷◌, length, take, get_or, Option, Some, None, is_some, refl, sym, arith}
 use Rattle.rp_plain.specs.Meaning.{first_some}
 
 pub first_none : {A : Type 0} (xs : List (Option A)) (i : ℕ) (d : Option A) → i < length xs → first_some (take i xs) ≡ None → get_or xs i d ≡ None → first_some (take (suc i) xs) ≡ None
@@ -21,10 +21,3 @@ some_there (Some x) h xs i within before is = first_found xs i None x within bef
 pub none_there : {A : Type 0} (o : Option A) → is_some o ≡ false → o ≡ None
 none_there None h = refl
 none_there (Some x) h = cc
-
--- ---- tests, and more behind them
-
-pub first_later : {A : Type 0} (xs ys : List (Option A)) → first_some xs ≡ None → first_some (xs ++ ys) ≡ first_some ys
-first_later [] ys h = refl
-first_later (None ∷ xs) ys h = first_later xs ys h
-first_later (Some y ∷ xs) ys h = cc

@@ -4,7 +4,7 @@ pub mod Joining
 pub mod Looking
 pub mod Firsts
 pub mod SchemaNames
+pub mod Single
 pub mod Repeats
-pub mod Putting
 pub mod Making
 pub mod Preparing

@@ -4,19 +4,17 @@ use Rattle.std.proofs.lemmas.Bool.{false≢true}
 use Rattle.ex_types.specs.Checked.{Checked}
 use Rattle.ex_check.specs.declared.fault.SchemaFault.{SchemaFault}
 use Rattle.ex_check.specs.Check.{schema as schema_of}
-use Rattle.p21_tree.specs.declared.raw.Raw.{Raw}
-use Rattle.p21_tree.specs.declared.fault.FileFault.{FileFault}
 use Rattle.p21_read.specs.File.{file_of}
 use Rattle.rp_rows.specs.Rows.{Text}
 use Rattle.rp_plain.specs.declared.messages.Request.{Request}
-use Rattle.rp_plain.specs.declared.messages.Request.TheVariants.{CreateModel, DeleteModel, Put, Names, ListItems, GrantModel, RevokeModel, Schemas, CheckSchema}
+use Rattle.rp_plain.specs.declared.messages.Request.TheVariants.{CreateModel, DeleteModel, Put, Export, Names, Get, ListItems, GrantModel, RevokeModel, Schemas, CheckSchema}
 use Rattle.rp_plain.specs.declared.messages.Refusal.{Refusal}
 use Rattle.rp_plain.specs.declared.messages.Refusal.TheVariants.{NoMemory}
 use Rattle.rp_plain.specs.declared.messages.Reply.TheVariants.{Refused}
 use Rattle.rp_plain.specs.Plain.{Plain}
 use Rattle.rp_plain.specs.Edits.{changed}
 use Rattle.rp_plain.specs.Asked.{Asked, asked}
-use Rattle.rp_plain.specs.Files.{stored}
+use Rattle.rp_plain.specs.Files.{Reading, read_content, stored}
 use Rattle.rp_plain.specs.Checks as checks
 use Rattle.rp_plain.specs.Step.{meaning, outcome}
 use Rattle.rp_plain.specs.Runs.{is_no_memory}
@@ -29,9 +27,9 @@ use Rattle.rp_core.specs.Plans.{IsAnswer, IsRefusal}
 use Rattle.rp_core.specs.Held.{made, steps_of, IsPrepared}
 use Rattle.rp_core.proofs.Making.{made_changed}
 
-stored_told : (file : Result Raw FileFault) → is_no_memory (stored file) ≡ false
-stored_told (Ok raw) = refl
-stored_told (Err fault) = refl
+stored_told : (read : Reading) → is_no_memory (stored read) ≡ false
+stored_told (Ok content) = refl
+stored_told (Err refusal) = refl
 
 check_told : (schema : Result Checked SchemaFault) → is_no_memory (checks.told schema) ≡ false
 check_told (Ok schema) = refl
@@ -41,8 +39,10 @@ check_told (Err fault) = refl
 told : (a : Asked) (c : Text) (q : Request) → is_no_memory (meaning a c q).reply ≡ false
 told a c (CreateModel name schema) = refl
 told a c (DeleteModel name) = refl
-told a c (Put k file) = stored_told (file_of file)
+told a c (Put k file) = stored_told (read_content a.schemas (a.content k) (file_of file))
+told a c (Export k) = refl
 told a c (Names k) = refl
+told a c (Get k name) = refl
 told a c ListItems = refl
 told a c (GrantModel name to l) = refl
 told a c (RevokeModel name to) = refl

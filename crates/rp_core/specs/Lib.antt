@@ -4,3 +4,4 @@ pub mod Told
 pub mod Plans
 pub mod Files
 pub mod Held
+pub mod InOrder

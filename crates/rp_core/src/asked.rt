@@ -3,7 +3,7 @@
 
 ghost use Rattle.std.specs.Prelude.{◌≡◌, ◌<◌, [], false, slice_index_or, MatchOption, length, option_map, option_copied};
 ghost use Rattle.rp_plain.specs.Plain.{model_at};
-ghost use Rattle.rp_plain.specs.Meaning.{has_text, has_schema as HasSchema};
+ghost use Rattle.rp_plain.specs.Meaning.{has_text, has_schema as HasSchema, schema_named as SchemaNamed};
 ghost use Rattle.rp_core.specs.Stored.{row_of};
 ghost use Rattle.rp_core.specs.Told.{plain_of, told};
 
@@ -37,6 +37,15 @@ fn is_loaded(schemas: &[Compiled], name: &Text) -> bool
         .any(|compiled| name.is(compiled.schema().name()))
 }
 
+/// The schema of this name.
+fn named<'a>(schemas: &'a [Compiled], name: &Text) -> Option<&'a Compiled>
+    ensures { option_copied result ≡ SchemaNamed schemas.now name.now }
+{
+    schemas
+        .iter()
+        .find(|compiled| name.is(compiled.schema().name()))
+}
+
 /// Where the text stands among the texts.
 pub fn place_among(texts: &[Text], text: &Text) -> Option<usize>
     ensures { MatchOption result (has_text texts.now text.now ≡ false)
@@ -56,6 +65,13 @@ impl<'a> Asking<'a> {
         ensures { result ≡ HasSchema (told self.now).schemas name.now }
     {
         is_loaded(self.schemas, name)
+    }
+
+    /// The schema of this name, as it is written.
+    pub fn schema_named(&self, name: &Text) -> Option<&'a Compiled>
+        ensures { option_copied result ≡ SchemaNamed (told self.now).schemas name.now }
+    {
+        named(self.schemas, name)
     }
 
     pub fn has_partner(&self, name: &Text) -> bool

@@ -1,19 +1,24 @@
-//! Files that are put into models.
+//! Files that are put into models, and exported.
 
 ghost use Rattle.std.specs.Prelude.{◌≡◌, Ok, IfOk, option_copied};
-ghost use Rattle.rp_plain.specs.Meaning.{first_some};
+ghost use Rattle.p21_read.specs.File.{file_of};
+ghost use Rattle.rp_rows.specs.Contents as contents;
+ghost use Rattle.rp_plain.specs.Meaning.{first_some, schema_of};
 ghost use Rattle.rp_plain.specs.Files as of_files;
 ghost use Rattle.rp_core.specs.Told.{told};
-ghost use Rattle.rp_core.specs.Files.{cheap_tests, is_of_another_schema, FileGives};
-ghost use Rattle.rp_core.specs.Plans.{Plans, edits_of};
+ghost use Rattle.rp_core.specs.Files.{cheap_tests, Reads};
+ghost use Rattle.rp_core.specs.Plans.{Plans};
 
 use crate::asked::Asking;
 use crate::edits::{Change, Edits, Plan};
-use crate::faults::{first, is_no_partner, key_fault, lacks, too_large};
-use p21_instances::{first_fault, greatest_name, in_name_order};
+use crate::faults::{first, is_no_partner, key_fault, lacks, too_large, unseen};
+use ex_subtypes::Compiled;
+use p21_bind::bind;
 use p21_read::{is_of_schema, read_raw};
 use p21_tree::Raw;
-use plain_data::{Rows, Text};
+use p21_write::write;
+use plain_data::Text;
+use rp_content::{Content, Instance};
 use rp_plain::messages::{Refusal, Reply, Request};
 use rp_rows::rows::{Key, ModelContent, Right};
 use std::alloc::{AllocError, Global};
@@ -34,74 +39,79 @@ fn cheap_fault(asked: &Asking<'_>, key: &Key, file: &Text) -> Option<Refusal>
     ])
 }
 
-/// Whether the file is of another schema than the model.
-fn is_of_another(content: &Option<&ModelContent>, raw: &Raw) -> bool
-    ensures { result ≡ is_of_another_schema (option_copied content.now) raw.now }
+/// What a file that reads says by the schema, or its first faulty instance.
+fn bound(alloc: Global, schema: Option<&Compiled>, raw: Raw<'_>) -> Result<Content, Refusal>
+    ensures { Reads (of_files.bound_by (option_copied schema.entry) raw.entry) result }
 {
-    match content {
-        Some(content) => !is_of_schema(raw, content.schema.as_bytes()),
-        None => false,
+    let Some(schema) = schema else {
+        return Err(Refusal::UnknownSchema);
+    };
+    match bind(alloc, schema, raw) {
+        Ok(content) => Ok(content),
+        Err(Failure::Fault(fault)) => Err(Refusal::InstanceFault(fault)),
+        Err(Failure::NoMemory) => Err(AllocError.into()),
     }
 }
 
-/// What a file for the model says, or why it is refused.
-fn read_file(alloc: Global, content: &Option<&ModelContent>, file: &Text) -> Result<Raw, Refusal>
-    ensures { FileGives (option_copied content.now) file.now result }
+/// The content, unless it has too many instances.
+fn if_few(content: Content) -> Result<Content, Refusal>
+    ensures { result ≡ of_files.if_few (Ok content) }
+{
+    if content.instances.len() > MAX_INSTANCES {
+        return Err(Refusal::TooMany);
+    }
+    Ok(content)
+}
+
+/// What the file says by the schema of the model that it is for, or why it is refused.
+fn read_for(
+    alloc: Global,
+    asked: &Asking<'_>,
+    model: &ModelContent,
+    file: &Text,
+) -> Result<Content, Refusal>
+    ensures { Reads (of_files.read_for (told asked.now).schemas model.now (file_of file.now)) result }
 {
     let raw = match read_raw(alloc, file.as_bytes()) {
         Ok(raw) => raw,
         Err(Failure::Fault(fault)) => return Err(Refusal::FileFault(fault)),
         Err(Failure::NoMemory) => return Err(AllocError.into()),
     };
-    if is_of_another(content, &raw) {
+    if !is_of_schema(alloc, &raw, model.schema.as_bytes())? {
         return Err(Refusal::WrongSchema);
     }
-    if let Some(fault) = first_fault(alloc, raw.instances.as_slice())? {
-        return Err(Refusal::InstanceFault(fault));
+    match bound(alloc, asked.schema_named(&model.schema), raw) {
+        Ok(content) => if_few(content),
+        Err(refusal) => Err(refusal),
     }
-    if raw.instances.len() > MAX_INSTANCES {
-        return Err(Refusal::TooMany);
+}
+
+/// The greatest of a number and the names of the instances.
+fn greatest_name(start: u64, instances: &[Instance]) -> u64
+    ensures { result ≡ contents.greatest_name start instances.now }
+{
+    let mut greatest = start;
+    for instance in instances {
+        greatest = greatest.max(instance.name);
     }
-    Ok(raw)
+    greatest
 }
 
 /// What the model holds once the file is put into it.
-fn refilled(alloc: Global, content: &ModelContent, raw: Raw) -> Result<ModelContent, AllocError>
-    ensures { IfOk result (λ h. h ≡ of_files.refilled content.now raw) }
+fn refilled(
+    alloc: Global,
+    model: &ModelContent,
+    content: Content,
+) -> Result<ModelContent, AllocError>
+    ensures { IfOk result (λ h. h ≡ of_files.refilled model.now content) }
 {
-    let schema = content.schema.copy(alloc)?;
-    let greatest = greatest_name(content.greatest, raw.instances.as_slice());
-    let Raw {
-        header,
-        instances,
-        ..
-    } = raw;
-    let instances = in_name_order(instances)?;
+    let schema = model.schema.copy(alloc)?;
+    let greatest = greatest_name(model.greatest, content.instances.as_slice());
     Ok(ModelContent {
         schema,
-        header,
         greatest,
-        instances,
-        links: Rows::new(alloc),
+        content,
     })
-}
-
-/// The change that puts the file into the model, if there is one to be put into.
-fn filling(
-    alloc: Global,
-    key: Key,
-    content: &Option<&ModelContent>,
-    raw: Raw,
-) -> Result<Edits, AllocError>
-    ensures { IfOk result (λ edits. edits_of edits ≡ of_files.filled key (option_copied content.now) (Ok raw)) }
-{
-    match content {
-        Some(content) => {
-            let content = refilled(alloc, content, raw)?;
-            Ok(Edits::OfModel(key, Change::Hold(content)))
-        }
-        None => Ok(Edits::Nothing),
-    }
 }
 
 /// A model's content is replaced by that of a file.
@@ -111,9 +121,48 @@ pub fn plan_put(alloc: Global, asked: &Asking<'_>, key: Key, file: &Text) -> Res
     if let Some(refusal) = cheap_fault(asked, &key, file) {
         return Err(refusal);
     }
-    let content = asked.content(&key);
-    let raw = read_file(alloc, &content, file)?;
-    let reply = Reply::Stored(raw.instances.len());
-    let edits = filling(alloc, key, &content, raw)?;
-    Ok(Plan { reply, edits })
+    let Some(model) = asked.content(&key) else {
+        return Err(Refusal::NoSuchItem);
+    };
+    let content = match read_for(alloc, asked, model, file) {
+        Ok(content) => content,
+        Err(refusal) => return Err(refusal),
+    };
+    let reply = Reply::Stored(content.instances.len());
+    let holds = refilled(alloc, model, content)?;
+    Ok(Plan {
+        reply,
+        edits: Edits::OfModel(key, Change::Hold(holds)),
+    })
+}
+
+/// The canonical text of what the model holds, if the partner sees it.
+fn text_of(alloc: Global, asked: &Asking<'_>, key: &Key) -> Result<Text, AllocError>
+    ensures { IfOk result (λ text. text ≡ of_files.text_by (schema_of (told asked.now).schemas ((told asked.now).content key.now)) ((told asked.now).content key.now)) }
+{
+    let Some(model) = asked.content(key) else {
+        return Text::from_str(alloc, "");
+    };
+    let Some(schema) = asked.schema_named(&model.schema) else {
+        return Text::from_str(alloc, "");
+    };
+    write(alloc, schema, &model.content)
+}
+
+/// The canonical text of what a model holds.
+pub fn plan_export(alloc: Global, asked: &Asking<'_>, key: &Key) -> Result<Plan, Refusal>
+    ensures { Plans (told asked.now) asked.now.caller.now (Request.Export key.now) result }
+{
+    let tests = [
+        key_fault(key),
+        is_no_partner(asked, &key.0),
+        unseen(asked.model_right(key)),
+    ];
+    if let Some(refusal) = first(&tests) {
+        return Err(refusal);
+    }
+    Ok(Plan {
+        reply: Reply::File(text_of(alloc, asked, key)?),
+        edits: Edits::Nothing,
+    })
 }

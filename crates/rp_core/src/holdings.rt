@@ -45,6 +45,7 @@ impl Holdings {
     ghost use Rattle.rp_plain.specs.Meaning.{has_text};
     ghost use Rattle.rp_plain.specs.Opening.{new_fault, opened};
     ghost use Rattle.rp_core.specs.Held.{partner_at, turn, made, Fits, IsPrepared};
+    ghost use Rattle.rp_core.specs.InOrder.{IsInOrder};
 
     /// Nothing but these schemas and partners.
     ///
@@ -77,7 +78,8 @@ impl Holdings {
     /// that is held is changed, and room is made for what is to be done. Where memory is wanting,
     /// the reply is that, with nothing to be done.
     pub fn prepare(&mut self, alloc: Global, place: usize, request: Request) -> Pending
-        requires { place < length self.old.content.partners }
+        requires partner { place < length self.old.content.partners }
+        requires order { IsInOrder self.old.content }
         ensures content { self.new.content ≡ self.old.content }
         ensures prepared { IsPrepared self.old.content (turn self.old.content place request) result }
         ensures fits { Fits self.new result }

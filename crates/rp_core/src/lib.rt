@@ -12,6 +12,7 @@ mod faults;
 mod files;
 mod grants;
 mod holdings;
+mod instances;
 mod items;
 mod keyed;
 mod lists;

@@ -1,7 +1,7 @@
 //! Models that are created and deleted.
 
 ghost use Rattle.std.specs.Prelude.{◌≡◌, [], IfOk};
-ghost use Rattle.p21_read.specs.Defaults as defaults;
+ghost use Rattle.rp_content.specs.Headers.{default_header};
 ghost use Rattle.rp_core.specs.Told.{told};
 ghost use Rattle.rp_core.specs.Plans.{Plans};
 
@@ -9,8 +9,8 @@ use crate::asked::Asking;
 use crate::edits::{Change, Edits, Plan};
 use crate::faults::{first, name_fault, unseen, when};
 use crate::sight::at_least;
-use p21_read::default_header;
-use plain_data::{Rows, Text};
+use plain_data::Text;
+use rp_content::Content;
 use rp_plain::messages::{Refusal, Reply, Request};
 use rp_rows::rows::{Key, ModelContent, Right};
 use std::alloc::{AllocError, Global};
@@ -28,15 +28,13 @@ pub fn own(alloc: Global, asked: &Asking<'_>, name: Text) -> Result<Key, AllocEr
 
 /// What a model holds as it is created. The schema is in upper case.
 fn new_content(alloc: Global, schema: Text) -> Result<ModelContent, AllocError>
-    ensures { IfOk result (λ h. h ≡ record { schema = schema; header = defaults.default_header; greatest = 0; instances = []; links = [] }) }
+    ensures { IfOk result (λ h. h ≡ record { schema = schema; greatest = 0; content = record { header = default_header; instances = []; links = [] } }) }
 {
-    let header = default_header(alloc)?;
+    let content = Content::new(alloc)?;
     Ok(ModelContent {
         schema,
-        header,
         greatest: 0,
-        instances: Rows::new(alloc),
-        links: Rows::new(alloc),
+        content,
     })
 }
 

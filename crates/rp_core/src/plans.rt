@@ -1,13 +1,15 @@
 //! What a request is to be answered, and what it is to change, before anything is changed.
 
 ghost use Rattle.rp_core.specs.Told.{told};
+ghost use Rattle.rp_core.specs.InOrder.{TellsInOrder};
 ghost use Rattle.rp_core.specs.Plans.{Plans};
 
 use crate::asked::Asking;
 use crate::checks::plan_check;
 use crate::edits::Plan;
-use crate::files::plan_put;
+use crate::files::{plan_export, plan_put};
 use crate::grants::{plan_grant, plan_revoke};
+use crate::instances::plan_get;
 use crate::lists::{plan_list, plan_names, plan_schemas};
 use crate::models::{plan_create, plan_delete};
 use rp_plain::messages::{Refusal, Request};
@@ -15,13 +17,16 @@ use std::alloc::Global;
 
 /// The request's plan, or its refusal.
 pub fn plan(alloc: Global, asked: &Asking<'_>, request: Request) -> Result<Plan, Refusal>
+    requires { TellsInOrder (told asked.now) }
     ensures { Plans (told asked.now) asked.now.caller.now request result }
 {
     match request {
         Request::CreateModel { name, schema } => plan_create(alloc, asked, name, schema),
         Request::DeleteModel { name } => plan_delete(alloc, asked, name),
         Request::Put { model, file } => plan_put(alloc, asked, model, &file),
+        Request::Export { model } => plan_export(alloc, asked, &model),
         Request::Names { model } => plan_names(alloc, asked, &model),
+        Request::Get { model, instance } => plan_get(alloc, asked, &model, instance),
         Request::ListItems => plan_list(alloc, asked),
         Request::GrantModel { name, to, level } => plan_grant(alloc, asked, name, to, level),
         Request::RevokeModel { name, to } => plan_revoke(alloc, asked, name, to),

@@ -1,7 +1,7 @@
 -- The edits of each request are fit, and so a step keeps the repository valid.
-use Rattle.std.proofs.Common.{◌≡◌, ◌≤◌, Bool, true, false, not, ◌&&◌, nat_le, nat_lt, inl, inr, List, [], ◌∷◌, length, Option, Some, None, Result, Ok, Err, refl, sym, subst, arith}
-use Rattle.std.specs.Prelude.{filter, if◌then◌else◌, option_map}
-use Rattle.std.specs.List.{find, AllByRecursion}
+use Rattle.std.proofs.Common.{◌≡◌, Bool, true, false, not, ◌&&◌, ◌||◌, nat_le, nat_lt, inl, inr, List, [], ◌∷◌, length, Option, Some, None, Result, Ok, Err, refl, sym, subst, arith}
+use Rattle.std.specs.Prelude.{filter, if◌then◌else◌}
+use Rattle.std.specs.List.{find, list_any, AllByRecursion}
 use Rattle.std.specs.Str.{bytes_eq, str_to_ascii_uppercase}
 use Rattle.std.proofs.lemmas.Bool.{both_ways, not-false, and_parts, false_from_ne_true}
 use Rattle.std.proofs.lemmas.Bool.Decides.{nat_tests}
@@ -11,11 +11,15 @@ use Rattle.p21_tree.specs.declared.raw.Raw.{Raw}
 use Rattle.p21_tree.specs.declared.fault.FileFault.{FileFault}
 use Rattle.p21_tree.specs.declared.fault.InstanceFault.{InstanceFault}
 use Rattle.p21_read.specs.File.{file_of}
-use Rattle.p21_instances.specs.Instances.{first_fault}
+use Rattle.p21_read.specs.Schemas.{is_of_schema}
+use Rattle.p21_instances.specs.Instances.{is_among, names}
+use Rattle.p21_bind.specs.Files.{content, bound_file}
+use Rattle.rp_content.specs.declared.content.Content.{Content}
 use Rattle.rp_rows.specs.declared.rows.Level.{Level}
 use Rattle.rp_rows.specs.declared.rows.ModelContent.{ModelContent}
 use Rattle.rp_rows.specs.Names.{is_name}
 use Rattle.rp_rows.specs.Rows.{Text, Key, is_row, Model}
+use Rattle.rp_rows.specs.Contents as contents
 use Rattle.rp_rows.specs.Sight.{owns, sees}
 use Rattle.rp_rows.specs.Alterations.{Grants}
 use Rattle.rp_rows.proofs.Keys.{owner_at, name_at, found_at}
@@ -26,15 +30,16 @@ use Rattle.rp_plain.specs.declared.messages.Refusal.TheVariants as refusal
 use Rattle.rp_plain.specs.Plain.{Plain, model_at}
 use Rattle.rp_plain.specs.Edits.{EditModel}
 use Rattle.rp_plain.specs.Asked.{asked, held}
-use Rattle.rp_plain.specs.Meaning.{when, first_some, has_text, has_schema}
+use Rattle.rp_plain.specs.Meaning.{when, first_some, has_text, schema_name, has_schema, schema_named}
 use Rattle.rp_plain.specs.Models.{max_models, new_content}
-use Rattle.rp_plain.specs.Files.{max_instances, instance_fault, too_many, refilled, filled}
+use Rattle.rp_plain.specs.Files.{max_instances, Reading, told, bound_by, if_few, read_for, read_content, refilled, filled}
 use Rattle.rp_plain.specs.Grants.{unless_own}
 use Rattle.rp_plain.specs.Step.{meaning, outcome, answer, next}
 use Rattle.rp_plain.specs.Opening.{new_fault, opened}
 use Rattle.rp_plain.specs.Valid.{IsValidContent, IsValidModel, max_name, IsValid}
+use Rattle.rp_laws.proofs.BoundFiles.{bound_names, bound_refer, bound_apart, of_file}
 use Rattle.rp_laws.proofs.FileNames.{file_named}
-use Rattle.rp_laws.proofs.FileInstances.{length-by_name, by_name_ascends, spelled, refilled_sound, greatest_most, kept_greatest}
+use Rattle.rp_laws.proofs.FileInstances.{ordered, all_spelled, all_sound, in_order_most, greatest_from}
 use Rattle.rp_laws.proofs.ValidTables.{all_found, MayHold}
 use Rattle.rp_laws.proofs.ValidEdits.{Anything, AreFit, changed_valid}
 
@@ -55,16 +60,27 @@ is_so b refusal h = not-false b (passed (not b) refusal h)
 
 -- ---- creation
 
+found_by : {X : Type 0} (test : X → Bool) (xs : List X) → list_any test xs ≡ true → (x : X) × (find test xs ≡ Some x)
+found_by test [] e = cc
+found_by {X = X} test (x ∷ xs) e = by (test x) (found_by test xs) e
+  where
+    by : (t : Bool) → (list_any test xs ≡ true → (y : X) × (find test xs ≡ Some y)) → (t || list_any test xs) ≡ true → (y : X) × ((if t then Some x else find test xs) ≡ Some y)
+    by true rest e = (x, refl)
+    by false rest e = rest e
+
 created : (r : Plain) (c name schema : Text) → has_text r.partners c ≡ true → first_some (meaning (asked r c) c (CreateModel name schema)).tests ≡ None
     → MayHold r.partners (IsValidContent r.schemas) Anything max_models r.models (c, name) (new_content schema)
 created r c name schema partner passes =
     let each = all_pass (meaning (asked r c) c (CreateModel name schema)).tests passes in
     let few : nat_le max_models (length (filter (owns c) r.models)) ≡ false = passed (nat_le max_models (length (filter (owns c) r.models))) refusal.TooMany each.1.1.1.0 in
+    let upper = str_to_ascii_uppercase schema in
+    let found = found_by (λ (s : Checked). bytes_eq upper (schema_name s)) r.schemas (is_so (has_schema r.schemas upper) refusal.UnknownSchema each.1.0) in
     record {
       owner = partner;
       name = is_so (is_name name) refusal.BadName each.0;
       valid = record {
-        schema = is_so (has_schema r.schemas (str_to_ascii_uppercase schema)) refusal.UnknownSchema each.1.0;
+        schema = found.0;
+        loaded = found.1;
         header = inl refl;
         instances = tt;
         spelled = tt;
@@ -103,41 +119,70 @@ held_there r c k h m seen content valid =
 
 -- ---- a file is put
 
-no_fault : (o : Option InstanceFault) → option_map refusal.InstanceFault o ≡ None → o ≡ None
-no_fault None h = refl
-no_fault (Some fault) h = cc
+-- what a file says that is taken for a model
+record IsTaken (schemas : List Checked) (h : ModelContent) (file : Result Raw FileFault) (c : Content) : Type 0 where
+  raw : Raw
+  schema : Checked
+  reads : file ≡ Ok raw
+  loaded : schema_named schemas h.schema ≡ Some schema
+  says : bound_file schema raw ≡ Ok c
+  few : nat_lt max_instances (length c.instances) ≡ false
 
-refilled_valid : (schemas : List Checked) (h : ModelContent) (file : Text) (raw : Raw) → file_of file ≡ Ok raw → first_fault raw.instances ≡ None → nat_lt max_instances (length raw.instances) ≡ false
-    → IsValidContent schemas h → IsValidContent schemas (refilled h raw)
-refilled_valid schemas h file raw reads sound few valid =
-    let as_many = length-by_name raw.instances in
-    let low : length raw.instances ≤ max_instances = grind (arith, nat_tests) in
-    record {
-      schema = valid.schema;
-      header = inr (record { file = file; raw = raw; reads = reads; is = refl });
-      instances = by_name_ascends raw.instances sound;
-      spelled = spelled file raw reads;
-      sound = refilled_sound h raw sound;
-      few = omega (arith, as_many, low);
-      in_use = kept_greatest h.greatest raw.instances;
-      greatest = greatest_most max_name h.greatest raw.instances valid.greatest (file_named file raw reads);
+taken_few : (schemas : List Checked) (h : ModelContent) (raw : Raw) (schema : Checked) (c : Content) → schema_named schemas h.schema ≡ Some schema → (o : Result Content InstanceFault) → bound_file schema raw ≡ o → if_few (told o) ≡ Ok c
+    → IsTaken schemas h (Ok raw) c
+taken_few schemas h raw schema c loaded (Err fault) says e = cc
+taken_few schemas h raw schema c loaded (Ok d) says e = by (nat_lt max_instances (length d.instances)) refl e
+  where
+    by : (t : Bool) → nat_lt max_instances (length d.instances) ≡ t → (if t then Err refusal.TooMany else Ok d) ≡ Ok c → IsTaken schemas h (Ok raw) c
+    by true few f = cc
+    by false few f =
+        let same : d ≡ c = cc in
+        subst (IsTaken schemas h (Ok raw)) same (record { raw = raw; schema = schema; reads = refl; loaded = loaded; says = says; few = few })
+
+taken_by : (schemas : List Checked) (h : ModelContent) (raw : Raw) (c : Content) (o : Option Checked) → schema_named schemas h.schema ≡ o → if_few (bound_by o raw) ≡ Ok c → IsTaken schemas h (Ok raw) c
+taken_by schemas h raw c None loaded e = cc
+taken_by schemas h raw c (Some schema) loaded e = taken_few schemas h raw schema c loaded (bound_file schema raw) refl e
+
+taken : (schemas : List Checked) (h : ModelContent) (file : Result Raw FileFault) (c : Content) → read_for schemas h file ≡ Ok c → IsTaken schemas h file c
+taken schemas h (Err fault) c e = cc
+taken schemas h (Ok raw) c e = by (is_of_schema h.schema raw) e
+  where
+    by : (t : Bool) → (if t then if_few (bound_by (schema_named schemas h.schema) raw) else Err refusal.WrongSchema) ≡ Ok c → IsTaken schemas h (Ok raw) c
+    by true f = taken_by schemas h raw c (schema_named schemas h.schema) refl f
+    by false f = cc
+
+refilled_valid : (schemas : List Checked) (h : ModelContent) (file : Text) (c : Content) → IsTaken schemas h (file_of file) c → IsValidContent schemas h → IsValidContent schemas (refilled h c)
+refilled_valid schemas h file c t valid =
+    let read = of_file t.schema t.raw c t.says in
+    let defined = is_among (names t.raw.instances) in
+    let same_names = bound_names t.schema defined (λ n. false) t.raw.instances read.found read.reads in
+    let most = in_order_most max_name h.greatest read.found t.raw.instances same_names (file_named file t.raw t.reads) valid.greatest in
+    let apart = bound_apart t.schema defined (λ n. false) t.raw.instances read.found read.reads in
+    let refer = bound_refer t.schema defined (λ n. false) t.raw.instances read.found read.reads in
+    let Valid : Content → Type 0 = λ d. bound_file t.schema t.raw ≡ Ok d → nat_lt max_instances (length d.instances) ≡ false → IsValidContent schemas (refilled h d) in
+    subst Valid read.are
+    (λ says few. record {
+      schema = t.schema;
+      loaded = t.loaded;
+      header = inr (record { file = file; raw = t.raw; reads = t.reads; is = refl });
+      instances = ordered read.found apart;
+      spelled = all_spelled t.schema file t.raw t.reads (content t.raw.header read.found) says;
+      sound = all_sound t.raw read.found same_names refer;
+      few = grind (arith, nat_tests);
+      in_use = greatest_from 0 h.greatest (contents.names (content t.raw.header read.found).instances) (omega arith);
+      greatest = most;
       links = refl;
-    }
+    }) t.says t.few
 
-filled_fit : (r : Plain) (c : Text) (k : Key) (file : Text) (o : Option Model) (read : Result Raw FileFault) → model_at r c k ≡ o → file_of file ≡ read
-    → instance_fault read ≡ None → too_many read ≡ None → IsValid r → AreFit r (filled k (held o) read)
-filled_fit r c k file None (Ok raw) seen reads sound few valid = tt
-filled_fit r c k file None (Err fault) seen reads sound few valid = tt
-filled_fit r c k file (Some m) (Err fault) seen reads sound few valid = tt
-filled_fit r c k file (Some m) (Ok raw) seen reads sound few valid =
-    let faultless = no_fault (first_fault raw.instances) sound in
-    let fits = passed (nat_lt max_instances (length raw.instances)) refusal.TooMany few in
-    (held_there r c k (refilled m.holds raw) m seen (refilled_valid r.schemas m.holds file raw reads faultless fits) valid, tt)
+filled_fit : (r : Plain) (c : Text) (k : Key) (file : Text) (o : Option Model) (read : Reading) → model_at r c k ≡ o → read_content r.schemas (held o) (file_of file) ≡ read → IsValid r → AreFit r (filled k (held o) read)
+filled_fit r c k file None (Ok said) seen reads valid = tt
+filled_fit r c k file None (Err refusal) seen reads valid = tt
+filled_fit r c k file (Some m) (Err refusal) seen reads valid = tt
+filled_fit r c k file (Some m) (Ok said) seen reads valid =
+    (held_there r c k (refilled m.holds said) m seen (refilled_valid r.schemas m.holds file said (taken r.schemas m.holds (file_of file) said reads)) valid, tt)
 
-put_fit : (r : Plain) (c : Text) (k : Key) (file : Text) → first_some (meaning (asked r c) c (Put k file)).tests ≡ None → IsValid r → AreFit r (filled k (held (model_at r c k)) (file_of file))
-put_fit r c k file passes valid =
-    let each = all_pass (meaning (asked r c) c (Put k file)).tests passes in
-    filled_fit r c k file (model_at r c k) (file_of file) refl refl each.1.1.1.1.1.1.0 each.1.1.1.1.1.1.1.0 valid
+put_fit : (r : Plain) (c : Text) (k : Key) (file : Text) → IsValid r → AreFit r (meaning (asked r c) c (Put k file)).edits
+put_fit r c k file valid = filled_fit r c k file (model_at r c k) (read_content r.schemas (held (model_at r c k)) (file_of file)) refl refl valid
 
 -- ---- grants
 
@@ -157,7 +202,7 @@ granted_fit r c name to l known = by (bytes_eq to c) refl
 edits_fit : (r : Plain) (c : Text) (q : Request) → has_text r.partners c ≡ true → first_some (meaning (asked r c) c q).tests ≡ None → IsValid r → AreFit r (meaning (asked r c) c q).edits
 edits_fit r c (CreateModel name schema) partner passes valid = (created r c name schema partner passes, tt)
 edits_fit r c (DeleteModel name) partner passes valid = (tt, tt)
-edits_fit r c (Put k file) partner passes valid = put_fit r c k file passes valid
+edits_fit r c (Put k file) partner passes valid = put_fit r c k file valid
 edits_fit r c (GrantModel name to l) partner passes valid =
     let each = all_pass (meaning (asked r c) c (GrantModel name to l)).tests passes in
     granted_fit r c name to l (is_so (has_text r.partners to) refusal.UnknownPartner each.1.0)

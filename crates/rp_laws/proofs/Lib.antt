@@ -7,6 +7,9 @@ pub mod Outside
 pub mod NamedRows
 pub mod AllRuns
 pub mod FileNames
+pub mod BoundValues
+pub mod BoundInstances
+pub mod BoundFiles
 pub mod FileInstances
 pub mod Counts
 pub mod ValidTables

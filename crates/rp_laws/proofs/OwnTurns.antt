@@ -1,10 +1,8 @@
 -- The edits of each request are such as its caller may make, and so what he sees after his turn comes from what he sees.
-use Rattle.std.proofs.Common.{◌≡◌, true, false, inl, inr, [], ◌∷◌, Option, Some, None, Result, Ok, Err, is_some, refl, sym, ◌∙◌, ap}
+use Rattle.std.proofs.Common.{◌≡◌, true, false, inl, inr, [], ◌∷◌, Option, Some, None, Ok, Err, is_some, refl, sym, ◌∙◌, ap}
 use Rattle.std.specs.Prelude.{if◌then◌else◌}
 use Rattle.std.specs.Str.{bytes_eq}
 use Rattle.std.proofs.lemmas.Slice.Eq.{bytes_eq-Decides}
-use Rattle.p21_tree.specs.declared.raw.Raw.{Raw}
-use Rattle.p21_tree.specs.declared.fault.FileFault.{FileFault}
 use Rattle.p21_read.specs.File.{file_of}
 use Rattle.rp_rows.specs.Rows.{Text, Key, Model}
 use Rattle.rp_rows.specs.Alterations.{Grants}
@@ -15,7 +13,7 @@ use Rattle.rp_plain.specs.Plain.{Plain, part, model_at}
 use Rattle.rp_plain.specs.Edits.{Edit, EditModel, changed}
 use Rattle.rp_plain.specs.Asked.{asked, held}
 use Rattle.rp_plain.specs.Meaning.{first_some}
-use Rattle.rp_plain.specs.Files.{filled}
+use Rattle.rp_plain.specs.Files.{Reading, read_content, filled}
 use Rattle.rp_plain.specs.Grants.{unless_own}
 use Rattle.rp_plain.specs.Step.{meaning, outcome, answer, next}
 use Rattle.rp_plain.specs.Valid.{IsOrdered}
@@ -29,11 +27,11 @@ use Rattle.rp_laws.proofs.Own.{MayEdit, MayAll, own_edits}
 itself : (c : Text) → bytes_eq c c ≡ true
 itself c = (bytes_eq-Decides c c).1 refl
 
-filled_may : (r : Plain) (c : Text) (k : Key) (read : Result Raw FileFault) (o : Option Model) → model_at r c k ≡ o → MayAll r c (filled k (held o) read)
-filled_may r c k (Ok raw) None e = tt
-filled_may r c k (Err fault) None e = tt
-filled_may r c k (Ok raw) (Some m) e = (inr (tt, ap is_some e), tt)
-filled_may r c k (Err fault) (Some m) e = tt
+filled_may : (r : Plain) (c : Text) (k : Key) (read : Reading) (o : Option Model) → model_at r c k ≡ o → MayAll r c (filled k (held o) read)
+filled_may r c k (Ok content) None e = tt
+filled_may r c k (Err refusal) None e = tt
+filled_may r c k (Ok content) (Some m) e = (inr (tt, ap is_some e), tt)
+filled_may r c k (Err refusal) (Some m) e = tt
 
 unless_own_may : (r : Plain) (c to : Text) (e : Edit) → MayEdit r c e → MayAll r c (unless_own c to e)
 unless_own_may r c to e may = elim (bytes_eq to c) as (λ t. MayAll r c (if t then [] else e ∷ [])) [ true ↦ tt | false ↦ (may, tt) ]
@@ -42,7 +40,7 @@ unless_own_may r c to e may = elim (bytes_eq to c) as (λ t. MayAll r c (if t th
 edits_may : (r : Plain) (c : Text) (q : Request) → MayAll r c (meaning (asked r c) c q).edits
 edits_may r c (CreateModel name schema) = (inl (itself c), tt)
 edits_may r c (DeleteModel name) = (inl (itself c), tt)
-edits_may r c (Put k file) = filled_may r c k (file_of file) (model_at r c k) refl
+edits_may r c (Put k file) = filled_may r c k (read_content r.schemas (held (model_at r c k)) (file_of file)) (model_at r c k) refl
 edits_may r c (GrantModel name to l) = unless_own_may r c to (EditModel (c, name) (Grants to (Some l))) (inl (itself c))
 edits_may r c (RevokeModel name to) = (inl (itself c), tt)
 edits_may r c _ = tt

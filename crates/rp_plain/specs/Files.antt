@@ -1,21 +1,26 @@
--- The request that puts a file into a model.
-use Rattle.std.specs.Prelude.{ℕ, not, nat_lt, List, [], ◌∷◌, length, Option, Some, None, option_map, Result, Ok, Err}
+-- The requests that put a file into a model, and that export one.
+use Rattle.std.specs.Prelude.{ℕ, nat_lt, List, [], ◌∷◌, length, Option, Some, None, Result, Ok, Err, if◌then◌else◌}
+use Rattle.ex_types.specs.Checked.{Checked}
 use Rattle.p21_tree.specs.declared.raw.Raw.{Raw}
 use Rattle.p21_tree.specs.declared.fault.FileFault.{FileFault}
+use Rattle.p21_tree.specs.declared.fault.InstanceFault.{InstanceFault}
 use Rattle.p21_read.specs.File.{file_of}
 use Rattle.p21_read.specs.Schemas.{is_of_schema}
-use Rattle.p21_instances.specs.Instances.{first_fault, by_name, greatest_name}
+use Rattle.p21_bind.specs.Files.{bound_file}
+use Rattle.p21_write.specs.Trees.{canonical}
+use Rattle.rp_content.specs.declared.content.Content.{Content}
 use Rattle.rp_rows.specs.declared.rows.ModelContent.{ModelContent}
 use Rattle.rp_rows.specs.declared.rows.Right.TheVariants.{Writes}
 use Rattle.rp_rows.specs.Rows.{Text, Key}
+use Rattle.rp_rows.specs.Contents.{greatest_name}
 use Rattle.rp_rows.specs.Alterations.{Holds}
 use Rattle.rp_plain.specs.declared.messages.Refusal.{Refusal}
 use Rattle.rp_plain.specs.declared.messages.Refusal.TheVariants as refusal
 use Rattle.rp_plain.specs.declared.messages.Reply.{Reply}
-use Rattle.rp_plain.specs.declared.messages.Reply.TheVariants.{Stored}
+use Rattle.rp_plain.specs.declared.messages.Reply.TheVariants.{Stored, File}
 use Rattle.rp_plain.specs.Asked.{Asked}
 use Rattle.rp_plain.specs.Edits.{Edit, EditModel}
-use Rattle.rp_plain.specs.Meaning.{Meaning, when, key_fault, is_no_partner, lacks}
+use Rattle.rp_plain.specs.Meaning.{Meaning, schema_named, schema_of, when, key_fault, is_no_partner, unseen, lacks}
 
 -- the bytes of a file, and of a text that is checked: 8 MiB
 abbrev pub max_file : ℕ
@@ -28,39 +33,67 @@ too_large text = when (nat_lt max_file (length text)) refusal.TooLarge
 abbrev pub max_instances : ℕ
 max_instances = 200000
 
--- a file that reads is of the model's schema
-abbrev pub other_schema : Option ModelContent → Result Raw FileFault → Option Refusal
-other_schema (Some h) (Ok raw) = when (not (is_of_schema h.schema raw)) refusal.WrongSchema
-other_schema _ _ = None
+-- ---- what a file says
 
-abbrev pub file_fault : Result Raw FileFault → Option Refusal
-file_fault (Ok raw) = None
-file_fault (Err fault) = Some (refusal.FileFault fault)
+abbrev pub Reading : Type 0
+Reading = Result Content Refusal
 
-abbrev pub instance_fault : Result Raw FileFault → Option Refusal
-instance_fault (Ok raw) = option_map refusal.InstanceFault (first_fault raw.instances)
-instance_fault (Err fault) = None
+abbrev pub told : Result Content InstanceFault → Reading
+told (Ok content) = Ok content
+told (Err fault) = Err (refusal.InstanceFault fault)
 
-abbrev pub too_many : Result Raw FileFault → Option Refusal
-too_many (Ok raw) = when (nat_lt max_instances (length raw.instances)) refusal.TooMany
-too_many (Err fault) = None
+abbrev pub bound_by : Option Checked → Raw → Reading
+bound_by None raw = Err refusal.UnknownSchema
+bound_by (Some schema) raw = told (bound_file schema raw)
 
-abbrev pub stored : Result Raw FileFault → Reply
-stored (Ok raw) = Stored (length raw.instances)
-stored (Err fault) = Stored 0
+abbrev pub if_few : Reading → Reading
+if_few (Ok content) = if nat_lt max_instances (length content.instances) then Err refusal.TooMany else Ok content
+if_few (Err refusal) = Err refusal
 
--- a model with this content, whose header and instances are those of the file from now on
-abbrev pub refilled : ModelContent → Raw → ModelContent
-refilled h raw = record h { header = raw.header; greatest = greatest_name h.greatest raw.instances; instances = by_name raw.instances; links = [] }
+-- what a file says by the schema of the model that it is for, or the first that holds of why it is refused
+abbrev pub read_for : List Checked → ModelContent → Result Raw FileFault → Reading
+read_for schemas h (Err fault) = Err (refusal.FileFault fault)
+read_for schemas h (Ok raw) = if is_of_schema h.schema raw then if_few (bound_by (schema_named schemas h.schema) raw) else Err refusal.WrongSchema
 
-abbrev pub filled : Key → Option ModelContent → Result Raw FileFault → List Edit
-filled k (Some h) (Ok raw) = EditModel k (Holds (Some (refilled h raw))) ∷ []
+abbrev pub read_content : List Checked → Option ModelContent → Result Raw FileFault → Reading
+read_content schemas None file = Err refusal.NoSuchItem
+read_content schemas (Some h) file = read_for schemas h file
+
+-- ---- put
+
+abbrev pub refused : Reading → Option Refusal
+refused (Ok content) = None
+refused (Err refusal) = Some refusal
+
+abbrev pub stored : Reading → Reply
+stored (Ok content) = Stored (length content.instances)
+stored (Err refusal) = Stored 0
+
+-- a model that holds what the file says from now on
+abbrev pub refilled : ModelContent → Content → ModelContent
+refilled h content = record h { greatest = greatest_name h.greatest content.instances; content = content }
+
+abbrev pub filled : Key → Option ModelContent → Reading → List Edit
+filled k (Some h) (Ok content) = EditModel k (Holds (Some (refilled h content))) ∷ []
 filled k _ _ = []
 
 abbrev pub put : Asked → Key → Text → Meaning
-put a k file = record {
-  tests = too_large file ∷ key_fault k ∷ is_no_partner a k.0 ∷ lacks Writes (a.model_right k)
-      ∷ other_schema (a.content k) (file_of file) ∷ file_fault (file_of file) ∷ instance_fault (file_of file) ∷ too_many (file_of file) ∷ [];
-  reply = stored (file_of file);
-  edits = filled k (a.content k) (file_of file);
+put a k file = let read = read_content a.schemas (a.content k) (file_of file) in record {
+  tests = too_large file ∷ key_fault k ∷ is_no_partner a k.0 ∷ lacks Writes (a.model_right k) ∷ refused read ∷ [];
+  reply = stored read;
+  edits = filled k (a.content k) read;
+}
+
+-- ---- export
+
+-- the canonical text of what a model of this schema holds
+abbrev pub text_by : Option Checked → Option ModelContent → Text
+text_by (Some schema) (Some h) = canonical schema h.content
+text_by _ _ = []
+
+abbrev pub export : Asked → Key → Meaning
+export a k = record {
+  tests = key_fault k ∷ is_no_partner a k.0 ∷ unseen (a.model_right k) ∷ [];
+  reply = File (text_by (schema_of a.schemas (a.content k)) (a.content k));
+  edits = [];
 }

@@ -6,6 +6,7 @@ pub mod Models
 pub mod Grants
 pub mod Files
 pub mod Lists
+pub mod Instances
 pub mod Checks
 pub mod Step
 pub mod Opening

@@ -1,28 +1,29 @@
 -- The requests that list what there is.
-use Rattle.std.specs.Prelude.{Bool, List, [], ◌∷◌, map, Option, Some, None}
+use Rattle.std.specs.Prelude.{Bool, List, [], ◌∷◌, map, Option, Some}
 use Rattle.std.specs.Ordering.{is_lt}
-use Rattle.p21_tree.specs.declared.instance.Instance.{Instance}
-use Rattle.p21_instances.specs.Instances.{in_order, type_of}
 use Rattle.ex_types.specs.Checked.{Checked}
+use Rattle.p21_instances.specs.Instances.{in_order}
+use Rattle.p21_write.specs.Types.{type_text}
+use Rattle.rp_content.specs.declared.instance.Instance.{Instance}
 use Rattle.rp_rows.specs.declared.rows.ModelContent.{ModelContent}
 use Rattle.rp_rows.specs.Rows.{Text, text_cmp, Key}
 use Rattle.rp_plain.specs.declared.lists.NamedType.{NamedType}
 use Rattle.rp_plain.specs.declared.messages.Reply.TheVariants as reply
 use Rattle.rp_plain.specs.Asked.{Asked}
-use Rattle.rp_plain.specs.Meaning.{Meaning, schema_name, key_fault, is_no_partner, unseen}
+use Rattle.rp_plain.specs.Meaning.{Meaning, schema_name, schema_of, key_fault, is_no_partner, unseen}
 
-abbrev pub instances_of : Option ModelContent → List Instance
-instances_of None = []
-instances_of (Some h) = h.instances
+abbrev pub named : Checked → Instance → NamedType
+named schema i = record { name = i.name; type_name = type_text schema i.types }
 
-abbrev pub named : Instance → NamedType
-named i = record { name = i.name; type_name = type_of i.mapping }
+-- the instances of a model of this schema, with their types
+abbrev pub names_by : Option Checked → Option ModelContent → List NamedType
+names_by (Some schema) (Some h) = map (named schema) h.content.instances
+names_by _ _ = []
 
--- the names of a model's instances, with their types
 abbrev pub names : Asked → Key → Meaning
 names a k = record {
   tests = key_fault k ∷ is_no_partner a k.0 ∷ unseen (a.model_right k) ∷ [];
-  reply = reply.Names (map named (instances_of (a.content k)));
+  reply = reply.Names (names_by (schema_of a.schemas (a.content k)) (a.content k));
   edits = [];
 }
 

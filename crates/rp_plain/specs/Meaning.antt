@@ -1,8 +1,9 @@
 -- What a request means: why it may be refused, what it is answered, and what it changes.
 use Rattle.std.specs.Prelude.{Bool, true, false, not, ◌&&◌, List, [], ◌∷◌, Option, Some, None, if◌then◌else◌}
-use Rattle.std.specs.List.{list_any}
+use Rattle.std.specs.List.{find, list_any}
 use Rattle.std.specs.Str.{bytes_eq, str_to_ascii_uppercase}
 use Rattle.ex_types.specs.Checked.{Checked}
+use Rattle.rp_rows.specs.declared.rows.ModelContent.{ModelContent}
 use Rattle.rp_rows.specs.declared.rows.Right.{Right}
 use Rattle.rp_rows.specs.declared.rows.Right.TheVariants.{Reads}
 use Rattle.rp_rows.specs.Names.{is_name}
@@ -40,6 +41,15 @@ schema_name schema = schema.named.schema.name.text
 
 abbrev pub has_schema : List Checked → Text → Bool
 has_schema schemas name = list_any (λ schema. bytes_eq name (schema_name schema)) schemas
+
+-- the schema of this name
+abbrev pub schema_named : List Checked → Text → Option Checked
+schema_named schemas name = find (λ schema. bytes_eq name (schema_name schema)) schemas
+
+-- the schema of a model; it is among those that are loaded
+abbrev pub schema_of : List Checked → Option ModelContent → Option Checked
+schema_of schemas None = None
+schema_of schemas (Some h) = schema_named schemas h.schema
 
 abbrev pub name_fault : Text → Option Refusal
 name_fault name = when (not (is_name name)) BadName

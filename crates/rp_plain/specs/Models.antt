@@ -1,7 +1,7 @@
 -- The requests that create and delete models.
 use Rattle.std.specs.Prelude.{ℕ, nat_le, [], ◌∷◌, Some, None}
 use Rattle.std.specs.Str.{str_to_ascii_uppercase}
-use Rattle.p21_read.specs.Defaults.{default_header}
+use Rattle.rp_content.specs.Headers.{default_header}
 use Rattle.rp_rows.specs.declared.rows.ModelContent.{ModelContent}
 use Rattle.rp_rows.specs.declared.rows.Right.TheVariants.{Reads}
 use Rattle.rp_rows.specs.Rows.{Text}
@@ -19,7 +19,7 @@ max_models = 100
 
 -- a model as it is created
 abbrev pub new_content : Text → ModelContent
-new_content schema = record { schema = str_to_ascii_uppercase schema; header = default_header; greatest = 0; instances = []; links = [] }
+new_content schema = record { schema = str_to_ascii_uppercase schema; greatest = 0; content = record { header = default_header; instances = []; links = [] } }
 
 abbrev pub create_model : Asked → Text → Text → Text → Meaning
 create_model a c name schema = record {

@@ -2,7 +2,7 @@
 use Rattle.std.specs.Prelude.{List, [], Option, Some, None}
 use Rattle.rp_rows.specs.Rows.{Text}
 use Rattle.rp_plain.specs.declared.messages.Request.{Request}
-use Rattle.rp_plain.specs.declared.messages.Request.TheVariants.{CreateModel, DeleteModel, Put, Names, ListItems, GrantModel, RevokeModel, Schemas, CheckSchema}
+use Rattle.rp_plain.specs.declared.messages.Request.TheVariants.{CreateModel, DeleteModel, Put, Export, Names, Get, ListItems, GrantModel, RevokeModel, Schemas, CheckSchema}
 use Rattle.rp_plain.specs.declared.messages.Refusal.{Refusal}
 use Rattle.rp_plain.specs.declared.messages.Reply.{Reply}
 use Rattle.rp_plain.specs.declared.messages.Reply.TheVariants.{Refused}
@@ -12,8 +12,9 @@ use Rattle.rp_plain.specs.Asked.{Asked, asked}
 use Rattle.rp_plain.specs.Meaning.{Meaning, first_some}
 use Rattle.rp_plain.specs.Models.{create_model, delete_model}
 use Rattle.rp_plain.specs.Grants.{grant_model, revoke_model}
-use Rattle.rp_plain.specs.Files.{put}
+use Rattle.rp_plain.specs.Files.{put, export}
 use Rattle.rp_plain.specs.Lists.{names, list_items, schemas}
+use Rattle.rp_plain.specs.Instances.{get}
 use Rattle.rp_plain.specs.Checks.{check_schema}
 
 -- what c's request means, where he is told this
@@ -21,7 +22,9 @@ abbrev pub meaning : Asked → Text → Request → Meaning
 meaning a c (CreateModel name schema) = create_model a c name schema
 meaning a c (DeleteModel name) = delete_model a c name
 meaning a c (Put model file) = put a model file
+meaning a c (Export model) = export a model
 meaning a c (Names model) = names a model
+meaning a c (Get model instance) = get a model instance
 meaning a c ListItems = list_items a
 meaning a c (GrantModel name to level) = grant_model a c name to level
 meaning a c (RevokeModel name to) = revoke_model a c name to

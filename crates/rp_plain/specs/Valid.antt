@@ -1,26 +1,28 @@
 -- Which repositories there can be: they are valid when they are opened, and steps keep them so.
-use Rattle.std.specs.Prelude.{◌≡◌, ◌≤◌, ◌⊎◌, ℕ, true, false, List, [], ◌∷◌, ◌++◌, map, None, length, filter, Ok}
+use Rattle.std.specs.Prelude.{◌≡◌, ◌≤◌, ◌⊎◌, ℕ, true, false, List, [], ◌∷◌, ◌++◌, Some, None, length, filter, Ok}
 use Rattle.std.specs.List.{list_all, AllByRecursion}
 use Rattle.std.specs.Str.{bytes_eq}
 use Rattle.std.specs.Ordering.{nat_cmp}
 use Rattle.ex_types.specs.Checked.{Checked}
-use Rattle.p21_tree.specs.declared.header.Header.{Header}
-use Rattle.p21_tree.specs.declared.instance.Instance.{Instance}
 use Rattle.p21_tree.specs.declared.raw.Raw.{Raw}
 use Rattle.p21_read.specs.File.{file_of}
-use Rattle.p21_read.specs.Defaults.{default_header}
-use Rattle.p21_instances.specs.Instances.{names, greatest_name, keywords, references_of, is_among, has_twice}
+use Rattle.p21_instances.specs.Instances.{is_among}
+use Rattle.p21_bind.specs.Files.{header, bound_file}
+use Rattle.rp_content.specs.declared.content.Content.{Content}
+use Rattle.rp_content.specs.declared.header.Header.{Header}
+use Rattle.rp_content.specs.declared.instance.Instance.{Instance}
+use Rattle.rp_content.specs.Headers.{default_header}
 use Rattle.sorted_tables.specs.Table.{IsAscending}
 use Rattle.rp_rows.specs.declared.rows.Level.TheVariants.{Read}
 use Rattle.rp_rows.specs.declared.rows.Grant.{Grant}
-use Rattle.rp_rows.specs.declared.rows.Link.{Link}
 use Rattle.rp_rows.specs.declared.rows.ModelContent.{ModelContent}
 use Rattle.rp_rows.specs.Names.{is_name}
 use Rattle.rp_rows.specs.Rows.{text_cmp, Key, key_cmp, grant_key, Row, row_key, Model, GroupRow}
+use Rattle.rp_rows.specs.Contents.{instance_name, names, greatest_name, link_names, references_of}
 use Rattle.rp_rows.specs.Sight.{owns}
 use Rattle.rp_plain.specs.Plain.{Plain}
 use Rattle.rp_plain.specs.Opening.{new_fault}
-use Rattle.rp_plain.specs.Meaning.{has_text, has_schema}
+use Rattle.rp_plain.specs.Meaning.{has_text, has_schema, schema_named}
 use Rattle.rp_plain.specs.Models.{max_models}
 use Rattle.rp_plain.specs.Files.{max_instances}
 
@@ -41,49 +43,46 @@ pub record IsValidRow {A : Type 0} (partners : List (List ℕ)) (x : Row A) : Ty
 -- ---- what models hold
 
 -- a file has this header
-pub record IsHeaderOfFile (header : Header) : Type 0 where
+pub record IsHeaderOfFile (h : Header) : Type 0 where
   pub file : List ℕ
   pub raw : Raw
   pub reads : file_of file ≡ Ok raw
-  pub is : header ≡ raw.header
+  pub is : h ≡ header raw.header
 
--- a file has this instance
-pub record IsInstanceOfFile (i : Instance) : Type 0 where
+-- a file of the schema has this instance
+pub record IsInstanceOfFile (schema : Checked) (i : Instance) : Type 0 where
   pub file : List ℕ
   pub raw : Raw
   pub reads : file_of file ≡ Ok raw
+  pub content : Content
+  pub says : bound_file schema raw ≡ Ok content
   pub before : List Instance
   pub behind : List Instance
-  pub stands : raw.instances ≡ before ++ i ∷ behind
+  pub stands : content.instances ≡ before ++ i ∷ behind
 
-abbrev pub link_names : List Link → List ℕ
-link_names = map (λ l. l.name)
-
--- no type stands twice in the instance, and each name that it refers to is an instance or a link of the model
-pub record IsSound (h : ModelContent) (i : Instance) : Type 0 where
-  pub types : has_twice bytes_eq (keywords i.mapping) ≡ false
-  pub references : list_all (is_among (names h.instances ++ link_names h.links)) (references_of i.mapping) ≡ true
-
-abbrev pub instance_name : Instance → ℕ
-instance_name i = i.name
+-- each name that the instance refers to is an instance or a link of the model
+abbrev pub IsSound : Content → Instance → Type 0
+IsSound x i = list_all (is_among (names x.instances ++ link_names x.links)) (references_of i) ≡ true
 
 -- the greatest name of an instance: 18 digits
 abbrev pub max_name : ℕ
 max_name = 999999999999999999
 
 pub record IsValidContent (schemas : List Checked) (h : ModelContent) : Type 0 where
-  pub schema : has_schema schemas h.schema ≡ true
-  pub header : (h.header ≡ default_header) ⊎ IsHeaderOfFile h.header
+  -- one that is loaded
+  pub schema : Checked
+  pub loaded : schema_named schemas h.schema ≡ Some schema
+  pub header : (h.content.header ≡ default_header) ⊎ IsHeaderOfFile h.content.header
   -- each name once, in order
-  pub instances : IsAscending nat_cmp instance_name h.instances
-  pub spelled : AllByRecursion IsInstanceOfFile h.instances
-  pub sound : AllByRecursion (IsSound h) h.instances
-  pub few : length h.instances ≤ max_instances
+  pub instances : IsAscending nat_cmp instance_name h.content.instances
+  pub spelled : AllByRecursion (IsInstanceOfFile schema) h.content.instances
+  pub sound : AllByRecursion (IsSound h.content) h.content.instances
+  pub few : length h.content.instances ≤ max_instances
   -- the greatest name is no less than those in use
-  pub in_use : greatest_name 0 h.instances ≤ h.greatest
+  pub in_use : greatest_name 0 h.content.instances ≤ h.greatest
   pub greatest : h.greatest ≤ max_name
   -- a file brings no links
-  pub links : h.links ≡ []
+  pub links : h.content.links ≡ []
 
 pub record IsValidModel (schemas : List Checked) (partners : List (List ℕ)) (m : Model) : Type 0 where
   pub row : IsValidRow partners m

@@ -25,9 +25,18 @@ pub enum Request {
         model: Key,
         file: Text,
     },
+    /// The canonical text of what a model holds.
+    Export {
+        model: Key,
+    },
     /// The names of a model's instances, with their types.
     Names {
         model: Key,
+    },
+    /// One instance of a model, as canonical text has it.
+    Get {
+        model: Key,
+        instance: u64,
     },
     /// The groups and the models that the caller sees.
     ListItems,
@@ -64,6 +73,7 @@ pub enum Refusal {
     WrongSchema,
     FileFault(FileFault),
     InstanceFault(InstanceFault),
+    NoSuchInstance,
     TooMany,
     NoMemory,
 }
@@ -97,7 +107,11 @@ pub enum Reply {
     Done,
     /// So many instances were put.
     Stored(usize),
+    /// An exchange file.
+    File(Text),
     Names(Rows<NamedType>),
+    /// The line of an instance, without its line feed.
+    Line(Text),
     /// The groups and the models that the caller sees.
     Listed {
         groups: Rows<Item>,

@@ -1,10 +1,10 @@
 -- Turns leave the partners as they are, and a valid repository valid.
 use Rattle.std.proofs.Common.{◌≡◌, ℕ, zero, suc, ◌<◌, Bool, true, false, ◌||◌, List, [], ◌∷◌, length, refl, sym, ◌∙◌, ap, subst, arith}
 use Rattle.std.specs.Prelude.{if◌then◌else◌, slice_index_or}
-use Rattle.std.specs.List.{list_any}
+use Rattle.std.specs.List.{list_any, AllByRecursion}
 use Rattle.std.specs.Str.{bytes_eq}
 use Rattle.std.proofs.lemmas.Slice.Eq.{bytes_eq-Decides}
-use Rattle.rp_rows.specs.Rows.{Text}
+use Rattle.rp_rows.specs.Rows.{Text, Model}
 use Rattle.rp_plain.specs.declared.messages.Request.{Request}
 use Rattle.rp_plain.specs.declared.messages.Reply.{Reply}
 use Rattle.rp_plain.specs.Plain.{Plain}
@@ -14,8 +14,9 @@ use Rattle.rp_plain.specs.Meaning.{has_text}
 use Rattle.rp_plain.specs.Step.{answer, next}
 use Rattle.rp_plain.specs.Runs.{Effect, is_no_memory, left_by}
 use Rattle.rp_plain.specs.Turns.{after}
-use Rattle.rp_plain.specs.Valid.{IsValid}
+use Rattle.rp_plain.specs.Valid.{IsValidModel, IsValid}
 use Rattle.rp_laws.specs.Laws.{KeepsValid}
+use Rattle.rp_core.specs.InOrder.{HasInOrder, IsInOrder}
 use Rattle.rp_core.specs.Held.{Kept, partner_at, turn, made, Fits, IsPrepared}
 use Rattle.rp_core.specs.declared.steps.Pending.{Pending}
 use Rattle.rp_repo.specs.Ready.{IsReady}
@@ -53,3 +54,11 @@ ready keeps old new place q pending within valid same prepared fits = record {
   fits = fits;
   valid = subst IsValid (sym (ap (made pending.steps) same ∙ prepared.changes)) (valid_after keeps old.content place q pending.reply within valid);
 }
+
+all_in_order : (r : Plain) (ms : List Model) → AllByRecursion (IsValidModel r.schemas r.partners) ms → AllByRecursion HasInOrder ms
+all_in_order r [] all = tt
+all_in_order r (m ∷ ms) all = (all.0.content.instances, all_in_order r ms all.1)
+
+-- in a valid repository the instances of each model stand in order
+pub valid_in_order : (r : Plain) → IsValid r → IsInOrder r
+valid_in_order r valid = all_in_order r r.models valid.models

@@ -1,5 +1,5 @@
 //! One line, one reply.
-ghost use Rattle.std.specs.Prelude.{◌≡◌, ◌<◌, ℕ, List, length, IfSome, IfNone, MatchOption, Some, None};
+ghost use Rattle.std.specs.Prelude.{◌≡◌, ◌<◌, ℕ, List, length, IfSome, IfNone, IfOk, IsErrOf, MatchOption, Some, None};
 ghost use Rattle.rp_io.specs.Lines.{Holds};
 ghost use Rattle.rp_plain.specs.Turns.{effect};
 ghost use Rattle.rp_core.specs.Held.{partner_at, turn, made};
@@ -16,16 +16,20 @@ use rp_plain::messages::{Refusal, Reply, Request};
 use rp_wire::{Asked, Unread, reply_line, request_of};
 use std::alloc::Global;
 
+/// The bytes that a line is let go of with.
+const SMALL: usize = 4096;
+
 /// The reply line of a line, of which this was kept; nothing where memory was refused.
 ///
-/// The bytes of the reply are made before the change, so that nothing is changed where there are none.
+/// The bytes of the reply are made before the change, so that nothing is changed where there are none. The memory of the
+/// line is given back before the request is handled.
 pub fn answer(
     alloc: Global,
     repository: &mut Repository,
     room: Room,
-    kept: &[u8],
+    kept: Vec<u8>,
 ) -> Option<Vec<u8>>
-    ensures made { IfSome result (λ bytes. (line : List ℕ) → Holds room kept.now line →
+    ensures made { IfSome result (λ bytes. (line : List ℕ) → Holds room kept.items line →
         Answers repository.old.content repository.new.content (meant repository.old.content line) bytes.items) }
     ensures refused { IfNone result (repository.new.content ≡ repository.old.content) }
 {
@@ -42,13 +46,30 @@ fn refused(alloc: Global, refusal: Refusal) -> Option<Vec<u8>>
     reply_line(alloc, &Reply::Refused(refusal)).ok()
 }
 
-fn answer_kept(alloc: Global, repository: &mut Repository, line: &[u8]) -> Option<Vec<u8>>
+/// Lets go of a line. Its block is made small before it is freed: whoever frees a large one has the C library take later ones
+/// of that size from its heap, which gives nothing back to the system.
+fn release(mut line: Vec<u8>) {
+    line.clear();
+    line.shrink_to(SMALL);
+}
+
+/// The request of a line, which is let go of: the texts of the request are its own.
+fn request_from(alloc: Global, line: Vec<u8>) -> Result<Asked, Unread>
+    ensures ok { IfOk result (λ asked. asked_of line.items ≡ Some asked) }
+    ensures bad { IsErrOf result Unread.BadRequest → asked_of line.items ≡ None }
+{
+    let asked = request_of(alloc, &line);
+    release(line);
+    asked
+}
+
+fn answer_kept(alloc: Global, repository: &mut Repository, line: Vec<u8>) -> Option<Vec<u8>>
     ensures made { IfSome result (λ bytes.
         let old = repository.old.content in
-        Answers old repository.new.content (meant_for old Refusal.BadRequest (turn_for old.partners (asked_of line.now))) bytes.items) }
+        Answers old repository.new.content (meant_for old Refusal.BadRequest (turn_for old.partners (asked_of line.items))) bytes.items) }
     ensures refused { IfNone result (repository.new.content ≡ repository.old.content) }
 {
-    match request_of(alloc, line) {
+    match request_from(alloc, line) {
         Ok(asked) => answer_asked(alloc, repository, asked),
         Err(Unread::BadRequest) => refused(alloc, Refusal::BadRequest),
         Err(Unread::NoMemory) => None,

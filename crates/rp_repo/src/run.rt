@@ -21,15 +21,15 @@ pub enum RunFault {
 /// The most reads of a run.
 const READS: u32 = 4_294_967_295;
 
-/// Answers one line, and writes the reply.
+/// Answers one line, and writes the reply. The line's memory is given back.
 fn serve<W: Sink>(
     alloc: Global,
     repository: &mut Repository,
     writer: &mut W,
     room: Room,
-    kept: &[u8],
+    kept: Vec<u8>,
 ) -> Result<(), DeviceFault>
-    ensures served { (line : List ℕ) → Holds room kept.now line →
+    ensures served { (line : List ℕ) → Holds room kept.items line →
         Serves repository.old.content repository.new.content (W.contents writer.old) (W.contents writer.new) line (is_ok result) }
     ensures ok { OnOk result (W.write_failures writer.new ≡ W.write_failures writer.old) }
     ensures err { OnErr result (W.write_failures writer.new ≢ W.write_failures writer.old) }
@@ -70,17 +70,17 @@ pub fn run_lines<R: Source, W: Sink>(
     ensures valid { IsValid repository.new.content }
 {
     let mut chunk = Chunk::new(READS);
-    let mut line = Vec::new(alloc);
     let mut count = 0u64;
     'lines: loop {
         repository.is_valid();
+        let mut line = Vec::new(alloc);
         let Ok(taken) = next_line(&mut chunk, reader, &mut line) else {
             return Err(RunFault::ReadFault);
         };
         let Taken::Line(room) = taken else {
             return Ok(count);
         };
-        if serve(alloc, repository, writer, room, &line).is_err() {
+        if serve(alloc, repository, writer, room, line).is_err() {
             repository.is_valid();
             return Err(RunFault::WriteFault);
         }

@@ -1,4 +1,5 @@
 pub mod Names
 pub mod Rows
+pub mod Contents
 pub mod Sight
 pub mod Alterations

@@ -1,7 +1,7 @@
 //! What rows are made of.
 
-use p21_tree::{Header, Instance};
 use plain_data::{Rows, Text};
+use rp_content::Content;
 
 /// An owner and a name.
 pub type Key = (Text, Text);
@@ -33,27 +33,15 @@ pub struct Grant {
     pub level: Level,
 }
 
-/// A name that a model's instances use for an instance of another model.
-#[derive(Drop)]
-pub struct Link {
-    pub name: u64,
-    pub model: Key,
-    pub instance: u64,
-}
-
 /// What a model holds.
 #[derive(Drop)]
 pub struct ModelContent {
     /// The schema's name, in upper case.
     pub schema: Text,
-    /// That of the last file, or the default one.
-    pub header: Header,
     /// The greatest instance name that was ever used in it, at first 0.
     pub greatest: u64,
-    /// In order of name.
-    pub instances: Rows<Instance>,
-    /// In order of name.
-    pub links: Rows<Link>,
+    /// What the last file said, by the schema; at first the default header and no instance.
+    pub content: Content,
 }
 
 /// What a group holds.

@@ -33,6 +33,7 @@ A request names its partner in \"as\" and what to do in \"do\":
   {\"as\":\"ann\",\"do\":\"create_model\",\"name\":\"m\",\"schema\":\"T\"}
   {\"as\":\"ann\",\"do\":\"put\",\"owner\":\"ann\",\"model\":\"m\",\"file\":\"ISO-10303-21; ..\"}
   {\"as\":\"ann\",\"do\":\"names\",\"owner\":\"ann\",\"model\":\"m\"}
+  {\"as\":\"ann\",\"do\":\"get\",\"owner\":\"ann\",\"model\":\"m\",\"instance\":1}
   {\"as\":\"ann\",\"do\":\"grant\",\"kind\":\"model\",\"name\":\"m\",\"to\":\"bob\",\"level\":\"read\"}
   {\"as\":\"ann\",\"do\":\"revoke\",\"kind\":\"model\",\"name\":\"m\",\"to\":\"bob\"}
   {\"as\":\"bob\",\"do\":\"list\"}

@@ -12,7 +12,7 @@ use Rattle.serde_json.specs.Find.{get_member, as_str}
 use Rattle.serde_json.specs.View.{view, members_view}
 use Rattle.serde_json.specs.declared.value.Value.{Value}
 use Rattle.serde_json.proofs.Views.{Entry, view-lookup}
-use Rattle.rp_wire.specs.Asks.{has_only, without, text_in, text_if_any}
+use Rattle.rp_wire.specs.Asks.{has_only, without, text_in, text_if_any, number_of, number_in}
 
 list_any-map : {X Y : Type 0} (p : X → Bool) (h : Y → X) (ys : List Y) → list_any p (map h ys) ≡ list_any (λ y. p (h y)) ys
 list_any-map p h [] = refl
@@ -69,6 +69,11 @@ pub text_in-lookup : (name : List ℕ) (es : List Entry) (found : Option Value) 
     → MatchOption found (text ≡ None) (λ v. text ≡ as_str (view v)) → text ≡ text_in name (members_view es)
 text_in-lookup name es None text is told = told ∙ ap (option_and_then as_str) (ap (option_map view) is ∙ view-lookup name es)
 text_in-lookup name es (Some v) text is told = told ∙ ap (option_and_then as_str) (ap (option_map view) is ∙ view-lookup name es)
+
+pub number_in-lookup : (name : List ℕ) (es : List Entry) (found : Option Value) (number : Option ℕ) → found ≡ lookup (is_named name) es
+    → MatchOption found (number ≡ None) (λ v. number ≡ number_of (view v)) → number ≡ number_in name (members_view es)
+number_in-lookup name es None number is told = told ∙ ap (option_and_then number_of) (ap (option_map view) is ∙ view-lookup name es)
+number_in-lookup name es (Some v) number is told = told ∙ ap (option_and_then number_of) (ap (option_map view) is ∙ view-lookup name es)
 
 pub text_if_any-lookup : (name : List ℕ) (es : List Entry) (found : Option Value) → found ≡ lookup (is_named name) es → text_if_any (option_map view found) ≡ text_if_any (get_member name (members_view es))
 text_if_any-lookup name es found is = ap text_if_any (ap (option_map view) is ∙ view-lookup name es)

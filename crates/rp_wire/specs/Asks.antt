@@ -1,15 +1,15 @@
 -- Which bytes are which requests.
-use Rattle.std.specs.Prelude.{ℕ, ◌&&◌, List, [], ◌∷◌, Bool, true, false, codes, unwrap_or, if◌then◌else◌, Option, Some, None, option_map, option_and_then}
+use Rattle.std.specs.Prelude.{ℕ, ◌&&◌, nat_le, List, [], ◌∷◌, Bool, true, false, codes, unwrap_or, if◌then◌else◌, Option, Some, None, option_map, option_and_then}
 use Rattle.std.specs.List.{list_any}
 use Rattle.std.specs.Str.{bytes_eq, is_utf8}
 use Rattle.serde_json.specs.Data.{Data, Members, no_members, member}
-use Rattle.serde_json.specs.Find.{get_member, as_str, as_object}
+use Rattle.serde_json.specs.Find.{get_member, as_str, as_number, as_u64, as_object}
 use Rattle.serde_json.specs.Read.{read}
 use Rattle.rp_rows.specs.declared.rows.Level.{Level}
 use Rattle.rp_rows.specs.declared.rows.Level.TheVariants.{Read, Write}
 use Rattle.rp_rows.specs.Rows.{Key}
 use Rattle.rp_plain.specs.declared.messages.Request.{Request}
-use Rattle.rp_plain.specs.declared.messages.Request.TheVariants.{CreateModel, DeleteModel, Put, Names, ListItems, GrantModel, RevokeModel, Schemas, CheckSchema}
+use Rattle.rp_plain.specs.declared.messages.Request.TheVariants.{CreateModel, DeleteModel, Put, Export, Names, Get, ListItems, GrantModel, RevokeModel, Schemas, CheckSchema}
 use Rattle.rp_wire.specs.declared.asks.Asked.{Asked}
 
 -- ---- the members of an object
@@ -33,6 +33,21 @@ abbrev pub text_if_any : Option Data → Option (Option (List ℕ))
 text_if_any None = Some None
 text_if_any (Some d) = option_map Some (as_str d)
 
+-- the greatest number that a request may have: 18 digits
+abbrev pub max_number : ℕ
+max_number = 999999999999999999
+
+abbrev pub unless_greater : ℕ → Option ℕ
+unless_greater n = if nat_le n max_number then Some n else None
+
+-- the number of a member, if it is a whole one and not too great
+abbrev pub number_of : Data → Option ℕ
+number_of d = option_and_then unless_greater (option_and_then as_u64 (as_number d))
+
+-- the number at this key
+abbrev pub number_in : List ℕ → Members → Option ℕ
+number_in key ms = option_and_then number_of (get_member key ms)
+
 -- what is made of the string at this key, and nothing where no string stands there
 abbrev pub with_text : {A : Type 0} → List ℕ → Members → (List ℕ → Option A) → Option A
 with_text key ms make = option_and_then make (text_in key ms)
@@ -49,8 +64,14 @@ model_in ms = with_text (codes "owner") ms (λ owner. with_text (codes "model") 
 abbrev pub put_of : Members → Option Request
 put_of ms = if has_only (codes "file" ∷ codes "model" ∷ codes "owner" ∷ []) ms then option_and_then (λ model. with_text (codes "file") ms (λ file. Some (Put model file))) (model_in ms) else None
 
+abbrev pub export_of : Members → Option Request
+export_of ms = if has_only (codes "model" ∷ codes "owner" ∷ []) ms then option_map Export (model_in ms) else None
+
 abbrev pub names_of : Members → Option Request
 names_of ms = if has_only (codes "model" ∷ codes "owner" ∷ []) ms then option_map Names (model_in ms) else None
+
+abbrev pub get_of : Members → Option Request
+get_of ms = if has_only (codes "instance" ∷ codes "model" ∷ codes "owner" ∷ []) ms then option_and_then (λ instance. option_map (λ model. Get model instance) (model_in ms)) (number_in (codes "instance") ms) else None
 
 abbrev pub delete_model_of : Members → Option Request
 delete_model_of ms = if has_only (codes "name" ∷ []) ms then with_text (codes "name") ms (λ name. Some (DeleteModel name)) else None
@@ -83,13 +104,15 @@ abbrev pub request_for : List ℕ → Members → Option Request
 request_for word ms =
     if bytes_eq word (codes "create_model") then create_model_of ms
     else (if bytes_eq word (codes "put") then put_of ms
+    else (if bytes_eq word (codes "export") then export_of ms
     else (if bytes_eq word (codes "names") then names_of ms
+    else (if bytes_eq word (codes "get") then get_of ms
     else (if bytes_eq word (codes "delete_model") then delete_model_of ms
     else (if bytes_eq word (codes "list") then list_of ms
     else (if bytes_eq word (codes "grant") then grant_of ms
     else (if bytes_eq word (codes "revoke") then revoke_of ms
     else (if bytes_eq word (codes "schemas") then schemas_of ms
-    else (if bytes_eq word (codes "check_schema") then check_schema_of ms else None))))))))
+    else (if bytes_eq word (codes "check_schema") then check_schema_of ms else None))))))))))
 
 -- `do` has the word
 abbrev pub request_in : Members → Option Request

@@ -4,9 +4,9 @@ ghost use Rattle.std.specs.Prelude.{◌≡◌, ℕ, List, false, codes, IfOk, Is
 ghost use Rattle.std.specs.Str.{bytes_eq};
 ghost use Rattle.serde_json.specs.View.{view, members_view};
 ghost use Rattle.serde_json.specs.Find.{as_object};
-ghost use Rattle.rp_wire.specs.Asks.{create_model_of, model_in, put_of, names_of, delete_model_of, list_of, level_of, is_model_kind, grant_of, revoke_of, schemas_of, check_schema_of, text_in, request_for, request_in, asked_in, asked_of};
+ghost use Rattle.rp_wire.specs.Asks.{create_model_of, model_in, put_of, export_of, names_of, get_of, delete_model_of, list_of, level_of, is_model_kind, grant_of, revoke_of, schemas_of, check_schema_of, text_in, request_for, request_in, asked_in, asked_of};
 
-use crate::members::{Members, has_only_keys, take_text, take_text_if_any};
+use crate::members::{Members, has_only_keys, take_number, take_text, take_text_if_any};
 use plain_data::Text;
 use rp_plain::messages::Request;
 use rp_rows::rows::{Key, Level};
@@ -77,7 +77,9 @@ fn request_for(word: &str, members: Members) -> Option<Request>
     match word {
         "create_model" => create_model(members),
         "put" => put(members),
+        "export" => export(members),
         "names" => names(members),
+        "get" => get(members),
         "delete_model" => delete_model(members),
         "list" => list(members),
         "grant" => grant(members),
@@ -122,6 +124,16 @@ fn put(mut members: Members) -> Option<Request>
     Some(Request::Put { model, file })
 }
 
+fn export(mut members: Members) -> Option<Request>
+    ensures { result ≡ export_of (members_view members.entries) }
+{
+    if !has_only_keys(&members, &["model", "owner"]) {
+        return None;
+    }
+    let model = take_model(&mut members)?;
+    Some(Request::Export { model })
+}
+
 fn names(mut members: Members) -> Option<Request>
     ensures { result ≡ names_of (members_view members.entries) }
 {
@@ -130,6 +142,17 @@ fn names(mut members: Members) -> Option<Request>
     }
     let model = take_model(&mut members)?;
     Some(Request::Names { model })
+}
+
+fn get(mut members: Members) -> Option<Request>
+    ensures { result ≡ get_of (members_view members.entries) }
+{
+    if !has_only_keys(&members, &["instance", "model", "owner"]) {
+        return None;
+    }
+    let instance = take_number(&mut members, "instance")?;
+    let model = take_model(&mut members)?;
+    Some(Request::Get { model, instance })
 }
 
 fn delete_model(mut members: Members) -> Option<Request>

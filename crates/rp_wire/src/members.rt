@@ -6,12 +6,15 @@ ghost use Rattle.std.specs.Str.{bytes_eq};
 ghost use Rattle.std.specs.BTreeMap.{keys as map_keys};
 ghost use Rattle.serde_json.specs.View.{view, members_view};
 ghost use Rattle.serde_json.specs.Find.{get_member, as_str};
-ghost use Rattle.rp_wire.specs.Asks.{has_only, without, text_in, text_if_any};
+ghost use Rattle.rp_wire.specs.Asks.{has_only, without, text_in, text_if_any, number_in, number_of, unless_greater};
 
 use plain_data::Text;
 use serde_json::{Map, Value};
 
 pub(crate) type Members = Map<String, Value>;
+
+/// The greatest number that a request may have: 18 digits.
+const MAX_NUMBER: u64 = 999_999_999_999_999_999;
 
 /// Takes out the string at this key. A member that is no string goes too.
 pub(crate) fn take_text(members: &mut Members, key: &str) -> Option<Text>
@@ -50,6 +53,36 @@ fn text_of(value: Value) -> Option<Text>
     match value {
         Value::String(text) => Some(Text::new(text)),
         _ => None,
+    }
+}
+
+/// Takes out the number at this key. A member that is no number goes too.
+pub(crate) fn take_number(members: &mut Members, key: &str) -> Option<u64>
+    ensures number { result ≡ number_in key.now (members_view members.old.entries) }
+    ensures others { (other : List ℕ) → bytes_eq key.now other ≡ false
+        → text_in other (members_view members.new.entries)
+        ≡ text_in other (members_view members.old.entries) }
+{
+    members.remove(key).and_then(number_of)
+}
+
+/// A whole number that isn't too great.
+fn number_of(value: Value) -> Option<u64>
+    ensures { result ≡ number_of (view value) }
+{
+    match value {
+        Value::Number(number) => unless_greater(number.as_u64()?),
+        _ => None,
+    }
+}
+
+fn unless_greater(number: u64) -> Option<u64>
+    ensures { result ≡ unless_greater number }
+{
+    if number <= MAX_NUMBER {
+        Some(number)
+    } else {
+        None
     }
 }
 

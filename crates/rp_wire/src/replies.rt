@@ -1,7 +1,8 @@
 //! From a reply to bytes.
 
-ghost use Rattle.std.specs.Prelude.{◌≡◌, ◌++◌, IfOk, OnOk};
-ghost use Rattle.rp_wire.specs.Replies.{reply_data, reply_text, line_of_reply};
+ghost use Rattle.std.specs.Prelude.{◌≡◌, ◌++◌, codes, IfOk, OnOk};
+ghost use Rattle.serde_json.specs.Data.{string};
+ghost use Rattle.rp_wire.specs.Replies.{only, reply_data, reply_text, line_of_reply};
 ghost use Rattle.rp_wire.specs.Tokens.{tokens_of};
 
 use crate::lists::{write_items_at, write_named_types, write_texts, write_warnings};
@@ -46,7 +47,9 @@ fn write_reply(out: &mut Writer, reply: &Reply) -> Result<(), AllocError>
     match reply {
         Reply::Done => write_done(out),
         Reply::Stored(count) => write_stored(out, *count),
+        Reply::File(text) => write_text_at(out, "file", text),
         Reply::Names(names) => write_names(out, names.as_slice()),
+        Reply::Line(text) => write_text_at(out, "text", text),
         Reply::Listed { groups, models } => write_listed(out, groups.as_slice(), models.as_slice()),
         Reply::Schemas(names) => write_schemas(out, names.as_slice()),
         Reply::Checked { schema, warnings } => write_checked(out, schema, warnings.as_slice()),
@@ -69,6 +72,16 @@ fn write_stored(out: &mut Writer, count: usize) -> Result<(), AllocError>
 {
     open(out, "ok")?;
     number_at(out, "instances", count as u64)?;
+    close(out)
+}
+
+/// What is done, with one text at a key.
+fn write_text_at(out: &mut Writer, key: &str, text: &Text) -> Result<(), AllocError>
+    ensures ok { OnOk result (out.new.tokens ≡ out.old.tokens ++ tokens_of (only (codes "ok") (only key.now (string text.now)))) }
+    ensures before { out.new.before ≡ out.old.before }
+{
+    open(out, "ok")?;
+    string_at(out, key, text.as_str())?;
     close(out)
 }
 

@@ -9,4 +9,4 @@ pub returns-in-Err-BadRequest-clause-made : goal.returns-in-Err-BadRequest-claus
 returns-in-Err-BadRequest-clause-made c =
     let r = c.args.repository.now.content in
     let none = rw c.in-Err-BadRequest.field-0-is at c.in-Err-BadRequest.ensures.bad in
-    if_refused (λ v. v.items) r BadRequest (meant_for r BadRequest (turn_for r.partners (asked_of c.args.line.now))) c.refused.result refl (ap (λ a. meant_for r BadRequest (turn_for r.partners a)) (none refl)) c.refused.ensures
+    if_refused (λ v. v.items) r BadRequest (meant_for r BadRequest (turn_for r.partners (asked_of c.args.line.items))) c.refused.result refl (ap (λ a. meant_for r BadRequest (turn_for r.partners a)) (none refl)) c.refused.ensures

@@ -12,7 +12,7 @@ returns-then-is_err-clause-cut g c =
     λ _. (
       done.0 ++ taken.0 ∷ [],
       AreFirstLines-taken _ _ _ (TakesLines-more _ _ _ done.0 taken.0 done.1 taken.2),
-      Replies-cut _ _ _ _ _ _ done.0 taken.0 _ done.2 (c.serve.ensures.served taken.0 (rw c.deref.ensures.value taken.1)),
+      Replies-cut _ _ _ _ _ _ done.0 taken.0 _ done.2 (c.serve.ensures.served taken.0 taken.1),
     )
 
 pub lines-preserved : goal.lines-preserved
@@ -26,7 +26,7 @@ lines-preserved g c =
       done = (
         done.0 ++ taken.0 ∷ [],
         TakesLines-more _ _ _ done.0 taken.0 done.1 taken.2,
-        Replies-more _ _ _ _ _ _ done.0 taken.0 _ done.2 (c.serve.ensures.served taken.0 (rw c.deref.ensures.value taken.1)) ok,
+        Replies-more _ _ _ _ _ _ done.0 taken.0 _ done.2 (c.serve.ensures.served taken.0 taken.1) ok,
         omega (arith, length-append done.0 (taken.0 ∷ []), done.3),
       );
       settled = c.in-Ok.ensures.settled;

@@ -12,5 +12,8 @@ returns-in-NoSuchItem-clause-ok c = rw c.in-NoSuchItem.is c.write_coded-in-NoSuc
 pub returns-in-WrongSchema-clause-ok : goal.returns-in-WrongSchema-clause-ok
 returns-in-WrongSchema-clause-ok c = rw c.in-WrongSchema.is c.write_coded-in-WrongSchema.ensures.ok
 
+pub returns-in-NoSuchInstance-clause-ok : goal.returns-in-NoSuchInstance-clause-ok
+returns-in-NoSuchInstance-clause-ok c = rw c.in-NoSuchInstance.is c.write_coded-in-NoSuchInstance.ensures.ok
+
 pub returns-in-NoMemory-clause-ok : goal.returns-in-NoMemory-clause-ok
 returns-in-NoMemory-clause-ok c = rw c.in-NoMemory.is c.write_coded-in-NoMemory.ensures.ok

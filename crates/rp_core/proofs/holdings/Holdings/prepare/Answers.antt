@@ -1,11 +1,22 @@
-use Rattle.std.proofs.Common.{◌≡◌, ◌<◌, [], length, get_or, ◌∙◌, ap}
+use Rattle.std.proofs.Common.{◌≡◌, ◌<◌, List, [], length, get_or, sym, subst, ◌∙◌, ap}
 use Rattle.std.proofs.lemmas.List.{get_or_read}
+use Rattle.std.specs.List.{AllByRecursion}
+use Rattle.rp_rows.specs.Rows.{Model}
 use Rattle.rp_plain.specs.Plain.{Plain}
 use Rattle.rp_core.specs.Held.{partner_at, turn}
+use Rattle.rp_core.specs.InOrder.{HasInOrder}
 use Rattle.rp_core.specs.Told.{told}
 use Rattle.rp_core.proofs.Preparing.{prepared_from, refused_from, wanting}
+use Rattle.rp_core.proofs.Single.{told_in_order}
 use Rattle.rp_core.proofs.holdings.Holdings.prepare.Goals as goal
 use Rattle.rp_core.proofs.holdings.Holdings.prepare.Goals.{in-Ok-of_plan, in-Err-of_plan}
+
+pub plan-requires : goal.plan-requires
+unfolding told
+plan-requires c =
+    let read : Plain = record { schemas = c.deref.result.now; partners = c.deref-2.result.now; models = c.self.inside.models.rows; groups = c.self.inside.groups.rows } in
+    let models : c.self.inside.models.rows ≡ c.args.self.now.content.models = ap (λ h. h.content.models) c.self.view_is in
+    told_in_order read c.index.result.now (subst (λ (ms : List Model). AllByRecursion HasInOrder ms) (sym models) c.requires.order)
 
 pub returns-in-Err-clause-prepared : goal.returns-in-Err-clause-prepared
 unfolding told
@@ -13,7 +24,7 @@ returns-in-Err-clause-prepared c =
     let read : Plain = record { schemas = c.deref.result.now; partners = c.deref-2.result.now; models = c.self.inside.models.rows; groups = c.self.inside.groups.rows } in
     let same : read ≡ c.args.self.now.content = cc in
     let partners : c.self.inside.partners.items ≡ c.args.self.now.content.partners = ap (λ h. h.content.partners) c.self.view_is in
-    let within : c.args.place < length c.self.inside.partners.items = rw partners c.requires in
+    let within : c.args.place < length c.self.inside.partners.items = rw partners c.requires.partner in
     let at = get_or_read c.self.inside.partners.items c.args.place c.index.result.now within c.index.ensures [] in
     let who : c.index.result.now ≡ partner_at c.args.self.now.content c.args.place = at ∙ ap (λ xs. get_or xs c.args.place []) partners in
     refused_from c.args.self.now.content (partner_at c.args.self.now.content c.args.place) read c.index.result.now c.args.request c.in-Err.refusal c.refused.result same who c.in-Err.ensures c.refused.ensures
@@ -24,7 +35,7 @@ returns-after-of_plan-clause-prepared c =
     let read : Plain = record { schemas = c.deref.result.now; partners = c.deref-2.result.now; models = c.self.inside.models.rows; groups = c.self.inside.groups.rows } in
     let same : read ≡ c.args.self.now.content = cc in
     let partners : c.self.inside.partners.items ≡ c.args.self.now.content.partners = ap (λ h. h.content.partners) c.self.view_is in
-    let within : c.args.place < length c.self.inside.partners.items = rw partners c.requires in
+    let within : c.args.place < length c.self.inside.partners.items = rw partners c.requires.partner in
     let at = get_or_read c.self.inside.partners.items c.args.place c.index.result.now within c.index.ensures [] in
     let who : c.index.result.now ≡ partner_at c.args.self.now.content c.args.place = at ∙ ap (λ xs. get_or xs c.args.place []) partners in
     elim c.match-of_plan.branch [

@@ -1,0 +1,125 @@
+//! Single instances of models.
+
+ghost use Rattle.std.specs.Prelude.{◌≡◌, IfOk, filter, length, option_copied};
+ghost use Rattle.std.specs.Ordering.{is_lt, is_eq, nat_cmp};
+ghost use Rattle.sorted_tables.specs.Table.{is_before};
+ghost use Rattle.rp_rows.specs.Contents.{instance_name};
+ghost use Rattle.rp_plain.specs.Meaning as meaning;
+ghost use Rattle.rp_plain.specs.Instances as of_instances;
+ghost use Rattle.rp_core.specs.Told.{told};
+ghost use Rattle.rp_core.specs.InOrder.{AreNamedInOrder, TellsInOrder};
+ghost use Rattle.rp_core.specs.Plans.{Plans};
+
+use crate::asked::Asking;
+use crate::edits::{Edits, Plan};
+use crate::faults::{first, is_no_partner, key_fault, unseen, when};
+use ex_subtypes::Compiled;
+use p21_write::write_instance;
+use plain_data::Text;
+use rp_content::Instance;
+use rp_plain::messages::{Refusal, Reply, Request};
+use rp_rows::rows::Key;
+use std::alloc::{AllocError, Global};
+
+fn is_before_name(name: u64, instance: &Instance) -> bool
+    ensures { result ≡ is_lt (nat_cmp instance.now.name name) }
+{
+    instance.name.cmp(&name).is_lt()
+}
+
+fn is_of_name(name: u64, instance: &Instance) -> bool
+    ensures { result ≡ is_eq (nat_cmp instance.now.name name) }
+{
+    instance.name.cmp(&name).is_eq()
+}
+
+/// How many names stand before this one.
+fn place_of(instances: &[Instance], name: u64) -> usize
+    requires { AreNamedInOrder instances.now }
+    ensures { result ≡ length (filter (is_before nat_cmp instance_name name) instances.now) }
+{
+    instances.partition_point(|instance| is_before_name(name, instance))
+}
+
+/// The instance of this name. The others aren't walked over.
+fn instance_named(instances: &[Instance], name: u64) -> Option<&Instance>
+    requires { AreNamedInOrder instances.now }
+    ensures { option_copied result ≡ of_instances.instance_named name instances.now }
+{
+    match instances.get(place_of(instances, name)) {
+        Some(instance) => {
+            if is_of_name(name, instance) {
+                Some(instance)
+            } else {
+                None
+            }
+        }
+        None => None,
+    }
+}
+
+/// The instance of this name in the model, if the partner sees it.
+fn instance_in<'a>(asked: &Asking<'a>, key: &Key, name: u64) -> Option<&'a Instance>
+    requires { TellsInOrder (told asked.now) }
+    ensures { option_copied result ≡ of_instances.instance_in ((told asked.now).content key.now) name }
+{
+    match asked.content(key) {
+        Some(model) => instance_named(model.content.instances.as_slice(), name),
+        None => None,
+    }
+}
+
+/// The schema of the model, if the partner sees it.
+fn schema_of<'a>(asked: &Asking<'a>, key: &Key) -> Option<&'a Compiled>
+    ensures { option_copied result ≡ meaning.schema_of (told asked.now).schemas ((told asked.now).content key.now) }
+{
+    match asked.content(key) {
+        Some(model) => asked.schema_named(&model.schema),
+        None => None,
+    }
+}
+
+/// Of an instance that isn't there.
+fn is_absent(found: Option<&Instance>) -> Option<Refusal>
+    ensures { result ≡ of_instances.is_absent (option_copied found.entry) }
+{
+    when(found.is_none(), Refusal::NoSuchInstance)
+}
+
+/// The line of the instance in canonical text.
+fn line_by(
+    alloc: Global,
+    schema: Option<&Compiled>,
+    found: Option<&Instance>,
+) -> Result<Text, AllocError>
+    ensures { IfOk result (λ text. text ≡ of_instances.line_by (option_copied schema.entry) (option_copied found.entry)) }
+{
+    let Some(schema) = schema else {
+        return Text::from_str(alloc, "");
+    };
+    let Some(instance) = found else {
+        return Text::from_str(alloc, "");
+    };
+    write_instance(alloc, schema, instance)
+}
+
+/// One instance of a model, as canonical text has it.
+pub fn plan_get(alloc: Global, asked: &Asking<'_>, key: &Key, name: u64) -> Result<Plan, Refusal>
+    requires { TellsInOrder (told asked.now) }
+    ensures { Plans (told asked.now) asked.now.caller.now (Request.Get key.now name) result }
+{
+    let found = instance_in(asked, key, name);
+    let tests = [
+        key_fault(key),
+        is_no_partner(asked, &key.0),
+        unseen(asked.model_right(key)),
+        is_absent(found),
+    ];
+    if let Some(refusal) = first(&tests) {
+        return Err(refusal);
+    }
+    Ok(Plan {
+        reply: Reply::Line(line_by(alloc, schema_of(asked, key), found)?),
+        edits: Edits::Nothing,
+    })
+}
