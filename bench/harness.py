@@ -133,22 +133,34 @@ class Folder:
         expect_success(process.returncode)
         return memory
 
-    def batch_measured(self, lines, wanted):
-        """The seconds until the last reply to these lines, how many of them a processor ran the program, and the most
-        bytes that it held until then."""
-        begin = time.monotonic()
-        words = [self.program, *BATCH]
-        with subprocess.Popen(words, cwd=self.path, stdin=subprocess.PIPE, stdout=subprocess.PIPE) as process:
-            process.stdin.write(lines)
-            process.stdin.flush()
-            written = b"".join(process.stdout.readline() for _ in range(wanted.count(b"\n")))
-            seconds = time.monotonic() - begin
-            busy, memory = processor_seconds(process), most_memory(process)
-            process.stdin.close()
-            written += process.stdout.read()
-        compare(written, wanted)
-        expect_success(process.returncode)
-        return seconds, busy, memory
+
+class Session:
+    """A process of the program that is asked line by line."""
+
+    def __init__(self, folder):
+        self.process = subprocess.Popen([folder.program, *BATCH], cwd=folder.path, stdin=subprocess.PIPE, stdout=subprocess.PIPE)
+
+    def __enter__(self):
+        return self
+
+    def __exit__(self, kind, fault, trace):
+        self.process.stdin.close()
+        self.process.stdout.read()
+        status = self.process.wait()
+        if kind is None:
+            expect_success(status)
+
+    def ask(self, line):
+        """The reply to a line, the seconds until it came, and how many of these a processor ran the program."""
+        begin, busy = time.monotonic(), processor_seconds(self.process)
+        self.process.stdin.write(line)
+        self.process.stdin.flush()
+        reply = self.process.stdout.readline()
+        return reply, time.monotonic() - begin, processor_seconds(self.process) - busy
+
+    def memory(self):
+        """The most bytes that it has held so far."""
+        return most_memory(self.process)
 
 
 # ---- what is printed

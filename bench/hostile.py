@@ -4,7 +4,7 @@
     bench/hostile.py [--family WORD].. [--way WAY].. [--size MIB] [--timeout SECONDS] [--list] [PROGRAM]
 
 Families of EXPRESS texts (hostile_texts.py) go through `check` and through the request check_schema; families of
-exchange files through the request put, and whole lines through `batch` (hostile_lines.py). Texts and files have 8 MiB,
+exchange files (hostile_files.py) through the request put, and whole lines (hostile_lines.py) through `batch`. Texts and files have 8 MiB,
 lines 16 MiB, or what --size says of a text. Each run is a process of its own, and is stopped at the timeout. For each
 it prints how many parts the text has, its bytes, the seconds of the run, those in which a processor ran it, and the
 most memory that it held; and behind them what is over 10 seconds of a processor or 1 GiB, what was stopped, and what
@@ -19,7 +19,8 @@ import sys
 import time
 
 from harness import CHECK, BATCH, FILE_LIMIT, KIB, MIB, SCHEMA_FILE, Table, most_memory, request, run_bench
-from hostile_lines import FILES, LINES, answer
+from hostile_files import FILES, SCHEMA
+from hostile_lines import LINES, answer
 from hostile_texts import TEXTS
 
 SECONDS_LIMIT = 10
@@ -40,14 +41,15 @@ def length_of(text):
     return len(text) if isinstance(text, bytes) or text.isascii() else len(unmarked(text)[0])
 
 
-def fitting(text_of, size):
-    """A count of parts with which a text fills the size, but for some hundredths of it."""
+def fitting(text_of, size, most=None):
+    """A count of parts, at most the most, with which a text fills the size, but for some hundredths of it."""
     count = 64
     for _ in range(10):
         length = length_of(text_of(count))
-        if 0.97 * size <= length <= size:
+        if 0.97 * size <= length <= size or (count == most and length <= size):
             break
         count = max(2, int(count * 0.99 * size / length))
+        count = min(count, most) if most else count
     return count
 
 
@@ -155,7 +157,7 @@ class Bench:
         self.over = 0
         folder.input_path = os.path.join(folder.path, "input")
         folder.output_path = os.path.join(folder.path, "output")
-        folder.configure(schema="SCHEMA measured; END_SCHEMA;\n")
+        folder.configure(schema=SCHEMA)
         write(folder.input_path, b"")
         self.table = Table({"family": "30", "way": "13", "count": "11,", "of": "14", "bytes": "11,", "seconds": "8.2f",
                             "run": "8.2f", "memory": "14,", "": "1"})
@@ -188,9 +190,10 @@ class Bench:
             write(self.folder.input_path, request("check_schema", text=text.decode()))
             self.row(name, "check_schema", count, counted, len(text), BATCH, of_check_schema(marks))
 
-    def file(self, name, counted, file_of):
-        count = fitting(lambda count: file_of(count)[0], min(self.asked.size, FILE_ROOM))
-        file, reply = file_of(count)
+    def file(self, name, counted, most, file_of):
+        count = fitting(lambda count: file_of(count)[0], min(self.asked.size, FILE_ROOM), most)
+        file, reply, schema = (*file_of(count), SCHEMA)[:3]
+        self.folder.configure(schema=schema)
         create = request("create_model", name="m", schema="MEASURED")
         write(self.folder.input_path, create, request("put", owner="ann", model="m", file=file))
         self.row(name, "put", count, counted, len(file), BATCH, b'{"ok":{}}\n' + reply + b"\n")
@@ -209,6 +212,7 @@ class Bench:
             for it in self.chosen(FILES):
                 self.file(*it)
         if self.goes("line"):
+            self.folder.configure(schema=SCHEMA)
             for it in self.chosen(LINES):
                 self.line(*it)
         print(f"{self.over} runs over a limit or otherwise than they must be")

@@ -17,10 +17,10 @@ import time
 
 from harness import TOP, Folder, Wrong, run_tests, shortened
 from messages import (
-    BAD_NAME, BAD_REQUEST, CONFIG, EXISTS, FILE_LIMIT, FIRST, FIRST_LINES, FIRST_NAMES, FIRST_REPLIES, HEAD, LINE_LIMIT,
-    NO_SUCH_ITEM, OK, T, TOO_LARGE, TOO_MANY, UNKNOWN_PARTNER, UNKNOWN_SCHEMA, WRONG_SCHEMA, Repository, check, create,
-    expect, expect_config_fault, expect_fault, expect_replies, fault, file_fault, file_of, grant, instance_fault,
-    instances, line, list_of, listed, loaded, named, names, put, refused, schemas,
+    BAD_NAME, BAD_REQUEST, CONFIG, EXISTS, FILE_LIMIT, FIRST, FIRST_EXPORT, FIRST_LINES, FIRST_NAMES, FIRST_REPLIES, HEAD,
+    LINE_LIMIT, NO_SUCH_INSTANCE, NO_SUCH_ITEM, OK, T, TOO_LARGE, TOO_MANY, UNKNOWN_PARTNER, UNKNOWN_SCHEMA, WRONG_SCHEMA, Repository, canonical,
+    check, create, expect, expect_config_fault, expect_fault, expect_replies, export, exported, fault, file_fault, file_of, get, got, grant,
+    instance_fault, instances, line, list_of, listed, loaded, named, names, put, refused, schemas,
 )
 
 sys.path.insert(0, os.path.join(TOP, "bench"))
@@ -29,15 +29,24 @@ from make_part21 import part21  # noqa: E402
 
 # ---- requests
 
-def test_three_lines_in_three_lines_out():
-    """A model is created, a file is put into it, and its names are listed."""
-    expect([*FIRST, (names("ann", "ann", "m"), FIRST_NAMES)])
+def test_four_lines_in_four_lines_out():
+    """A model is created, a file is put into it, its names are listed, and it is exported."""
+    expect([*FIRST, (names("ann", "ann", "m"), FIRST_NAMES), (export("ann", "ann", "m"), FIRST_EXPORT)])
 
 
 def test_empty_file():
     """A file without instances leaves a model without names."""
     expect([(create("ann", "m"), OK), (put("ann", "ann", "m", file_of("")), instances(0)),
-            (names("ann", "ann", "m"), named())])
+            (names("ann", "ann", "m"), named()), (export("ann", "ann", "m"), exported(canonical()))])
+
+
+def test_export_of_a_model_without_a_file():
+    """It has a header from its creation on, with the schema's name in upper case."""
+    text = ("ISO-10303-21;\nHEADER;\nFILE_DESCRIPTION((''),'2;1');\nFILE_NAME('','',(''),(''),'','','');\nFILE_SCHEMA(('T'));\n"
+            "ENDSEC;\nDATA;\nENDSEC;\nEND-ISO-10303-21;\n")
+    expect([(create("ann", "m", "t"), OK), (export("ann", "ann", "m"), exported(text)),
+            (put("ann", "ann", "m", "ISO"), file_fault("Syntax", 0)), (export("ann", "ann", "m"), exported(text)),
+            (put("ann", "ann", "m", text), instances(0)), (export("ann", "ann", "m"), exported(text))])
 
 
 def test_an_unseen_model_is_answered_as_an_absent_one():
@@ -45,6 +54,8 @@ def test_an_unseen_model_is_answered_as_an_absent_one():
     expect([*FIRST,
             (names("bob", "ann", "m"), NO_SUCH_ITEM),
             (names("bob", "ann", "z"), NO_SUCH_ITEM),
+            (export("bob", "ann", "m"), NO_SUCH_ITEM),
+            (export("bob", "ann", "z"), NO_SUCH_ITEM),
             (put("bob", "ann", "m", file_of("")), NO_SUCH_ITEM),
             (create("bob", "m"), OK),
             (names("bob", "bob", "m"), named()),
@@ -52,7 +63,51 @@ def test_an_unseen_model_is_answered_as_an_absent_one():
             (names("bob", "carl", "m"), UNKNOWN_PARTNER),
             (names("bob", "ann", "a b"), BAD_NAME),
             (names("bob", "carl", "a b"), BAD_NAME),
+            (export("bob", "carl", "m"), UNKNOWN_PARTNER),
+            (export("bob", "carl", "a b"), BAD_NAME),
             (put("bob", "carl", "a b", "ISO"), BAD_NAME)])
+
+
+def test_single_instances():
+    """Each instance is got by its name as its line of the export, and by no other name."""
+    lines = ["#0=P($,$);", "#3=P(2.,$);", "#7=(A(1)P_2('a')Q(#3));", "#999999999999999999=Q(#0);"]
+    x = "SCHEMA X; ENTITY p; x : OPTIONAL REAL; n : OPTIONAL STRING; END_ENTITY; ENTITY q; a : p; END_ENTITY; " \
+        "ENTITY a SUBTYPE OF (q); i : INTEGER; END_ENTITY; ENTITY p_2 SUBTYPE OF (q); s : STRING; END_ENTITY; END_SCHEMA;"
+    turns = [(create("ann", "m", "X"), OK), (get("ann", "ann", "m", 3), NO_SUCH_INSTANCE),
+             (put("ann", "ann", "m", file_of("".join(reversed(lines)), "X")), instances(4)),
+             (export("ann", "ann", "m"), exported(canonical(*lines, schema="X")))]
+    turns += [(get("ann", "ann", "m", int(it[1:].partition("=")[0])), got(it)) for it in lines]
+    turns += [(get("ann", "ann", "m", it), NO_SUCH_INSTANCE) for it in (1, 2, 4, 6, 8, 999_999_999_999_999_998)]
+    turns += [(put("ann", "ann", "m", file_of("#3=P(5.,$);", "X")), instances(1)),
+              (get("ann", "ann", "m", 3), got("#3=P(5.,$);")), (get("ann", "ann", "m", 7), NO_SUCH_INSTANCE)]
+    expect(turns, {**CONFIG, "schemas": ["x.exp"]}, x=x)
+
+
+def test_single_instances_of_many():
+    """Among 1,000 instances each that is there is got, and none that isn't."""
+    names_of = range(5, 3005, 3)
+    turns = [(create("ann", "m"), OK), (put("ann", "ann", "m", file_of("".join(f"#{k}=P({k}.,$);" for k in names_of))), instances(1000))]
+    expect(turns + [(get("ann", "ann", "m", k), got(f"#{k}=P({k}.,$);") if k in names_of else NO_SUCH_INSTANCE)
+                    for k in range(3010) if k % 10])
+
+
+def test_names_that_are_no_instances():
+    """The name of an instance is a whole number of at most 18 digits, written without point and exponent."""
+    asked = b'{"as":"ann","do":"get","owner":"ann","model":"m","instance":%s}'
+    good = [(b"1", got("#1=P(1.E-1,'a');")), (b"2", got("#2=Q(#1);")), (b" 2\t", got("#2=Q(#1);")), (b'7,"instance":1', got("#1=P(1.E-1,'a');")),
+            (b"0", NO_SUCH_INSTANCE), (b"999999999999999999", NO_SUCH_INSTANCE)]
+    bad = [b"1000000000000000000", b"18446744073709551615", b"18446744073709551616", b"-1", b"-0", b"1.0", b"1e0", b"10E-1", b"01", b"+1", b'"1"',
+           b"null", b"true", b"[1]", b"{}", b"", b"#1", b"1" * 40, b"1e999", b'1,"links":1', b'1,"instance":null']
+    expect([*FIRST, *[(asked % it, reply) for it, reply in good], *[(asked % it, BAD_REQUEST) for it in bad],
+            (line("ann", "get", owner="ann", model="m"), BAD_REQUEST), (line("ann", "get", instance=1, model="m"), BAD_REQUEST)])
+
+
+def test_refusals_of_single_instances():
+    """Names come before partners, these before what isn't seen, and this before an instance that isn't there."""
+    expect([*FIRST,
+            (get("ann", "carl", "a b", 3), BAD_NAME), (get("ann", "c d", "m", 3), BAD_NAME), (get("ann", "carl", "m", 3), UNKNOWN_PARTNER),
+            (get("ann", "ann", "z", 3), NO_SUCH_ITEM), (get("bob", "ann", "m", 1), NO_SUCH_ITEM), (get("bob", "ann", "m", 3), NO_SUCH_ITEM),
+            (get("ann", "ann", "m", 3), NO_SUCH_INSTANCE)])
 
 
 def test_files_that_are_cut_off():
@@ -62,7 +117,8 @@ def test_files_that_are_cut_off():
             (put("ann", "ann", "m", "ISO-10303-21;HEADER;FILE_DESC"), file_fault("Syntax", 20)),
             (put("ann", "ann", "m", "ISO-10303-21;HEADER;FILE_DESCRIPTION"), file_fault("Syntax", 36)),
             (put("ann", "ann", "m", ""), file_fault("Syntax", 0)),
-            (names("ann", "ann", "m"), FIRST_NAMES)])
+            (names("ann", "ann", "m"), FIRST_NAMES),
+            (export("ann", "ann", "m"), FIRST_EXPORT)])
 
 
 def test_models_of_one_owner():
@@ -76,7 +132,7 @@ def test_refusals_in_their_order():
     """Where several refusals hold, the first in the order of their codes is given."""
     large = file_of("") + " " * (FILE_LIMIT + 1)
     undefined, twice = "#2=Q(#9);", "#3=P(1.,$);#3=P(1.,$);"
-    many = "".join(f"#{k}=P();" for k in range(1, 200_001))
+    many = "".join(f"#{k}=P($,$);" for k in range(1, 200_001))
     before = [(create("ann", f"m{k}"), OK) for k in range(100)]
     at = len(HEAD.format("L") + "DATA;")
     expect(before + [
@@ -92,12 +148,13 @@ def test_refusals_in_their_order():
         (put("ann", "ann", "z", "ISO"), NO_SUCH_ITEM),
         (put("ann", "ann", "z", file_of(undefined, "L")), NO_SUCH_ITEM),
         (put("ann", "ann", "m0", file_of(undefined, "L")), WRONG_SCHEMA),
-        (put("ann", "ann", "m0", file_of(many + "#200001=P();", "L")), WRONG_SCHEMA),
+        (put("ann", "ann", "m0", file_of(many + "#200001=P($,$);", "L")), WRONG_SCHEMA),
         (put("ann", "ann", "m0", file_of("#1=P(=);", "L")), file_fault("Syntax", at + 5)),
         (put("ann", "ann", "m0", file_of(undefined + "#3=P(=);")), file_fault("Syntax", at + 14)),
         (put("ann", "ann", "m0", file_of(many + twice)), instance_fault("Twice", 3)),
-        (put("ann", "ann", "m0", file_of(many + "#200001=P(#200002);")), instance_fault("Undefined", 200_001)),
-        (put("ann", "ann", "m0", file_of(many + "#200001=P();")), TOO_MANY),
+        (put("ann", "ann", "m0", file_of(many + "#200001=Q(#200002);")), instance_fault("Undefined", 200_001)),
+        (put("ann", "ann", "m0", file_of(many + "#200001=P($);")), instance_fault("WrongCount", 200_001)),
+        (put("ann", "ann", "m0", file_of(many + "#200001=P($,$);")), TOO_MANY),
         (create("ann", "m100"), TOO_MANY),
         (names("ann", "ann", "m0"), named()),
         (put("ann", "ann", "m0", file_of(many)), instances(200_000)),
@@ -110,17 +167,29 @@ def test_instance_faults():
             (put("ann", "ann", "m", file_of("#2=Q(#9);#2=P(1.,$);")), instance_fault("Undefined", 2)),
             (put("ann", "ann", "m", file_of("#2=P(1.,$);#2=Q(#9);")), instance_fault("Twice", 2)),
             (put("ann", "ann", "m", file_of("#5=(P(1.)Q(#9)P(2.));")), instance_fault("Twice", 5)),
-            (put("ann", "ann", "m", file_of("#5=Q(((#5,#6)));")), instance_fault("Undefined", 5)),
+            (put("ann", "ann", "m", file_of("#5=Q(#6);")), instance_fault("Undefined", 5)),
+            (put("ann", "ann", "m", file_of("#5=Q(((#5,#6)));")), instance_fault("WrongKind", 5)),
+            (put("ann", "ann", "m", file_of("#5=P(1.,$);#4=P(1.,'a',$);#3=Q(#6);")), instance_fault("WrongCount", 4)),
             (put("ann", "ann", "m", file_of("#007=Q(#7);")), instances(1)),
             (names("ann", "ann", "m"), named((7, "Q")))])
 
 
 def test_both_mappings_and_any_case():
-    """An instance of several types is listed by all of them in byte order, in upper case."""
-    text = "#2=(q(#1) P_2(1.)\nA(.t.));#1=p(0.10,'a''b');"
+    """An instance of several leaves is listed by all of its types in byte order, in upper case; one of one leaf by that alone,
+    whichever way it is written."""
+    schema = """SCHEMA t;
+ENTITY p; x : REAL; n : STRING; END_ENTITY;
+ENTITY a; l : BOOLEAN; END_ENTITY;
+ENTITY p_2 SUBTYPE OF (a); x : REAL; END_ENTITY;
+ENTITY q SUBTYPE OF (a); of_p : p; END_ENTITY;
+END_SCHEMA;
+"""
+    text = "#2=(q(#1) P_2(1.)\nA(.t.));#1=p(0.10,'a''b');#4=(Q(#1)a(.F.));#3=(P(1,$));"
     expect([(create("ann", "m", "t"), OK),
-            (put("ann", "ann", "m", file_of(text, "t { 1 0 10303 }")), instances(2)),
-            (names("ann", "ann", "m"), named((1, "P"), (2, "A+P_2+Q")))])
+            (put("ann", "ann", "m", file_of(text, "t { 1 0 10303 }")), instances(4)),
+            (names("ann", "ann", "m"), named((1, "P"), (2, "A+P_2+Q"), (3, "P"), (4, "Q"))),
+            (export("ann", "ann", "m"), exported(canonical("#1=P(1.E-1,'a''b');", "#2=(A(.T.)P_2(1.)Q(#1));", "#3=P(1.,$);", "#4=Q(.F.,#1);")))],
+           t=schema)
 
 
 def test_schemas_of_a_file():
@@ -174,8 +243,8 @@ def test_requests_that_come_later():
     model = {"owner": "ann", "model": "m"}
     lines = [
         line("ann", "create_group", name="g", schema="T"), line("ann", "delete_group", name="g"),
-        line("ann", "put", **model, file=file_of(""), links=[]), line("ann", "export", **model),
-        line("ann", "get", **model, instance=1), line("ann", "add", **model, text="P(1.,$)"),
+        line("ann", "put", **model, file=file_of(""), links=[]), line("ann", "export", **model, links=True),
+        line("ann", "add", **model, text="P(1.,$)"),
         line("ann", "set", **model, instance=1, text="P(1.,$)"), line("ann", "drop", **model, instance=1),
         line("ann", "members", **group), line("ann", "extent", **group, type="P"), line("ann", "validate", **group),
         line("ann", "grant", kind="model", name="m", to="bob", level="group"),
@@ -243,6 +312,7 @@ def test_lines_of_bytes_that_are_no_request():
         b'{"as":"ann","do":["names"],"owner":"ann","model":"m"}',
         b'{"as":"ann","do":"Names","owner":"ann","model":"m"}',
         b'{"as":"ann","do":"export"}',
+        b'{"as":"ann","do":"export","owner":"ann","model":"m","links":false}',
         b'{"as":"ann","do":"names","owner":"ann"}',
         b'{"as":"ann","do":"names","owner":"ann","model":1}',
         b'{"as":"ann","do":"names","owner":"ann","model":"m","x":""}',
@@ -271,7 +341,7 @@ def test_each_refusal():
         (put("bob", "ann", "m", ""), refused(8, "NoRight")),
         (put("ann", "ann", "m", file_of("", "L")), refused(9, "WrongSchema")),
         (put("ann", "ann", "m", "     'x"), b'{"refused":{"at":5,"code":11,"kind":"Open","name":"FileFault"}}'),
-        (put("ann", "ann", "m", file_of("#1=P();#1=P();")),
+        (put("ann", "ann", "m", file_of("#1=P($,$);#1=P($,$);")),
          b'{"refused":{"code":12,"instance":1,"kind":"Twice","name":"InstanceFault"}}'),
         (names("ann", "ann", "m"), FIRST_NAMES),
         *models, (create("ann", "m99"), refused(16, "TooMany")),
@@ -394,14 +464,24 @@ def test_large_files():
             (put("ann", "ann", "m", "x" * FILE_LIMIT), file_fault("Syntax", 0))])
 
 
+def of_data(name):
+    """The text of a file in tests/data."""
+    with open(os.path.join(TOP, "tests/data", name), encoding="utf-8") as it:
+        return it.read()
+
+
 def test_files_as_exporters_write_them():
     """Blanks, lines broken inside strings and several types of one instance are read."""
     config = {**CONFIG, "schemas": ["ap214.exp"]}
-    with Repository(config, ap214="\n SCHEMA automotive_design;\nEND_SCHEMA;") as folder:
+    with Repository(config, ap214=of_data("automotive_design.exp")) as folder:
         create_line, put_line = create("ann", "m", "AUTOMOTIVE_DESIGN"), put("ann", "ann", "m", part21(3000))
         seen = folder.batch(create_line + b"\n" + put_line + b"\n")
         if seen != (0, OK + b"\n" + instances(3000) + b"\n", b""):
             raise Wrong(f"status {seen[0]}, {shortened(seen[1])!r}, {seen[2]!r}")
+
+
+# of the instances of the assembly that are written by several types those with one leaf, by which they are told
+ONE_LEAF = {"MEASURE_REPRESENTATION_ITEM+MEASURE_WITH_UNIT+REPRESENTATION_ITEM": "MEASURE_REPRESENTATION_ITEM"}
 
 
 def types_of(text):
@@ -409,15 +489,14 @@ def types_of(text):
     types = {}
     for name, one, several in re.findall(r"^#(\d+)=(?:(\w+)|\((\n[^;]*)\);)", text, re.MULTILINE):
         types[int(name)] = one or "+".join(sorted(re.findall(r"^(\w+)\(", several, re.MULTILINE)))
-    return sorted(types.items())
+    return sorted((name, ONE_LEAF.get(told, told)) for name, told in types.items())
 
 
 def test_an_assembly_as_a_modeller_exports_it():
     """Names from the last to the first, remarks in the header, escapes in strings: each instance is named with its types."""
-    with open(os.path.join(TOP, "tests/data/frame.step"), encoding="utf-8") as it:
-        text = it.read()
+    text = of_data("frame.step")
     types = types_of(text)
-    if (len(types), sum("+" in it for _, it in types)) != (1560, 19):
+    if (len(types), sum("+" in it for _, it in types)) != (1560, 15):
         raise Wrong(f"{len(types)} instances in tests/data/frame.step, {sum('+' in it for _, it in types)} of several types")
     cut = text.index("#5000=")
     expect([(create("ann", "m", "AUTOMOTIVE_DESIGN"), OK),
@@ -426,7 +505,7 @@ def test_an_assembly_as_a_modeller_exports_it():
             (put("ann", "ann", "m", text[:cut] + "5" + text[cut + 1:]), file_fault("Syntax", cut)),
             (put("ann", "ann", "m", text.replace("#5000=", "#5001=")), instance_fault("Undefined", first_that_names(text, 5000))),
             (names("ann", "ann", "m"), named(*types))],
-           {**CONFIG, "schemas": ["ap214.exp"]}, ap214="SCHEMA automotive_design; END_SCHEMA;")
+           {**CONFIG, "schemas": ["ap214.exp"]}, ap214=of_data("automotive_design.exp"))
 
 
 def first_that_names(text, name):

@@ -1,6 +1,7 @@
 #!/usr/bin/env python3
 """Puts exchange files (ISO 10303-21) into a model of the built program and compares all that it answers, byte for byte:
-the names and types of their instances, or the first fault with its byte.
+the names and types of their instances, or the first fault with its byte. What is said of values by their schema stands in
+bound_files.py.
 
     tests/exchange_files.py [PROGRAM]
 
@@ -12,6 +13,43 @@ import sys
 
 from harness import run_parts, unmarked
 from messages import CONFIG, OK, WRONG_SCHEMA, Repository, create, file_fault, file_of, instance_fault, instances, named, names, put
+
+# entities for values of each sort, and for instances that refer to others
+T = """SCHEMA t;
+TYPE number_value = NUMBER; END_TYPE;
+TYPE text = STRING; END_TYPE;
+TYPE bits = BINARY; END_TYPE;
+TYPE truth = LOGICAL; END_TYPE;
+TYPE word = ENUMERATION OF (iso, end_iso); END_TYPE;
+TYPE any = SELECT (number_value, text, bits, truth, word); END_TYPE;
+TYPE i = INTEGER; END_TYPE;
+TYPE w = ENUMERATION OF (b, c); END_TYPE;
+TYPE typed = SELECT (i, w); END_TYPE;
+TYPE m = INTEGER; END_TYPE;
+TYPE l = m; END_TYPE;
+TYPE truths = LIST [0:?] OF truth; END_TYPE;
+TYPE number_or_truths = SELECT (number_value, truths); END_TYPE;
+TYPE s = LIST [0:?] OF z; END_TYPE;
+TYPE n = s; END_TYPE;
+TYPE some = SELECT (s, z); END_TYPE;
+ENTITY p; END_ENTITY;
+ENTITY iso; END_ENTITY;
+ENTITY end_iso_10303_21; END_ENTITY;
+ENTITY q; a : p; END_ENTITY;
+ENTITY o; x : REAL; t : STRING; END_ENTITY;
+ENTITY r; x : REAL; t : STRING; f : BOOLEAN; b : BINARY; END_ENTITY;
+ENTITY v; all_of : LIST [0:?] OF any; END_ENTITY;
+ENTITY d; deep : DEEP typed; END_ENTITY;
+ENTITY j; x : REAL; END_ENTITY;
+ENTITY k SUBTYPE OF (j); u : OPTIONAL REAL; w : INTEGER; f : LOGICAL; b : BINARY; all_of : LIST [0:?] OF number_or_truths; t : l; e : s;
+DERIVE SELF\\j.x : REAL := 1.0; END_ENTITY;
+ENTITY z; of_z : LIST [0:?] OF some; END_ENTITY;
+ENTITY y; of_n : n; END_ENTITY;
+ENTITY a; END_ENTITY;
+ENTITY b SUBTYPE OF (a); END_ENTITY;
+ENTITY c SUBTYPE OF (a); END_ENTITY;
+END_SCHEMA;
+""".replace("DEEP ", "LIST [0:?] OF " * 16)
 
 START = "ISO-10303-21;HEADER;FILE_DESCRIPTION((''),'2;1');FILE_NAME('','',(''),(''),'','','');"
 SCHEMA = "FILE_SCHEMA(('T'));"
@@ -31,7 +69,7 @@ def looks(it, rows, schema="T", **files):
         content = content if marks or isinstance(told, bytes) else told
         lines += [put("ann", "ann", "m", plain.decode()), names("ann", "ann", "m")]
         wanted += [reply, named(*content)]
-    with Repository({**CONFIG, "schemas": ["t.exp", *(name + ".exp" for name in files)]}, **files) as folder:
+    with Repository({**CONFIG, "schemas": ["t.exp", *(name + ".exp" for name in files)]}, t=T, **files) as folder:
         status, output, errors = folder.batch(b"\n".join(lines))
     replies = output.split(b"\n")
     it.expect(f"{rows[0][0]} and {len(rows) - 1} more", (status, replies.pop(), errors, len(replies)), (0, b"", b"", len(wanted)))
@@ -43,14 +81,16 @@ def looks(it, rows, schema="T", **files):
 # ---- tokens
 
 # an instance, as each token with what stands before it
-INSTANCE = [("", "#10"), (" ", "="), (" ", "P"), ("", "("), ("", "-1.E-1"), ("", ","), ("/* x */", "'a''b'"), ("", ","), ("", ".T."),
+INSTANCE = [("", "#10"), (" ", "="), (" ", "R"), ("", "("), ("", "-1.E-1"), ("", ","), ("/* x */", "'a''b'"), ("", ","), ("", ".T."),
             ("", ","), ("", '"23B"'), ("", ")"), ("\\N\\", ";")]
 
 P = ((1, "P"),)
+V = ((1, "V"),)
 
 # what stands in the data section
 LINES = [
-    ("a keyword behind control characters", "#1=\x00_a\x1f();", ((1, "_A"),)),
+    ("a keyword behind control characters", "#1=\x00p\x1f();", P),
+    ("a keyword that no entity has", "#1=_a();", instance_fault("UnknownEntity", 1)),
     ("zeros in front of a name", "#0000000000000000000007=P();", ((7, "P"),)),
     ("comments and directives between tokens", "/**//***/\\F\\#1/*/*/=\\N\\P();", P),
     ("a keyword that begins as the file's mark", "#1=ISO();#2=end_iso_10303_21();", ((1, "ISO"), (2, "END_ISO_10303_21"))),
@@ -190,27 +230,27 @@ FRONTS = [
 
 
 def tokens(it):
-    rows = [("an instance of tokens of each sort", "".join(blank + token for blank, token in INSTANCE), ((10, "P"),))]
+    rows = [("an instance of tokens of each sort", "".join(blank + token for blank, token in INSTANCE), ((10, "R"),))]
     for place, (blank, token) in enumerate(INSTANCE):
         before = "".join(blank + token for blank, token in INSTANCE[:place])
         other = ";" if token == "=" else "="
         rows.append((f"{other} in place of {token}", f"{before}{blank}⟦Syntax⟧{other}", None))
-    rows += LINES + [(name, f"#1=P({value});", P) for name, value in VALUES + [(name, quoted(content)) for name, content in STRINGS]]
+    rows += LINES + [(name, f"#1=V(({value}));", V) for name, value in VALUES + [(name, quoted(content)) for name, content in STRINGS]]
     looks(it, [(name, file_of(text), told) for name, text, told in rows])
     looks(it, FRONTS)
 
 
 # ---- the grammar
 
-TWO = ((1, "P"), (2, "Q"))
+TWO = ((1, "O"), (2, "Q"))
 
 # what follows DATA
 SECTIONS = [
-    ("an internal mapping", ";#2=/* ; */Q(#1);#1=P(0.10,'a');", TWO),
-    ("an external mapping of one type, in a named section", "('n',('t'));#02=(q(#01));\\N\\#1=(P(0.10,'a'));", TWO),
-    ("values of each kind", ";#1=P($,*,-07,.t.,\"23B\",(1,(.T.)),L(M(2)),());", P),
+    ("an internal mapping", ";#2=/* ; */Q(#1);#1=O(0.10,'a');", TWO),
+    ("an external mapping of one type, in a named section", "('n',('t'));#02=(q(#01));\\N\\#1=(O(0.10,'a'));", TWO),
+    ("values of each kind", ";#1=K(*,$,-07,.t.,\"23B\",(1,(.T.)),L(M(2)),());", ((1, "K"),)),
     ("no instances", ";", ()),
-    ("lists and keywords 16 levels deep", ";#0=P(" + "(" * 16 + " A(1),A(.B.) " + ")" * 16 + ");", ((0, "P"),)),
+    ("lists and keywords 16 levels deep", ";#0=D(" + "(" * 16 + " I(1),W(.B.) " + ")" * 16 + ");", ((0, "D"),)),
     ("a value that is no token", ";#1=P(⟦Token⟧.5);", None),
     ("a string that isn't closed, at the end", ";#1=P(1.,⟦Open⟧'ab", None),
     ("a comment that isn't closed, at the end", ";#1=P(1. ⟦Open⟧/* x", None),
@@ -267,6 +307,9 @@ SCHEMAS = [
     ("t {1 0 10303}", ";", "T", True),
     ("T\r\nU{}", ";", "TU", True),
     (" T", ";", "T", False),
+    ("\\X\\54", ";", "T", True),
+    ("T\\X\\20U", "('',('\\X2\\0054007B\\X0\\'));", "T", True),
+    ("T\\X\\55", ";", "T", False),
     ("T", ";", "TU", False),
     ("TU", ";", "T", False),
     ("T", "('',('t '));", "T", True),
@@ -276,7 +319,7 @@ SCHEMAS = [
 
 
 def schemas(it):
-    others = {name: f"SCHEMA {name}; END_SCHEMA;" for name in ("tu", "u")}
+    others = {name: f"SCHEMA {name}; ENTITY p; END_ENTITY; END_SCHEMA;" for name in ("tu", "u")}
     for schema, section, model, is_of_it in SCHEMAS:
         file = whole(section + "#1=P();", f"FILE_SCHEMA(('{schema}'));")
         looks(it, [(f"{schema!r} and {section} for {model}", file, P if is_of_it else WRONG_SCHEMA)], model, **others)
@@ -285,15 +328,16 @@ def schemas(it):
 # ---- instances
 
 INSTANCES = [
-    ("a name that is defined later", "#2=P((S(#1)));#1=P($);", ((1, "P"), (2, "P"))),
-    ("a name that isn't defined, within a keyword", "#1=P((S(#3)));", instance_fault("Undefined", 1)),
-    ("a name that isn't defined, within keywords", "#2=P();#1=P(L(M(#3)));", instance_fault("Undefined", 1)),
-    ("the first of two instances of one name", "#1=P((S(#3)));#1=P((S(#3)));", instance_fault("Undefined", 1)),
-    ("the second of two instances of one name", "#1=P((S(#3)));#1=P((S(#3)));#3=(a()b());", instance_fault("Twice", 1)),
-    ("types in byte order", "#1=(b()A());", ((1, "A+B"),)),
+    ("a name that is defined later", "#2=Z((S((#1))));#1=Z($);", ((1, "Z"), (2, "Z"))),
+    ("a name that isn't defined, within a keyword", "#1=Z((S((#3))));", instance_fault("Undefined", 1)),
+    ("a name that isn't defined, within keywords", "#2=P();#1=Y(N(S((#3))));", instance_fault("Undefined", 1)),
+    ("the first of two instances of one name", "#1=Z((S((#3))));#1=Z((S((#3))));", instance_fault("Undefined", 1)),
+    ("the second of two instances of one name", "#1=Z((S((#3))));#1=Z((S((#3))));#3=(a()b());", instance_fault("Twice", 1)),
+    ("types in byte order", "#1=(c()b()A());", ((1, "A+B+C"),)),
+    ("one leaf of several types", "#1=(b()A());", ((1, "B"),)),
     ("one type twice", "#5=(a()A());", instance_fault("Twice", 5)),
     ("one type twice, in an instance behind others", "#1=P();#7=(a()b()A());#1=P();", instance_fault("Twice", 7)),
-    ("names in the order of numbers", "#10=P();#9=Q();#100=R();", ((9, "Q"), (10, "P"), (100, "R"))),
+    ("names in the order of numbers", "#10=P();#9=Q($);#100=A();", ((9, "Q"), (10, "P"), (100, "A"))),
 ]
 
 

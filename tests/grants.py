@@ -11,17 +11,19 @@ import sys
 
 from harness import Wrong, run_tests
 from messages import (
-    BAD_NAME, BAD_REQUEST, EXISTS, FIRST, FIRST_LINES, FIRST_NAMES, NO_RIGHT, NO_SUCH_ITEM, OK, TOO_MANY,
-    UNKNOWN_PARTNER, WRONG_SCHEMA, create, delete, expect, file_fault, file_of, grant, instances, line, list_of,
-    listed, named, names, put, replies_to, revoke,
+    BAD_NAME, BAD_REQUEST, EXISTS, FIRST, FIRST_EXPORT, FIRST_LINES, FIRST_NAMES, NO_RIGHT, NO_SUCH_INSTANCE, NO_SUCH_ITEM, OK, TOO_MANY,
+    UNKNOWN_PARTNER, WRONG_SCHEMA, canonical, create, delete, expect, export, exported, file_fault, file_of, get, got, grant,
+    instance_fault, instances, line, list_of, listed, named, names, put, replies_to, revoke,
 )
 
 
 def test_a_model_that_is_granted_to_read():
-    """It is listed, its names are read, and a put into it is refused."""
+    """It is listed, its names are read, it is exported, and a put into it is refused."""
     expect([*FIRST,
             (list_of("bob"), listed()),
+            (export("bob", "ann", "m"), NO_SUCH_ITEM),
             (grant("ann", "m", "bob", "read"), OK),
+            (export("bob", "ann", "m"), FIRST_EXPORT),
             (list_of("bob"), listed((b"read", b"m", b"ann"))),
             (list_of("ann"), listed((b"owner", b"m", b"ann"))),
             (names("bob", "ann", "m"), FIRST_NAMES),
@@ -29,13 +31,30 @@ def test_a_model_that_is_granted_to_read():
             (names("ann", "ann", "m"), FIRST_NAMES)])
 
 
+def test_single_instances_of_a_model_that_is_granted():
+    """They are got from Read on, until the grant is revoked."""
+    expect([*FIRST,
+            (get("bob", "ann", "m", 1), NO_SUCH_ITEM),
+            (grant("ann", "m", "bob", "read"), OK),
+            (get("bob", "ann", "m", 1), got("#1=P(1.E-1,'a');")),
+            (get("bob", "ann", "m", 3), NO_SUCH_INSTANCE),
+            (grant("ann", "m", "bob", "write"), OK),
+            (put("bob", "ann", "m", file_of("#3=P(2.,$);")), instances(1)),
+            (get("ann", "ann", "m", 3), got("#3=P(2.,$);")),
+            (get("bob", "ann", "m", 1), NO_SUCH_INSTANCE),
+            (revoke("ann", "m", "bob"), OK),
+            (get("bob", "ann", "m", 3), NO_SUCH_ITEM)])
+
+
 def test_a_model_that_is_granted_to_write():
     """A grant replaces the former level, and the owner reads what the other wrote."""
     expect([*FIRST,
             (grant("ann", "m", "bob", "read"), OK),
             (grant("ann", "m", "bob", "write"), OK),
+            (export("bob", "ann", "m"), FIRST_EXPORT),
             (put("bob", "ann", "m", file_of("")), instances(0)),
             (names("ann", "ann", "m"), named()),
+            (export("ann", "ann", "m"), exported(canonical())),
             (list_of("bob"), listed((b"write", b"m", b"ann"))),
             (grant("ann", "m", "bob", "read"), OK),
             (put("bob", "ann", "m", file_of("")), NO_RIGHT)])
@@ -48,9 +67,12 @@ def test_a_model_that_is_created_anew():
             (delete("bob", "m"), NO_SUCH_ITEM),
             (delete("ann", "m"), OK),
             (names("bob", "ann", "m"), NO_SUCH_ITEM),
+            (export("bob", "ann", "m"), NO_SUCH_ITEM),
             (create("ann", "m"), OK),
             (names("bob", "ann", "m"), NO_SUCH_ITEM),
-            (names("ann", "ann", "m"), named())])
+            (export("bob", "ann", "m"), NO_SUCH_ITEM),
+            (names("ann", "ann", "m"), named()),
+            (export("ann", "ann", "m"), exported(canonical()))])
 
 
 def test_a_grant_that_is_revoked():
@@ -60,6 +82,7 @@ def test_a_grant_that_is_revoked():
             (revoke("ann", "m", "bob"), OK),
             (names("bob", "ann", "m"), NO_SUCH_ITEM),
             (put("bob", "ann", "m", file_of("")), NO_SUCH_ITEM),
+            (export("bob", "ann", "m"), NO_SUCH_ITEM),
             (revoke("ann", "m", "bob"), OK),
             (grant("ann", "m", "ann", "read"), OK),
             (put("ann", "ann", "m", file_of("")), instances(0)),
@@ -94,9 +117,16 @@ def test_refusals_in_their_order():
             (grant("ann", "m", "bob", "read"), OK),
             (put("bob", "ann", "m", file_of("", schema="L")), NO_RIGHT),
             (put("bob", "ann", "m", "ISO-10303-2"), NO_RIGHT),
+            (put("bob", "ann", "m", file_of("#1=R();")), NO_RIGHT),
+            (export("bob", "ann", "a b"), BAD_NAME),
+            (export("bob", "carl", "m"), UNKNOWN_PARTNER),
+            (export("bob", "ann", "z"), NO_SUCH_ITEM),
             (grant("ann", "m", "bob", "write"), OK),
             (put("bob", "ann", "m", file_of("", schema="L")), WRONG_SCHEMA),
-            (put("bob", "ann", "m", "ISO-10303-2"), file_fault("Token", 0))])
+            (put("bob", "ann", "m", file_of("#1=R();", schema="L")), WRONG_SCHEMA),
+            (put("bob", "ann", "m", "ISO-10303-2"), file_fault("Token", 0)),
+            (put("bob", "ann", "m", file_of("#1=R();")), instance_fault("UnknownEntity", 1)),
+            (export("ann", "ann", "m"), FIRST_EXPORT)])
 
 
 def test_what_is_no_request():
@@ -127,13 +157,14 @@ def test_models_of_others_do_not_count():
 
 def test_two_inputs_that_look_the_same_to_bob():
     """What ann does with a model that bob doesn't see, and what she is refused, changes none of his replies."""
-    his = [list_of("bob"), names("bob", "ann", "m"), put("bob", "ann", "m", file_of("")), create("bob", "x"),
-           names("bob", "ann", "x"), put("bob", "bob", "x", file_of("#7=P(1.,$);")), list_of("bob"),
-           delete("bob", "x"), names("bob", "bob", "x")]
+    his = [list_of("bob"), names("bob", "ann", "m"), export("bob", "ann", "m"), put("bob", "ann", "m", file_of("")),
+           create("bob", "x"), names("bob", "ann", "x"), export("bob", "ann", "x"), put("bob", "bob", "x", file_of("#7=P(1.,$);")),
+           list_of("bob"), export("bob", "bob", "x"), delete("bob", "x"), names("bob", "bob", "x")]
     first = [*FIRST_LINES, grant("ann", "m", "bob", "read"), *his]
     hers = [create("ann", "x"), put("ann", "ann", "x", file_of("#1=P(2.,$);")), names("ann", "ann", "x"),
-            delete("ann", "x"), b"{", create("ann", "m"), put("ann", "bob", "x", file_of("")),
-            names("ann", "bob", "x"), list_of("ann"), create("ann", "a b")]
+            export("ann", "ann", "x"), put("ann", "ann", "x", file_of("#1=P();")), delete("ann", "x"), b"{", create("ann", "m"),
+            put("ann", "bob", "x", file_of("")), names("ann", "bob", "x"), export("ann", "bob", "x"), list_of("ann"),
+            create("ann", "a b")]
     second = [*FIRST_LINES, grant("ann", "m", "bob", "read")]
     for place, it in enumerate(his):
         second += [hers[place % len(hers)], it]
@@ -142,8 +173,8 @@ def test_two_inputs_that_look_the_same_to_bob():
     beside = replies_to("bob", second)
     if alone != beside or len(alone) != len(his):
         raise Wrong(f"{alone!r} and {beside!r}")
-    wanted = [listed((b"read", b"m", b"ann")), FIRST_NAMES, NO_RIGHT, OK, NO_SUCH_ITEM, instances(1),
-              listed((b"read", b"m", b"ann"), (b"owner", b"x", b"bob")), OK, NO_SUCH_ITEM]
+    wanted = [listed((b"read", b"m", b"ann")), FIRST_NAMES, FIRST_EXPORT, NO_RIGHT, OK, NO_SUCH_ITEM, NO_SUCH_ITEM, instances(1),
+              listed((b"read", b"m", b"ann"), (b"owner", b"x", b"bob")), exported(canonical("#7=P(1.,$);")), OK, NO_SUCH_ITEM]
     if alone != wanted:
         raise Wrong(f"{alone!r} in place of {wanted!r}")
 

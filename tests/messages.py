@@ -24,14 +24,20 @@ CONFIG = {"partners": [{"name": "ann", "token": "ta"}, {"name": "bob", "token": 
 
 # ---- files
 
-HEAD = ("ISO-10303-21;HEADER;FILE_DESCRIPTION((''),'2;1');FILE_NAME('','',(''),(''),'','','');"
-        "FILE_SCHEMA(('{}'));ENDSEC;")
-FOOT = "ENDSEC;END-ISO-10303-21;"
+HEAD_LINES = ["ISO-10303-21;", "HEADER;", "FILE_DESCRIPTION((''),'2;1');", "FILE_NAME('','',(''),(''),'','','');",
+              "FILE_SCHEMA(('{}'));", "ENDSEC;"]
+FOOT_LINES = ["ENDSEC;", "END-ISO-10303-21;"]
+HEAD, FOOT = "".join(HEAD_LINES), "".join(FOOT_LINES)
 
 
 def file_of(instances, schema="T", section="DATA;"):
     """A Part 21 file without a line feed."""
     return HEAD.format(schema) + section + instances + FOOT
+
+
+def canonical(*lines, schema="T"):
+    """The canonical text of a model with these lines and the header of `file_of`, which is that of a model without a file too."""
+    return "".join(it + "\n" for it in [*HEAD_LINES, "DATA;", *lines, *FOOT_LINES]).replace("'{}'", f"'{schema}'")
 
 
 # ---- requests
@@ -53,8 +59,16 @@ def put(who, owner, model, file):
     return line(who, "put", owner=owner, model=model, file=file)
 
 
+def export(who, owner, model):
+    return line(who, "export", owner=owner, model=model)
+
+
 def names(who, owner, model):
     return line(who, "names", owner=owner, model=model)
+
+
+def get(who, owner, model, instance):
+    return line(who, "get", owner=owner, model=model, instance=instance)
 
 
 def list_of(who):
@@ -86,10 +100,20 @@ def instances(count):
     return b'{"ok":{"instances":%d}}' % count
 
 
+def exported(text):
+    """The reply to `export` of a model with this canonical text."""
+    return b'{"ok":{"file":%s}}' % json.dumps(text, ensure_ascii=False).encode()
+
+
 def named(*rows):
     """The reply to `names` for instances of these names and types."""
     shown = ",".join('{"name":%d,"type":"%s"}' % row for row in rows)
     return ('{"ok":{"names":[' + shown + "]}}").encode()
+
+
+def got(text):
+    """The reply to `get` of an instance with this line."""
+    return b'{"ok":{"text":%s}}' % json.dumps(text, ensure_ascii=False).encode()
 
 
 def listed(*rows):
@@ -135,6 +159,7 @@ EXISTS = refused(6, "Exists")
 NO_SUCH_ITEM = refused(7, "NoSuchItem")
 NO_RIGHT = refused(8, "NoRight")
 WRONG_SCHEMA = refused(9, "WrongSchema")
+NO_SUCH_INSTANCE = refused(14, "NoSuchInstance")
 TOO_MANY = refused(16, "TooMany")
 
 # ---- turns
@@ -143,6 +168,7 @@ FIRST_LINES = [create("ann", "m"), put("ann", "ann", "m", file_of("#2=Q(#1);#1=P
 FIRST_REPLIES = [OK, instances(2)]
 FIRST = [*zip(FIRST_LINES, FIRST_REPLIES)]
 FIRST_NAMES = named((1, "P"), (2, "Q"))
+FIRST_EXPORT = exported(canonical("#1=P(1.E-1,'a');", "#2=Q(#1);"))
 
 
 class Repository(Folder):

@@ -1,8 +1,8 @@
 """The plain repository in Python: what each line is answered, byte for byte, and what it changes.
 
 It is written from README.md and docs/DECISIONS.md, and never from the program. A model is a row of a list, and every
-question is asked of all rows. What an exchange file and a schema's text say isn't found out here: who makes the texts
-knows it.
+question is asked of all rows. What an exchange file and a schema's text spell isn't found out here: who makes the texts
+knows it. What a file says by its schema is found in plain_binding.py.
 
 A request is a method of Repository that is marked by `request`. Its name is the request's `do`, and its parameters behind
 the partner who asks are the request's keys, in any order. It answers the content of the reply and the change, which is
@@ -15,6 +15,9 @@ import re
 from dataclasses import dataclass, field
 from typing import NamedTuple
 
+import plain_binding
+from plain_binding import DEFAULT_HEADER, Header, InstanceFault
+
 MIB = 1024 * 1024
 TEXT_LIMIT = 8 * MIB
 LINE_LIMIT = 16 * MIB
@@ -24,27 +27,23 @@ NESTING = 127
 
 CODES = {
     "BadRequest": 1, "TooLarge": 2, "BadName": 3, "UnknownPartner": 4, "UnknownSchema": 5, "Exists": 6, "NoSuchItem": 7,
-    "NoRight": 8, "WrongSchema": 9, "FileFault": 11, "InstanceFault": 12, "TooMany": 16, "NoMemory": 18,
+    "NoRight": 8, "WrongSchema": 9, "FileFault": 11, "InstanceFault": 12, "NoSuchInstance": 14, "TooMany": 16, "NoMemory": 18,
 }
 
-# keys whose values are words; those of the others are any strings
+# keys whose values are words, and keys whose values are whole numbers of at most 18 digits; those of the others are any strings
 WORDS = {"kind": ["model"], "level": ["read", "write"]}
+NUMBERS = {"instance"}
+GREATEST_NUMBER = 999_999_999_999_999_999
 
 
 # ---- what texts say
 
-class Instance(NamedTuple):
-    """An instance of a file: its name, its keywords as they are spelled, and the names that it refers to."""
-
-    name: int
-    keywords: list
-    references: list
-
-
 class File(NamedTuple):
-    """A file that reads: what FILE_SCHEMA and then, where it says so, the data section name, and the instances."""
+    """A file that reads: what FILE_SCHEMA and then, where it says so, the data section name, the header's values, and the
+    instances as plain_binding.Instance."""
 
     schemas: list
+    header: Header
     instances: list
 
 
@@ -63,19 +62,6 @@ def upper(text):
 def schema_named(text):
     """What is compared of a schema's name in a file: up to the first blank or brace, without the ends of lines."""
     return upper(re.match(r"[^\0- {]*", re.sub("[\n\r]", "", text))[0])
-
-
-def instance_fault(instances):
-    """The first faulty instance in the file's order and the kind of its fault, or None."""
-    defined = {it.name for it in instances}
-    before = set()
-    for name, keywords, references in instances:
-        if name in before or len({upper(it) for it in keywords}) < len(keywords):
-            return name, "Twice"
-        if not defined.issuperset(references):
-            return name, "Undefined"
-        before.add(name)
-    return None
 
 
 # ---- requests
@@ -111,6 +97,12 @@ def number(text):
     return value
 
 
+def integer(text):
+    """A JSON number without point and exponent: a whole one up to 64 bits, else a float, as minus zero is one."""
+    value = number(text)
+    return int(text) if text != "-0" and -2**63 <= int(text) < 2**64 else value
+
+
 def expect_characters(value):
     """Half of a surrogate pair is no character. Objects have been looked at before what holds them."""
     if isinstance(value, str):
@@ -133,11 +125,13 @@ def json_of(line):
     text = line.decode()
     if nesting(text) > NESTING:
         raise ValueError("it nests too deep")
-    return json.loads(text, object_pairs_hook=members, parse_int=number, parse_float=number, parse_constant=number)
+    return json.loads(text, object_pairs_hook=members, parse_int=integer, parse_float=number, parse_constant=number)
 
 
 def fits(key, value):
     """Whether a key may have a value."""
+    if key in NUMBERS:
+        return type(value) is int and 0 <= value <= GREATEST_NUMBER
     return value in WORDS[key] if key in WORDS else isinstance(value, str)
 
 
@@ -170,22 +164,23 @@ def request_of(line):
 
 @dataclass
 class Model:
-    """A model. Its grants are levels by partner, its instances are names with types, in order of name."""
+    """A model. Its grants are levels by partner, its instances are those of plain_binding.bound, in order of name."""
 
     owner: str
     name: str
     schema: str
     grants: dict = field(default_factory=dict)
+    header: Header = DEFAULT_HEADER
     instances: list = field(default_factory=list)
 
 
 class Repository:
-    """Partners, schemas and models. `file_of` tells the File or the FileFault of a text that is put, and `told_of` the
-    content of the reply to `check_schema`."""
+    """Partners, schemas as plain_binding.Schema, and models. `file_of` tells the File or the FileFault of a text that is
+    put, and `told_of` the content of the reply to `check_schema`."""
 
     def __init__(self, partners, schemas, file_of, told_of):
         self.partners = list(partners)
-        self.schema_names = sorted(upper(it) for it in schemas)
+        self.schemas_by_name = {upper(it.name): it for it in schemas}
         self.models = []
         self.file_of = file_of
         self.told_of = told_of
@@ -233,7 +228,7 @@ class Repository:
     @request
     def create_model(self, who, name, schema):
         own = [model for model in self.models if model.owner == who]
-        if upper(schema) not in self.schema_names:
+        if upper(schema) not in self.schemas_by_name:
             raise Refused("UnknownSchema")
         if any(model.name == name for model in own):
             raise Refused("Exists")
@@ -254,22 +249,36 @@ class Repository:
             raise Refused("FileFault", at=found.at, kind=found.kind)
         if any(schema_named(it) != target.schema for it in found.schemas):
             raise Refused("WrongSchema")
-        fault = instance_fault(found.instances)
-        if fault:
-            raise Refused("InstanceFault", instance=fault[0], kind=fault[1])
-        if len(found.instances) > INSTANCES_OF_ONE_MODEL:
+        try:
+            instances = plain_binding.bound(self.schemas_by_name[target.schema], found.instances)
+        except InstanceFault as fault:
+            raise Refused("InstanceFault", instance=fault.name, kind=fault.kind) from None
+        if len(instances) > INSTANCES_OF_ONE_MODEL:
             raise Refused("TooMany")
 
         def fill():
-            rows = [(it.name, "+".join(sorted(upper(keyword) for keyword in it.keywords))) for it in found.instances]
-            target.instances = sorted(rows)
+            target.header, target.instances = found.header, instances
 
-        return {"instances": len(found.instances)}, fill
+        return {"instances": len(instances)}, fill
+
+    @request
+    def export(self, who, owner, model):
+        found = self.seen(who, owner, model, ["owner", "write", "read"])
+        return {"file": plain_binding.canonical_text(self.schemas_by_name[found.schema], found.header, found.instances)}, None
 
     @request
     def names(self, who, owner, model):
         found = self.seen(who, owner, model, ["owner", "write", "read"])
-        return {"names": [{"name": name, "type": keyword} for name, keyword in found.instances]}, None
+        schema = self.schemas_by_name[found.schema]
+        return {"names": [{"name": it.name, "type": plain_binding.type_text(schema, it.types)} for it in found.instances]}, None
+
+    @request
+    def get(self, who, owner, model, instance):
+        found = self.seen(who, owner, model, ["owner", "write", "read"])
+        for it in found.instances:
+            if it.name == instance:
+                return {"text": plain_binding.instance_text(self.schemas_by_name[found.schema], it)}, None
+        raise Refused("NoSuchInstance")
 
     @request
     def list(self, who):
@@ -289,7 +298,7 @@ class Repository:
 
     @request
     def schemas(self, who):
-        return {"schemas": self.schema_names}, None
+        return {"schemas": sorted(self.schemas_by_name)}, None
 
     @request
     def check_schema(self, who, text):

@@ -21,19 +21,23 @@ import sys
 
 from harness import end, shortened, take_program
 from messages import Repository as RepositoryFolder
-from plain_model import CODES, LINE_LIMIT, REQUESTS, TEXT_LIMIT, FileFault, Repository, request_of
-from random_files import exchange_file, long_file, schema_text
+from plain_binding import Entity, Schema, express
+from plain_model import CODES, LINE_LIMIT, REQUESTS, TEXT_LIMIT, File, FileFault, Repository, request_of
+from random_files import POOL, T, exchange_file, long_file, schema_text
 
 LABEL = "random lines"
 PARTNERS = ["ann", "bob", "cyd"]
 NO_PARTNERS = ["carl", "ANN", "annn", "_"]
-SCHEMAS = ["T", "L", "S"]
+SCHEMAS = [T, Schema("l", {}, {"e": Entity()}), Schema("s", {}, {})]
 CONFIG = {"partners": [{"name": name, "token": name} for name in PARTNERS], "schemas": ["t.exp", "l.exp", "s.exp"]}
 
 NAMES = ["m"] * 16 + ["n"] * 5 + ["k", "M", "A-z.0_9", "x" * 64]
 NO_NAMES = ["", "a b", "y" * 65, "é", "a/b", "m\n", "\0", " m"]
 # more models than one owner may have
 CROWD = [f"c{place}" for place in range(103)]
+
+# names of instances, whole numbers that are too great, and numbers that aren't whole
+NUMBERS = POOL + [12, 102, 10**18, 2**63, 2**64 - 1, 2**64, 10**308, -1, -2**63, -2**64, 1.0, -0.0, 0.5, 1e300]
 
 NAMED_SCHEMAS = ["T"] * 30 + ["t", "T {1 0 10303}", "t{", "T\r\n", "\nT\t", "L", "l x", "S", "ſ", "", " T", "TT"]
 
@@ -42,7 +46,8 @@ ENOUGH = 2000
 DUE = {
     *REQUESTS, *(name for name in CODES if name != "NoMemory"),
     *(f"FileFault {kind}" for kind in ("Token", "Open", "Number", "Syntax", "Sections", "Deep")),
-    *(f"InstanceFault {kind}" for kind in ("Twice", "Undefined")),
+    *(f"InstanceFault {kind}" for kind in ("Twice", "UnknownEntity", "IllegalCombination", "WrongCount", "NotDerived", "WrongKind",
+                                           "Undefined")),
 }
 
 
@@ -68,7 +73,7 @@ class Maker:
         return self.choice(NO_PARTNERS, NO_NAMES) if self.happens(0.04) else self.choice(PARTNERS)
 
     def owner(self, who):
-        return who if self.happens(0.4) else self.partner()
+        return who if self.happens(0.6) else self.partner()
 
     def text_of(self, text, said):
         self.texts[text] = said
@@ -95,8 +100,18 @@ def put(it, who):
     return {"owner": it.owner(who), "model": it.name(), "file": file}
 
 
+def export(it, who):
+    return {"owner": it.owner(who), "model": it.name()}
+
+
 def names(it, who):
     return {"owner": it.owner(who), "model": it.name()}
+
+
+def get(it, who):
+    names_of = [one.name for said in [*it.files.values()][-8:] if isinstance(said, File) for one in said.instances]
+    instance = it.choice(names_of or POOL) if it.happens(0.8) else it.choice(NUMBERS)
+    return {"owner": it.owner(who), "model": it.name(), "instance": instance}
 
 
 def list_models(_it, _who):
@@ -121,7 +136,8 @@ def check_schema(it, _):
 
 # what makes the keys of each request of a partner's, and how often it is made
 MAKERS = {
-    "create_model": (create_model, 12), "delete_model": (delete_model, 2), "put": (put, 30), "names": (names, 20),
+    "create_model": (create_model, 12), "delete_model": (delete_model, 2), "put": (put, 40), "export": (export, 15), "names": (names, 12),
+    "get": (get, 12),
     "list": (list_models, 8), "grant": (grant, 14), "revoke": (revoke, 4), "schemas": (schemas, 2),
     "check_schema": (check_schema, 5),
 }
@@ -139,13 +155,13 @@ def request(it, *sorts):
 # ---- lines
 
 # what may stand in place of a value that a later equal key replaces, and what is no JSON there
-REPLACED = ["5", "-0.0", "1e308", "null", "true", '"m"', "{}", '{"as":[{"as":1}]}', "[" * 126 + "]" * 126, "1" * 309]
+REPLACED = ["5", "-0", "-0.0", "1e0", "1e308", "null", "true", '"m"', "{}", '{"as":[{"as":1}]}', "[" * 126 + "]" * 126, "1" * 309]
 NO_JSON = ["1e999", "01", "1.", "-", "NaN", "-Infinity", "1" * 310, '"\\ud800"', '["\\udc00x"]', '{"\\ud800":1}', '"\\x"', '"\t"', "'m'",
            "[1,]", "[" * 127 + "]" * 127, "tru", "", '"', "\x7f"]
 
 # words that a request doesn't have, also such as may come
 NO_WORDS = {
-    "do": ["Names", "names ", "name", "", "create_group", "export", "validate", "include", "add"],
+    "do": ["Names", "names ", "name", "", "create_group", "Get", "set", "validate", "include", "add"],
     "kind": ["group", "group", "Model", ""],
     "level": ["group", "group", "group", "owner", "Read", ""],
 }
@@ -319,7 +335,7 @@ def short_line(line):
 def differences(seed, turns):
     """Runs the program on the lines, and tells of the first difference. Answers how many replies are right before it, and
     whether there is one."""
-    with RepositoryFolder(CONFIG, s="SCHEMA s; END_SCHEMA;") as folder:
+    with RepositoryFolder(CONFIG, **{it.name.lower(): express(it) for it in SCHEMAS}) as folder:
         status, output, errors = folder.batch(b"\n".join(line for line, _ in turns) + b"\n")
     replies = output.split(b"\n")
     left = replies.pop()

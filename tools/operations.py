@@ -68,9 +68,8 @@ def mir_file(crate):
     return os.path.join(built_folder(crate), f"{crate}.rlib/toolchain/mir.json")
 
 
-def newer_source(crate, crates):
-    """A source file that has changed since the library was built, in the crate or below it, or None."""
-    built = os.stat(mir_file(crate)).st_mtime
+def newer_source(crate, crates, built):
+    """A source file that has changed since then, in the crate or below it, or None."""
     for it in sorted(with_all_below(crate, crates)):
         for file in sources(it):
             if os.stat(file).st_ctime > built:
@@ -83,7 +82,8 @@ def operations_of(crate, crates):
     file = mir_file(crate)
     short = os.path.relpath(file, TOP)
     try:
-        newer = newer_source(crate, crates)
+        # (a library that rt takes over from an earlier run is a new link to an old file: its last change is when it came)
+        newer = newer_source(crate, crates, os.stat(file).st_ctime)
         with open(file, encoding="utf-8") as it:
             found = [(name, len(function["body"])) for name, function in json.load(it)]
     except FileNotFoundError:
@@ -99,7 +99,8 @@ def clear_outdated():
     """Removes built libraries that are older than their source, which any run would build anew."""
     crates = crates_listed()
     for crate in filter(is_library, crates):
-        if os.path.exists(mir_file(crate)) and newer_source(crate, crates):
+        file = mir_file(crate)
+        if os.path.exists(file) and newer_source(crate, crates, os.stat(file).st_mtime):
             shutil.rmtree(built_folder(crate))
 
 

@@ -3,7 +3,6 @@
 mod attributes;
 mod decimals;
 mod devices;
-mod files;
 mod legal;
 mod strings;
 mod values;

@@ -6,6 +6,9 @@ use rp_repo::{DeviceFault, Repository, RunFault, Sink, Source, Text, run_lines};
 use std::alloc::Global;
 use std::test::*;
 
+const SCHEMA: &[u8] =
+    b"SCHEMA T; ENTITY P; width : REAL; label : STRING; END_ENTITY; ENTITY Q; part : P; END_ENTITY; END_SCHEMA;";
+
 const INPUT: &[u8] =
     b"{\"as\":\"ann\",\"do\":\"create_model\",\"name\":\"m\",\"schema\":\"T\"}\n{\"as\":\"ann\",\"do\":\"put\",\"model\":\"m\",\"owner\":\"ann\",\"file\":\"ISO-10303-21;HEADER;FILE_DESCRIPTION((''),'2;1');FILE_NAME('','',(''),(''),'','','');FILE_SCHEMA(('T'));ENDSEC;DATA;#2=Q(#1);#1=P(0.10,'a');ENDSEC;END-ISO-10303-21;\"}\n\n{\"as\":\"ann\",\"do\":\"names\",\"model\":\"m\",\"owner\":\"ann\"}";
 
@@ -66,9 +69,7 @@ impl Sink for Taker {
 }
 
 fn repository(alloc: Global) -> Result<Repository, Fail> {
-    let schema = compile_schema(alloc, b"SCHEMA T; END_SCHEMA;")
-        .ok()
-        .ok_or("a schema")?;
+    let schema = compile_schema(alloc, SCHEMA).ok().ok_or("a schema")?;
     let schemas = vec![in alloc; schema]?;
     let partners = vec![in alloc;
         Text::from_str(alloc, "ann")?,
