@@ -5,6 +5,7 @@ ghost use Rattle.text_forms.specs.Gives.{Reads, Gives};
 ghost use Rattle.p21_read.specs.Single as spec;
 
 use crate::grammar::{Read, mapping};
+use crate::source::Source;
 use p21_text::Tokens;
 use p21_tree::{FileFault, Mapping};
 use std::alloc::Global;
@@ -12,11 +13,11 @@ use text_forms::Failure;
 
 /// A mapping, and nothing behind it.
 #[tactic(auto, unfolding(crate::specs::Single::single))]
-fn single<'t>(alloc: Global, tokens: &mut Tokens<'t>) -> Read<Mapping<'t>>
-    ensures { Reads (spec.single tokens.old) result tokens.new }
+fn single<'t>(alloc: Global, source: &mut Source<'t>) -> Read<Mapping<'t>>
+    ensures { Reads (spec.single source.old) result source.new }
 {
-    let found = mapping(alloc, tokens)?;
-    tokens.finish()?;
+    let found = mapping(alloc, source)?;
+    source.tokens.finish()?;
     Ok(found)
 }
 
@@ -31,6 +32,6 @@ fn single<'t>(alloc: Global, tokens: &mut Tokens<'t>) -> Read<Mapping<'t>>
 pub fn read_instance(alloc: Global, text: &[u8]) -> Result<Mapping<'_>, Failure<FileFault>>
     ensures { Gives (λ mapping. mapping) result (spec.mapping_of text.now) }
 {
-    let mut tokens = Tokens::new(text);
-    single(alloc, &mut tokens)
+    let mut source = Source::new(alloc, Tokens::new(text));
+    single(alloc, &mut source)
 }
