@@ -3,9 +3,10 @@ use Rattle.std.specs.Prelude.{◌≡◌, ℕ, zero, List, [], ◌∷◌, Some, I
 use Rattle.ex_types.specs.Checked.{Checked}
 use Rattle.p21_bind.specs.declared.plan.Leaf.{Leaf}
 use Rattle.p21_bind.specs.declared.plan.Plan.{Plan}
+use Rattle.p21_bind.specs.declared.plans.Combination.{Combination}
 use Rattle.p21_bind.specs.declared.plans.Keyword.{Keyword}
 use Rattle.rp_content.specs.declared.instance.Types.TheVariants as types
-use Rattle.p21_bind.specs.Plans.{entity_named, internal}
+use Rattle.p21_bind.specs.Plans.{entity_named, internal, external}
 
 -- what an instance of a leaf has values of
 abbrev pub leaf_plan : Leaf → Plan
@@ -19,3 +20,7 @@ module _ (schema : Checked) where
   -- each is what an instance of its entity has values of
   abbrev pub AreLeaves : List Leaf → Type 0
   AreLeaves leaves = (k : ℕ) → IfSome (slice_get leaves k) (λ x. internal schema x.entity ≡ Some (leaf_plan x))
+
+  -- each is what an instance of its entities has values of, whose parts stand in their order
+  abbrev pub AreCombinations : List Combination → Type 0
+  AreCombinations combinations = (k : ℕ) → IfSome (slice_get combinations k) (λ x. external schema x.entities ≡ Some x.plan)

@@ -18,3 +18,20 @@ pub fn are_alike(mut bytes: &[u8], mut others: &[u8]) -> bool
     }
     others.is_empty()
 }
+
+/// Whether the numbers are the same.
+pub fn are_same(mut numbers: &[usize], mut others: &[usize]) -> bool
+    ensures { IsTrue result → numbers.entry.now ≡ others.entry.now }
+{
+    'numbers: while let [number, more @ ..] = numbers {
+        let [other, more_others @ ..] = others else {
+            return false;
+        };
+        if *number != *other {
+            return false;
+        }
+        numbers = more;
+        others = more_others;
+    }
+    others.is_empty()
+}

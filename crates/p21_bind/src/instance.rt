@@ -172,25 +172,42 @@ fn made(
     })
 }
 
-/// The instance of these parts, where there is a plan for its entities.
+/// The instance of these parts, by the plan for their entities.
 fn by_plan(
     alloc: Global,
     reader: &Reader<'_>,
     names: &Names,
     name: u64,
     parts: &[Record<'_>],
-    plan: &Option<Plan<'_>>,
+    plan: &Plan<'_>,
 ) -> Reading<Instance>
-    ensures { Gives (λ x. x) result (spec.by_plan reader.now (is_among names.now) name parts.now plan.now) }
+    ensures { Gives (λ x. x) result (spec.by_plan reader.now (is_among names.now) name parts.now (Some plan.now)) }
 {
-    let Some(plan) = plan else {
-        return Err(Failure::Fault(InstanceFaultKind::IllegalCombination));
-    };
     if !same_counts(plan.slots.as_slice(), parts) {
         return Err(Failure::Fault(InstanceFaultKind::WrongCount));
     }
     let lists = all_values(alloc, reader, names, plan.slots.as_slice(), parts)?;
     Ok(made(alloc, name, plan, lists.as_slice())?)
+}
+
+/// The instance of these parts, where there can be one of their entities. Its plan is kept.
+fn by_new_plan(
+    alloc: Global,
+    plans: &mut Plans<'_>,
+    names: &Names,
+    name: u64,
+    parts: &[Record<'_>],
+    entities: Vec<usize>,
+) -> Reading<Instance>
+    ensures plans { plans.new ≡ plans.old }
+    ensures made { Gives (λ x. x) result (spec.by_plan plans.old (is_among names.now) name parts.now (plans_spec.external plans.old entities.items)) }
+{
+    let Some(plan) = external(alloc, plans.reader(), &entities)? else {
+        return Err(Failure::Fault(InstanceFaultKind::IllegalCombination));
+    };
+    let instance = by_plan(alloc, plans.reader(), names, name, parts, &plan)?;
+    plans.keep_combination(entities, plan)?;
+    Ok(instance)
 }
 
 /// The instance of this part, which is of a leaf.
@@ -269,8 +286,10 @@ fn by_entities(
     let Some(entities) = entities_of(alloc, plans, parts)? else {
         return Err(Failure::Fault(InstanceFaultKind::UnknownEntity));
     };
-    let plan = external(alloc, plans.reader(), &entities)?;
-    by_plan(alloc, plans.reader(), names, name, parts, &plan)
+    match plans.combination(&entities) {
+        Some(plan) => by_plan(alloc, plans.reader(), names, name, parts, plan),
+        None => by_new_plan(alloc, plans, names, name, parts, entities),
+    }
 }
 
 fn by_mapping(

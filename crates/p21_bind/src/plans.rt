@@ -3,13 +3,13 @@
 ghost use Rattle.std.specs.Prelude.{◌≡◌, Some, IfOk, IfSome, IsTrue, OnOk};
 ghost use Rattle.p21_bind.specs.Plans as spec;
 
-use crate::alike::are_alike;
+use crate::alike::{are_alike, are_same};
 use crate::hints::Hints;
-use crate::plan::Leaf;
+use crate::plan::{Leaf, Plan};
 use crate::reader::Reader;
 use ex_subtypes::Compiled;
 use p21_tree::Keyword as Spelled;
-use plain_data::Text;
+use plain_data::{Rows, Text};
 use std::alloc::{AllocError, Global};
 use std::marker::Model;
 
@@ -21,6 +21,16 @@ const KEYWORDS: usize = 4096;
 pub struct Keyword {
     pub text: Text,
     pub entity: usize,
+}
+
+/// How many plans of external mappings are kept at most.
+const COMBINATIONS: usize = 1024;
+
+/// Entities in the order of the parts of an external mapping, with what an instance of them has values of.
+#[derive(Drop)]
+pub struct Combination<'s> {
+    pub entities: Rows<usize>,
+    pub plan: Plan<'s>,
 }
 
 /// Whether two keywords are spelled alike.
@@ -56,16 +66,28 @@ fn hint_of(keyword: &[u8]) -> usize {
     hash % KEYWORDS
 }
 
+/// Where what is known of some entities may be kept: a number below `COMBINATIONS`.
+fn hint_of_all(entities: &[usize]) -> usize {
+    let mut hash = entities.len();
+    for entity in entities {
+        hash = hash.wrapping_mul(33).wrapping_add(*entity);
+    }
+    hash % COMBINATIONS
+}
+
 /// A schema with what was found in it for some instances of a file, for those that follow.
 ///
-/// A keyword is as long as it was in the file, and a leaf has as many slots as an instance had values that was made by it. So all of this is at most some times as large as the file.
+/// A keyword is as long as it was in the file, and a leaf or a combination has as many slots as an
+/// instance had values that was made by it. So all of this is at most some times as large as the file.
 pub struct Plans<'s> {
     reader: Reader<'s>,
     keywords: Vec<Keyword>,
     leaves: Vec<Leaf<'s>>,
-    // Where one stands of these, by some letters of the keyword, and by the entity.
+    combinations: Vec<Combination<'s>>,
+    // Where one stands of these, by some letters of the keyword, by the entity, and by all entities.
     keyword_hints: Hints,
     leaf_hints: Hints,
+    combination_hints: Hints,
 }
 
 impl<'s> Drop for Plans<'s> {
@@ -74,14 +96,18 @@ impl<'s> Drop for Plans<'s> {
             reader,
             keywords,
             leaves,
+            combinations,
             keyword_hints,
             leaf_hints,
+            combination_hints,
         } = self;
         drop(reader);
         drop(keywords);
         drop(leaves);
+        drop(combinations);
         drop(keyword_hints);
         drop(leaf_hints);
+        drop(combination_hints);
     }
 }
 
@@ -96,6 +122,7 @@ impl<'s> Model for Plans<'s> {
     ghost invariant = { λ p. record {
       keywords : kept.AreNamed p.reader p.keywords.items;
       leaves : kept.AreLeaves p.reader p.leaves.items;
+      combinations : kept.AreCombinations p.reader p.combinations.items;
     } };
 
     ghost use Rattle.std.specs.Coded.{codes};
@@ -115,12 +142,15 @@ impl<'s> Plans<'s> {
         let reader = Reader::of(alloc, compiled)?;
         let keyword_hints = Hints::new(alloc, KEYWORDS)?;
         let leaf_hints = Hints::new(alloc, reader.entities().len())?;
+        let combination_hints = Hints::new(alloc, COMBINATIONS)?;
         Ok(Plans {
             reader,
             keywords: Vec::new(alloc),
             leaves: Vec::new(alloc),
+            combinations: Vec::new(alloc),
             keyword_hints,
             leaf_hints,
+            combination_hints,
         })
     }
 
@@ -198,6 +228,35 @@ impl<'s> Plans<'s> {
         let Leaf { entity, slots } = leaf;
         self.leaf_hints.put(entity, self.leaves.len());
         self.leaves.push(Leaf { entity, slots })?;
+        Ok(())
+    }
+
+    /// What an instance of these entities has values of, whose parts stand in this order, if one was made before.
+    pub fn combination(&self, entities: &[usize]) -> Option<&Plan<'s>>
+        ensures { IfSome result (λ plan. spec.external self.now entities.now ≡ Some plan.now) }
+    {
+        let hint = hint_of_all(entities);
+        match self.combinations.get(self.combination_hints.place(hint)) {
+            Some(known) if are_same(known.entities.as_slice(), entities) => Some(&known.plan),
+            _ => None,
+        }
+    }
+
+    /// Keeps what an instance was made by, unless another one is kept in its place.
+    pub fn keep_combination(
+        &mut self,
+        entities: Vec<usize>,
+        plan: Plan<'s>,
+    ) -> Result<(), AllocError>
+        requires { spec.external self.old entities.items ≡ Some plan }
+        ensures { self.new ≡ self.old }
+    {
+        let hint = hint_of_all(&entities);
+        if self.combination_hints.is_free(hint) {
+            let entities = Rows::from_vec(entities);
+            self.combination_hints.put(hint, self.combinations.len());
+            self.combinations.push(Combination { entities, plan })?;
+        }
         Ok(())
     }
 }
