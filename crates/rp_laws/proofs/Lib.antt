@@ -14,4 +14,5 @@ pub mod FileInstances
 pub mod Counts
 pub mod ValidTables
 pub mod ValidEdits
+pub mod SingleEdits
 pub mod KeptValid

@@ -1,0 +1,240 @@
+-- What a model holds stays valid where one of its instances is put, replaced or dropped.
+use Rattle.std.proofs.Common.{◌≡◌, ◌≤◌, ◌<◌, ℕ, suc, Bool, true, false, not, ◌&&◌, ◌||◌, ◌==◌, List, [], ◌∷◌, ◌++◌, length, Option, Some, None, refl, sym, ◌∙◌, ap, subst, arith}
+use Rattle.std.specs.Prelude.{filter, max, option_to_list, if◌then◌else◌}
+use Rattle.std.specs.List.{list_all, list_any, AllByRecursion}
+use Rattle.std.specs.Ordering.{nat_cmp}
+use Rattle.std.proofs.lemmas.Bool.{or_left, or_right}
+use Rattle.std.proofs.lemmas.Bool.Decides.{nat_tests}
+use Rattle.std.proofs.lemmas.Cmp.{nat_cmp_total}
+use Rattle.std.proofs.lemmas.List.Folds.{list_any-append}
+use Rattle.ex_types.specs.Checked.{Checked}
+use Rattle.p21_instances.specs.Instances.{is_among}
+use Rattle.rp_content.specs.declared.content.Content.{Content}
+use Rattle.rp_content.specs.declared.instance.Instance.{Instance}
+use Rattle.sorted_tables.specs.Table.{is_at, is_before, is_after, with_row}
+use Rattle.sorted_tables.proofs.Altered.{any-with_row}
+use Rattle.sorted_tables.proofs.Ascending.{all-append, with_row_ascends, with_none_ascends}
+use Rattle.rp_rows.specs.declared.rows.ModelContent.{ModelContent}
+use Rattle.rp_rows.specs.Contents.{instance_name, names, greatest_name, link_names, references_of}
+use Rattle.rp_store.specs.Instances.{instance_of, placed, dropped, refers_to, is_user, is_used}
+use Rattle.rp_store.specs.Contents.{with_instance, without_instance}
+use Rattle.rp_plain.specs.Files.{max_instances}
+use Rattle.rp_plain.specs.Valid.{IsInstanceOfFile, IsSound, max_name, IsValidContent}
+use Rattle.rp_laws.proofs.ValidTables.{all_each, all-with_row}
+use Rattle.rp_laws.proofs.Counts.{count-with_row, count-without, count-replaced}
+
+-- ---- names
+
+abbrev is_named : ℕ → Instance → Bool
+is_named n i = i.name == n
+
+any_named : (n : ℕ) (xs : List Instance) → is_among (names xs) n ≡ list_any (is_named n) xs
+any_named n [] = refl
+any_named n (x ∷ xs) = ap (λ t. (x.name == n) || t) (any_named n xs)
+
+other_at : (k n : ℕ) → (k == n) ≡ false → (x : Instance) → is_at nat_cmp instance_name k x ≡ true → is_named n x ≡ false
+other_at k n other x at = grind (arith, nat_tests)
+
+-- another name than that of the row stands where it stood
+other_name_stays : (k n : ℕ) → (k == n) ≡ false → (row : Option Instance) (xs : List Instance) → list_any (is_named n) (option_to_list row) ≡ false → is_among (names (with_row nat_cmp instance_name k row xs)) n ≡ is_among (names xs) n
+other_name_stays k n other row xs fails =
+    any_named n (with_row nat_cmp instance_name k row xs)
+    ∙ any-with_row nat_cmp instance_name nat_cmp_total (is_named n) k (other_at k n other) row xs fails
+    ∙ sym (any_named n xs)
+
+is_there : (n : ℕ) (x : Instance) (xs ys : List Instance) → (x.name == n) ≡ true → is_among (names (xs ++ (x ∷ []) ++ ys)) n ≡ true
+is_there n x [] ys same = or_left (x.name == n) (is_among (names ([] ++ ys)) n) same
+is_there n x (z ∷ xs) ys same = or_right (z.name == n) (is_among (names (xs ++ (x ∷ []) ++ ys)) n) (is_there n x xs ys same)
+
+-- a name that stood stands where an instance is put, whatever its name
+name_stays : (i : Instance) (n : ℕ) (xs : List Instance) → is_among (names xs) n ≡ true → is_among (names (placed i xs)) n ≡ true
+name_stays i n xs stood = by (i.name == n) refl
+  where
+    by : (t : Bool) → (i.name == n) ≡ t → is_among (names (placed i xs)) n ≡ true
+    by true same = is_there n i (filter (is_before nat_cmp instance_name i.name) xs) (filter (is_after nat_cmp instance_name i.name) xs) same
+    by false other = other_name_stays i.name n other (Some i) xs (ap (λ t. t || false) other) ∙ stood
+
+-- a name among several that stands among others
+module _ (links : List ℕ) (xs ys : List Instance) (n : ℕ) (stays : is_among (names xs) n ≡ true → is_among (names ys) n ≡ true) where
+  defined_stays : is_among (names xs ++ links) n ≡ true → is_among (names ys ++ links) n ≡ true
+  defined_stays defined =
+      list_any-append (λ m. m == n) (names ys) links
+      ∙ by (is_among (names xs) n) (is_among links n) refl (sym (list_any-append (λ m. m == n) (names xs) links) ∙ defined)
+    where
+      by : (t u : Bool) → is_among (names xs) n ≡ t → (t || u) ≡ true → (is_among (names ys) n || u) ≡ true
+      by true u e both = or_left (is_among (names ys) n) u (stays e)
+      by false u e both = or_right (is_among (names ys) n) u both
+
+-- ---- references
+
+all_more : (p q : ℕ → Bool) → ((n : ℕ) → p n ≡ true → q n ≡ true) → (ns : List ℕ) → list_all p ns ≡ true → list_all q ns ≡ true
+all_more p q more [] all = refl
+all_more p q more (n ∷ ns) all = by (all_more p q more ns) (p n) refl all
+  where
+    by : (list_all p ns ≡ true → list_all q ns ≡ true) → (t : Bool) → p n ≡ t → (t && list_all p ns) ≡ true → (q n && list_all q ns) ≡ true
+    by rest true e both = rw (more n e) (rest both)
+    by rest false e both = cc
+
+all_but : (k : ℕ) (p q : ℕ → Bool) → ((n : ℕ) → (k == n) ≡ false → p n ≡ true → q n ≡ true) → (ns : List ℕ) → list_any (λ m. m == k) ns ≡ false → list_all p ns ≡ true → list_all q ns ≡ true
+all_but k p q more [] away all = refl
+all_but k p q more (n ∷ ns) away all = by (all_but k p q more ns) (n == k) (p n) refl refl away all
+  where
+    turned : (n == k) ≡ false → (k == n) ≡ false
+    turned e = grind (arith, nat_tests)
+
+    by : (list_any (λ m. m == k) ns ≡ false → list_all p ns ≡ true → list_all q ns ≡ true) → (s t : Bool) → (n == k) ≡ s → p n ≡ t → (s || list_any (λ m. m == k) ns) ≡ false → (t && list_all p ns) ≡ true → (q n && list_all q ns) ≡ true
+    by rest true t d e gone both = cc
+    by rest false false d e gone both = cc
+    by rest false true d e gone both = rw (more n (turned d) e) (rest gone both)
+
+-- ---- instances that are put
+
+abbrev with_placed : Instance → Content → Content
+with_placed i x = record x { instances = placed i x.instances }
+
+abbrev without : ℕ → Content → Content
+without k x = record x { instances = dropped k x.instances }
+
+placed_sound : (i : Instance) (x : Content) (j : Instance) → IsSound x j → IsSound (with_placed i x) j
+placed_sound i x j sound =
+    all_more (is_among (names x.instances ++ link_names x.links)) (is_among (names (placed i x.instances) ++ link_names x.links))
+    (λ n. defined_stays (link_names x.links) x.instances (placed i x.instances) n (name_stays i n x.instances)) (references_of j) sound
+
+is_same : (i : Instance) (P : Instance → Type 0) → P i → (x : Instance) → Some i ≡ Some x → P x
+is_same i P here x e = let same : i ≡ x = cc in subst P same here
+
+pub all_placed_sound : (i : Instance) (x : Content) → IsSound x i → AllByRecursion (IsSound x) x.instances → AllByRecursion (IsSound (with_placed i x)) (placed i x.instances)
+all_placed_sound i x here all =
+    let Sound : Instance → Type 0 = IsSound (with_placed i x) in
+    all-with_row nat_cmp instance_name nat_cmp_total Sound i.name (Some i) x.instances (is_same i Sound (placed_sound i x i here)) (all_each (IsSound x) Sound (placed_sound i x) x.instances all)
+
+-- ---- instances that are dropped
+
+dropped_sound : (k : ℕ) (x : Content) (j : Instance) → (j.name == k) ≡ false → is_user k j ≡ false → IsSound x j → IsSound (without k x) j
+dropped_sound k x j other unused sound =
+    all_but k (is_among (names x.instances ++ link_names x.links)) (is_among (names (dropped k x.instances) ++ link_names x.links))
+    (λ n apart. defined_stays (link_names x.links) x.instances (dropped k x.instances) n (λ stood. other_name_stays k n apart None x.instances refl ∙ stood))
+    (references_of j) (sym (ap (λ t. not t && refers_to k j) other) ∙ unused) sound
+
+left_sound : (k : ℕ) (x : Content) (keeps : Instance → Bool) → ((j : Instance) → keeps j ≡ true → (j.name == k) ≡ false) → (xs : List Instance) → is_used k xs ≡ false → AllByRecursion (IsSound x) xs
+    → AllByRecursion (IsSound (without k x)) (filter keeps xs)
+left_sound k x keeps other [] unused all = tt
+left_sound k x keeps other (j ∷ xs) unused all = by (λ gone. left_sound k x keeps other xs gone all.1) (is_user k j) refl (keeps j) refl unused
+  where
+    by : (is_used k xs ≡ false → AllByRecursion (IsSound (without k x)) (filter keeps xs)) → (s : Bool) → is_user k j ≡ s → (t : Bool) → keeps j ≡ t → (s || is_used k xs) ≡ false → AllByRecursion (IsSound (without k x)) (if t then j ∷ filter keeps xs else filter keeps xs)
+    by rest true e t f gone = cc
+    by rest false e true f gone = (dropped_sound k x j (other j f) e all.0, rest gone)
+    by rest false e false f gone = rest gone
+
+before_other : (k : ℕ) (j : Instance) → is_before nat_cmp instance_name k j ≡ true → (j.name == k) ≡ false
+before_other k j less = grind (arith, nat_tests)
+
+after_other : (k : ℕ) (j : Instance) → is_after nat_cmp instance_name k j ≡ true → (j.name == k) ≡ false
+after_other k j greater = grind (arith, nat_tests)
+
+pub all_dropped_sound : (k : ℕ) (x : Content) → is_used k x.instances ≡ false → AllByRecursion (IsSound x) x.instances → AllByRecursion (IsSound (without k x)) (dropped k x.instances)
+all_dropped_sound k x unused all =
+    let Sound : Instance → Type 0 = IsSound (without k x) in
+    let before = filter (is_before nat_cmp instance_name k) x.instances in
+    all-append nat_cmp instance_name nat_cmp_total Sound (before ++ []) (filter (is_after nat_cmp instance_name k) x.instances)
+    (all-append nat_cmp instance_name nat_cmp_total Sound before [] (left_sound k x (is_before nat_cmp instance_name k) (before_other k) x.instances unused all) tt)
+    (left_sound k x (is_after nat_cmp instance_name k) (after_other k) x.instances unused all)
+
+-- ---- how many there are
+
+abbrev every : Instance → Bool
+every i = true
+
+count_every : (xs : List Instance) → length (filter every xs) ≡ length xs
+count_every [] = refl
+count_every (x ∷ xs) = ap suc (count_every xs)
+
+-- there is room for one more, or the instance takes the place of another
+few_placed : (most : ℕ) (i : Instance) (xs : List Instance) → length xs ≤ most → (instance_of i.name xs ≡ None → length xs < most) → length (placed i xs) ≤ most
+few_placed most i xs few room = by (instance_of i.name xs) refl
+  where
+    by : (o : Option Instance) → instance_of i.name xs ≡ o → length (placed i xs) ≤ most
+    by None e =
+        let more = count-with_row nat_cmp instance_name every i.name i xs in
+        let one : length (filter every (i ∷ [])) ≡ 1 = count_every (i ∷ []) in
+        let less = room e in
+        omega (arith, more, one, less, count_every xs, count_every (placed i xs))
+    by (Some x) e =
+        let same = count-replaced nat_cmp instance_name every i.name i x xs e refl in
+        omega (arith, same, few, count_every xs, count_every (placed i xs))
+
+few_dropped : (most k : ℕ) (xs : List Instance) → length xs ≤ most → length (dropped k xs) ≤ most
+few_dropped most k xs few =
+    let less = count-without nat_cmp instance_name every k xs in
+    omega (arith, few, less, count_every xs, count_every (dropped k xs))
+
+-- ---- the greatest name
+
+abbrev AreBelow : ℕ → List Instance → Type 0
+AreBelow most xs = AllByRecursion (λ (i : Instance). i.name ≤ most) xs
+
+within : (most n : ℕ) (xs : List Instance) → n ≤ most → AreBelow most xs → greatest_name n xs ≤ most
+within most n [] low all = low
+within most n (x ∷ xs) low all = let here : x.name ≤ most = all.0 in within most (max n x.name) xs (omega arith) all.1
+
+all_within : (most n : ℕ) (xs : List Instance) → greatest_name n xs ≤ most → (n ≤ most) × AreBelow most xs
+all_within most n [] low = (low, tt)
+all_within most n (x ∷ xs) low =
+    let rest = all_within most (max n x.name) xs low in
+    let both : max n x.name ≤ most = rest.0 in
+    (omega arith, (omega arith, rest.1))
+
+above : (less most : ℕ) → less ≤ most → (i : Instance) → i.name ≤ less → i.name ≤ most
+above less most order i low = omega arith
+
+greatest_placed : (greatest : ℕ) (i : Instance) (xs : List Instance) → greatest_name 0 xs ≤ greatest → greatest_name 0 (placed i xs) ≤ max greatest i.name
+greatest_placed greatest i xs low =
+    let most = max greatest i.name in
+    let Below : Instance → Type 0 = λ (j : Instance). j.name ≤ most in
+    within most 0 (placed i xs) (omega arith)
+    (all-with_row nat_cmp instance_name nat_cmp_total Below i.name (Some i) xs (is_same i Below (omega arith)) (all_each (λ (j : Instance). j.name ≤ greatest) Below (above greatest most (omega arith)) xs (all_within greatest 0 xs low).1))
+
+greatest_dropped : (greatest k : ℕ) (xs : List Instance) → greatest_name 0 xs ≤ greatest → greatest_name 0 (dropped k xs) ≤ greatest
+greatest_dropped greatest k xs low =
+    let Below : Instance → Type 0 = λ (j : Instance). j.name ≤ greatest in
+    within greatest 0 (dropped k xs) (omega arith) (all-with_row nat_cmp instance_name nat_cmp_total Below k None xs (λ x e. cc) (all_within greatest 0 xs low).1)
+
+-- ---- contents
+
+-- An instance of the model's schema, whose references are defined in the model, may be put into it: under the name of another, or where there is room.
+pub placed_valid : (schemas : List Checked) (h : ModelContent) (i : Instance) (valid : IsValidContent schemas h) → IsInstanceOfFile valid.schema i → IsSound h.content i → i.name ≤ max_name
+    → (instance_of i.name h.content.instances ≡ None → length h.content.instances < max_instances) → IsValidContent schemas (with_instance i h)
+placed_valid schemas h i valid spelled sound named room =
+    let xs = h.content.instances in
+    let of_schema : Instance → Type 0 = IsInstanceOfFile valid.schema in
+    let greatest = valid.greatest in
+    record {
+      schema = valid.schema;
+      loaded = valid.loaded;
+      header = valid.header;
+      instances = with_row_ascends nat_cmp instance_name nat_cmp_total i xs valid.instances;
+      spelled = all-with_row nat_cmp instance_name nat_cmp_total of_schema i.name (Some i) xs (is_same i of_schema spelled) valid.spelled;
+      sound = all_placed_sound i h.content sound valid.sound;
+      few = few_placed max_instances i xs valid.few room;
+      in_use = greatest_placed h.greatest i xs valid.in_use;
+      greatest = omega (arith, greatest, named);
+      links = valid.links;
+    }
+
+-- An instance that no other one refers to may be dropped.
+pub dropped_valid : (schemas : List Checked) (h : ModelContent) (k : ℕ) → is_used k h.content.instances ≡ false → IsValidContent schemas h → IsValidContent schemas (without_instance k h)
+dropped_valid schemas h k unused valid =
+    let xs = h.content.instances in
+    let of_schema : Instance → Type 0 = IsInstanceOfFile valid.schema in
+    record {
+      schema = valid.schema;
+      loaded = valid.loaded;
+      header = valid.header;
+      instances = with_none_ascends nat_cmp instance_name nat_cmp_total k xs valid.instances;
+      spelled = all-with_row nat_cmp instance_name nat_cmp_total of_schema k None xs (λ x e. cc) valid.spelled;
+      sound = all_dropped_sound k h.content unused valid.sound;
+      few = few_dropped max_instances k xs valid.few;
+      in_use = greatest_dropped h.greatest k xs valid.in_use;
+      greatest = valid.greatest;
+      links = valid.links;
+    }
