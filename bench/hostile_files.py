@@ -196,6 +196,7 @@ def bare_lists_taken_at_selects(count):
 
 
 SELECTS = 10_000
+RENAMINGS = 100_000
 
 
 @family("values")
@@ -233,6 +234,41 @@ def bare_values_at_a_wide_select(count):
     types += f"TYPE s = SELECT ({each(1000, lambda k: f't{k}', ',')}); END_TYPE;"
     data = "#1=A(('a'" + ",'a'" * count + "));"
     return file_of(data), put(1), schema_of_select(types, "LIST OF s")
+
+
+@family("instances", INSTANCES)
+def renamings_in_a_chain(count):
+    """Values of a type that is reached by many renamings, and a SELECT that is renamed as often."""
+    types = "TYPE t0 = INTEGER; END_TYPE;TYPE s0 = SELECT (t0); END_TYPE;"
+    types += each(RENAMINGS, lambda k: f"TYPE t{k + 1} = t{k}; END_TYPE;TYPE s{k + 1} = s{k}; END_TYPE;")
+    data = each(count, lambda k: f"#{k + 1}=A(1,1);")
+    return file_of(data), put(count), schema_of_select(types, f"s{RENAMINGS}; w : t{RENAMINGS}")
+
+
+@family("values")
+def bare_values_beside_many_aggregates(count):
+    """Strings at a SELECT of many aggregates and enumerations, and of one type that takes strings."""
+    types = each(999, lambda k: f"TYPE t{k} = {f'ENUMERATION OF (i{k})' if k % 2 else 'LIST OF INTEGER'}; END_TYPE;")
+    types += "TYPE t999 = STRING; END_TYPE;"
+    types += f"TYPE s = SELECT ({each(1000, lambda k: f't{k}', ',')}); END_TYPE;"
+    data = "#1=A(('a'" + ",'a'" * count + "));"
+    return file_of(data), put(1), schema_of_select(types, "LIST OF s")
+
+
+@family("values")
+def references_at_selects_in_a_chain(count):
+    """References at a SELECT whose innermost one lists an entity."""
+    types = "TYPE s0 = SELECT (a); END_TYPE;"
+    types += each(SELECTS, lambda k: f"TYPE s{k + 1} = SELECT (s{k}, t{k + 1}); END_TYPE;TYPE t{k + 1} = STRING; END_TYPE;")
+    return file_of(f"#1=A((#1{',#1' * count}));"), put(1), schema_of_select(types, f"LIST OF s{SELECTS}")
+
+
+@family("values")
+def bare_lists_at_a_wide_select(count):
+    """Lists at a SELECT of many types, of which one is an aggregate."""
+    types = each(1000, lambda k: f"TYPE t{k} = {'LIST OF INTEGER' if k == 999 else 'INTEGER'}; END_TYPE;")
+    types += f"TYPE s = SELECT ({each(1000, lambda k: f't{k}', ',')}); END_TYPE;"
+    return file_of(f"#1=A(((1){',(1)' * count}));"), put(1), schema_of_select(types, "LIST OF s")
 
 
 # Each with a string, so long that less than the most of a model fit into a file.

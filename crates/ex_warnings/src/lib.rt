@@ -5,4 +5,5 @@
 mod selects;
 mod warned;
 
+pub use selects::renamed_times;
 pub use warned::warnings;

@@ -72,7 +72,11 @@ fn all_themselves(alloc: Global, types: &[NamedType]) -> Result<Vec<usize>, Allo
 }
 
 /// Of each type the one that is so many renamings further. By halves: there may be hundreds of thousands in a row.
-fn renamed_times(alloc: Global, types: &[NamedType], count: usize) -> Result<Vec<usize>, AllocError>
+pub fn renamed_times(
+    alloc: Global,
+    types: &[NamedType],
+    count: usize,
+) -> Result<Vec<usize>, AllocError>
     ensures { IfOk result (λ table. HasRenamed count types.now table.items) }
 {
     if count == 0 {

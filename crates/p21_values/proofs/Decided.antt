@@ -15,7 +15,7 @@ use Rattle.p21_values.specs.Seen.{seen, seen_target}
 use Rattle.p21_values.specs.Taking.{Meaning, place, meaning, only, with_first, all_there, of_list, by_choice, bare_at, is_that, named_by, chosen}
 use Rattle.p21_values.specs.Deciding.{takes, takes_each, just_one, single, both, verdicts, at, chosen_from, StandAt, no_select, element, elements, chooses, may_name}
 
-mapped : {A B : Type 0} (f : A → B) (o : Option A) → is_some (option_map f o) ≡ is_some o
+pub mapped : {A B : Type 0} (f : A → B) (o : Option A) → is_some (option_map f o) ≡ is_some o
 mapped f None = refl
 mapped f (Some x) = refl
 
@@ -365,7 +365,7 @@ module _ (f : ℕ → Option Value) where
   picked_at k None ys cs h n e = e
   picked_at k (Some x) ys cs h n e = found_first k x ys cs h n
 
-  picked : (ks : List ℕ) → only (filter_map f ks) ≡ option_and_then f (single (filter (λ k. is_some (f k)) ks))
+  pub picked : (ks : List ℕ) → only (filter_map f ks) ≡ option_and_then f (single (filter (λ k. is_some (f k)) ks))
   picked [] = refl
   picked (k ∷ ks) = picked_at k (f k) (filter_map f ks) (filter (λ k. is_some (f k)) ks) refl (same_empty ks) (picked ks)
 

@@ -1,8 +1,8 @@
-pub mod Ended
 pub mod Digits
-pub mod Beyond
+pub mod Tables
 pub mod Several
 pub mod Decided
 pub mod Steps
 pub mod Lists
-pub mod Rising
+pub mod Chosen
+pub mod Standing

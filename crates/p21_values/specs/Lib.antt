@@ -1,6 +1,7 @@
 pub mod Ends
 pub mod Seen
 pub mod Tokens
-pub mod Selects
+pub mod Sorts
+pub mod Kept
 pub mod Taking
 pub mod Deciding

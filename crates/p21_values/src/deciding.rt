@@ -12,10 +12,9 @@ ghost use Rattle.p21_values.specs.Taking as taking;
 ghost use Rattle.p21_values.specs.Deciding as spec;
 
 use crate::elements::{asked_by, distinct_of};
-use crate::ends::{Base, Target, base_of, inside};
+use crate::ends::{Base, Declared, Target, base_of, inside};
 use crate::taking::{bare_token, reference};
 use crate::types::DefinedTypes;
-use ex_named::NamedType;
 use p21_tree::Value as Spelled;
 use std::alloc::{AllocError, Global};
 use std::slice;
@@ -115,7 +114,7 @@ fn takes_alone<'s>(
     match value {
         Spelled::Unset => Ok(true),
         Spelled::Derived | Spelled::List(_) | Spelled::Typed(_, _) => Ok(false),
-        Spelled::Reference(name) => Ok(reference(types, *name, &target.base).is_some()),
+        Spelled::Reference(name) => Ok(reference(alloc, types, *name, &target.base)?.is_some()),
         _ => Ok(bare_token(alloc, types, value, &target.base)?.is_some()),
     }
 }
@@ -135,20 +134,33 @@ fn each_alone<'s>(
     Ok(taken)
 }
 
-fn chooses(types: &DefinedTypes<'_>, number: usize, base: &Base<'_>) -> bool
-    ensures { result ≡ spec.chooses types.now number (seen base.now) }
+fn chooses(
+    alloc: Global,
+    types: &DefinedTypes<'_>,
+    number: usize,
+    base: &Base<'_>,
+) -> Result<bool, AllocError>
+    ensures { IfOk result (λ told. told ≡ spec.chooses types.now number (seen base.now)) }
 {
     match base {
-        Base::Select(select) => types.chooses(*select, number),
-        _ => false,
+        Base::Select(select) => types.chooses(alloc, *select, number),
+        _ => Ok(false),
     }
 }
 
 /// Whether a value under the name of a type may be of this one.
-fn may_name(types: &DefinedTypes<'_>, number: usize, target: &Target<'_>) -> bool
-    ensures { result ≡ spec.may_name types.now (Some number) (seen_target target.now) }
+fn may_name(
+    alloc: Global,
+    types: &DefinedTypes<'_>,
+    number: usize,
+    target: &Target<'_>,
+) -> Result<bool, AllocError>
+    ensures { IfOk result (λ told. told ≡ spec.may_name types.now (Some number) (seen_target target.now)) }
 {
-    target.name == Some(number) || chooses(types, number, &target.base)
+    if target.name == Some(number) {
+        return Ok(true);
+    }
+    chooses(alloc, types, number, &target.base)
 }
 
 /// Which types take a value under the name of a type, where that takes it or not.
@@ -163,7 +175,8 @@ fn each_named<'s>(
 {
     let mut taken = Vec::with_capacity(alloc, targets.len())?;
     for target in targets {
-        taken.push(fits && may_name(types, number, target))?;
+        let takes = fits && may_name(alloc, types, number, target)?;
+        taken.push(takes)?;
     }
     Ok(taken)
 }
@@ -269,7 +282,7 @@ fn take_all<'s>(
 /// Defined types, where they are no SELECTs.
 fn choice_targets<'s>(
     alloc: Global,
-    types: &'s [NamedType],
+    types: &Declared<'s>,
     numbers: &[usize],
 ) -> Result<Vec<Target<'s>>, AllocError>
     ensures { IfOk result (λ targets. map (λ t. seen t.base) targets.items ≡ map (λ k. spec.no_select (ends.base_of types.now k)) numbers.now) }

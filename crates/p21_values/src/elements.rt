@@ -8,9 +8,9 @@ ghost use Rattle.p21_values.specs.Ends as ends;
 ghost use Rattle.p21_values.specs.Seen.{seen, seen_target};
 ghost use Rattle.p21_values.specs.Deciding as spec;
 
-use crate::ends::{Base, Target, base_of, target_of};
+use crate::ends::{Base, Declared, Target, base_of, target_of};
+use crate::sorts::Class;
 use crate::types::DefinedTypes;
-use ex_named::NamedType;
 use std::alloc::{AllocError, Global};
 
 /// The types of elements that several types ask for.
@@ -30,7 +30,7 @@ pub struct Distinct<'s> {
 }
 
 /// The type of an aggregate's elements.
-fn element<'s>(types: &'s [NamedType], base: &Base<'s>) -> Option<Target<'s>>
+fn element<'s>(types: &Declared<'s>, base: &Base<'s>) -> Option<Target<'s>>
     ensures { option_map seen_target result ≡ spec.element types.now (seen base.now) }
 {
     match base {
@@ -40,7 +40,7 @@ fn element<'s>(types: &'s [NamedType], base: &Base<'s>) -> Option<Target<'s>>
 }
 
 fn push_element<'s>(
-    types: &'s [NamedType],
+    types: &Declared<'s>,
     base: &Base<'s>,
     asked: &mut Vec<Target<'s>>,
 ) -> Result<(), AllocError>
@@ -55,22 +55,51 @@ fn push_element<'s>(
     }
 }
 
+/// Adds the types of the elements of those of the defined types that are aggregates.
+fn push_choices<'s>(
+    types: &Declared<'s>,
+    numbers: &[usize],
+    asked: &mut Vec<Target<'s>>,
+) -> Result<(), AllocError>
+    ensures { OnOk result (map seen_target asked.new.items ≡ map seen_target asked.old.items ++ flat_map (λ k. option_to_list (spec.element types.now (ends.base_of types.now k))) numbers.now) }
+{
+    for number in numbers {
+        push_element(types, &base_of(types, *number), asked)?;
+    }
+    Ok(())
+}
+
+/// Adds what a SELECT asks for.
+fn push_select<'s>(
+    alloc: Global,
+    types: &DefinedTypes<'s>,
+    number: usize,
+    asked: &mut Vec<Target<'s>>,
+) -> Result<(), AllocError>
+    ensures { OnOk result (map seen_target asked.new.items ≡ map seen_target asked.old.items ++ spec.elements types.now (ends.Select number)) }
+{
+    match types.kept(Class::Lists, number) {
+        Some(lists) => push_choices(types.types(), lists, asked),
+        None => {
+            let choices = types.choices(alloc, number)?;
+            push_choices(types.types(), &choices, asked)
+        }
+    }
+}
+
 /// Adds what a type asks for.
 fn push_elements<'s>(
+    alloc: Global,
     types: &DefinedTypes<'s>,
     base: &Base<'s>,
     asked: &mut Vec<Target<'s>>,
 ) -> Result<(), AllocError>
     ensures { OnOk result (map seen_target asked.new.items ≡ map seen_target asked.old.items ++ spec.elements types.now (seen base.now)) }
 {
-    let Base::Select(number) = base else {
-        return push_element(types.types(), base, asked);
-    };
-    let choices = types.choices(*number);
-    for choice in choices {
-        push_element(types.types(), &base_of(types.types(), *choice), asked)?;
+    match base {
+        Base::Select(number) => push_select(alloc, types, *number, asked),
+        _ => push_element(types.types(), base, asked),
     }
-    Ok(())
 }
 
 /// What a type asks for.
@@ -82,7 +111,7 @@ fn elements_of<'s>(
     ensures { IfOk result (λ found. map seen_target found.items ≡ spec.elements types.now (seen base.now)) }
 {
     let mut found = Vec::new(alloc);
-    push_elements(types, base, &mut found)?;
+    push_elements(alloc, types, base, &mut found)?;
     Ok(found)
 }
 
@@ -162,12 +191,12 @@ fn set_place(by_name: &mut [usize], name: Option<usize>, place: usize) {
 #[tactic(auto, using(crate::proofs::Decided::again, crate::proofs::Decided::fresh))]
 pub fn distinct_of<'s>(
     alloc: Global,
-    types: &[NamedType],
+    types: &Declared<'s>,
     asked: &[Target<'s>],
 ) -> Result<Distinct<'s>, AllocError>
     ensures { IfOk result (λ found. spec.StandAt found.targets.items found.places.items (map seen_target asked.now)) }
 {
-    let mut by_name: Vec<usize> = vec![in alloc; 0; types.len()]?;
+    let mut by_name: Vec<usize> = vec![in alloc; 0; types.types().len()]?;
     let mut targets: Vec<Target<'s>> = Vec::new(alloc);
     let mut places: Vec<usize> = Vec::with_capacity(alloc, asked.len())?;
     for target in asked {

@@ -1,15 +1,16 @@
 //! What declared types are in the end, behind all names.
 
-ghost use Rattle.std.specs.Prelude.{◌≡◌, ◌++◌, map, IfOk, OnOk};
-ghost use Rattle.std.specs.List.{filter_map, list_any};
+ghost use Rattle.std.specs.Prelude.{◌≡◌};
 ghost use Rattle.ex_named.specs.declared.expression.NamedDataType.{out-NamedDataType};
-ghost use Rattle.ex_warnings.specs.Selects.{renamed, renamed_by};
 ghost use Rattle.p21_values.specs.Ends as spec;
 ghost use Rattle.p21_values.specs.Seen.{seen, seen_target};
 
 use ex_named::{NamedDataType, NamedType, NamedUnderlying, TypeName};
 use ex_tree::SimpleType;
+use ex_warnings::renamed_times;
 use rp_value::AggregateKind;
+use std::alloc::{AllocError, Global};
+use std::marker::Model;
 
 /// A type behind all names.
 #[derive(Clone, Copy)]
@@ -35,39 +36,56 @@ pub struct Target<'s> {
     pub base: Base<'s>,
 }
 
-/// The type that a type renames; itself, where it renames none.
-fn renamed(types: &[NamedType], number: usize) -> usize
-    ensures { result ≡ renamed types.now number }
-{
-    match types.get(number) {
-        Some(declared) => renamed_by(number, &declared.underlying),
-        None => number,
-    }
+/// The defined types of a schema, with where their renamings end.
+#[derive(Drop)]
+pub struct Declared<'s> {
+    types: &'s [NamedType],
+    /// Of each type the one that it is behind all names.
+    ends: Vec<usize>,
 }
 
-fn renamed_by(number: usize, underlying: &NamedUnderlying) -> usize
-    ensures { result ≡ renamed_by number underlying.now }
-{
-    match underlying {
-        NamedUnderlying::Data(NamedDataType::Named(TypeName::Defined(other))) => *other,
-        _ => number,
-    }
+impl<'s> Model for Declared<'s> {
+    ghost use Rattle.std.specs.Prelude.{List, length};
+    ghost use Rattle.ex_named.specs.declared.declaration.NamedType.{NamedType};
+    ghost use Rattle.ex_warnings.specs.Steps.{HasRenamed};
+
+    ghost Value = { List NamedType };
+
+    ghost view = { λ d. d.types.now };
+
+    ghost invariant = { λ d. HasRenamed (length d.types.now) d.types.now d.ends.items };
+
+    ghost use Rattle.std.specs.Coded.{codes};
+    ghost use Rattle.ex_named.specs.contracts.expression.NamedDataType as data_type;
+    ghost use Rattle.ex_named.specs.contracts.expression.NamedExpression as expression;
+
+    ghost coded = { Prim.hlevel (codes, data_type.the_row.coded, expression.the_row.coded) };
 }
 
-/// The type that a defined type is behind all names.
-#[tactic(auto, unfolding(crate::specs::Ends::end), using(crate::proofs::Ended::stays))]
-pub fn end(types: &[NamedType], number: usize) -> usize
-    ensures { result ≡ spec.end types.now number }
-{
-    let mut found = number;
-    'renamings: for _ in 0..types.len() {
-        let next = renamed(types, found);
-        if next == found {
-            return found;
-        }
-        found = next;
+impl<'s> Declared<'s> {
+    ghost use Rattle.std.specs.Prelude.{◌≡◌, IfOk};
+    ghost use Rattle.p21_values.specs.Ends as spec;
+
+    pub fn of(alloc: Global, types: &'s [NamedType]) -> Result<Declared<'s>, AllocError>
+        ensures { IfOk result (λ found. found ≡ types.now) }
+    {
+        let ends = renamed_times(alloc, types, types.len())?;
+        Ok(Declared { types, ends })
     }
-    found
+
+    pub fn types(&self) -> &'s [NamedType]
+        ensures { result.now ≡ self.now }
+    {
+        self.types
+    }
+
+    /// The type that a defined type is behind all names.
+    #[tactic(auto, unfolding(crate::specs::Ends::end))]
+    pub fn end(&self, number: usize) -> usize
+        ensures { result ≡ spec.end self.now number }
+    {
+        self.ends.get(number).copied().unwrap_or(number)
+    }
 }
 
 /// The simple type, or the aggregate, that a type is which isn't a defined one.
@@ -120,11 +138,11 @@ fn base_by(number: usize, underlying: &NamedUnderlying) -> Base<'_>
 }
 
 /// What a defined type is in the end.
-pub fn base_of(types: &[NamedType], number: usize) -> Base<'_>
+pub fn base_of<'s>(types: &Declared<'s>, number: usize) -> Base<'s>
     ensures { seen result ≡ spec.base_of types.now number }
 {
-    let end = end(types, number);
-    match types.get(end) {
+    let end = types.end(number);
+    match types.types().get(end) {
         Some(declared) => base_by(end, &declared.underlying),
         None => Base::Nothing,
     }
@@ -132,7 +150,7 @@ pub fn base_of(types: &[NamedType], number: usize) -> Base<'_>
 
 /// A declared type, as a value is read by it.
 #[tactic(auto, unfolding(crate::specs::Ends::target))]
-pub fn target_of<'s>(types: &'s [NamedType], data_type: &'s NamedDataType) -> Target<'s>
+pub fn target_of<'s>(types: &Declared<'s>, data_type: &'s NamedDataType) -> Target<'s>
     ensures { seen_target result ≡ spec.target types.now data_type.now }
 {
     match data_type {
@@ -161,11 +179,7 @@ fn beneath(target: Target<'_>) -> Target<'_>
     }
 }
 
-fn inside_by<'s>(
-    types: &'s [NamedType],
-    number: usize,
-    underlying: &'s NamedUnderlying,
-) -> Target<'s>
+fn inside_by<'s>(types: &Declared<'s>, number: usize, underlying: &'s NamedUnderlying) -> Target<'s>
     ensures { seen_target result ≡ spec.inside_by types.now number underlying.now }
 {
     match underlying {
@@ -179,10 +193,10 @@ fn inside_by<'s>(
 
 /// What stands behind the name of a defined type.
 #[tactic(auto, unfolding(crate::specs::Ends::inside))]
-pub fn inside(types: &[NamedType], number: usize) -> Target<'_>
+pub fn inside<'s>(types: &Declared<'s>, number: usize) -> Target<'s>
     ensures { seen_target result ≡ spec.inside types.now number }
 {
-    match types.get(number) {
+    match types.types().get(number) {
         Some(declared) => inside_by(types, number, &declared.underlying),
         None => Target {
             name: None,

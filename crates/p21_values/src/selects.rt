@@ -1,26 +1,16 @@
 //! What SELECTs choose from.
 
-ghost use Rattle.std.specs.Prelude.{◌≡◌, ◌++◌, ℕ, zero, not, map, filter, length, IfOk, OnOk};
+ghost use Rattle.std.specs.Prelude.{◌≡◌, ◌++◌, not, filter, length, IfOk, OnOk};
 ghost use Rattle.std.specs.List.{filter_map, list_any};
 ghost use Rattle.ex_warnings.specs.Selects.{lists_members, is_listed, is_select as is_a_select};
 ghost use Rattle.lineage.specs.Lineage as lineage;
 ghost use Rattle.p21_values.specs.Ends as spec;
-ghost use Rattle.p21_values.specs.Selects as tables;
 
-use crate::ends::end;
+use crate::ends::Declared;
 use ex_named::{NamedType, NamedUnderlying, TypeName};
 use lineage::family;
 use plain_data::Rows;
 use std::alloc::{AllocError, Global};
-
-/// What a value of a SELECT may be of.
-#[derive(Drop)]
-pub struct Choices {
-    /// The defined types, in the order of their numbers.
-    pub members: Rows<usize>,
-    /// Whether it may be an instance.
-    pub has_instances: bool,
-}
 
 fn members_by(underlying: &NamedUnderlying) -> &[TypeName]
     ensures { result.now ≡ spec.members_by underlying.now }
@@ -32,10 +22,10 @@ fn members_by(underlying: &NamedUnderlying) -> &[TypeName]
 }
 
 /// The members of the SELECT that a type is.
-fn members(types: &[NamedType], number: usize) -> &[TypeName]
+pub fn members<'s>(types: &Declared<'s>, number: usize) -> &'s [TypeName]
     ensures { result.now ≡ spec.members types.now number }
 {
-    match types.get(end(types, number)) {
+    match types.types().get(types.end(number)) {
         Some(declared) => members_by(&declared.underlying),
         None => &[],
     }
@@ -60,10 +50,10 @@ fn lists_members(types: &[NamedType], number: usize) -> bool
 }
 
 #[tactic(auto, unfolding(crate::specs::Ends::end))]
-fn is_select(types: &[NamedType], number: usize) -> bool
+pub fn is_select(types: &Declared<'_>, number: usize) -> bool
     ensures { result ≡ is_a_select types.now number }
 {
-    lists_members(types, end(types, number))
+    lists_members(types.types(), types.end(number))
 }
 
 fn defined(name: TypeName) -> Option<usize>
@@ -92,7 +82,7 @@ fn is_entity(name: TypeName) -> bool
     }
 }
 
-fn has_entity(members: &[TypeName]) -> bool
+pub fn has_entity(members: &[TypeName]) -> bool
     ensures { result ≡ list_any spec.is_entity members.now }
 {
     members.iter().any(|name| is_entity(*name))
@@ -100,11 +90,11 @@ fn has_entity(members: &[TypeName]) -> bool
 
 /// Of each type the defined types among its members.
 #[tactic(auto, unfolding(crate::specs::Ends::selection))]
-fn selection(alloc: Global, types: &[NamedType]) -> Result<Vec<Rows<usize>>, AllocError>
+pub fn selection(alloc: Global, types: &Declared<'_>) -> Result<Vec<Rows<usize>>, AllocError>
     ensures { IfOk result (λ graph. graph.items ≡ spec.selection types.now) }
 {
-    let mut graph = Vec::with_capacity(alloc, types.len())?;
-    for (number, _) in types.iter().enumerate() {
+    let mut graph = Vec::with_capacity(alloc, types.types().len())?;
+    for (number, _) in types.types().iter().enumerate() {
         graph.push(defined_among(alloc, members(types, number))?)?;
     }
     Ok(graph)
@@ -120,12 +110,12 @@ fn family_of(alloc: Global, graph: &[Rows<usize>], number: usize) -> Result<Vec<
 /// Those of the types that are no SELECTs.
 fn without_selects(
     alloc: Global,
-    types: &[NamedType],
+    types: &Declared<'_>,
     numbers: &[usize],
-) -> Result<Rows<usize>, AllocError>
-    ensures { IfOk result (λ found. found ≡ filter (λ k. not (is_a_select types.now k)) numbers.now) }
+) -> Result<Vec<usize>, AllocError>
+    ensures { IfOk result (λ found. found.items ≡ filter (λ k. not (is_a_select types.now k)) numbers.now) }
 {
-    let mut found = Rows::new(alloc);
+    let mut found = Vec::new(alloc);
     for number in numbers {
         if !is_select(types, *number) {
             found.push(*number)?;
@@ -134,44 +124,36 @@ fn without_selects(
     Ok(found)
 }
 
-/// Whether one of the types lists an entity.
-fn list_entity(types: &[NamedType], numbers: &[usize]) -> bool
-    ensures { result ≡ list_any (λ k. list_any spec.is_entity (spec.members types.now k)) numbers.now }
-{
-    numbers
-        .iter()
-        .any(|number| has_entity(members(types, *number)))
-}
-
-/// What a value of a type may be of.
-#[tactic(auto, unfolding(crate::specs::Ends::choices, crate::specs::Ends::chooses_instances))]
-fn choices_at(
+/// The defined types that a value of a SELECT may be of, by a walk.
+#[tactic(auto, unfolding(crate::specs::Ends::choices))]
+pub fn walked_choices(
     alloc: Global,
-    types: &[NamedType],
+    types: &Declared<'_>,
     graph: &[Rows<usize>],
     number: usize,
-) -> Result<Choices, AllocError>
+) -> Result<Vec<usize>, AllocError>
     requires { graph.now ≡ spec.selection types.now }
-    ensures { IfOk result (λ found. found ≡ tables.choices_at types.now number) }
+    ensures { IfOk result (λ found. found.items ≡ spec.choices types.now number) }
 {
     let family = family_of(alloc, graph, number)?;
-    let members = without_selects(alloc, types, &family)?;
-    let has_instances = list_entity(types, &family);
-    Ok(Choices {
-        members,
-        has_instances,
-    })
+    without_selects(alloc, types, &family)
 }
 
-/// Of each type what a value of it may be of.
-#[tactic(auto, unfolding(crate::specs::Selects::all_choices))]
-pub fn all_choices(alloc: Global, types: &[NamedType]) -> Result<Vec<Choices>, AllocError>
-    ensures { IfOk result (λ all. all.items ≡ tables.all_choices types.now) }
+/// Whether a value of a SELECT may be an instance, by a walk.
+#[tactic(auto, unfolding(crate::specs::Ends::chooses_instances))]
+pub fn walked_instances(
+    alloc: Global,
+    types: &Declared<'_>,
+    graph: &[Rows<usize>],
+    number: usize,
+) -> Result<bool, AllocError>
+    requires { graph.now ≡ spec.selection types.now }
+    ensures { IfOk result (λ found. found ≡ spec.chooses_instances types.now number) }
 {
-    let graph = selection(alloc, types)?;
-    let mut all = Vec::with_capacity(alloc, types.len())?;
-    for (number, _) in types.iter().enumerate() {
-        all.push(choices_at(alloc, types, &graph, number)?)?;
-    }
-    Ok(all)
+    let family = family_of(alloc, graph, number)?;
+    Ok(
+        family
+            .iter()
+            .any(|number| has_entity(members(types, *number))),
+    )
 }

@@ -12,10 +12,12 @@ ghost use Rattle.p21_values.specs.Ends as ends;
 ghost use Rattle.p21_values.specs.Seen.{seen, seen_target};
 ghost use Rattle.p21_values.specs.Tokens.{ok};
 ghost use Rattle.p21_values.specs.Deciding as deciding;
+ghost use Rattle.p21_values.specs.Kept as kept;
 ghost use Rattle.p21_values.specs.Taking as spec;
 
 use crate::deciding::only_choice;
 use crate::ends::{Base, Target, base_of, inside, target_of};
+use crate::sorts::Class;
 use crate::tokens::{bits, boolean, in_upper_case, integer, logical};
 use crate::types::DefinedTypes;
 use ex_named::NamedDataType;
@@ -127,15 +129,15 @@ fn of_item(types: &DefinedTypes<'_>, name: &[u8], base: &Base<'_>) -> Option<Val
 }
 
 /// What a type takes of a reference.
-pub fn reference(types: &DefinedTypes<'_>, name: u64, base: &Base<'_>) -> Option<Value>
-    ensures { result ≡ spec.reference_at types.now name (seen base.now) }
+pub fn reference(alloc: Global, types: &DefinedTypes<'_>, name: u64, base: &Base<'_>) -> Taken
+    ensures { IfOk result (λ taken. taken ≡ spec.reference_at types.now name (seen base.now)) }
 {
     let takes = match base {
         Base::Instance => true,
-        Base::Select(number) => types.chooses_instances(*number),
+        Base::Select(number) => types.chooses_instances(alloc, *number)?,
         _ => false,
     };
-    if takes { Some(Value::Inst(name)) } else { None }
+    Ok(if takes { Some(Value::Inst(name)) } else { None })
 }
 
 /// A value under the name of a defined type.
@@ -199,6 +201,35 @@ fn only_token(
     Ok(found)
 }
 
+/// The class of the types that may take a token.
+fn class_of(value: &Spelled<'_>) -> Class
+    ensures { result ≡ kept.class_of value.now }
+{
+    match value {
+        Spelled::Item(_) => Class::Items,
+        _ => Class::Plain,
+    }
+}
+
+/// What a SELECT takes of a token without a keyword.
+#[tactic(auto, using(crate::proofs::Chosen::tokens_kept))]
+fn select_token(
+    alloc: Global,
+    types: &DefinedTypes<'_>,
+    value: &Spelled<'_>,
+    number: usize,
+) -> Taken
+    ensures { IfOk result (λ taken. taken ≡ spec.only (filter_map (spec.by_choice types.now (deciding.alone types.now value.now)) (ends.choices types.now number))) }
+{
+    match types.kept(class_of(value), number) {
+        Some(numbers) => only_token(alloc, types, value, numbers),
+        None => {
+            let numbers = types.choices(alloc, number)?;
+            only_token(alloc, types, value, &numbers)
+        }
+    }
+}
+
 /// What a type takes of a token without a keyword.
 pub fn bare_token(
     alloc: Global,
@@ -209,7 +240,7 @@ pub fn bare_token(
     ensures { IfOk result (λ taken. taken ≡ spec.bare_at types.now (deciding.alone types.now value.now) (seen base.now)) }
 {
     match base {
-        Base::Select(number) => only_token(alloc, types, value, types.choices(*number)),
+        Base::Select(number) => select_token(alloc, types, value, *number),
         _ => token(alloc, types, value, base),
     }
 }
@@ -277,7 +308,7 @@ fn fitting(
 {
     match value {
         Spelled::Unset | Spelled::Derived => Ok(None),
-        Spelled::Reference(name) => Ok(reference(types, *name, &target.base)),
+        Spelled::Reference(name) => reference(alloc, types, *name, &target.base),
         Spelled::Typed(keyword, value) => {
             let number = types.number(alloc, keyword.as_bytes())?;
             named(alloc, types, number, value.get(), target)
@@ -298,8 +329,27 @@ fn bare_list(
     ensures { IfOk result (λ taken. taken ≡ spec.bare_at types.now (spec.of_list types.now (map (spec.meaning types.now) values.now)) (seen base.now)) }
 {
     match base {
-        Base::Select(number) => only_list(alloc, types, values, types.choices(*number)),
+        Base::Select(number) => select_list(alloc, types, values, *number),
         _ => list(alloc, types, values, base),
+    }
+}
+
+/// What a SELECT takes of a list without a keyword.
+#[cycle(taking)]
+fn select_list(
+    alloc: Global,
+    types: &DefinedTypes<'_>,
+    values: &[Spelled<'_>],
+    number: usize,
+) -> Taken
+    ensures { IfOk result (λ taken. taken ≡ spec.only (filter_map (spec.by_choice types.now (spec.of_list types.now (map (spec.meaning types.now) values.now))) (ends.choices types.now number))) }
+{
+    match types.kept(Class::Lists, number) {
+        Some(numbers) => only_list(alloc, types, values, numbers),
+        None => {
+            let numbers = types.choices(alloc, number)?;
+            only_list(alloc, types, values, &numbers)
+        }
     }
 }
 
@@ -354,7 +404,7 @@ fn chosen(
     let Base::Select(select) = base else {
         return Ok(None);
     };
-    if !types.chooses(*select, number) {
+    if !types.chooses(alloc, *select, number)? {
         return Ok(None);
     }
     let taken = fitting(alloc, types, value, &inside(types.types(), number))?;

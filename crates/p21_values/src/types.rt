@@ -5,27 +5,31 @@ ghost use Rattle.lineage.specs.Lineage.{is_among};
 ghost use Rattle.name_tables.specs.Names.{place_of};
 ghost use Rattle.std.specs.Str.{str_to_ascii_uppercase};
 ghost use Rattle.p21_values.specs.Ends as ends;
-ghost use Rattle.p21_values.specs.Selects as tables;
 ghost use Rattle.p21_values.specs.Seen.{seen, seen_target};
 ghost use Rattle.p21_values.specs.Taking as spec;
 
-use crate::ends::{Base, Target, base_of, inside, target_of};
+use crate::ends::Declared;
 use crate::items::all_items;
-use crate::selects::{Choices, all_choices};
+use crate::kept::{Kept, kept_at, kept_by_class, table_of};
+use crate::selects::{is_select, selection, walked_choices, walked_instances};
+use crate::sorts::{Class, all_sorts};
 use crate::tokens::in_upper_case;
+use descent::Descent;
 use ex_named::{NamedDataType, NamedType, NamedUnderlying};
 use ex_tree::Name;
 use name_tables::NameTable;
+use plain_data::Rows;
 use std::alloc::{AllocError, Global};
 use std::marker::Model;
 
 /// The defined types of a schema, with what is looked up for each value of a file.
 #[derive(Drop)]
 pub struct DefinedTypes<'s> {
-    types: &'s [NamedType],
+    declared: Declared<'s>,
     names: NameTable<'s>,
-    /// Of each type what a value of it may be of.
-    choices: Vec<Choices>,
+    /// Which types SELECTs list.
+    descent: Descent,
+    kept: Kept,
     /// Of each type the items that it has as an enumeration.
     items: Vec<NameTable<'s>>,
 }
@@ -33,14 +37,16 @@ pub struct DefinedTypes<'s> {
 impl<'s> Model for DefinedTypes<'s> {
     ghost use Rattle.std.specs.Prelude.{◌≡◌, List, map};
     ghost use Rattle.ex_named.specs.declared.declaration.NamedType.{NamedType};
-    ghost use Rattle.p21_values.specs.Selects as tables;
+    ghost use Rattle.p21_values.specs.Ends.{selection};
+    ghost use Rattle.p21_values.specs.Kept.{IsKept};
+    ghost use Rattle.p21_values.specs.Sorts.{all_sorts};
     ghost use Rattle.p21_values.specs.Taking as spec;
 
     ghost Value = { List NamedType };
 
-    ghost view = { λ t. t.types.now };
+    ghost view = { λ t. t.declared };
 
-    ghost invariant = { λ t. (t.names ≡ map (λ x. x.name.text) t.types.now) × (t.choices.items ≡ tables.all_choices t.types.now) × (t.items.items ≡ map (λ x. spec.items_by x.underlying) t.types.now) };
+    ghost invariant = { λ t. (t.names ≡ map (λ x. x.name.text) t.declared) × (t.descent ≡ selection t.declared) × (t.items.items ≡ map (λ x. spec.items_by x.underlying) t.declared) × IsKept (selection t.declared) (all_sorts t.declared) t.kept };
 
     ghost use Rattle.std.specs.Coded.{codes};
     ghost use Rattle.ex_named.specs.contracts.expression.NamedDataType as data_type;
@@ -59,34 +65,6 @@ fn names_of<'s>(alloc: Global, types: &'s [NamedType]) -> Result<NameTable<'s>, 
     Ok(names)
 }
 
-/// The choices of a type. A number beyond the types has none.
-fn members_at(all: &[Choices], number: usize) -> &[usize]
-    ensures { result.now ≡ tables.members_at all.now number }
-{
-    match all.get(number) {
-        Some(choices) => choices.members.as_slice(),
-        None => &[],
-    }
-}
-
-/// Whether the numbers, which rise, have this one.
-#[tactic(auto, using(crate::proofs::Rising::found_is))]
-fn has(numbers: &[usize], number: usize) -> bool
-    requires { tables.Rise 0 numbers.now }
-    ensures { result ≡ is_among numbers.now number }
-{
-    numbers.binary_search(&number).is_ok()
-}
-
-fn has_instances_at(all: &[Choices], number: usize) -> bool
-    ensures { result ≡ tables.has_instances_at all.now number }
-{
-    match all.get(number) {
-        Some(choices) => choices.has_instances,
-        None => false,
-    }
-}
-
 /// The place of a type's item of this name. A number beyond the types has none.
 fn place_at(all: &[NameTable<'_>], number: usize, name: &[u8]) -> Option<usize>
     ensures { result ≡ place_of name.now (slice_index_or all.now number []) }
@@ -98,7 +76,8 @@ fn place_at(all: &[NameTable<'_>], number: usize, name: &[u8]) -> Option<usize>
 }
 
 impl<'s> DefinedTypes<'s> {
-    ghost use Rattle.std.specs.Prelude.{◌≡◌, IfOk, map};
+    ghost use Rattle.std.specs.Prelude.{◌≡◌, ⊤, MatchOption, IfOk, map};
+    ghost use Rattle.p21_values.specs.Kept as kept;
     ghost use Rattle.lineage.specs.Lineage.{is_among};
     ghost use Rattle.name_tables.specs.Names.{place_of};
     ghost use Rattle.p21_values.specs.Ends as ends;
@@ -108,21 +87,26 @@ impl<'s> DefinedTypes<'s> {
     pub fn of(alloc: Global, types: &'s [NamedType]) -> Result<DefinedTypes<'s>, AllocError>
         ensures { IfOk result (λ found. found ≡ types.now) }
     {
+        let declared = Declared::of(alloc, types)?;
         let names = names_of(alloc, types)?;
-        let choices = all_choices(alloc, types)?;
         let items = all_items(alloc, types)?;
+        let sorts = all_sorts(alloc, &declared)?;
+        let graph = selection(alloc, &declared)?;
+        let kept = kept_by_class(alloc, &graph, &sorts)?;
+        let descent = Descent::of(alloc, graph)?;
         Ok(DefinedTypes {
-            types,
+            declared,
             names,
-            choices,
+            descent,
+            kept,
             items,
         })
     }
 
-    pub(crate) fn types(&self) -> &'s [NamedType]
+    pub(crate) fn types(&self) -> &Declared<'s>
         ensures { result.now ≡ self.now }
     {
-        self.types
+        &self.declared
     }
 
     /// The type of this name, in either case.
@@ -134,31 +118,47 @@ impl<'s> DefinedTypes<'s> {
     }
 
     /// The defined types that a value of a SELECT may be of.
-    #[tactic(auto, using(crate::proofs::Beyond::members_kept))]
-    pub(crate) fn choices(&self, number: usize) -> &[usize]
-        ensures { result.now ≡ ends.choices self.now number }
+    pub(crate) fn choices(&self, alloc: Global, number: usize) -> Result<Vec<usize>, AllocError>
+        ensures { IfOk result (λ found. found.items ≡ ends.choices self.now number) }
     {
-        members_at(&self.choices, number)
+        walked_choices(alloc, &self.declared, self.descent.graph(), number)
+    }
+
+    /// What stands for all of a class that a SELECT chooses from, where something is kept.
+    pub(crate) fn kept(&self, class: Class, number: usize) -> Option<&[usize]>
+        ensures { MatchOption result ⊤ (λ found. kept.StandForClass self.now class number found.now) }
+    {
+        kept_at(table_of(&self.kept, class), number)
     }
 
     /// Whether a value of a SELECT may be of this type.
-    #[tactic(auto, using(crate::proofs::Rising::choices_rise))]
-    pub(crate) fn chooses(&self, select: usize, number: usize) -> bool
-        ensures { result ≡ is_among (ends.choices self.now select) number }
+    #[tactic(auto, using(crate::proofs::Chosen::chosen_none, crate::proofs::Chosen::chosen_among))]
+    pub(crate) fn chooses(
+        &self,
+        alloc: Global,
+        select: usize,
+        number: usize,
+    ) -> Result<bool, AllocError>
+        ensures { IfOk result (λ told. told ≡ is_among (ends.choices self.now select) number) }
     {
-        has(self.choices(select), number)
+        if is_select(&self.declared, number) {
+            return Ok(false);
+        }
+        self.descent.is_in_family(alloc, select, number)
     }
 
     /// Whether a value of a SELECT may be an instance.
-    #[tactic(auto, using(crate::proofs::Beyond::instances_kept))]
-    pub(crate) fn chooses_instances(&self, number: usize) -> bool
-        ensures { result ≡ ends.chooses_instances self.now number }
+    pub(crate) fn chooses_instances(&self, alloc: Global, number: usize) -> Result<bool, AllocError>
+        ensures { IfOk result (λ told. told ≡ ends.chooses_instances self.now number) }
     {
-        has_instances_at(&self.choices, number)
+        match self.kept(Class::Instances, number) {
+            Some(kept) => Ok(!kept.is_empty()),
+            None => walked_instances(alloc, &self.declared, self.descent.graph(), number),
+        }
     }
 
     /// The place of an enumeration's item of this name.
-    #[tactic(auto, using(crate::proofs::Beyond::items_kept))]
+    #[tactic(auto, using(crate::proofs::Tables::items_kept))]
     pub(crate) fn item_place(&self, number: usize, name: &[u8]) -> Option<usize>
         ensures { result ≡ place_of name.now (spec.items self.now number) }
     {
