@@ -1,2 +1,3 @@
-mod MemberLemmas
 mod ListLemmas
+mod MemberLemmas
+mod ShallowMembers

@@ -1,17 +1,16 @@
 //! From bytes to a request.
 
-ghost use Rattle.std.specs.Prelude.{◌≡◌, ℕ, List, false, codes, IfOk, IsErrOf, None, Some, option_and_then};
+ghost use Rattle.std.specs.Prelude.{◌≡◌, ℕ, List, false, codes, IfOk, IsErrOf, None, Some};
 ghost use Rattle.std.specs.Str.{bytes_eq};
-ghost use Rattle.serde_json.specs.View.{view, members_view};
-ghost use Rattle.serde_json.specs.Find.{as_object};
+ghost use Rattle.serde_json.specs.View.{members_view};
 ghost use Rattle.rp_wire.specs.Asks.{create_model_of, model_in, put_of, export_of, names_of, get_of, delete_model_of, list_of, level_of, is_model_kind, grant_of, revoke_of, schemas_of, check_schema_of, text_in, request_for, request_in, asked_in, asked_of};
 
 use crate::members::{Members, has_only_keys, take_number, take_text, take_text_if_any};
 use plain_data::Text;
 use rp_plain::messages::Request;
 use rp_rows::rows::{Key, Level};
-use serde_json::Value;
-use std::alloc::{AllocError, Global};
+use shallow_json::members_of;
+use std::alloc::Global;
 
 /// A request, and who asks.
 #[derive(Drop)]
@@ -30,29 +29,15 @@ pub enum Unread {
 }
 
 /// The request of a line, which stands without its line feed, or of a body. A string of it is copied
-/// once, out of the bytes.
+/// once, out of the bytes; a list or an object among its members, which no request has, is passed over.
 pub fn request_of(alloc: Global, line: &[u8]) -> Result<Asked, Unread>
     ensures ok { IfOk result (λ asked. asked_of line.now ≡ Some asked) }
     ensures bad { IsErrOf result Unread.BadRequest → asked_of line.now ≡ None }
 {
-    match Value::from_slice(alloc, line) {
-        Ok(value) => asked_from(value).ok_or(Unread::BadRequest),
-        Err(error) => {
-            if error.is_memory() {
-                Err(Unread::NoMemory)
-            } else {
-                Err(Unread::BadRequest)
-            }
-        }
-    }
-}
-
-fn asked_from(value: Value) -> Option<Asked>
-    ensures { result ≡ option_and_then asked_in (as_object (view value)) }
-{
-    match value {
-        Value::Object(members) => asked_in(members),
-        _ => None,
+    match members_of(alloc, line) {
+        Ok(members) => asked_in(members).ok_or(Unread::BadRequest),
+        Err(shallow_json::Unread::NoObject) => Err(Unread::BadRequest),
+        Err(shallow_json::Unread::NoMemory) => Err(Unread::NoMemory),
     }
 }
 

@@ -1,0 +1,134 @@
+-- A request has no lists and no objects: what they hold plays no part.
+use Rattle.std.proofs.Common.{◌≡◌, ℕ, List, [], ◌∷◌, Bool, true, false, ◌&&◌, cond, codes, bytes_eq, Ordering, Less, Equal, Greater, Option, Some, None, option_map, option_and_then, refl, sym, ap, ◌∙◌, nat_cmp}
+use Rattle.std.specs.Cmp.Lexicographic.{slice_cmp}
+use Rattle.std.specs.List.{list_any}
+use Rattle.std.specs.Ordering.{match_ordering}
+use Rattle.std.specs.Str.{is_utf8}
+use Rattle.serde_json.specs.Data.{Data, null, boolean, number, string, array, object, Members, no_members, member}
+use Rattle.serde_json.specs.Find.{get_member, as_str, as_object}
+use Rattle.serde_json.specs.Read.{read}
+use Rattle.shallow_json.specs.Shallow.{plain, shallow, shallow_object}
+use Rattle.rp_wire.specs.Asks.{has_only, without, text_in, text_if_any, number_of, number_in, create_model_of, model_in, put_of, export_of, names_of, get_of, delete_model_of, list_of, is_model_kind, grant_of, revoke_of, schemas_of, check_schema_of, request_for, request_in, asked_in, asked_of}
+
+has_only-shallow : (keys : List (List ℕ)) (ms : Members) → has_only keys (shallow ms) ≡ has_only keys ms
+has_only-shallow keys no_members = refl
+has_only-shallow keys (member k d ms) = ap (λ b. list_any (λ key. bytes_eq key k) keys && b) (has_only-shallow keys ms)
+
+chosen : {A B : Type 0} (f : A → B) (o : Ordering) (a b c : A) → match_ordering o (f a) (f b) (f c) ≡ f (match_ordering o a b c)
+chosen f Less a b c = refl
+chosen f Equal a b c = refl
+chosen f Greater a b c = refl
+
+get_member-shallow : (k : List ℕ) (ms : Members) → get_member k (shallow ms) ≡ option_map plain (get_member k ms)
+get_member-shallow k no_members = refl
+get_member-shallow k (member l d ms) =
+    ap (λ r. match_ordering (slice_cmp nat_cmp k l) r (Some (plain d)) r) (get_member-shallow k ms) ∙ chosen (option_map plain) (slice_cmp nat_cmp k l) (get_member k ms) (Some d) (get_member k ms)
+
+shallow-cond : (b : Bool) (xs ys : Members) → cond b (shallow xs) (shallow ys) ≡ shallow (cond b xs ys)
+shallow-cond true xs ys = refl
+shallow-cond false xs ys = refl
+
+without-shallow : (k : List ℕ) (ms : Members) → without k (shallow ms) ≡ shallow (without k ms)
+without-shallow k no_members = refl
+without-shallow k (member l d ms) =
+    ap (λ r. cond (bytes_eq k l) (shallow ms) (member l (plain d) r)) (without-shallow k ms) ∙ shallow-cond (bytes_eq k l) ms (member l d (without k ms))
+
+as_str-plain : (d : Data) → as_str (plain d) ≡ as_str d
+as_str-plain null = refl
+as_str-plain (boolean b) = refl
+as_str-plain (number n) = refl
+as_str-plain (string s) = refl
+as_str-plain (array ds) = refl
+as_str-plain (object ms) = refl
+
+number_of-plain : (d : Data) → number_of (plain d) ≡ number_of d
+number_of-plain null = refl
+number_of-plain (boolean b) = refl
+number_of-plain (number n) = refl
+number_of-plain (string s) = refl
+number_of-plain (array ds) = refl
+number_of-plain (object ms) = refl
+
+as_str-member : (o : Option Data) → option_and_then as_str (option_map plain o) ≡ option_and_then as_str o
+as_str-member None = refl
+as_str-member (Some d) = as_str-plain d
+
+number_of-member : (o : Option Data) → option_and_then number_of (option_map plain o) ≡ option_and_then number_of o
+number_of-member None = refl
+number_of-member (Some d) = number_of-plain d
+
+text_if_any-member : (o : Option Data) → text_if_any (option_map plain o) ≡ text_if_any o
+text_if_any-member None = refl
+text_if_any-member (Some d) = ap (option_map Some) (as_str-plain d)
+
+text_in-shallow : (k : List ℕ) (ms : Members) → text_in k (shallow ms) ≡ text_in k ms
+text_in-shallow k ms = ap (option_and_then as_str) (get_member-shallow k ms) ∙ as_str-member (get_member k ms)
+
+number_in-shallow : (k : List ℕ) (ms : Members) → number_in k (shallow ms) ≡ number_in k ms
+number_in-shallow k ms = ap (option_and_then number_of) (get_member-shallow k ms) ∙ number_of-member (get_member k ms)
+
+text_if_any-shallow : (k : List ℕ) (ms : Members) → text_if_any (get_member k (shallow ms)) ≡ text_if_any (get_member k ms)
+text_if_any-shallow k ms = ap text_if_any (get_member-shallow k ms) ∙ text_if_any-member (get_member k ms)
+
+create_model_of-shallow : (ms : Members) → create_model_of (shallow ms) ≡ create_model_of ms
+create_model_of-shallow ms = rw (has_only-shallow (codes "name" ∷ codes "schema" ∷ []) ms, text_in-shallow (codes "name") ms, text_in-shallow (codes "schema") ms) refl
+
+model_in-shallow : (ms : Members) → model_in (shallow ms) ≡ model_in ms
+model_in-shallow ms = rw (text_in-shallow (codes "owner") ms, text_in-shallow (codes "model") ms) refl
+
+put_of-shallow : (ms : Members) → put_of (shallow ms) ≡ put_of ms
+put_of-shallow ms = rw (has_only-shallow (codes "file" ∷ codes "model" ∷ codes "owner" ∷ []) ms, model_in-shallow ms, text_in-shallow (codes "file") ms) refl
+
+export_of-shallow : (ms : Members) → export_of (shallow ms) ≡ export_of ms
+export_of-shallow ms = rw (has_only-shallow (codes "model" ∷ codes "owner" ∷ []) ms, model_in-shallow ms) refl
+
+names_of-shallow : (ms : Members) → names_of (shallow ms) ≡ names_of ms
+names_of-shallow ms = rw (has_only-shallow (codes "model" ∷ codes "owner" ∷ []) ms, model_in-shallow ms) refl
+
+get_of-shallow : (ms : Members) → get_of (shallow ms) ≡ get_of ms
+get_of-shallow ms = rw (has_only-shallow (codes "instance" ∷ codes "model" ∷ codes "owner" ∷ []) ms, model_in-shallow ms, number_in-shallow (codes "instance") ms) refl
+
+delete_model_of-shallow : (ms : Members) → delete_model_of (shallow ms) ≡ delete_model_of ms
+delete_model_of-shallow ms = rw (has_only-shallow (codes "name" ∷ []) ms, text_in-shallow (codes "name") ms) refl
+
+list_of-shallow : (ms : Members) → list_of (shallow ms) ≡ list_of ms
+list_of-shallow ms = rw (has_only-shallow [] ms) refl
+
+is_model_kind-shallow : (ms : Members) → is_model_kind (shallow ms) ≡ is_model_kind ms
+is_model_kind-shallow ms = rw (text_in-shallow (codes "kind") ms) refl
+
+grant_of-shallow : (ms : Members) → grant_of (shallow ms) ≡ grant_of ms
+grant_of-shallow ms = rw (has_only-shallow (codes "kind" ∷ codes "level" ∷ codes "name" ∷ codes "to" ∷ []) ms, is_model_kind-shallow ms, text_in-shallow (codes "name") ms, text_in-shallow (codes "to") ms, text_in-shallow (codes "level") ms) refl
+
+revoke_of-shallow : (ms : Members) → revoke_of (shallow ms) ≡ revoke_of ms
+revoke_of-shallow ms = rw (has_only-shallow (codes "kind" ∷ codes "name" ∷ codes "to" ∷ []) ms, is_model_kind-shallow ms, text_in-shallow (codes "name") ms, text_in-shallow (codes "to") ms) refl
+
+schemas_of-shallow : (ms : Members) → schemas_of (shallow ms) ≡ schemas_of ms
+schemas_of-shallow ms = rw (has_only-shallow [] ms) refl
+
+check_schema_of-shallow : (ms : Members) → check_schema_of (shallow ms) ≡ check_schema_of ms
+check_schema_of-shallow ms = rw (has_only-shallow (codes "text" ∷ []) ms, text_in-shallow (codes "text") ms) refl
+
+request_for-shallow : (word : List ℕ) (ms : Members) → request_for word (shallow ms) ≡ request_for word ms
+request_for-shallow word ms =
+    rw (create_model_of-shallow ms, put_of-shallow ms, export_of-shallow ms, names_of-shallow ms, get_of-shallow ms, delete_model_of-shallow ms, list_of-shallow ms, grant_of-shallow ms, revoke_of-shallow ms, schemas_of-shallow ms, check_schema_of-shallow ms) refl
+
+for_word : (o : Option (List ℕ)) (ms : Members) → option_and_then (λ word. request_for word (without (codes "do") (shallow ms))) o ≡ option_and_then (λ word. request_for word (without (codes "do") ms)) o
+for_word None ms = refl
+for_word (Some word) ms = ap (request_for word) (without-shallow (codes "do") ms) ∙ request_for-shallow word (without (codes "do") ms)
+
+request_in-shallow : (ms : Members) → request_in (shallow ms) ≡ request_in ms
+request_in-shallow ms =
+    ap (option_and_then (λ word. request_for word (without (codes "do") (shallow ms)))) (text_in-shallow (codes "do") ms)
+    ∙ for_word (text_in (codes "do") ms) ms
+
+pub asked_in-shallow : (ms : Members) → asked_in (shallow ms) ≡ asked_in ms
+asked_in-shallow ms = rw (text_if_any-shallow (codes "as") ms, without-shallow (codes "as") ms, request_in-shallow (without (codes "as") ms)) refl
+
+either_way : (b : Bool) (o : Option Members) → cond b (option_and_then asked_in o) None ≡ option_and_then asked_in (cond b (option_map shallow o) None)
+either_way true None = refl
+either_way true (Some ms) = sym (asked_in-shallow ms)
+either_way false o = refl
+
+pub asked_of-shallow_object : (line : List ℕ) → asked_of line ≡ option_and_then asked_in (shallow_object line)
+asked_of-shallow_object line = either_way (is_utf8 line) (option_and_then as_object (read line))
