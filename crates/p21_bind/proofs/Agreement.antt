@@ -1,21 +1,17 @@
 -- Of what is defined, those names alone play a part for an instance that it refers to.
-use Rattle.std.proofs.Common.{◌≡◌, ℕ, Bool, true, false, ◌&&◌, ◌||◌, ◌==◌, List, [], ◌∷◌, ◌++◌, Option, None, Some, refl, ◌∙◌, ap}
-use Rattle.std.proofs.lemmas.Bool.{eq-eqb}
+use Rattle.std.proofs.Common.{◌≡◌, ℕ, Bool, List, [], ◌∷◌, ◌++◌, Option, None, Some, refl}
 use Rattle.std.specs.List.{AllByRecursion, flat_map, list_all, zip}
-use Rattle.std.specs.Prelude.{filter}
-use Rattle.lineage.proofs.Families.{is_among-filter}
 use Rattle.ex_slots.specs.Slots.{Slot}
 use Rattle.ex_types.specs.Checked.{Checked}
-use Rattle.p21_instances.specs.Instances.{is_among, references}
+use Rattle.p21_instances.specs.Instances.{references}
 use Rattle.p21_tree.specs.declared.instance.Instance as tree
 use Rattle.p21_tree.specs.declared.instance.Mapping.{Mapping}
 use Rattle.p21_tree.specs.declared.instance.Mapping.TheVariants.{Internal, External}
 use Rattle.p21_tree.specs.declared.instance.Record.{Record}
 use Rattle.p21_tree.specs.declared.value.Value.{Value as Spelled}
 use Rattle.p21_bind.specs.declared.plan.Plan.{Plan}
-use Rattle.p21_bind.specs.Files.{told}
 use Rattle.p21_bind.specs.Instances.{Read, each, value, part, by_plan, by_entity, by_entities, by_several, by_mapping, instance}
-use Rattle.p21_bind.specs.Single.{bound_instance, part_references, mapping_references}
+use Rattle.p21_bind.specs.Single.{part_references, mapping_references}
 
 each_same : {A B : Type 0} (f g : A → Read B) (xs : List A) → AllByRecursion (λ x. f x ≡ g x) xs → each f xs ≡ each g xs
 each_same f g [] same = refl
@@ -77,25 +73,6 @@ module _ (schema : Checked) (p q : ℕ → Bool) where
           more (x ∷ xs) all = (all.0, more xs all.1)
   mapping_same name (External rs) all = by_entities_same name rs _ all
 
-  instance_same : (stood : Bool) (x : tree.Instance) → Agree (mapping_references x.mapping) → instance schema p stood x ≡ instance schema q stood x
+  pub instance_same : (stood : Bool) (x : tree.Instance) → Agree (mapping_references x.mapping) → instance schema p stood x ≡ instance schema q stood x
   unfolding instance
   instance_same stood x all = rw (mapping_same x.name x.mapping all) refl
-
--- ---- the defined ones of these names
-
-kept : (q : ℕ → Bool) (all ns : List ℕ) → ((n : ℕ) → is_among ns n ≡ true → is_among all n ≡ true) → AllByRecursion (λ n. is_among (filter q all) n ≡ q n) ns
-kept q all [] within = tt
-kept q all (n ∷ ns) within =
-    let here : is_among (n ∷ ns) n ≡ true = rw (eq-eqb n n refl) refl in
-    let first : is_among (filter q all) n ≡ q n = is_among-filter q all n ∙ ap (λ b. b && q n) (within n here) in
-    (first, kept q all ns (λ m there. within m (later (n == m) (is_among ns m) there)))
-  where
-    later : (a b : Bool) → b ≡ true → (a || b) ≡ true
-    later true b e = refl
-    later false b e = e
-
-pub by_references : (schema : Checked) (q : ℕ → Bool) (name : ℕ) (m : Mapping)
-    → told name (instance schema (is_among (filter q (mapping_references m))) false (record { name = name; mapping = m })) ≡ bound_instance schema q name m
-unfolding bound_instance
-by_references schema q name m =
-    ap (told name) (instance_same schema (is_among (filter q (mapping_references m))) q false (record { name = name; mapping = m }) (kept q (mapping_references m) (mapping_references m) (λ n there. there)))

@@ -4,3 +4,4 @@ pub mod References
 pub mod Reading
 pub mod Stars
 pub mod Agreement
+pub mod WholeFiles

@@ -49,7 +49,7 @@ first_is rest left s is = ap reverse is ∙ reverse-append left (s ∷ [])
 
 module _ (schema : Checked) (defined : ℕ → Bool) where
   -- of the names that stood before, those alone play a part that follow
-  alike : (stood other : ℕ → Bool) (xs : List tree.Instance) → ((n : ℕ) → is_among (names xs) n ≡ true → stood n ≡ other n)
+  pub alike : (stood other : ℕ → Bool) (xs : List tree.Instance) → ((n : ℕ) → is_among (names xs) n ≡ true → stood n ≡ other n)
       → instances_after schema defined stood xs ≡ instances_after schema defined other xs
   alike stood other [] same = refl
   alike stood other (x ∷ xs) same =

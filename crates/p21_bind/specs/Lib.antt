@@ -3,3 +3,4 @@ pub mod Instances
 pub mod Kept
 pub mod Files
 pub mod Single
+pub mod OnePass

@@ -10,7 +10,7 @@ ghost use Rattle.p21_bind.specs.Instances as instances;
 
 use crate::header::header_of;
 use crate::instance::instance;
-use crate::names::Names;
+use crate::names::{DefinedNames, Names};
 use crate::plans::Plans;
 use ex_subtypes::Compiled;
 use p21_tree::{Header, Instance as Spelled, InstanceFault, Raw};
@@ -21,15 +21,15 @@ use std::collections::BTreeSet;
 use text_forms::Failure;
 
 /// One instance, whose name stood before or not, or the first that holds of what is wrong with it.
-pub fn one(
+pub fn one<N: DefinedNames>(
     alloc: Global,
     plans: &mut Plans<'_>,
-    names: &Names,
+    names: &N,
     stood: bool,
     spelled: &Spelled<'_>,
 ) -> Result<Instance, Failure<InstanceFault>>
     ensures plans { plans.new ≡ plans.old }
-    ensures made { Gives (λ x. x) result (spec.told spelled.now.name (instances.instance plans.old (is_among names.now) stood spelled.now)) }
+    ensures made { Gives (λ x. x) result (spec.told spelled.now.name (instances.instance plans.old (N.is_defined names.now) stood spelled.now)) }
 {
     match instance(alloc, plans, names, stood, spelled) {
         Ok(instance) => Ok(instance),
@@ -96,7 +96,7 @@ fn instances(
 }
 
 /// The instances in the order of their names.
-fn in_name_order(mut instances: Vec<Instance>) -> Result<Items<Instance>, AllocError>
+pub fn in_name_order(mut instances: Vec<Instance>) -> Result<Items<Instance>, AllocError>
     ensures { IfOk result (λ ordered. ordered ≡ in_order (λ x y. nat_lt x.name y.name) instances.items) }
 {
     instances.sort_by_key(|instance| instance.name)?;

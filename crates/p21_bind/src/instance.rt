@@ -10,7 +10,7 @@ ghost use Rattle.p21_bind.specs.Kept as kept;
 ghost use Rattle.p21_bind.specs.Plans as plans_spec;
 ghost use Rattle.p21_bind.specs.Instances as spec;
 
-use crate::names::Names;
+use crate::names::DefinedNames;
 use crate::plan::{Leaf, Plan, external, internal};
 use crate::plans::Plans;
 use crate::reader::{Reader, in_upper_case};
@@ -99,14 +99,14 @@ fn same_counts(mut slots: &[Rows<Slot<'_>>], mut parts: &[Record<'_>]) -> bool
 }
 
 /// The values of all parts, or what is wrong with the first that is faulty.
-fn all_values(
+fn all_values<N: DefinedNames>(
     alloc: Global,
     reader: &Reader<'_>,
-    names: &Names,
+    names: &N,
     mut slots: &[Rows<Slot<'_>>],
     mut parts: &[Record<'_>],
 ) -> Reading<Rows<Items<Value>>>
-    ensures { Gives (λ lists. lists) result (spec.each (spec.part reader.now (is_among names.now)) (zip slots.entry.now parts.entry.now)) }
+    ensures { Gives (λ lists. lists) result (spec.each (spec.part reader.now (N.is_defined names.now)) (zip slots.entry.now parts.entry.now)) }
 {
     let mut lists = Rows::new(alloc);
     'parts: while let [first, more_slots @ ..] = slots {
@@ -173,15 +173,15 @@ fn made(
 }
 
 /// The instance of these parts, by the plan for their entities.
-fn by_plan(
+fn by_plan<N: DefinedNames>(
     alloc: Global,
     reader: &Reader<'_>,
-    names: &Names,
+    names: &N,
     name: u64,
     parts: &[Record<'_>],
     plan: &Plan<'_>,
 ) -> Reading<Instance>
-    ensures { Gives (λ x. x) result (spec.by_plan reader.now (is_among names.now) name parts.now (Some plan.now)) }
+    ensures { Gives (λ x. x) result (spec.by_plan reader.now (N.is_defined names.now) name parts.now (Some plan.now)) }
 {
     if !same_counts(plan.slots.as_slice(), parts) {
         return Err(Failure::Fault(InstanceFaultKind::WrongCount));
@@ -191,16 +191,16 @@ fn by_plan(
 }
 
 /// The instance of these parts, where there can be one of their entities. Its plan is kept.
-fn by_new_plan(
+fn by_new_plan<N: DefinedNames>(
     alloc: Global,
     plans: &mut Plans<'_>,
-    names: &Names,
+    names: &N,
     name: u64,
     parts: &[Record<'_>],
     entities: Vec<usize>,
 ) -> Reading<Instance>
     ensures plans { plans.new ≡ plans.old }
-    ensures made { Gives (λ x. x) result (spec.by_plan plans.old (is_among names.now) name parts.now (plans_spec.external plans.old entities.items)) }
+    ensures made { Gives (λ x. x) result (spec.by_plan plans.old (N.is_defined names.now) name parts.now (plans_spec.external plans.old entities.items)) }
 {
     let Some(plan) = external(alloc, plans.reader(), &entities)? else {
         return Err(Failure::Fault(InstanceFaultKind::IllegalCombination));
@@ -211,15 +211,15 @@ fn by_new_plan(
 }
 
 /// The instance of this part, which is of a leaf.
-fn by_leaf(
+fn by_leaf<N: DefinedNames>(
     alloc: Global,
     reader: &Reader<'_>,
-    names: &Names,
+    names: &N,
     name: u64,
     part: &Record<'_>,
     leaf: &Leaf<'_>,
 ) -> Reading<Instance>
-    ensures { Gives (λ x. x) result (spec.by_plan reader.now (is_among names.now) name (part.now ∷ []) (Some (kept.leaf_plan leaf.now))) }
+    ensures { Gives (λ x. x) result (spec.by_plan reader.now (N.is_defined names.now) name (part.now ∷ []) (Some (kept.leaf_plan leaf.now))) }
 {
     if leaf.slots.len() != part.values.len() {
         return Err(Failure::Fault(InstanceFaultKind::WrongCount));
@@ -234,16 +234,16 @@ fn by_leaf(
 }
 
 /// The instance of this part, where there can be one of this entity and all above it. Its leaf is kept.
-fn by_new_leaf(
+fn by_new_leaf<N: DefinedNames>(
     alloc: Global,
     plans: &mut Plans<'_>,
-    names: &Names,
+    names: &N,
     name: u64,
     part: &Record<'_>,
     entity: usize,
 ) -> Reading<Instance>
     ensures plans { plans.new ≡ plans.old }
-    ensures made { Gives (λ x. x) result (spec.by_plan plans.old (is_among names.now) name (part.now ∷ []) (plans_spec.internal plans.old entity)) }
+    ensures made { Gives (λ x. x) result (spec.by_plan plans.old (N.is_defined names.now) name (part.now ∷ []) (plans_spec.internal plans.old entity)) }
 {
     let Some(leaf) = internal(alloc, plans.reader(), entity)? else {
         return Err(Failure::Fault(InstanceFaultKind::IllegalCombination));
@@ -253,15 +253,15 @@ fn by_new_leaf(
     Ok(instance)
 }
 
-fn by_entity(
+fn by_entity<N: DefinedNames>(
     alloc: Global,
     plans: &mut Plans<'_>,
-    names: &Names,
+    names: &N,
     name: u64,
     part: &Record<'_>,
 ) -> Reading<Instance>
     ensures plans { plans.new ≡ plans.old }
-    ensures made { Gives (λ x. x) result (spec.by_entity plans.old (is_among names.now) name (part.now ∷ []) (plans_spec.entity_named plans.old part.now.keyword)) }
+    ensures made { Gives (λ x. x) result (spec.by_entity plans.old (N.is_defined names.now) name (part.now ∷ []) (plans_spec.entity_named plans.old part.now.keyword)) }
 {
     let Some(entity) = plans.entity_named(alloc, &part.keyword)? else {
         return Err(Failure::Fault(InstanceFaultKind::UnknownEntity));
@@ -273,15 +273,15 @@ fn by_entity(
 }
 
 #[tactic(auto, unfolding(crate::specs::Instances::by_several))]
-fn by_entities(
+fn by_entities<N: DefinedNames>(
     alloc: Global,
     plans: &mut Plans<'_>,
-    names: &Names,
+    names: &N,
     name: u64,
     parts: &[Record<'_>],
 ) -> Reading<Instance>
     ensures plans { plans.new ≡ plans.old }
-    ensures made { Gives (λ x. x) result (spec.by_several plans.old (is_among names.now) name parts.now) }
+    ensures made { Gives (λ x. x) result (spec.by_several plans.old (N.is_defined names.now) name parts.now) }
 {
     let Some(entities) = entities_of(alloc, plans, parts)? else {
         return Err(Failure::Fault(InstanceFaultKind::UnknownEntity));
@@ -292,15 +292,15 @@ fn by_entities(
     }
 }
 
-fn by_mapping(
+fn by_mapping<N: DefinedNames>(
     alloc: Global,
     plans: &mut Plans<'_>,
-    names: &Names,
+    names: &N,
     name: u64,
     mapping: &Mapping<'_>,
 ) -> Reading<Instance>
     ensures plans { plans.new ≡ plans.old }
-    ensures made { Gives (λ x. x) result (spec.by_mapping plans.old (is_among names.now) name mapping.now) }
+    ensures made { Gives (λ x. x) result (spec.by_mapping plans.old (N.is_defined names.now) name mapping.now) }
 {
     match mapping {
         Mapping::Internal(part) => by_entity(alloc, plans, names, name, part),
@@ -310,15 +310,15 @@ fn by_mapping(
 
 /// The instance, whose name stood before or not, or the first that holds of what is wrong with it.
 #[tactic(auto, unfolding(crate::specs::Instances::instance))]
-pub fn instance(
+pub fn instance<N: DefinedNames>(
     alloc: Global,
     plans: &mut Plans<'_>,
-    names: &Names,
+    names: &N,
     stood: bool,
     spelled: &Spelled<'_>,
 ) -> Reading<Instance>
     ensures plans { plans.new ≡ plans.old }
-    ensures made { Gives (λ x. x) result (spec.instance plans.old (is_among names.now) stood spelled.now) }
+    ensures made { Gives (λ x. x) result (spec.instance plans.old (N.is_defined names.now) stood spelled.now) }
 {
     if stood || has_twice(alloc, &spelled.mapping)? {
         return Err(Failure::Fault(InstanceFaultKind::Twice));

@@ -7,6 +7,7 @@ mod file;
 mod header;
 mod hints;
 mod instance;
+mod loading;
 mod names;
 mod plan;
 mod plans;
@@ -15,4 +16,6 @@ mod single;
 mod value;
 
 pub use file::bind;
-pub use single::{DefinedNames, bind_instance};
+pub use loading::load;
+pub use names::DefinedNames;
+pub use single::bind_instance;

@@ -1,6 +1,6 @@
 //! The names of a file's instances.
 
-ghost use Rattle.std.specs.Prelude.{◌≡◌, IfOk, IsTrue};
+ghost use Rattle.std.specs.Prelude.{◌≡◌, ℕ, Bool, true, IfOk, IsTrue};
 ghost use Rattle.std.specs.List.Sorted.{IsPermutation, IsSorted};
 ghost use Rattle.std.specs.Ordering.{nat_cmp};
 ghost use Rattle.p21_instances.specs.Instances as spec;
@@ -8,6 +8,26 @@ ghost use Rattle.p21_instances.specs.Instances as spec;
 use p21_tree::Instance;
 use std::alloc::{AllocError, Global};
 use std::marker::Model;
+
+/// What references may name.
+pub trait DefinedNames {
+    ghost is_defined: { Self → ℕ → Bool };
+
+    /// Whether a reference may name it.
+    fn has(&self, name: u64) -> bool
+        ensures { result ≡ is_defined self.now name };
+}
+
+/// Every name.
+pub struct AnyName;
+
+impl DefinedNames for AnyName {
+    ghost is_defined = { λ all name. true };
+
+    fn has(&self, _name: u64) -> bool {
+        true
+    }
+}
 
 /// The names of a file's instances, in order. A name stands as often as instances have it.
 #[derive(Drop)]
@@ -103,19 +123,20 @@ impl Names {
         Names { numbers, step }
     }
 
-    /// Whether the name is one of them.
-    pub fn has(&self, name: u64) -> bool
-        ensures { result ≡ spec.is_among self.now name }
-    {
-        // Names mostly follow each other at one distance.
-        let place = place_of(&self.numbers, self.step, name);
-        stands_at(&self.numbers, place, name) || stands(&self.numbers, name)
-    }
-
     /// Whether none of them stands twice.
     pub fn are_distinct(&self) -> bool
         ensures { result ≡ not (spec.has_twice (λ m n. m == n) self.now) }
     {
         self.numbers.is_sorted_by(|a, b| *a < *b)
+    }
+}
+
+impl DefinedNames for Names {
+    ghost is_defined = { spec.is_among };
+
+    fn has(&self, name: u64) -> bool {
+        // Names mostly follow each other at one distance.
+        let place = place_of(&self.numbers, self.step, name);
+        stands_at(&self.numbers, place, name) || stands(&self.numbers, name)
     }
 }

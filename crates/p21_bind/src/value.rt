@@ -7,7 +7,7 @@ ghost use Rattle.p21_instances.specs.Instances.{is_among, references};
 ghost use Rattle.text_forms.specs.Gives.{Gives};
 ghost use Rattle.p21_bind.specs.Instances as spec;
 
-use crate::names::Names;
+use crate::names::DefinedNames;
 use crate::reader::Reader;
 use ex_slots::Slot;
 use p21_tree::{InstanceFaultKind, Value as Spelled};
@@ -58,8 +58,8 @@ fn is_left_out(value: &Spelled<'_>) -> bool
 
 /// Whether each name that the value refers to is defined.
 #[cycle(references)]
-fn is_defined(names: &Names, value: &Spelled<'_>) -> bool
-    ensures { result ≡ list_all (is_among names.now) (references value.now) }
+fn is_defined<N: DefinedNames>(names: &N, value: &Spelled<'_>) -> bool
+    ensures { result ≡ list_all (N.is_defined names.now) (references value.now) }
 {
     match value {
         Spelled::Reference(name) => names.has(*name),
@@ -71,8 +71,8 @@ fn is_defined(names: &Names, value: &Spelled<'_>) -> bool
 
 /// Whether each name that the values refer to is defined.
 #[cycle(references)]
-fn are_defined(names: &Names, values: &[Spelled<'_>]) -> bool
-    ensures { result ≡ list_all (is_among names.now) (flat_map references values.now) }
+fn are_defined<N: DefinedNames>(names: &N, values: &[Spelled<'_>]) -> bool
+    ensures { result ≡ list_all (N.is_defined names.now) (flat_map references values.now) }
 {
     for value in values {
         if !is_defined(names, value) {
@@ -105,14 +105,14 @@ fn derived_value(value: &Spelled<'_>) -> Reading<Value>
 }
 
 /// The value of an attribute, or the first that holds of what is wrong with it.
-fn slot_value(
+fn slot_value<N: DefinedNames>(
     alloc: Global,
     reader: &Reader<'_>,
-    names: &Names,
+    names: &N,
     slot: &Slot<'_>,
     value: &Spelled<'_>,
 ) -> Reading<Value>
-    ensures { Gives (λ x. x) result (spec.value reader.now (is_among names.now) (slot.now, value.now)) }
+    ensures { Gives (λ x. x) result (spec.value reader.now (N.is_defined names.now) (slot.now, value.now)) }
 {
     if slot.is_derived() {
         return derived_value(value);
@@ -129,14 +129,14 @@ fn slot_value(
 }
 
 /// The values of a part of a mapping, or what is wrong with the first that is faulty.
-pub fn part_values(
+pub fn part_values<N: DefinedNames>(
     alloc: Global,
     reader: &Reader<'_>,
-    names: &Names,
+    names: &N,
     mut slots: &[Slot<'_>],
     mut values: &[Spelled<'_>],
 ) -> Reading<Items<Value>>
-    ensures { Gives (λ xs. xs) result (spec.each (spec.value reader.now (is_among names.now)) (zip slots.entry.now values.entry.now)) }
+    ensures { Gives (λ xs. xs) result (spec.each (spec.value reader.now (N.is_defined names.now)) (zip slots.entry.now values.entry.now)) }
 {
     let mut found = Vec::with_capacity(alloc, slots.len())?;
     'values: while let [slot, more_slots @ ..] = slots {

@@ -7,18 +7,18 @@ ghost use Rattle.text_forms.specs.Gives.{ReadsAs, Takes};
 ghost use Rattle.p21_text.specs.Tokens as spec;
 
 use p21_text::{TokenKind, Tokens};
-use p21_tree::{FileFault, Value};
+use p21_tree::{FileFault, Instance, Record, Value};
 use plain_data::Items;
 use std::alloc::{AllocError, Global};
 use std::marker::Model;
 use text_forms::{Failure, TokenSource};
 
-/// What is left of a file's tokens. Lists are short and many: each is read into room that another one left, and then
-/// moved into memory of its own size.
+/// What is left of a file's tokens. Lists are short and many: where instances aren't kept, each list is read into the room
+/// that another one left.
 #[derive(Drop)]
 pub struct Source<'t> {
     pub tokens: Tokens<'t>,
-    rooms: Vec<Vec<Value<'t>>>,
+    rooms: Vec<Items<Value<'t>>>,
 }
 
 impl<'t> Model for Source<'t> {
@@ -27,6 +27,13 @@ impl<'t> Model for Source<'t> {
     ghost Value = { Lexemes };
 
     ghost view = { λ s. s.tokens };
+}
+
+/// A list without values, with room for one: most have no more.
+fn room_for_one<'t>(alloc: Global) -> Result<Items<Value<'t>>, AllocError>
+    ensures { IfOk result (λ room. room ≡ []) }
+{
+    Ok(Items::from_vec(Vec::with_capacity(alloc, 1)?))
 }
 
 impl<'t> Source<'t> {
@@ -49,33 +56,50 @@ impl<'t> Source<'t> {
         tokens
     }
 
-    /// Room for a list, with nothing in it.
-    pub fn room(&mut self, alloc: Global) -> Vec<Value<'t>>
-        ensures empty { result.items ≡ [] }
+    /// A list without values, in room that another one left if there is any.
+    pub fn room(&mut self, alloc: Global) -> Result<Items<Value<'t>>, AllocError>
+        ensures empty { IfOk result (λ room. room ≡ []) }
         ensures tokens { self.new ≡ self.old }
     {
         match self.rooms.pop() {
-            Some(mut room) => {
-                room.clear();
-                room
-            }
-            None => Vec::new(alloc),
+            Some(room) if room.is_empty() => Ok(room),
+            _ => room_for_one(alloc),
         }
     }
 
-    /// The values in memory of their own size, and their room is left to others.
-    pub fn packed(
-        &mut self,
-        alloc: Global,
-        mut room: Vec<Value<'t>>,
-    ) -> Result<Items<Value<'t>>, AllocError>
-        ensures values { IfOk result (λ items. items ≡ room.entry.items) }
-        ensures tokens { self.new ≡ self.old }
+    /// Leaves the room of a list that isn't needed any more to others.
+    fn leave(&mut self, mut list: Items<Value<'t>>) -> Result<(), AllocError>
+        ensures { self.new ≡ self.old }
     {
-        let mut values = Vec::with_capacity(alloc, room.len())?;
-        values.append(&mut room)?;
-        self.rooms.push(room)?;
-        Ok(Items::from_vec(values))
+        'values: while let Some(value) = list.pop() {
+            drop(value);
+        }
+        self.rooms.push(list)?;
+        Ok(())
+    }
+
+    /// Leaves the room of a list and of the lists in it to others.
+    fn leave_lists(&mut self, mut list: Items<Value<'t>>) -> Result<(), AllocError>
+        ensures { self.new ≡ self.old }
+    {
+        'values: while let Some(value) = list.pop() {
+            if let Some(values) = value.into_list() {
+                self.leave(values)?;
+            }
+        }
+        self.rooms.push(list)?;
+        Ok(())
+    }
+
+    /// Leaves the room of an instance that isn't needed any more to others.
+    pub fn leave_instance(&mut self, instance: Instance<'t>) -> Result<(), AllocError>
+        ensures { self.new ≡ self.old }
+    {
+        let Instance { name: _, mapping } = instance;
+        match mapping.into_internal() {
+            Some(Record { keyword: _, values }) => self.leave_lists(values),
+            None => Ok(()),
+        }
     }
 }
 

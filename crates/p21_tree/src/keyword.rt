@@ -4,21 +4,24 @@ use std::marker::Model;
 /// its own.
 #[derive(Drop)]
 pub struct Keyword<'a> {
-    text: &'a str,
+    text: &'a [u8],
 }
 
 impl<'a> Model for Keyword<'a> {
-    ghost use Rattle.std.specs.Prelude.{List, ℕ};
+    ghost use Rattle.std.specs.Prelude.{List, ℕ, IsAscii};
 
     ghost Value = { List ℕ };
 
     ghost view = { λ k. k.text.now };
+
+    ghost invariant = { λ k. IsAscii k.text.now };
 }
 
 impl<'a> Keyword<'a> {
-    ghost use Rattle.std.specs.Prelude.{◌≡◌};
+    ghost use Rattle.std.specs.Prelude.{◌≡◌, IsAscii};
 
-    pub fn new(text: &'a str) -> Keyword<'a>
+    pub fn new(text: &'a [u8]) -> Keyword<'a>
+        requires { IsAscii text.now }
         ensures { result ≡ text.now }
     {
         Keyword { text }
@@ -27,12 +30,12 @@ impl<'a> Keyword<'a> {
     pub fn as_str(&self) -> &'a str
         ensures { result.now ≡ self.now }
     {
-        self.text
+        str::from_utf8(self.text).unwrap()
     }
 
     pub fn as_bytes(&self) -> &'a [u8]
         ensures { result.now ≡ self.now }
     {
-        self.text.as_bytes()
+        self.text
     }
 }

@@ -8,3 +8,4 @@ pub mod Single
 pub mod Repeats
 pub mod Making
 pub mod Preparing
+pub mod Loaded

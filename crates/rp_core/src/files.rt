@@ -1,6 +1,6 @@
 //! Files that are put into models, and exported.
 
-ghost use Rattle.std.specs.Prelude.{◌≡◌, Ok, IfOk, option_copied};
+ghost use Rattle.std.specs.Prelude.{◌≡◌, Ok, IfOk, IfSome, option_copied};
 ghost use Rattle.p21_read.specs.File.{file_of};
 ghost use Rattle.rp_rows.specs.Contents as contents;
 ghost use Rattle.rp_plain.specs.Meaning.{first_some, schema_of};
@@ -13,7 +13,7 @@ use crate::asked::Asking;
 use crate::edits::{Change, Edits, Plan};
 use crate::faults::{first, is_no_partner, key_fault, lacks, too_large, unseen};
 use ex_subtypes::Compiled;
-use p21_bind::bind;
+use p21_bind::{bind, load};
 use p21_read::{is_of_schema, read_raw};
 use p21_tree::Raw;
 use p21_write::write;
@@ -63,6 +63,22 @@ fn if_few(content: Content) -> Result<Content, Refusal>
     Ok(content)
 }
 
+/// What the file says by the schema of the model that it is for, if nothing is wrong with it.
+#[tactic(auto, using(crate::proofs::Loaded::read_loaded))]
+fn loaded(
+    alloc: Global,
+    asked: &Asking<'_>,
+    model: &ModelContent,
+    file: &Text,
+) -> Result<Option<Content>, AllocError>
+    ensures { IfOk result (λ found. IfSome found (λ content. of_files.read_for (told asked.now).schemas model.now (file_of file.now) ≡ of_files.if_few (Ok content))) }
+{
+    match asked.schema_named(&model.schema) {
+        Some(schema) => load(alloc, schema, model.schema.as_bytes(), file.as_bytes()),
+        None => Ok(None),
+    }
+}
+
 /// What the file says by the schema of the model that it is for, or why it is refused.
 fn read_for(
     alloc: Global,
@@ -72,6 +88,10 @@ fn read_for(
 ) -> Result<Content, Refusal>
     ensures { Reads (of_files.read_for (told asked.now).schemas model.now (file_of file.now)) result }
 {
+    // A faulty file is read once more, to tell its fault.
+    if let Some(content) = loaded(alloc, asked, model, file)? {
+        return if_few(content);
+    }
     let raw = match read_raw(alloc, file.as_bytes()) {
         Ok(raw) => raw,
         Err(Failure::Fault(fault)) => return Err(Refusal::FileFault(fault)),

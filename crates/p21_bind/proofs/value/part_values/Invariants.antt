@@ -1,13 +1,12 @@
 use Rattle.std.proofs.Common.{◌≡◌, ◌++◌, Ok, length}
 use Rattle.std.specs.List.{zip}
-use Rattle.p21_instances.specs.Instances.{is_among}
 use Rattle.p21_bind.specs.Instances as spec
 use Rattle.p21_bind.proofs.value.part_values.Given as goal
 
 abbrev pub invariant-values : goal.invariant-values
-invariant-values l =
-    spec.and_then (spec.each (spec.value l.reader (is_among l.names)) (zip l.slots l.values)) (λ xs. Ok (l.found.items ++ xs))
-    ≡ spec.each (spec.value l.reader (is_among l.names)) (zip l.initial.slots l.initial.values)
+invariant-values g l =
+    spec.and_then (spec.each (spec.value l.reader (g.N.DefinedNames.is_defined l.names)) (zip l.slots l.values)) (λ xs. Ok (l.found.items ++ xs))
+    ≡ spec.each (spec.value l.reader (g.N.DefinedNames.is_defined l.names)) (zip l.initial.slots l.initial.values)
 
 abbrev pub decreases-values : goal.decreases-values
-decreases-values l = length l.slots
+decreases-values g l = length l.slots

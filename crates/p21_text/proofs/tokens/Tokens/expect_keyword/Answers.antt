@@ -1,5 +1,4 @@
 use Rattle.std.proofs.Common.{rules, ◌≡◌, ◌∙◌, sym, ap, true, false, List, [], ◌∷◌, Some, None}
-use Rattle.std.proofs.lemmas.Str.{IsUtf8-from_ascii}
 use denote.Enum.Bare.{same_true}
 use Rattle.p21_text.specs.contracts.token.TokenKind.{the_type}
 use Rattle.p21_text.specs.declared.token.TokenKind.TheVariants.{Word}
@@ -11,8 +10,7 @@ unfolding same_kind
 is_word [] t sees takes = cc
 is_word (u ∷ us) t sees takes = let same : t ≡ u = cc in ap (λ l. l.kind) same ∙ same_true the_type (search rules) u.kind Word sees
 
-pub unwrap-requires : goal.unwrap-requires
-unwrap-requires c =
+pub returns-in-Some-clause-plain : goal.returns-in-Some-clause-plain
+returns-in-Some-clause-plain c =
     let word = is_word c.args.self.now.tokens _ (sym c.sees.ensures ∙ c.if-not-sees.false) c.in-Some.ensures.token in
-    let utf8 = IsUtf8-from_ascii c.in-Some.token.text.now (c.in-Some.token.plain word) in
-    search rules
+    c.in-Some.keyword.plain word
