@@ -1,5 +1,5 @@
 -- Which numbers are in a member's family.
-use Rattle.std.proofs.Common.{◌≡◌, ℕ, ◌<◌, ◌≤◌, Bool, true, false, ◌||◌, ◌&&◌, ◌==◌, nat_lt, List, [], ◌∷◌, length, filter, BTreeSet, ⊎_elim, refl, sym, ◌∙◌, ap, arith}
+use Rattle.std.proofs.Common.{◌≡◌, ℕ, zero, suc, ◌<◌, ◌≤◌, Bool, true, false, ◌||◌, ◌&&◌, ◌==◌, nat_lt, List, [], ◌∷◌, length, filter, BTreeSet, ⊎_elim, refl, sym, ◌∙◌, ap, arith}
 use Rattle.std.proofs.lemmas.Bool.{cases_Bool, eqb-true}
 use Rattle.std.proofs.lemmas.Bool.Decides.{nat_tests}
 use Rattle.std.proofs.lemmas.Cmp.{nat_cmp_total}
@@ -7,15 +7,16 @@ use Rattle.std.proofs.lemmas.List.Kept.{IsStrictlySortedBy-filter}
 use Rattle.std.proofs.lemmas.Map.Lookups.{btree_set_from_contains, exact_unsigned}
 use Rattle.std.specs.Prelude.{Result, Ok, Err, IfOk}
 use Rattle.std.specs.BTreeSet.{insert_key}
+use Rattle.std.specs.List.{list_any}
 use Rattle.std.specs.List.Sorted.{IsStrictlySortedBy}
-use Rattle.std.specs.Ordering.{is_gt, nat_cmp}
-use Rattle.lineage.specs.Lineage.{is_among, supertypes, IsAncestor, is_ancestor, family}
+use Rattle.std.specs.Ordering.{nat_cmp}
+use Rattle.lineage.specs.Lineage.{is_among, supertypes, reaches, IsAncestor, is_ancestor, family}
 use Rattle.lineage.proofs.Bounded.{is_member, is_ancestor_exact, answer_is}
 use Rattle.lineage.proofs.Families.{is_among-filter, family_sorted, in_family}
 use Rattle.lineage.proofs.Marks.{none_beyond}
 use Rattle.lineage.proofs.Search.{Search, search_exact}
 use Rattle.lineage.proofs.Sets.{contained, either, is_among-insert}
-use Rattle.descent.specs.Kept.{AreAbove}
+use Rattle.descent.specs.Kept.{AreAbove, is_alone}
 use Rattle.descent.specs.Labels.{is_up}
 
 pub is_inside : (m n : ℕ) → m < n → nat_lt m n ≡ true
@@ -51,6 +52,20 @@ module _ (graph : List (List ℕ)) (e k : ℕ) where
       let among = in_family graph e k in
       let none = no_ancestor past in
       grind (arith, nat_tests, among, none)
+
+-- ---- nobody above
+
+unreached : (n : ℕ) (graph : List (List ℕ)) (e q : ℕ) → supertypes graph e ≡ [] → reaches n graph e q ≡ false
+unreached zero graph e q none = refl
+unreached (suc n) graph e q none = ap (list_any (λ s. s == q || reaches n graph s q)) none
+
+none_of : (xs : List ℕ) → length xs ≡ 0 → xs ≡ []
+none_of [] h = refl
+none_of (x ∷ xs) h = absurd (omega arith)
+
+one_sorted : (e : ℕ) → IsStrictlySortedBy nat_cmp (e ∷ [])
+unfolding IsStrictlySortedBy
+one_sorted e = (tt, tt)
 
 -- ---- all of it
 
@@ -116,23 +131,26 @@ module _ (graph : List (List ℕ)) (e : ℕ) where
       (λ (past : nat_lt a (length graph) ≡ false). rw past (not_there (is_among found a) (λ there. let in_graph = within a there in cc)))
       (cases_Bool (nat_lt a (length graph)))
 
-  below : (n q : ℕ) → is_gt (nat_cmp n q) ≡ nat_lt q n
-  below n q = grind (arith, nat_tests)
+  -- a member and what is above it
+  pub family_kept : (above kept : List ℕ) → AreAbove graph e above → e < length graph → kept ≡ insert_key nat_cmp above e → IsStrictlySortedBy nat_cmp kept → kept ≡ family graph e
+  family_kept above kept are within is rise = same_keys kept (family graph e) rise (family_sorted graph e) (λ q.
+      let inserted = ap (λ l. is_among l q) is ∙ is_among-insert above e q in
+      let among = in_family graph e q in
+      let over = are q in
+      grind (arith, nat_tests, inserted, among, over))
 
-  turned : (a b : ℕ) → (a == b) ≡ (b == a)
-  turned a b = grind (arith, nat_tests)
+pub family_alone : (graph : List (List ℕ)) (e : ℕ) → is_alone graph e ≡ true → family graph e ≡ e ∷ []
+family_alone graph e alone =
+    let both : (e < length graph) × (length (supertypes graph e) ≡ 0) = grind (arith, nat_tests, alone) in
+    let none = none_of (supertypes graph e) both.1 in
+    same_keys (family graph e) (e ∷ []) (family_sorted graph e) (one_sorted e) (λ q.
+    let among = in_family graph e q in
+    let above : is_ancestor graph e q ≡ false = unreached (length graph) graph e q none in
+    grind (arith, nat_tests, among, above, both))
 
-  in_one : (x b n : Bool) → ((x || (n && b)) && n) ≡ (n && (x || b))
-  in_one true b true = refl
-  in_one true b false = refl
-  in_one false true true = refl
-  in_one false false true = refl
-  in_one false b false = refl
+none_sorted : IsStrictlySortedBy nat_cmp []
+unfolding IsStrictlySortedBy
+none_sorted = tt
 
-  -- what is above a member and it, as far as there are members
-  pub family_kept : (above kept : List ℕ) → AreAbove graph e above → kept ≡ filter (λ k. is_gt (nat_cmp (length graph) k)) (insert_key nat_cmp above e) → IsStrictlySortedBy nat_cmp kept → kept ≡ family graph e
-  family_kept above kept are is rise = same_keys kept (family graph e) rise (family_sorted graph e) (λ q.
-      ap (λ l. is_among l q) is
-      ∙ is_among-filter (λ k. is_gt (nat_cmp (length graph) k)) (insert_key nat_cmp above e) q
-      ∙ rw (is_among-insert above e q, below (length graph) q, are q, turned e q) (in_one (q == e) (is_ancestor graph e q) (nat_lt q (length graph)))
-      ∙ sym (in_family graph e q))
+pub family_past : (graph : List (List ℕ)) (e : ℕ) → length graph ≤ e → family graph e ≡ []
+family_past graph e past = same_keys (family graph e) [] (family_sorted graph e) none_sorted (λ q. sym (none_of_past graph e q past))

@@ -1,5 +1,5 @@
 -- What is kept to answer who stands above whom.
-use Rattle.std.specs.Prelude.{◌≡◌, ℕ, ◌&&◌, nat_lt, Bool, IsTrue, length, List, [], Option, None, Some, if◌then◌else◌}
+use Rattle.std.specs.Prelude.{◌≡◌, ℕ, ◌&&◌, ◌==◌, nat_lt, Bool, IsTrue, length, List, [], Option, None, Some, if◌then◌else◌}
 use Rattle.std.specs.Borrow.{Bor}
 use Rattle.lineage.specs.declared.walks.Trace.{Trace}
 use Rattle.lineage.specs.Lineage.{is_among, supertypes, is_ancestor, family}
@@ -32,3 +32,7 @@ AreAbove graph member above = (a : ℕ) → is_among above a ≡ (nat_lt a (leng
 abbrev pub family_of : Option (Bor (List (List ℕ))) → ℕ → List ℕ
 family_of None member = []
 family_of (Some graph) member = family graph.now member
+
+-- whether it is a member, and nobody stands above it
+abbrev pub is_alone : List (List ℕ) → ℕ → Bool
+is_alone graph member = nat_lt member (length graph) && (length (supertypes graph member) == 0)

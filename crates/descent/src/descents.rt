@@ -85,15 +85,24 @@ fn all_within(
 ) -> Result<Option<BTreeSet<usize>>, AllocError>
     ensures { IfOk result (λ found. MatchOption found (limit < length (graphs.family graph.now member)) (λ all. all.keys ≡ graphs.family graph.now member)) }
 {
+    if member >= graph.len() {
+        return Ok(Some(BTreeSet::new(alloc)));
+    }
     let Some(mut found) = above_within(alloc, graph, member, limit)? else {
         return Ok(None);
     };
     found.insert(member)?;
-    found.split_off(&graph.len())?;
     if found.len() > limit {
         return Ok(None);
     }
     Ok(Some(found))
+}
+
+/// Whether it is a member, and nobody stands above it.
+fn is_alone(graph: &[Rows<usize>], member: usize) -> bool
+    ensures { result ≡ spec.is_alone graph.now member }
+{
+    member < graph.len() && supertypes(graph, member).is_empty()
 }
 
 /// The graph once more.
@@ -153,6 +162,10 @@ impl Descent {
         ensures exact { IfOk result (λ found. MatchOption found (limit < length (graphs.family self.now member)) (λ all. all.items ≡ graphs.family self.now member)) }
         ensures ascending { IfOk result (λ found. IfSome found (λ all. IsStrictlyIncreasing all.items)) }
     {
+        // Of most it is asked that have nobody above them: these need no set.
+        if limit > 0 && is_alone(&self.trees.graph, member) {
+            return Ok(Some(Vec::from_slice(alloc, &[member])?));
+        }
         match all_within(alloc, &self.trees.graph, member, limit)? {
             Some(found) => {
                 let all: Vec<usize> = found.into_iter().collect(alloc)?;

@@ -14,24 +14,17 @@ use Rattle.ex_attributes.specs.Tables.{rows_at, places_at, places_from, HasPlace
 
 -- ---- the places of keys
 
-pub place_next : (keys : List (List ℕ)) (i : ℕ) (none key : List ℕ) (before now : List ℕ) → i < length keys
-    → now ≡ (if bytes_eq (get_or keys i none) key then before ++ i ∷ [] else before)
-    → now ++ places_from key (i + 1) (drop (i + 1) keys) ≡ before ++ places_from key i (drop i keys)
-place_next keys i none key before now within is =
-    let k = get_or keys i none in
-    let later : suc i ≡ i + 1 = omega arith in
-    let rest = places_from key (i + 1) (drop (i + 1) keys) in
-    is_on (bytes_eq k key) rest now is
-    ∙ ap (λ j. before ++ (if bytes_eq k key then i ∷ places_from key j (drop j keys) else places_from key j (drop j keys))) (sym later)
-    ∙ ap (λ l. before ++ places_from key i l) (sym (drop-cons keys i none within))
-  where
-    append : (xs : List ℕ) (y : ℕ) (ys : List ℕ) → (xs ++ y ∷ []) ++ ys ≡ xs ++ y ∷ ys
-    append [] y ys = refl
-    append (x ∷ xs) y ys = ap (λ l. x ∷ l) (append xs y ys)
+append : (xs : List ℕ) (y : ℕ) (ys : List ℕ) → (xs ++ y ∷ []) ++ ys ≡ xs ++ y ∷ ys
+append [] y ys = refl
+append (x ∷ xs) y ys = ap (λ l. x ∷ l) (append xs y ys)
 
-    is_on : (b : Bool) (rest now : List ℕ) → now ≡ (if b then before ++ i ∷ [] else before) → now ++ rest ≡ before ++ (if b then i ∷ rest else rest)
-    is_on true rest now is = ap (λ l. l ++ rest) is ∙ append before i rest
-    is_on false rest now is = ap (λ l. l ++ rest) is
+is_on : (b : Bool) (i : ℕ) (rest before now : List ℕ) → now ≡ (if b then before ++ i ∷ [] else before) → now ++ rest ≡ before ++ (if b then i ∷ rest else rest)
+is_on true i rest before now is = ap (λ l. l ++ rest) is ∙ append before i rest
+is_on false i rest before now is = ap (λ l. l ++ rest) is
+
+pub place_next : (k key : List ℕ) (i : ℕ) (keys : List (List ℕ)) (before now : List ℕ) → now ≡ (if bytes_eq k key then before ++ i ∷ [] else before)
+    → now ++ places_from key (suc i) keys ≡ before ++ places_from key i (k ∷ keys)
+place_next k key i keys before now is = is_on (bytes_eq k key) i (places_from key (suc i) keys) before now is
 
 module _ {A : Type 0} (key_of : A → List ℕ) (key : List ℕ) where
   stands : (before : List A) (x : A) (xs : List A) → slice_get (before ++ x ∷ xs) (length before) ≡ Some x

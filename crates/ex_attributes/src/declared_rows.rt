@@ -66,7 +66,7 @@ fn by_name(
     ensures { IfOk result (λ table. tables.HasPlaces (λ a. a.name) rows.now table) }
 {
     let keys = name_keys(alloc, rows)?;
-    let table = places_by_key(alloc, &keys)?;
+    let table = places_by_key(alloc, keys)?;
     Ok(table)
 }
 
@@ -77,7 +77,7 @@ fn by_declarer(
     ensures { IfOk result (λ table. tables.HasPlaces tables.declarer_key rows.now table) }
 {
     let keys = declarer_keys(alloc, rows)?;
-    let table = places_by_key(alloc, &keys)?;
+    let table = places_by_key(alloc, keys)?;
     Ok(table)
 }
 
@@ -88,7 +88,7 @@ fn by_place(
     ensures { IfOk result (λ table. tables.HasPlaces tables.declared_key rows.now table) }
 {
     let keys = declared_keys(alloc, rows)?;
-    let table = places_by_key(alloc, &keys)?;
+    let table = places_by_key(alloc, keys)?;
     Ok(table)
 }
 

@@ -59,7 +59,7 @@ pub(crate) fn declarer_key(
 ) -> Result<Vec<usize>, AllocError>
     ensures { IfOk result (λ key. key.items ≡ tables.behind entity name.now) }
 {
-    let mut key = Vec::new(alloc);
+    let mut key = Vec::with_capacity(alloc, 1 + name.as_bytes().len())?;
     key.push(entity)?;
     for byte in name.as_bytes() {
         key.push(usize::from(*byte))?;

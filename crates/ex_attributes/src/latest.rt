@@ -125,6 +125,9 @@ impl Attributes {
     ) -> Result<Kinds, AllocError>
         ensures { IfOk result (λ kinds. kinds ≡ spec.kinds_at self.now place entity) }
     {
+        if self.redeclared().is_empty() {
+            return self.declared_kinds(alloc, place);
+        }
         let own = self.redeclared().by(alloc, entity, place)?;
         if own.is_empty() {
             self.inherited_kinds(alloc, place, entity)

@@ -1,6 +1,6 @@
 //! The attributes that entities redeclare, found by where they are declared, and by who redeclares them.
 
-ghost use Rattle.std.specs.Prelude.{◌≡◌, ◌==◌, ◌&&◌, IfOk, filter};
+ghost use Rattle.std.specs.Prelude.{◌≡◌, ◌==◌, ◌&&◌, IfOk, filter, length};
 ghost use Rattle.std.specs.List.{flat_map};
 ghost use Rattle.ex_named.specs.Scopes.{is_among};
 ghost use Rattle.ex_attributes.specs.Attributes as spec;
@@ -61,7 +61,7 @@ fn by_place(
     ensures { IfOk result (λ table. tables.HasPlaces tables.redeclared_key rows.now table) }
 {
     let keys = redeclared_keys(alloc, rows)?;
-    let table = places_by_key(alloc, &keys)?;
+    let table = places_by_key(alloc, keys)?;
     Ok(table)
 }
 
@@ -72,7 +72,7 @@ fn by_redeclarer(
     ensures { IfOk result (λ table. tables.HasPlaces tables.redeclarer_key rows.now table) }
 {
     let keys = redeclarer_keys(alloc, rows)?;
-    let table = places_by_key(alloc, &keys)?;
+    let table = places_by_key(alloc, keys)?;
     Ok(table)
 }
 
@@ -124,6 +124,13 @@ impl RedeclaredRows {
             by_redeclarer,
             is_ascending,
         })
+    }
+
+    /// Whether nothing is redeclared, as in most schemas.
+    pub(crate) fn is_empty(&self) -> bool
+        ensures { result ≡ (length self.now == 0) }
+    {
+        self.rows.is_empty()
     }
 
     /// All redeclarations of the attribute that is declared there.

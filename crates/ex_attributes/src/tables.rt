@@ -42,14 +42,13 @@ fn put(
 /// The places of each of these keys among them.
 pub(crate) fn places_by_key(
     alloc: Global,
-    keys: &[Rows<usize>],
+    keys: Vec<Rows<usize>>,
 ) -> Result<BTreeMap<Vec<usize>, Vec<usize>>, AllocError>
-    ensures { IfOk result (λ table. (key : List ℕ) → spec.places_at key table ≡ spec.places_from key 0 keys.now) }
+    ensures { IfOk result (λ table. (key : List ℕ) → spec.places_at key table ≡ spec.places_from key 0 keys.items) }
 {
     let mut table = BTreeMap::new(alloc);
-    for (place, key) in keys.iter().enumerate() {
-        let key = Vec::from_slice(alloc, key.as_slice())?;
-        put(alloc, &mut table, key, place)?;
+    for (place, key) in keys.into_iter().enumerate() {
+        put(alloc, &mut table, key.into_vec(), place)?;
     }
     Ok(table)
 }

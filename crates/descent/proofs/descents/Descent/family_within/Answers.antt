@@ -1,7 +1,14 @@
-use Rattle.std.proofs.Common.{◌≡◌, rules}
+use Rattle.std.proofs.Common.{◌≡◌, true, rules, sym, ◌∙◌, arith}
 use Rattle.lineage.specs.Lineage.{family}
 use Rattle.lineage.proofs.Families.{family_rises}
+use Rattle.descent.specs.Kept.{is_alone}
+use Rattle.descent.proofs.Members.{family_alone}
 use Rattle.descent.proofs.descents.Descent.family_within.Goals as goal
+
+pub returns-then-is_alone-clause-exact : goal.returns-then-is_alone-clause-exact
+returns-then-is_alone-clause-exact c =
+    let is : is_alone c.args.self.now c.args.member ≡ true = grind arith in
+    c.in_ok-from_slice.ensures.items ∙ sym (family_alone c.args.self.now c.args.member is)
 
 pub returns-in_ok-all-in-Some-clause-ascending : goal.returns-in_ok-all-in-Some-clause-ascending
 returns-in_ok-all-in-Some-clause-ascending c =
