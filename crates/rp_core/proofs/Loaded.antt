@@ -1,5 +1,5 @@
 -- A file that was read in one pass.
-use Rattle.std.proofs.Common.{◌≡◌, ℕ, true, false, List, Option, Some, None, Result, Ok, Err, ⊎_elim, refl, sym, ◌∙◌, ap}
+use Rattle.std.proofs.Common.{◌≡◌, true, false, List, Some, Result, Ok, Err, ⊎_elim, ap}
 use Rattle.std.proofs.lemmas.Bool.{cases_Bool}
 use Rattle.ex_types.specs.Checked.{Checked}
 use Rattle.p21_bind.specs.Files.{bound_file}
