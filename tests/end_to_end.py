@@ -18,9 +18,10 @@ import time
 from harness import TOP, Folder, Wrong, run_tests, shortened
 from messages import (
     BAD_NAME, BAD_REQUEST, CONFIG, EXISTS, FILE_LIMIT, FIRST, FIRST_EXPORT, FIRST_LINES, FIRST_NAMES, FIRST_REPLIES, HEAD,
-    LINE_LIMIT, NO_SUCH_INSTANCE, NO_SUCH_ITEM, OK, T, TOO_LARGE, TOO_MANY, UNKNOWN_PARTNER, UNKNOWN_SCHEMA, WRONG_SCHEMA, Repository, canonical,
-    check, create, expect, expect_config_fault, expect_fault, expect_replies, export, exported, fault, file_fault, file_of, get, got, grant,
+    IN_USE, LINE_LIMIT, NO_RIGHT, NO_SUCH_INSTANCE, NO_SUCH_ITEM, OK, T, TOO_LARGE, TOO_MANY, UNKNOWN_PARTNER, UNKNOWN_SCHEMA, WRONG_SCHEMA, Repository,
+    add, added, canonical, check, create, delete, drop, expect, expect_config_fault, expect_fault, expect_replies, export, exported, fault, file_fault, file_of, get, got, grant,
     instance_fault, instances, line, list_of, listed, loaded, named, names, put, refused, schemas,
+    set_instance,
 )
 
 sys.path.insert(0, os.path.join(TOP, "bench"))
@@ -108,6 +109,98 @@ def test_refusals_of_single_instances():
             (get("ann", "carl", "a b", 3), BAD_NAME), (get("ann", "c d", "m", 3), BAD_NAME), (get("ann", "carl", "m", 3), UNKNOWN_PARTNER),
             (get("ann", "ann", "z", 3), NO_SUCH_ITEM), (get("bob", "ann", "m", 1), NO_SUCH_ITEM), (get("bob", "ann", "m", 3), NO_SUCH_ITEM),
             (get("ann", "ann", "m", 3), NO_SUCH_INSTANCE)])
+
+
+def test_single_changes():
+    """An instance is added under the greatest name and one, replaced whole, and dropped where no other one refers to it. What
+    comes of it is exported as any content, and put again."""
+    text = canonical("#4=P(1.E1,'b');", "#5=Q(#4);")
+    expect([*FIRST,
+            (drop("ann", "ann", "m", 1), IN_USE), (drop("ann", "ann", "m", 2), OK), (add("ann", "ann", "m", "Q(#1)"), added(3)),
+            (drop("ann", "ann", "m", 2), NO_SUCH_INSTANCE), (names("ann", "ann", "m"), named((1, "P"), (3, "Q"))),
+            (drop("ann", "ann", "m", 3), OK), (drop("ann", "ann", "m", 1), OK), (names("ann", "ann", "m"), named()),
+            (export("ann", "ann", "m"), exported(canonical())), (drop("ann", "ann", "m", 1), NO_SUCH_INSTANCE),
+            (add("ann", "ann", "m", " p ( 10 , 'b' ) /**/ "), added(4)), (get("ann", "ann", "m", 4), got("#4=P(1.E1,'b');")),
+            (add("ann", "ann", "m", "(Q(#4))"), added(5)), (export("ann", "ann", "m"), exported(text)),
+            (put("ann", "ann", "m", text), instances(2)), (export("ann", "ann", "m"), exported(text))])
+
+
+def test_changes_by_another():
+    """Who may write a model may change its instances, and who may read it sees what they are."""
+    expect([*FIRST, (add("bob", "ann", "m", "P(2.,$)"), NO_SUCH_ITEM), (grant("ann", "m", "bob", "write"), OK),
+            (add("bob", "ann", "m", "P(2.,$)"), added(3)), (get("ann", "ann", "m", 3), got("#3=P(2.,$);")),
+            (set_instance("bob", "ann", "m", 3, "P(5.,$)"), OK), (get("ann", "ann", "m", 3), got("#3=P(5.,$);")),
+            (grant("ann", "m", "bob", "read"), OK), (add("bob", "ann", "m", "P(2.,$)"), NO_RIGHT),
+            (set_instance("bob", "ann", "m", 3, "P(2.,$)"), NO_RIGHT), (drop("bob", "ann", "m", 3), NO_RIGHT),
+            (get("bob", "ann", "m", 3), got("#3=P(5.,$);"))])
+
+
+def test_names_that_are_given():
+    """A name isn't given twice while its model exists: not after a drop, nor after another file."""
+    expect([*FIRST, (put("ann", "ann", "m", file_of("#9=P(1.,$);")), instances(1)), (put("ann", "ann", "m", file_of("")), instances(0)),
+            (add("ann", "ann", "m", "P(1.,$)"), added(10)), (drop("ann", "ann", "m", 10), OK), (add("ann", "ann", "m", "P(1.,$)"), added(11)),
+            (put("ann", "ann", "m", file_of("#3=P(1.,$);")), instances(1)), (add("ann", "ann", "m", "P(1.,$)"), added(12)),
+            (delete("ann", "m"), OK), (create("ann", "m"), OK), (add("ann", "ann", "m", "P(1.,$)"), added(1)),
+            (put("ann", "ann", "m", file_of("#999999999999999998=P(1.,$);")), instances(1)),
+            (add("ann", "ann", "m", "P(2.,$)"), added(999_999_999_999_999_999)), (add("ann", "ann", "m", "P(3.,$)"), TOO_MANY),
+            (add("ann", "ann", "m", "P($)"), instance_fault("WrongCount", 10**18)), (add("ann", "ann", "m", "P($,"), file_fault("Syntax", 4)),
+            (set_instance("ann", "ann", "m", 999_999_999_999_999_999, "P(3.,$)"), OK),
+            (drop("ann", "ann", "m", 999_999_999_999_999_999), OK), (add("ann", "ann", "m", "P(2.,$)"), TOO_MANY),
+            (names("ann", "ann", "m"), named((999_999_999_999_999_998, "P")))])
+
+
+def test_what_one_instance_refers_to():
+    """It may name what the model has before the request: itself where it is set, and not where it is added."""
+    schema = "SCHEMA T; ENTITY p; x : OPTIONAL p; END_ENTITY; END_SCHEMA;"
+    expect([(create("ann", "m"), OK), (add("ann", "ann", "m", "P(#1)"), instance_fault("Undefined", 1)), (add("ann", "ann", "m", "P($)"), added(1)),
+            (set_instance("ann", "ann", "m", 1, "P(#2)"), instance_fault("Undefined", 1)), (set_instance("ann", "ann", "m", 1, "P(#1)"), OK),
+            (add("ann", "ann", "m", "P(#1)"), added(2)), (set_instance("ann", "ann", "m", 1, "P(#2)"), OK),
+            (drop("ann", "ann", "m", 1), IN_USE), (drop("ann", "ann", "m", 2), IN_USE), (set_instance("ann", "ann", "m", 1, "P(#1)"), OK),
+            (drop("ann", "ann", "m", 2), OK), (drop("ann", "ann", "m", 1), OK), (names("ann", "ann", "m"), named())], t=schema)
+
+
+def test_texts_of_one_instance():
+    """Faults lie at bytes of the text, which has neither a name, a semicolon nor a byte order mark."""
+    deep = "(" * 16 + "1" + ")" * 16
+    faults = [
+        ("P(1.,'ab", "Open", 5), ("P(1. /* x", "Open", 5), ("P(1.,'a'", "Syntax", 8), ("", "Syntax", 0), ("P(1.,$);", "Syntax", 7),
+        ("#3=P(1.,$)", "Syntax", 0), ("\ufeffP(1.,$)", "Token", 0), ("P(1.,$) P(1.,$)", "Syntax", 8), ("()", "Syntax", 1),
+        (f"P(({deep}),$)", "Deep", 18), ("P(9223372036854775808,$)", "Number", 2), ("P(1.,'\\X2\\D800\\X0\\')", "Code", 5),
+    ]
+    bad = [("P(x,$)".replace("x", deep), "WrongKind"), ("X()", "UnknownEntity"), ("(P(1.,$)P(1.,$))", "Twice"), ("(P(1.,$)Q(#1))", "IllegalCombination"),
+           ("P(1.)", "WrongCount"), ("P(*,$)", "NotDerived"), ("Q(#3)", "Undefined"), ("Q('a')", "WrongKind")]
+    turns = [*FIRST]
+    for text, kind, at in faults:
+        turns += [(add("ann", "ann", "m", text), file_fault(kind, at)), (set_instance("ann", "ann", "m", 7, text), file_fault(kind, at))]
+    for text, kind in bad:
+        turns += [(add("ann", "ann", "m", text), instance_fault(kind, 3)), (set_instance("ann", "ann", "m", 7, text), instance_fault(kind, 7))]
+    expect(turns + [(names("ann", "ann", "m"), FIRST_NAMES), (export("ann", "ann", "m"), FIRST_EXPORT)])
+
+
+def test_refusals_of_single_changes():
+    """They are tested in the order of their codes."""
+    expect([*FIRST,
+            (add("ann", "carl", "a b", "P("), BAD_NAME), (add("ann", "carl", "m", "P("), UNKNOWN_PARTNER), (add("bob", "ann", "m", "P("), NO_SUCH_ITEM),
+            (add("ann", "ann", "m", "x" * (FILE_LIMIT + 1)), TOO_LARGE), (set_instance("ann", "carl", "a b", 1, "x" * (FILE_LIMIT + 1)), TOO_LARGE),
+            (set_instance("ann", "c d", "m", 3, "P("), BAD_NAME), (set_instance("ann", "carl", "m", 3, "P("), UNKNOWN_PARTNER),
+            (set_instance("ann", "ann", "z", 3, "P("), NO_SUCH_ITEM), (set_instance("ann", "ann", "m", 3, "P("), file_fault("Syntax", 2)),
+            (set_instance("ann", "ann", "m", 3, "P($)"), instance_fault("WrongCount", 3)), (set_instance("ann", "ann", "m", 3, "P($,$)"), NO_SUCH_INSTANCE),
+            (drop("ann", "carl", "a b", 3), BAD_NAME), (drop("ann", "carl", "m", 3), UNKNOWN_PARTNER), (drop("bob", "ann", "m", 1), NO_SUCH_ITEM),
+            (drop("ann", "ann", "z", 1), NO_SUCH_ITEM), (drop("ann", "ann", "m", 3), NO_SUCH_INSTANCE),
+            (line("ann", "add", owner="ann", model="m"), BAD_REQUEST), (line("ann", "add", owner="ann", model="m", text="Q(#1)", instance=3), BAD_REQUEST),
+            (line("ann", "set", owner="ann", model="m", text="Q(#1)"), BAD_REQUEST), (line("ann", "drop", owner="ann", model="m"), BAD_REQUEST),
+            (line("ann", "drop", owner="ann", model="m", instance=1, text=""), BAD_REQUEST),
+            (line("ann", "set", owner="ann", model="m", instance=10**18, text="Q(#1)"), BAD_REQUEST)])
+
+
+def test_a_full_model():
+    """A model has at most 200,000 instances: one can be replaced, and one more is added once another is dropped."""
+    many = "".join(f"#{k}=P($,$);" for k in range(1, 200_001))
+    expect([(create("ann", "m"), OK), (put("ann", "ann", "m", file_of(many)), instances(200_000)), (add("ann", "ann", "m", "P($,$)"), TOO_MANY),
+            (add("ann", "ann", "m", "P($)"), instance_fault("WrongCount", 200_001)), (set_instance("ann", "ann", "m", 7, "P(1.,$)"), OK),
+            (drop("ann", "ann", "m", 9), OK), (add("ann", "ann", "m", "P(2.,$)"), added(200_001)), (add("ann", "ann", "m", "P($,$)"), TOO_MANY),
+            (get("ann", "ann", "m", 7), got("#7=P(1.,$);")), (get("ann", "ann", "m", 9), NO_SUCH_INSTANCE),
+            (get("ann", "ann", "m", 200_001), got("#200001=P(2.,$);")), (get("ann", "ann", "m", 200_000), got("#200000=P($,$);"))])
 
 
 def test_files_that_are_cut_off():
@@ -244,8 +337,6 @@ def test_requests_that_come_later():
     lines = [
         line("ann", "create_group", name="g", schema="T"), line("ann", "delete_group", name="g"),
         line("ann", "put", **model, file=file_of(""), links=[]), line("ann", "export", **model, links=True),
-        line("ann", "add", **model, text="P(1.,$)"),
-        line("ann", "set", **model, instance=1, text="P(1.,$)"), line("ann", "drop", **model, instance=1),
         line("ann", "members", **group), line("ann", "extent", **group, type="P"), line("ann", "validate", **group),
         line("ann", "grant", kind="model", name="m", to="bob", level="group"),
         line("ann", "grant", kind="group", name="g", to="bob", level="read"),

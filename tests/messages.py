@@ -71,6 +71,18 @@ def get(who, owner, model, instance):
     return line(who, "get", owner=owner, model=model, instance=instance)
 
 
+def add(who, owner, model, text):
+    return line(who, "add", owner=owner, model=model, text=text)
+
+
+def set_instance(who, owner, model, instance, text):
+    return line(who, "set", owner=owner, model=model, instance=instance, text=text)
+
+
+def drop(who, owner, model, instance):
+    return line(who, "drop", owner=owner, model=model, instance=instance)
+
+
 def list_of(who):
     return line(who, "list")
 
@@ -98,6 +110,11 @@ OK = b'{"ok":{}}'
 
 def instances(count):
     return b'{"ok":{"instances":%d}}' % count
+
+
+def added(name):
+    """The reply to `add` of an instance that has this name from now on."""
+    return b'{"ok":{"name":%d}}' % name
 
 
 def exported(text):
@@ -160,6 +177,7 @@ NO_SUCH_ITEM = refused(7, "NoSuchItem")
 NO_RIGHT = refused(8, "NoRight")
 WRONG_SCHEMA = refused(9, "WrongSchema")
 NO_SUCH_INSTANCE = refused(14, "NoSuchInstance")
+IN_USE = refused(15, "InUse")
 TOO_MANY = refused(16, "TooMany")
 
 # ---- turns

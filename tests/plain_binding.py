@@ -403,6 +403,11 @@ def bound_instance(schema, instance, names, before):
     return Bound(name, types, found)
 
 
+def refers_to(instance, name):
+    """Whether a bound instance has a reference to this name."""
+    return any(Reference(name) == it for value in instance.values.values() for it in within(value))
+
+
 def bound(schema, instances):
     """The instances of a file by a schema, in order of name. InstanceFault where one is faulty."""
     names, before, found = {it.name for it in instances}, set(), []

@@ -4,7 +4,7 @@ import re
 from typing import NamedTuple
 
 from plain_binding import DERIVED, UNSET, Bits, Header, Instance, Item, Reference, Typed, real_of
-from plain_model import File
+from plain_model import File, Mapping
 
 TOKEN = re.compile(r"""
     (?P<blank> [\0- ]+ | /\*.*?\*/ | \\[NF]\\ ) | (?P<string> '(?:[^']|'')*' ) | (?P<binary> "[0-3][0-9A-Fa-f]*" )
@@ -61,7 +61,7 @@ class Reader:
     """What is left of a file's tokens."""
 
     def __init__(self, text):
-        self.tokens = tokens_of(text.removeprefix("\ufeff"))
+        self.tokens = tokens_of(text)
 
     def is_next(self, text):
         return self.tokens[-1].text == text
@@ -99,9 +99,7 @@ class Reader:
         self.take(";")
         return found
 
-    def instance(self):
-        name = int(self.tokens.pop().text[1:])
-        self.take("=")
+    def mapping(self):
         is_whole = not self.is_next("(")
         parts = []
         if is_whole:
@@ -111,8 +109,14 @@ class Reader:
             while not self.is_next(")"):
                 parts.append((self.tokens.pop().text, self.values()))
             self.take(")")
+        return Mapping(parts, is_whole)
+
+    def instance(self):
+        name = int(self.tokens.pop().text[1:])
+        self.take("=")
+        mapping = self.mapping()
         self.take(";")
-        return Instance(name, parts, is_whole)
+        return Instance(name, *mapping)
 
     def file(self):
         self.take("ISO-10303-21", ";", "HEADER", ";")
@@ -128,4 +132,13 @@ class Reader:
 
 def read(text):
     """What a file says, which has one data section without a name and no further entities in its header."""
-    return Reader(text).file()
+    return Reader(text.removeprefix("\ufeff")).file()
+
+
+def read_mapping(text):
+    """What a text of one instance says."""
+    reader = Reader(text)
+    found = reader.mapping()
+    if reader.tokens:
+        raise ValueError(f"{reader.tokens[-1].text!r} stands behind the instance")
+    return found

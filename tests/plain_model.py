@@ -27,7 +27,8 @@ NESTING = 127
 
 CODES = {
     "BadRequest": 1, "TooLarge": 2, "BadName": 3, "UnknownPartner": 4, "UnknownSchema": 5, "Exists": 6, "NoSuchItem": 7,
-    "NoRight": 8, "WrongSchema": 9, "FileFault": 11, "InstanceFault": 12, "NoSuchInstance": 14, "TooMany": 16, "NoMemory": 18,
+    "NoRight": 8, "WrongSchema": 9, "FileFault": 11, "InstanceFault": 12, "NoSuchInstance": 14,
+    "InUse": 15, "TooMany": 16, "NoMemory": 18,
 }
 
 # keys whose values are words, and keys whose values are whole numbers of at most 18 digits; those of the others are any strings
@@ -47,8 +48,15 @@ class File(NamedTuple):
     instances: list
 
 
+class Mapping(NamedTuple):
+    """A text of one instance that reads: its parts, as those of plain_binding.Instance."""
+
+    parts: list
+    is_whole: bool
+
+
 class FileFault(NamedTuple):
-    """The first fault of a file that doesn't read."""
+    """The first fault of a file, or of a text of one instance, that doesn't read."""
 
     kind: str
     at: int
@@ -164,7 +172,8 @@ def request_of(line):
 
 @dataclass
 class Model:
-    """A model. Its grants are levels by partner, its instances are those of plain_binding.bound, in order of name."""
+    """A model. Its grants are levels by partner, its instances are those of plain_binding.bound, in order of name. The
+    greatest name is that of all instances that it ever had."""
 
     owner: str
     name: str
@@ -172,17 +181,37 @@ class Model:
     grants: dict = field(default_factory=dict)
     header: Header = DEFAULT_HEADER
     instances: list = field(default_factory=list)
+    greatest: int = 0
+
+    def fill(self, header, instances):
+        self.header, self.instances = header, instances
+        self.greatest = max([self.greatest, *(it.name for it in instances)])
+
+    def place(self, instance):
+        """The instance stands under its name."""
+        others = [it for it in self.instances if it.name != instance.name]
+        self.instances = sorted([*others, instance], key=lambda it: it.name)
+        self.greatest = max(self.greatest, instance.name)
+
+    def instance(self, name):
+        """The instance of this name, which there has to be."""
+        for it in self.instances:
+            if it.name == name:
+                return it
+        raise Refused("NoSuchInstance")
 
 
 class Repository:
     """Partners, schemas as plain_binding.Schema, and models. `file_of` tells the File or the FileFault of a text that is
-    put, and `told_of` the content of the reply to `check_schema`."""
+    put, `mapping_of` the Mapping or the FileFault of a text of one instance, and `told_of` the content of the reply to
+    `check_schema`."""
 
-    def __init__(self, partners, schemas, file_of, told_of):
+    def __init__(self, partners, schemas, file_of, mapping_of, told_of):
         self.partners = list(partners)
         self.schemas_by_name = {upper(it.name): it for it in schemas}
         self.models = []
         self.file_of = file_of
+        self.mapping_of = mapping_of
         self.told_of = told_of
 
     def step(self, line):
@@ -256,10 +285,7 @@ class Repository:
         if len(instances) > INSTANCES_OF_ONE_MODEL:
             raise Refused("TooMany")
 
-        def fill():
-            target.header, target.instances = found.header, instances
-
-        return {"instances": len(instances)}, fill
+        return {"instances": len(instances)}, lambda: target.fill(found.header, instances)
 
     @request
     def export(self, who, owner, model):
@@ -275,10 +301,43 @@ class Repository:
     @request
     def get(self, who, owner, model, instance):
         found = self.seen(who, owner, model, ["owner", "write", "read"])
-        for it in found.instances:
-            if it.name == instance:
-                return {"text": plain_binding.instance_text(self.schemas_by_name[found.schema], it)}, None
-        raise Refused("NoSuchInstance")
+        return {"text": plain_binding.instance_text(self.schemas_by_name[found.schema], found.instance(instance))}, None
+
+    def said(self, model, name, text):
+        """The instance of this name that a text says."""
+        found = self.mapping_of(text)
+        if isinstance(found, FileFault):
+            raise Refused("FileFault", at=found.at, kind=found.kind)
+        spelled = plain_binding.Instance(name, *found)
+        names = {it.name for it in model.instances}
+        try:
+            return plain_binding.bound_instance(self.schemas_by_name[model.schema], spelled, names, {})
+        except InstanceFault as fault:
+            raise Refused("InstanceFault", instance=fault.name, kind=fault.kind) from None
+
+    @request
+    def add(self, who, owner, model, text):
+        target = self.seen(who, owner, model, ["owner", "write"])
+        new = self.said(target, target.greatest + 1, text)
+        if target.greatest >= GREATEST_NUMBER or len(target.instances) >= INSTANCES_OF_ONE_MODEL:
+            raise Refused("TooMany")
+        return {"name": new.name}, lambda: target.place(new)
+
+    @request
+    def set(self, who, owner, model, instance, text):
+        target = self.seen(who, owner, model, ["owner", "write"])
+        new = self.said(target, instance, text)
+        target.instance(instance)
+        return {}, lambda: target.place(new)
+
+    @request
+    def drop(self, who, owner, model, instance):
+        target = self.seen(who, owner, model, ["owner", "write"])
+        dropped = target.instance(instance)
+        others = [it for it in target.instances if it is not dropped]
+        if any(plain_binding.refers_to(it, instance) for it in others):
+            raise Refused("InUse")
+        return {}, lambda: setattr(target, "instances", others)
 
     @request
     def list(self, who):

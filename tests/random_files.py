@@ -8,7 +8,7 @@ from plain_binding import (
     DERIVED, UNSET, Aggregate, Bits, Entity, Enumeration, Header, Instance, Item, Reference, Schema, Select, Typed, line_of, members,
     places_of, real_of, target,
 )
-from plain_model import File, FileFault
+from plain_model import File, FileFault, Mapping
 
 NOTHING = [""] * 12
 BLANKS = [" ", "  ", "\n", "\r\n", "\t", "\x01", "\x00", "/**/", "/***/", "/* é */", "/* it's #1=P(; */", "\\N\\", "\\F\\"]
@@ -135,7 +135,7 @@ def any_value(random, names, depth=0):
         return list_of([any_value(random, names, depth + 1) for _ in range(random.choice([0, 1, 1, 2, 3]))])
     if kind < 0.50 and depth < 4:
         return typed(random, random.choice(KEYWORDS), any_value(random, names, depth + 1))
-    if kind < 0.55 and depth == 0:
+    if kind < 0.6 and depth == 0:
         return deep_value(random)
     return scalar(random, SCALARS)
 
@@ -328,6 +328,33 @@ def exchange_file(random, schema, section):
     if marks:
         return text.decode(), FileFault(*marks[0])
     return text.decode(), File([schema] if section is None else [schema, section], said, instances)
+
+
+def faulty_mapping(random, tokens):
+    """The marked text of the tokens of one instance with a fault before one of them, or behind all."""
+    place = random.randrange(len(tokens) + 1)
+    front = joined(random, tokens[:place])
+    back = joined(random, tokens[place:]) if random.random() < 0.5 else ""
+    kind = random.choice(["Cut", "Other", "Token", "Number", "Open", "Mark"])
+    if kind == "Cut" and place < len(tokens):
+        return front + "⟦Syntax⟧"
+    if kind in NO_TOKENS:
+        return f"{front} ⟦{kind}⟧{random.choice(NO_TOKENS[kind])} {back}"
+    if kind == "Open":
+        return f"{front} ⟦Open⟧{random.choice(OPEN)}"
+    if kind == "Mark":
+        return "⟦Token⟧\ufeff" + joined(random, tokens)
+    return front + random.choice(["⟦Syntax⟧=", "⟦Syntax⟧;"]) + back
+
+
+def instance_text(random, names):
+    """A text of one instance that may refer to these names, and what there is to find."""
+    spelled, said = instance(random, 0, names)
+    tokens = spelled[2:-1]
+    is_whole = not any("⟦" in it for it in tokens)
+    marked = faulty_mapping(random, tokens) if is_whole and random.random() < 0.2 else joined(random, tokens)
+    text, marks = unmarked(marked)
+    return text.decode(), FileFault(*marks[0]) if marks else Mapping(said.parts, said.is_whole)
 
 
 def long_file(schema, count):

@@ -22,8 +22,8 @@ import sys
 from harness import end, shortened, take_program
 from messages import Repository as RepositoryFolder
 from plain_binding import Entity, Schema, express
-from plain_model import CODES, LINE_LIMIT, REQUESTS, TEXT_LIMIT, File, FileFault, Repository, request_of
-from random_files import POOL, T, exchange_file, long_file, schema_text
+from plain_model import CODES, LINE_LIMIT, REQUESTS, TEXT_LIMIT, FileFault, Repository, request_of
+from random_files import POOL, UNDEFINED, T, exchange_file, instance_text, long_file, schema_text
 
 LABEL = "random lines"
 PARTNERS = ["ann", "bob", "cyd"]
@@ -52,12 +52,15 @@ DUE = {
 
 
 class Maker:
-    """Random choices, and what the texts say that were made by them."""
+    """Random choices, and what the texts say that were made by them. It looks at the plain repository, so that many requests
+    name what is there."""
 
     def __init__(self, seed):
         self.random = random.Random(seed)
+        self.repository = Repository(PARTNERS, SCHEMAS, self.file_said, self.mapping_said, self.text_said)
         # a word may come in place of any value
         self.files = {"m": FileFault("Syntax", 0)}
+        self.mappings = {"m": FileFault("Syntax", 1)}
         self.texts = {"m": {"fault": {"at": 0, "kind": "Syntax"}}}
 
     def happens(self, probability):
@@ -79,9 +82,30 @@ class Maker:
         self.texts[text] = said
         return text
 
+    def mapping_of(self, text, said):
+        self.mappings[text] = said
+        return text
+
     def file_of(self, text, said):
         self.files[text] = said
         return text
+
+    def file_said(self, text):
+        return self.files[text]
+
+    def mapping_said(self, text):
+        return self.mappings[text]
+
+    def text_said(self, text):
+        return self.texts[text]
+
+    def model(self, who):
+        """The owner and the name of a model, mostly of one that the partner may write, and the names of its instances."""
+        may_write = [it for it in self.repository.models if self.repository.level(who, it) in ("owner", "write")]
+        if may_write and self.happens(0.8):
+            found = self.choice(may_write)
+            return found.owner, found.name, [it.name for it in found.instances]
+        return self.owner(who), self.name(), []
 
 
 # ---- requests
@@ -109,9 +133,20 @@ def names(it, who):
 
 
 def get(it, who):
-    names_of = [one.name for said in [*it.files.values()][-8:] if isinstance(said, File) for one in said.instances]
-    instance = it.choice(names_of or POOL) if it.happens(0.8) else it.choice(NUMBERS)
-    return {"owner": it.owner(who), "model": it.name(), "instance": instance}
+    owner, name, there = it.model(who)
+    instance = it.choice(NUMBERS) if it.happens(0.2) else it.choice(there or POOL)
+    return {"owner": owner, "model": name, "instance": instance}
+
+
+def add(it, who):
+    owner, name, there = it.model(who)
+    return {"owner": owner, "model": name, "text": it.mapping_of(*instance_text(it.random, there + [UNDEFINED] * it.happens(0.1)))}
+
+
+def set_instance(it, who):
+    owner, name, there = it.model(who)
+    instance = it.choice(NUMBERS) if it.happens(0.2) else it.choice(there or POOL)
+    return {"owner": owner, "model": name, "instance": instance, "text": it.mapping_of(*instance_text(it.random, there))}
 
 
 def list_models(_it, _who):
@@ -137,7 +172,7 @@ def check_schema(it, _):
 # what makes the keys of each request of a partner's, and how often it is made
 MAKERS = {
     "create_model": (create_model, 12), "delete_model": (delete_model, 2), "put": (put, 40), "export": (export, 15), "names": (names, 12),
-    "get": (get, 12),
+    "get": (get, 12), "add": (add, 20), "set": (set_instance, 15), "drop": (get, 15),
     "list": (list_models, 8), "grant": (grant, 14), "revoke": (revoke, 4), "schemas": (schemas, 2),
     "check_schema": (check_schema, 5),
 }
@@ -161,7 +196,7 @@ NO_JSON = ["1e999", "01", "1.", "-", "NaN", "-Infinity", "1" * 310, '"\\ud800"',
 
 # words that a request doesn't have, also such as may come
 NO_WORDS = {
-    "do": ["Names", "names ", "name", "", "create_group", "Get", "set", "validate", "include", "add"],
+    "do": ["Names", "names ", "name", "", "create_group", "Get", "Add", "drop_instance", "validate", "include"],
     "kind": ["group", "group", "Model", ""],
     "level": ["group", "group", "group", "owner", "Read", ""],
 }
@@ -284,6 +319,7 @@ def great(it):
         yield line_of(it, [*put_of, ("file", it.file_of(padded(text, size), said))])
     yield line_of(it, [*put_of, ("file", it.file_of(*long_file("T", 200_001)))])
     yield line_of(it, [("as", who), ("do", "check_schema"), ("text", "x" * (TEXT_LIMIT + 1))])
+    yield line_of(it, [("as", who), ("do", "add"), ("owner", who), ("model", "great"), ("text", "x" * (TEXT_LIMIT + 1))])
     for size in (LINE_LIMIT, LINE_LIMIT + 1):
         yield padded(line_of(it, request(it)).decode(), size).encode()
     yield line_of(it, [("as", who), ("do", "delete_model"), ("name", "great")])
@@ -317,7 +353,7 @@ def sort_of(line, reply):
 def turns_of(seed, count):
     """The lines of a seed, each with its reply, and how often each sort of reply is due."""
     it = Maker(seed)
-    repository = Repository(PARTNERS, SCHEMAS, it.files.__getitem__, it.texts.__getitem__)
+    repository = it.repository
     turns, due = [], collections.Counter()
     for line in lines_of(it, count):
         reply, change = repository.step(line)

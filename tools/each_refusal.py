@@ -28,7 +28,7 @@ TOP = os.path.dirname(TOOLS)
 sys.dont_write_bytecode = True
 sys.path.insert(0, os.path.join(TOP, "tests"))
 from plain_binding import Aggregate, Entity, Enumeration, Schema, Select, express  # noqa: E402
-from plain_files import read  # noqa: E402
+from plain_files import read, read_mapping  # noqa: E402
 from plain_model import FileFault, Repository  # noqa: E402
 
 PROGRAM = os.path.join(TOP, "crates/rp_server/out/rp_server")
@@ -95,16 +95,25 @@ FILE_FAULTS = {
     "ISO-10303-21;HEADER;FILE_DESCRIPTION": FileFault("Syntax", 36),
 }
 
+# The same of texts of one instance.
+MAPPING_FAULTS = {"P(1.,'a'": FileFault("Syntax", 8)}
+
+
 def file_of(text):
     """What a file of the lines says."""
     return FILE_FAULTS.get(text) or read(text)
+
+
+def mapping_of(text):
+    """What a text of one instance says."""
+    return MAPPING_FAULTS.get(text) or read_mapping(text)
 
 
 def check_replies(lines, replies):
     """Each reply is NoMemory or the exact one. Answers how many are NoMemory."""
     if len(replies) != len(lines):
         raise Failure(f"{len(lines)} lines got {len(replies)} replies")
-    repository = Repository(PARTNERS, SCHEMAS.values(), file_of, TEXTS.__getitem__)
+    repository = Repository(PARTNERS, SCHEMAS.values(), file_of, mapping_of, TEXTS.__getitem__)
     count = 0
     for place, (line, reply) in enumerate(zip(lines, replies), 1):
         if reply == NO_MEMORY:

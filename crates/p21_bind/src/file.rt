@@ -96,11 +96,11 @@ fn instances(
 }
 
 /// The instances in the order of their names.
-pub fn in_name_order(mut instances: Vec<Instance>) -> Result<Items<Instance>, AllocError>
+pub fn in_name_order(mut instances: Vec<Instance>) -> Result<Rows<Instance>, AllocError>
     ensures { IfOk result (λ ordered. ordered ≡ in_order (λ x y. nat_lt x.name y.name) instances.items) }
 {
     instances.sort_by_key(|instance| instance.name)?;
-    Ok(Items::from_vec(instances))
+    Ok(Rows::from_vec(instances))
 }
 
 /// The header of a file, and its instances.

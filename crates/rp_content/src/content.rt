@@ -3,7 +3,7 @@
 use crate::header::Header;
 use crate::instance::Instance;
 use crate::link::Link;
-use plain_data::Items;
+use plain_data::{Items, Rows};
 use std::alloc::{AllocError, Global};
 
 /// What a model holds.
@@ -11,7 +11,7 @@ use std::alloc::{AllocError, Global};
 pub struct Content {
     pub header: Header,
     /// In order of name.
-    pub instances: Items<Instance>,
+    pub instances: Rows<Instance>,
     /// In order of name.
     pub links: Items<Link>,
 }
@@ -26,7 +26,7 @@ impl Content {
     {
         Ok(Content {
             header: Header::new(alloc)?,
-            instances: Items::new(alloc),
+            instances: Rows::new(alloc),
             links: Items::new(alloc),
         })
     }

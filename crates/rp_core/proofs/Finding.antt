@@ -14,7 +14,7 @@ use Rattle.sorted_tables.proofs.Ascending.{follows_all, none_before, none_there,
 use Rattle.rp_rows.specs.Rows.{Key, key_cmp, Row}
 use Rattle.rp_rows.proofs.Keys.{key_total, key_at, found_at}
 use Rattle.rp_core.specs.declared.keyed.Entry.{Entry}
-use Rattle.rp_core.specs.Entries.{entry_key, is_entry, place_in, IsThere, IsAbsent, with_value, standing}
+use Rattle.rp_core.specs.Entries.{entry_key, is_entry, place_in, IsThere, IsAbsent, with_value, revalued, standing}
 
 pub splits : {B : Type 0} (k : Key) (xs : List (Entry B)) → IsAscending key_cmp entry_key xs → IsPartitionedBy (is_before key_cmp entry_key k) xs
 splits k xs order = before_splits key_cmp entry_key key_total k xs order
@@ -159,3 +159,22 @@ valued_there k b xs ys i x same there here =
 pub valued_absent : {B : Type 0} (k : Key) (b : B) (xs : List (Entry B)) (i : ℕ) → IsAbsent k xs i → xs ≡ with_row key_cmp entry_key k (option_map (with_value b) (find (is_entry k) xs)) xs
 valued_absent k b xs i absent =
     taken_absent k xs i absent ∙ ap (λ o. with_row key_cmp entry_key k (option_map (with_value b) o) xs) (sym absent.none)
+
+-- ---- a value is changed
+
+pub revalued_ascends : {B : Type 0} (k : Key) (f : B → B) (xs : List (Entry B)) → IsAscending key_cmp entry_key xs → IsAscending key_cmp entry_key (with_row key_cmp entry_key k (option_map (revalued f) (find (is_entry k) xs)) xs)
+revalued_ascends {B = B} k f xs order = by (find (is_entry k) xs) refl
+  where
+    by : (o : Option (Entry B)) → find (is_entry k) xs ≡ o → IsAscending key_cmp entry_key (with_row key_cmp entry_key k (option_map (revalued f) o) xs)
+    by None e = none_ascends k xs order
+    by (Some x) e = keyed_ascends k (revalued f x) xs (entry_at k x (found_at (is_entry k) xs x e)) order
+
+pub revalued_there : {B : Type 0} (k : Key) (f : B → B) (xs ys : List (Entry B)) (i : ℕ) (x y : Entry B) → xs ≡ ys → IsThere k ys i → get_or ys i x ≡ x → y ≡ revalued f x → Becomes (set xs i y) (with_row key_cmp entry_key k (option_map (revalued f) (find (is_entry k) ys)) ys)
+revalued_there {B = B} k f xs ys i x y same there here is =
+    becomes (set xs i y) (with_row key_cmp entry_key k (option_map (revalued f) (find (is_entry k) ys)) ys)
+    (ap (λ zs. set zs i y) same ∙ ap (set ys i) is ∙ set_there k ys i (revalued f x) there ∙ ap (λ o. with_row key_cmp entry_key k (option_map (revalued f) o) ys) (sym (found_is k ys i x there here)))
+    (revalued_ascends k f ys there.order)
+
+pub revalued_absent : {B : Type 0} (k : Key) (f : B → B) (xs : List (Entry B)) (i : ℕ) → IsAbsent k xs i → xs ≡ with_row key_cmp entry_key k (option_map (revalued f) (find (is_entry k) xs)) xs
+revalued_absent k f xs i absent =
+    taken_absent k xs i absent ∙ ap (λ o. with_row key_cmp entry_key k (option_map (revalued f) o) xs) (sym absent.none)

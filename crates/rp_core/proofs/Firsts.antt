@@ -1,5 +1,5 @@
 -- The first test that holds.
-use Rattle.std.proofs.Common.{◌≡◌, ℕ, zero, suc, ◌<◌, true, false, List, [], ◌∷◌, length, take, get_or, Option, Some, None, is_some, refl, sym, arith}
+use Rattle.std.proofs.Common.{◌≡◌, ℕ, zero, suc, ◌<◌, true, false, List, [], ◌∷◌, ◌++◌, length, take, get_or, Option, Some, None, is_some, refl, sym, arith}
 use Rattle.rp_plain.specs.Meaning.{first_some}
 
 pub first_none : {A : Type 0} (xs : List (Option A)) (i : ℕ) (d : Option A) → i < length xs → first_some (take i xs) ≡ None → get_or xs i d ≡ None → first_some (take (suc i) xs) ≡ None
@@ -21,3 +21,23 @@ some_there (Some x) h xs i within before is = first_found xs i None x within bef
 pub none_there : {A : Type 0} (o : Option A) → is_some o ≡ false → o ≡ None
 none_there None h = refl
 none_there (Some x) h = cc
+
+-- ---- the first of some tests, and then of others
+
+pub first_front : {A : Type 0} (xs ys : List (Option A)) (x : A) → first_some xs ≡ Some x → first_some (xs ++ ys) ≡ Some x
+first_front [] ys x found = cc
+first_front (None ∷ xs) ys x found = first_front xs ys x found
+first_front (Some y ∷ xs) ys x found = found
+
+pub first_behind : {A : Type 0} (xs ys : List (Option A)) → first_some xs ≡ None → first_some (xs ++ ys) ≡ first_some ys
+first_behind [] ys none = refl
+first_behind (None ∷ xs) ys none = first_behind xs ys none
+first_behind (Some y ∷ xs) ys none = cc
+
+-- where none of four tests holds, the last doesn't
+pub fourth_none : {A : Type 0} (p q r s : Option A) → first_some (p ∷ q ∷ r ∷ s ∷ []) ≡ None → s ≡ None
+fourth_none None None None None none = refl
+fourth_none None None None (Some x) none = cc
+fourth_none None None (Some x) s none = cc
+fourth_none None (Some x) r s none = cc
+fourth_none (Some x) q r s none = cc

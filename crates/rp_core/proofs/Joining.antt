@@ -10,9 +10,9 @@ use Rattle.rp_rows.specs.Rows.{Text, Key, key_cmp, Row, row_key, is_row}
 use Rattle.rp_rows.specs.Sight.{owns}
 use Rattle.rp_rows.specs.Alterations.{Holds, altered, grants_of}
 use Rattle.rp_core.specs.declared.keyed.Entry.{Entry}
-use Rattle.rp_core.specs.Entries.{entry_key, is_entry, with_value, standing}
-use Rattle.rp_core.specs.Stored.{joined_row, joined, IsTable, rewritten}
-use Rattle.rp_core.proofs.Finding.{keyed_ascends, none_ascends, standing_key, stays, valued_ascends}
+use Rattle.rp_core.specs.Entries.{entry_key, is_entry, with_value, revalued, HasAt, standing}
+use Rattle.rp_core.specs.Stored.{joined_row, joined, IsTable, rewritten, reheld, HasRowAt}
+use Rattle.rp_core.proofs.Finding.{keyed_ascends, none_ascends, standing_key, stays, valued_ascends, revalued_ascends}
 use Rattle.rp_core.proofs.Counting.{is_owned}
 
 -- ---- entries by their keys
@@ -238,6 +238,35 @@ regrant_makes {A = A} k gs xs ys table =
       };
     }
 
+reheld_alike : {A : Type 0} (f : A → A) (o : Option (Entry A)) (p : Option (Entry (List Grant))) → map entry_key (option_to_list o) ≡ map entry_key (option_to_list p) → map entry_key (option_to_list (option_map (revalued f) o)) ≡ map entry_key (option_to_list p)
+reheld_alike f None p same = same
+reheld_alike f (Some x) p same = same
+
+reheld_both : {A : Type 0} (f : A → A) (o : Option (Entry A)) (p : Option (Entry (List Grant))) → both (option_map (revalued f) o) p ≡ option_map (reheld f) (both o p)
+reheld_both f None p = refl
+reheld_both f (Some x) None = refl
+reheld_both f (Some x) (Some y) = refl
+
+rehold_makes : {A : Type 0} (k : Key) (f : A → A) (xs : List (Entry A)) (ys : List (Entry (List Grant))) → IsTable xs ys → Makes (with_row key_cmp entry_key k (option_map (revalued f) (find (is_entry k) xs)) xs) ys (rewritten k (reheld f) (joined xs ys))
+rehold_makes {A = A} k f xs ys table =
+    let o = find (is_entry k) xs in
+    let p = find (is_entry k) ys in
+    let q = option_map (revalued f) o in
+    let alike = reheld_alike f o p (same_found k xs ys table.same) in
+    let changed = with_row key_cmp entry_key k q xs in
+    record {
+      rows_are =
+          ap (joined changed) (sym (stays k ys table.right_order))
+          ∙ joined-with k q p xs ys table.same alike
+          ∙ ap (λ r. with_row key_cmp row_key k r (joined xs ys)) (reheld_both f o p)
+          ∙ ap (λ (r : Option (Row A)). with_row key_cmp row_key k (option_map (reheld f) r) (joined xs ys)) (sym (find-joined k xs ys table.same));
+      table = record {
+        same = same_with k q p xs ys table.same alike ∙ ap (map entry_key) (stays k ys table.right_order);
+        order = revalued_ascends k f xs table.order;
+        right_order = table.right_order;
+      };
+    }
+
 -- ---- the same, where these are the rows
 
 pub put_rows : {A : Type 0} (k : Key) (h : A) (xs : List (Entry A)) (ys : List (Entry (List Grant))) (rows : List (Row A)) → IsTable xs ys → joined xs ys ≡ rows → Makes (with_row key_cmp entry_key k (Some (record { key = k; value = h })) xs) (with_row key_cmp entry_key k (Some (standing k [] (find (is_entry k) ys))) ys) (altered k (Holds (Some h)) rows)
@@ -251,6 +280,24 @@ remove_rows k xs ys rows table are =
 pub regrant_rows : {A : Type 0} (k : Key) (gs : List Grant) (xs : List (Entry A)) (ys : List (Entry (List Grant))) (rows : List (Row A)) → IsTable xs ys → joined xs ys ≡ rows → Makes xs (with_row key_cmp entry_key k (option_map (with_value gs) (find (is_entry k) ys)) ys) (rewritten k (λ x. record x { grants = gs }) rows)
 regrant_rows k gs xs ys rows table are =
     subst (λ rs. Makes xs (with_row key_cmp entry_key k (option_map (with_value gs) (find (is_entry k) ys)) ys) (rewritten k (λ x. record x { grants = gs }) rs)) are (regrant_makes k gs xs ys table)
+
+pub rehold_rows : {A : Type 0} (k : Key) (f : A → A) (xs : List (Entry A)) (ys : List (Entry (List Grant))) (rows : List (Row A)) → IsTable xs ys → joined xs ys ≡ rows → Makes (with_row key_cmp entry_key k (option_map (revalued f) (find (is_entry k) xs)) xs) ys (rewritten k (reheld f) rows)
+rehold_rows k f xs ys rows table are =
+    subst (λ rs. Makes (with_row key_cmp entry_key k (option_map (revalued f) (find (is_entry k) xs)) xs) ys (rewritten k (reheld f) rs)) are (rehold_makes k f xs ys table)
+
+-- what holds at a key of the rows holds of the entry there
+pub held_at : {A : Type 0} (P : A → Type 0) (k : Key) (xs : List (Entry A)) (ys : List (Entry (List Grant))) (rows : List (Row A)) → IsTable xs ys → joined xs ys ≡ rows → HasRowAt P k rows → HasAt P k xs
+held_at {A = A} P k xs ys rows table are has x found = by (find (is_entry k) ys) refl
+  where
+    at : find (is_row k) rows ≡ both (Some x) (find (is_entry k) ys)
+    at = ap (find (is_row k)) (sym are) ∙ find-joined k xs ys table.same ∙ ap (λ o. both o (find (is_entry k) ys)) found
+
+    by : (p : Option (Entry (List Grant))) → find (is_entry k) ys ≡ p → P x.value
+    by None e =
+        let same : map entry_key (option_to_list (find (is_entry k) xs)) ≡ map entry_key (option_to_list (find (is_entry k) ys)) = same_found k xs ys table.same in
+        let wrong : map entry_key (x ∷ []) ≡ [] = ap (λ o. map entry_key (option_to_list o)) (sym found) ∙ same ∙ ap (λ o. map entry_key (option_to_list o)) e in
+        cc
+    by (Some y) e = has (joined_row x y) (at ∙ ap (both (Some x)) e)
 
 pub row_read : {A : Type 0} (xs : List (Entry A)) (ys : List (Entry (List Grant))) (rows : List (Row A)) (i : ℕ) (x : Entry A) (y : Entry (List Grant)) (gs : List Grant) → joined xs ys ≡ rows → map entry_key xs ≡ map entry_key ys → i < length rows → x ≡ get_or xs i x → y ≡ get_or ys i y → gs ≡ y.value → let r : Row A = record { owner = x.key.0; name = x.key.1; holds = x.value; grants = gs } in get_or rows i r ≡ r
 row_read {A = A} xs ys rows i x y gs are same within is_x is_y is_gs =

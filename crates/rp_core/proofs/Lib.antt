@@ -4,7 +4,7 @@ pub mod Joining
 pub mod Looking
 pub mod Firsts
 pub mod SchemaNames
-pub mod Single
+pub mod Names
 pub mod Repeats
 pub mod Making
 pub mod Preparing

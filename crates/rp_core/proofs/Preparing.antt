@@ -5,11 +5,13 @@ use Rattle.ex_types.specs.Checked.{Checked}
 use Rattle.ex_check.specs.declared.fault.SchemaFault.{SchemaFault}
 use Rattle.ex_check.specs.Check.{schema as schema_of}
 use Rattle.p21_read.specs.File.{file_of}
-use Rattle.rp_rows.specs.Rows.{Text}
+use Rattle.sorted_tables.specs.Table.{IsAscending}
+use Rattle.rp_rows.specs.Rows.{Text, key_cmp, row_key}
 use Rattle.rp_plain.specs.declared.messages.Request.{Request}
-use Rattle.rp_plain.specs.declared.messages.Request.TheVariants.{CreateModel, DeleteModel, Put, Export, Names, Get, ListItems, GrantModel, RevokeModel, Schemas, CheckSchema}
+use Rattle.rp_plain.specs.declared.messages.Request.TheVariants.{CreateModel, DeleteModel, Put, Export, Names, Get, Add, Set, DropInstance, ListItems, GrantModel, RevokeModel, Schemas, CheckSchema}
 use Rattle.rp_plain.specs.declared.messages.Refusal.{Refusal}
 use Rattle.rp_plain.specs.declared.messages.Refusal.TheVariants.{NoMemory}
+use Rattle.rp_plain.specs.declared.messages.Reply.{Reply}
 use Rattle.rp_plain.specs.declared.messages.Reply.TheVariants.{Refused}
 use Rattle.rp_plain.specs.Plain.{Plain}
 use Rattle.rp_plain.specs.Edits.{changed}
@@ -24,7 +26,7 @@ use Rattle.rp_core.specs.declared.steps.Pending.{Pending}
 use Rattle.rp_core.specs.declared.steps.Steps.{Steps}
 use Rattle.rp_core.specs.declared.steps.Steps.TheVariants.{Nothing}
 use Rattle.rp_core.specs.Plans.{IsAnswer, IsRefusal}
-use Rattle.rp_core.specs.Held.{made, steps_of, IsPrepared}
+use Rattle.rp_core.specs.Held.{made_models, made_by, IsPrepared}
 use Rattle.rp_core.proofs.Making.{made_changed}
 
 stored_told : (read : Reading) → is_no_memory (stored read) ≡ false
@@ -43,14 +45,18 @@ told a c (Put k file) = stored_told (read_content a.schemas (a.content k) (file_
 told a c (Export k) = refl
 told a c (Names k) = refl
 told a c (Get k name) = refl
+told a c (Add k text) = refl
+told a c (Set k name text) = refl
+told a c (DropInstance k name) = refl
 told a c ListItems = refl
 told a c (GrantModel name to l) = refl
 told a c (RevokeModel name to) = refl
 told a c Schemas = refl
 told a c (CheckSchema text) = check_told (schema_of text)
 
-prepared_answer : (r : Plain) (c : Text) (q : Request) (plan : Plan) (steps : Steps) → IsAnswer (asked r c) c q plan → steps ≡ steps_of r.models plan.edits → IsPrepared r (record { caller = c; request = q }) (record { reply = plan.reply; steps = steps })
-prepared_answer r c q plan steps is are =
+prepared_answer : (r : Plain) (c : Text) (q : Request) (plan : Plan) (steps : Steps) → IsAscending key_cmp row_key r.models → IsAnswer (asked r c) c q plan → made_models steps r.models ≡ made_by plan.edits r.models
+    → IsPrepared r (record { caller = c; request = q }) (record { reply = plan.reply; steps = steps })
+prepared_answer r c q plan steps order is are =
     let a = asked r c in
     let no : is_no_memory plan.reply ≡ false = ap is_no_memory is.replies ∙ told a c q in
     let is_answer = sym (ap (outcome (meaning a c q)) is.passes) in
@@ -58,8 +64,8 @@ prepared_answer r c q plan steps is are =
       replies = λ _. is.replies ∙ ap (λ o. o.reply) is_answer;
       changes =
           rw no
-          (ap (λ s. made s r) are
-          ∙ made_changed r plan.edits
+          (ap (λ ms. record r { models = ms }) are
+          ∙ made_changed r c plan.edits order is.seen
           ∙ ap (λ es. changed es r) is.edits
           ∙ ap (λ o. changed o.edits r) is_answer);
     }
@@ -81,11 +87,12 @@ prepared_refusal r c q refusal refused = by (is_no_memory (Refused refusal)) ref
         }
 
 -- the same, where content and partner were read
-pub prepared_from : (r : Plain) (c : Text) (s : Plain) (d : Text) (q : Request) (plan : Plan) (pending : Pending) → s ≡ r → d ≡ c → IsAnswer (asked s d) d q plan → pending ≡ record { reply = plan.reply; steps = steps_of s.models plan.edits } → IsPrepared r (record { caller = c; request = q }) pending
-prepared_from r c s d q plan pending same who is are =
+pub prepared_from : (r : Plain) (c : Text) (s : Plain) (d : Text) (q : Request) (plan : Plan) (pending : Pending) → s ≡ r → d ≡ c → IsAscending key_cmp row_key s.models → IsAnswer (asked s d) d q plan → pending.reply ≡ plan.reply
+    → made_models pending.steps s.models ≡ made_by plan.edits s.models → IsPrepared r (record { caller = c; request = q }) pending
+prepared_from r c s d q plan pending same who order is reply are =
     subst (λ (p : Plain). IsPrepared p (record { caller = c; request = q }) pending) same
     (subst (λ (e : Text). IsPrepared s (record { caller = e; request = q }) pending) who
-    (subst (λ (p : Pending). IsPrepared s (record { caller = d; request = q }) p) (sym are) (prepared_answer s d q plan (steps_of s.models plan.edits) is refl)))
+    (subst (λ (told : Reply). IsPrepared s (record { caller = d; request = q }) (record { reply = told; steps = pending.steps })) (sym reply) (prepared_answer s d q plan pending.steps order is are)))
 
 pub refused_from : (r : Plain) (c : Text) (s : Plain) (d : Text) (q : Request) (refusal : Refusal) (pending : Pending) → s ≡ r → d ≡ c → IsRefusal (asked s d) d q refusal → pending ≡ record { reply = Refused refusal; steps = Nothing } → IsPrepared r (record { caller = c; request = q }) pending
 refused_from r c s d q refusal pending same who refused are =

@@ -36,6 +36,14 @@ pub record IsAbsent {B : Type 0} (k : Key) (xs : List (Entry B)) (place : ℕ) :
 abbrev pub with_value : {B : Type 0} → B → Entry B → Entry B
 with_value b x = record x { value = b }
 
+-- the entry with its value changed so
+abbrev pub revalued : {B : Type 0} → (B → B) → Entry B → Entry B
+revalued f x = record x { value = f x.value }
+
+-- the value at a key, if there is one, is such
+abbrev pub HasAt : {B : Type 0} → (B → Type 0) → Key → List (Entry B) → Type 0
+HasAt {B = B} P k xs = (x : Entry B) → find (is_entry k) xs ≡ Some x → P x.value
+
 -- what stands at a key, or this where nothing does
 abbrev pub standing : {B : Type 0} → Key → B → Option (Entry B) → Entry B
 standing k b None = record { key = k; value = b }

@@ -9,7 +9,7 @@ use Rattle.rp_plain.specs.Asked.{Asked}
 use Rattle.rp_plain.specs.Meaning.{key_fault, is_no_partner, lacks}
 use Rattle.rp_plain.specs.Files.{Reading, too_large}
 
--- the tests of a put that don't look into the file
+-- the tests of a request that puts a text into a model which don't look into the text
 abbrev pub cheap_tests : Asked → Key → Text → List (Option Refusal)
 cheap_tests a k file = too_large file ∷ key_fault k ∷ is_no_partner a k.0 ∷ lacks Writes (a.model_right k) ∷ []
 

@@ -1,10 +1,12 @@
 -- What a repository in memory holds, and what a prepared request is.
 use Rattle.std.specs.Prelude.{◌≡◌, ℕ, List, [], slice_index_or, Option, Some, None}
 use Rattle.std.specs.List.{find}
+use Rattle.std.specs.Vec.{vec_capacity}
 use Rattle.sorted_tables.specs.Table.{with_row}
 use Rattle.rp_rows.specs.declared.rows.ModelContent.{ModelContent}
 use Rattle.rp_rows.specs.declared.rows.Listing.{Listing}
 use Rattle.rp_rows.specs.Rows.{Text, text_cmp, grant_key, Key, Row, is_row, Model}
+use Rattle.rp_rows.specs.Instances.{with_instance, without_instance}
 use Rattle.rp_rows.specs.Alterations.{Holds, altered, grant_for, grants_of}
 use Rattle.rp_plain.specs.declared.messages.Request.{Request}
 use Rattle.rp_plain.specs.Plain.{Plain}
@@ -13,13 +15,14 @@ use Rattle.rp_plain.specs.Turns.{Turn, effect, after}
 use Rattle.rp_core.specs.declared.edits.Change.{Change}
 use Rattle.rp_core.specs.declared.edits.Change.TheVariants.{Hold, Remove as Gone, Grants}
 use Rattle.rp_core.specs.declared.edits.Edits.{Edits}
-use Rattle.rp_core.specs.declared.edits.Edits.TheVariants.{Nothing as NoEdit, OfModel as EditModel}
+use Rattle.rp_core.specs.declared.edits.Edits.TheVariants.{Nothing as NoEdit, OfModel as EditModel, Place as PlaceEdit, DropInstance as DropEdit}
 use Rattle.rp_core.specs.declared.steps.Step.{Step}
 use Rattle.rp_core.specs.declared.steps.Step.TheVariants.{Put, Remove, Regrant}
 use Rattle.rp_core.specs.declared.steps.Steps.{Steps}
-use Rattle.rp_core.specs.declared.steps.Steps.TheVariants.{Nothing, OfModel}
+use Rattle.rp_core.specs.declared.steps.Steps.TheVariants.{Nothing, OfModel, Place, DropInstance}
 use Rattle.rp_core.specs.declared.steps.Pending.{Pending}
-use Rattle.rp_core.specs.Stored.{Stored, rewritten, HasRoom}
+use Rattle.rp_core.specs.Named.{IsNamed, HasRoomIn}
+use Rattle.rp_core.specs.Stored.{Stored, rewritten, reheld, HasRowAt, HasRoom}
 
 -- the content, and the tables that it is made of
 pub record Kept : Type 0 where
@@ -37,6 +40,8 @@ stepped k (Regrant grants) rows = rewritten k (λ x. record x { grants = grants 
 abbrev pub made_models : Steps → List Model → List Model
 made_models Nothing ms = ms
 made_models (OfModel k step) ms = stepped k step ms
+made_models (Place k i spare) ms = rewritten k (reheld (with_instance i)) ms
+made_models (DropInstance k n) ms = rewritten k (reheld (without_instance n)) ms
 
 abbrev pub made : Steps → Plain → Plain
 made steps r = record r { models = made_models steps r.models }
@@ -47,9 +52,12 @@ step_of k found (Hold a) = Put k a
 step_of k found Gone = Remove
 step_of k found (Grants to l) = Regrant (with_row text_cmp grant_key to (grant_for to l) (grants_of found))
 
-abbrev pub steps_of : List Model → Edits → Steps
-steps_of ms NoEdit = Nothing
-steps_of ms (EditModel k change) = OfModel k (step_of k (find (is_row k) ms) change)
+-- what edits make of the models
+abbrev pub made_by : Edits → List Model → List Model
+made_by NoEdit ms = ms
+made_by (EditModel k change) ms = stepped k (step_of k (find (is_row k) ms) change) ms
+made_by (PlaceEdit k i) ms = rewritten k (reheld (with_instance i)) ms
+made_by (DropEdit k n) ms = rewritten k (reheld (without_instance n)) ms
 
 -- ---- what steps ask
 
@@ -61,6 +69,8 @@ StepFits k (Regrant grants) table = Unit {0}
 abbrev pub StepsFit : Stored ModelContent → Steps → Type 0
 StepsFit models Nothing = Unit {0}
 StepsFit models (OfModel k step) = StepFits k step models
+StepsFit models (Place k i spare) = (spare.items ≡ []) × HasRowAt IsNamed k models.rows × HasRowAt (HasRoomIn (vec_capacity spare)) k models.rows
+StepsFit models (DropInstance k n) = HasRowAt IsNamed k models.rows
 
 -- what is pending was prepared for what is held: its steps take no memory
 unfoldable pub Fits : Kept → Pending → Type 0

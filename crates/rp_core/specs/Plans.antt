@@ -1,5 +1,5 @@
 -- What a plan keeps, and what it is to give.
-use Rattle.std.specs.Prelude.{◌≡◌, ◌≢◌, List, [], ◌∷◌, Some, None, Result, MatchResult}
+use Rattle.std.specs.Prelude.{◌≡◌, ◌≢◌, true, List, [], ◌∷◌, Some, None, is_some, Result, Ok, MatchResult}
 use Rattle.rp_rows.specs.Rows.{Text}
 use Rattle.rp_rows.specs.Alterations.{Alteration, Holds, Grants as GrantAltered}
 use Rattle.rp_plain.specs.declared.messages.Request.{Request}
@@ -8,11 +8,12 @@ use Rattle.rp_plain.specs.declared.messages.Refusal.TheVariants.{NoMemory}
 use Rattle.rp_plain.specs.Edits.{Edit, EditModel}
 use Rattle.rp_plain.specs.Asked.{Asked}
 use Rattle.rp_plain.specs.Meaning.{first_some}
+use Rattle.rp_plain.specs.Instances.{placing, dropping}
 use Rattle.rp_plain.specs.Step.{meaning}
 use Rattle.rp_core.specs.declared.edits.Change.{Change}
 use Rattle.rp_core.specs.declared.edits.Change.TheVariants.{Hold, Remove, Grants}
 use Rattle.rp_core.specs.declared.edits.Edits.{Edits}
-use Rattle.rp_core.specs.declared.edits.Edits.TheVariants.{Nothing, OfModel}
+use Rattle.rp_core.specs.declared.edits.Edits.TheVariants.{Nothing, OfModel, Place, DropInstance}
 use Rattle.rp_core.specs.declared.edits.Plan.{Plan}
 
 abbrev pub alteration_of : {A : Type 0} → Change A → Alteration A
@@ -20,16 +21,26 @@ alteration_of (Hold a) = Holds (Some a)
 alteration_of Remove = Holds None
 alteration_of (Grants to l) = GrantAltered to l
 
--- the edits that these are
-abbrev pub edits_of : Edits → List Edit
-edits_of Nothing = []
-edits_of (OfModel k change) = EditModel k (alteration_of change) ∷ []
+-- the edits that these are, where a partner is told this
+abbrev pub edits_of : Asked → Edits → List Edit
+edits_of a Nothing = []
+edits_of a (OfModel k change) = EditModel k (alteration_of change) ∷ []
+edits_of a (Place k i) = placing k (a.content k) (Ok i)
+edits_of a (DropInstance k n) = dropping k n (a.content k)
+
+-- he sees the model in which one instance is changed
+abbrev pub IsSeen : Asked → Edits → Type 0
+IsSeen a Nothing = Unit {0}
+IsSeen a (OfModel k change) = Unit {0}
+IsSeen a (Place k i) = is_some (a.content k) ≡ true
+IsSeen a (DropInstance k n) = is_some (a.content k) ≡ true
 
 -- c's request is not refused, and this is its reply and its edits
 pub record IsAnswer (a : Asked) (c : Text) (q : Request) (plan : Plan) : Type 0 where
   pub passes : first_some (meaning a c q).tests ≡ None
   pub replies : plan.reply ≡ (meaning a c q).reply
-  pub edits : edits_of plan.edits ≡ (meaning a c q).edits
+  pub edits : edits_of a plan.edits ≡ (meaning a c q).edits
+  pub seen : IsSeen a plan.edits
 
 -- c's request is refused so, or memory is wanting
 abbrev pub IsRefusal : Asked → Text → Request → Refusal → Type 0

@@ -1,5 +1,5 @@
 -- A table of what is held, and beside it one of the grants under the same keys: the rows that the two make.
-use Rattle.std.specs.Prelude.{◌≡◌, ℕ, ◌<◌, List, [], ◌∷◌, map, option_map}
+use Rattle.std.specs.Prelude.{◌≡◌, ℕ, ◌<◌, List, [], ◌∷◌, map, Some, option_map}
 use Rattle.std.specs.List.{find}
 use Rattle.sorted_tables.specs.Table.{with_row, IsAscending}
 use Rattle.rp_rows.specs.declared.rows.Grant.{Grant}
@@ -31,6 +31,14 @@ pub record IsTable {A : Type 0} (held : List (Entry A)) (rights : List (Entry (L
 -- the row at a key, changed so
 abbrev pub rewritten : {A : Type 0} → Key → (Row A → Row A) → List (Row A) → List (Row A)
 rewritten k f rows = with_row key_cmp row_key k (option_map f (find (is_row k) rows)) rows
+
+-- the row with what it holds changed so
+abbrev pub reheld : {A : Type 0} → (A → A) → Row A → Row A
+reheld f x = record x { holds = f x.holds }
+
+-- what is held at a key, if anything is, is such
+abbrev pub HasRowAt : {A : Type 0} → (A → Type 0) → Key → List (Row A) → Type 0
+HasRowAt {A = A} P k rows = (x : Row A) → find (is_row k) rows ≡ Some x → P x.holds
 
 -- there is room for one more row
 abbrev pub HasRoom : {A : Type 0} → Stored A → Type 0

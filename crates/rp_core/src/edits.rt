@@ -1,6 +1,7 @@
 //! What a plan keeps of a change.
 
 use plain_data::Text;
+use rp_content::Instance;
 use rp_plain::messages::Reply;
 use rp_rows::rows::{Key, Level, ModelContent};
 
@@ -18,6 +19,10 @@ pub enum Change<A> {
 pub enum Edits {
     Nothing,
     OfModel(Key, Change<ModelContent>),
+    /// The instance stands in the model under its name.
+    Place(Key, Instance),
+    /// No instance stands in the model under the name.
+    DropInstance(Key, u64),
 }
 
 /// A request's reply, and what it changes.

@@ -27,8 +27,8 @@ use text_forms::Failure;
 /// The most instances of a model.
 const MAX_INSTANCES: usize = 200_000;
 
-/// Why a put is refused without a look into its file.
-fn cheap_fault(asked: &Asking<'_>, key: &Key, file: &Text) -> Option<Refusal>
+/// Why a request that puts a text into a model is refused without a look into the text.
+pub fn cheap_fault(asked: &Asking<'_>, key: &Key, file: &Text) -> Option<Refusal>
     ensures { result ≡ first_some (cheap_tests (told asked.now) key.now file.now) }
 {
     first(&[

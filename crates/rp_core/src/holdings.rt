@@ -44,8 +44,9 @@ impl Holdings {
     ghost use Rattle.std.specs.Prelude.{◌≡◌, ◌≢◌, ◌<◌, false, length, Some, None, IfOk, IfErr, MatchOption};
     ghost use Rattle.rp_plain.specs.Meaning.{has_text};
     ghost use Rattle.rp_plain.specs.Opening.{new_fault, opened};
+    ghost use Rattle.rp_plain.specs.Valid.{IsOrdered};
     ghost use Rattle.rp_core.specs.Held.{partner_at, turn, made, Fits, IsPrepared};
-    ghost use Rattle.rp_core.specs.InOrder.{IsInOrder};
+    ghost use Rattle.rp_core.specs.Named.{AreNamed};
 
     /// Nothing but these schemas and partners.
     ///
@@ -79,7 +80,8 @@ impl Holdings {
     /// the reply is that, with nothing to be done.
     pub fn prepare(&mut self, alloc: Global, place: usize, request: Request) -> Pending
         requires partner { place < length self.old.content.partners }
-        requires order { IsInOrder self.old.content }
+        requires order { IsOrdered self.old.content }
+        requires named { AreNamed self.old.content }
         ensures content { self.new.content ≡ self.old.content }
         ensures prepared { IsPrepared self.old.content (turn self.old.content place request) result }
         ensures fits { Fits self.new result }

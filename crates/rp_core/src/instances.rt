@@ -4,10 +4,11 @@ ghost use Rattle.std.specs.Prelude.{◌≡◌, IfOk, filter, length, option_copi
 ghost use Rattle.std.specs.Ordering.{is_lt, is_eq, nat_cmp};
 ghost use Rattle.sorted_tables.specs.Table.{is_before};
 ghost use Rattle.rp_rows.specs.Contents.{instance_name};
+ghost use Rattle.rp_rows.specs.Instances.{instance_of, IsInOrder};
 ghost use Rattle.rp_plain.specs.Meaning as meaning;
 ghost use Rattle.rp_plain.specs.Instances as of_instances;
 ghost use Rattle.rp_core.specs.Told.{told};
-ghost use Rattle.rp_core.specs.InOrder.{AreNamedInOrder, TellsInOrder};
+ghost use Rattle.rp_core.specs.Named.{TellsNamed};
 ghost use Rattle.rp_core.specs.Plans.{Plans};
 
 use crate::asked::Asking;
@@ -35,16 +36,16 @@ fn is_of_name(name: u64, instance: &Instance) -> bool
 
 /// How many names stand before this one.
 fn place_of(instances: &[Instance], name: u64) -> usize
-    requires { AreNamedInOrder instances.now }
+    requires { IsInOrder instances.now }
     ensures { result ≡ length (filter (is_before nat_cmp instance_name name) instances.now) }
 {
     instances.partition_point(|instance| is_before_name(name, instance))
 }
 
 /// The instance of this name. The others aren't walked over.
-fn instance_named(instances: &[Instance], name: u64) -> Option<&Instance>
-    requires { AreNamedInOrder instances.now }
-    ensures { option_copied result ≡ of_instances.instance_named name instances.now }
+pub fn instance_named(instances: &[Instance], name: u64) -> Option<&Instance>
+    requires { IsInOrder instances.now }
+    ensures { option_copied result ≡ instance_of name instances.now }
 {
     match instances.get(place_of(instances, name)) {
         Some(instance) => {
@@ -59,8 +60,8 @@ fn instance_named(instances: &[Instance], name: u64) -> Option<&Instance>
 }
 
 /// The instance of this name in the model, if the partner sees it.
-fn instance_in<'a>(asked: &Asking<'a>, key: &Key, name: u64) -> Option<&'a Instance>
-    requires { TellsInOrder (told asked.now) }
+pub fn instance_in<'a>(asked: &Asking<'a>, key: &Key, name: u64) -> Option<&'a Instance>
+    requires { TellsNamed (told asked.now) }
     ensures { option_copied result ≡ of_instances.instance_in ((told asked.now).content key.now) name }
 {
     match asked.content(key) {
@@ -80,7 +81,7 @@ fn schema_of<'a>(asked: &Asking<'a>, key: &Key) -> Option<&'a Compiled>
 }
 
 /// Of an instance that isn't there.
-fn is_absent(found: Option<&Instance>) -> Option<Refusal>
+pub fn is_absent(found: Option<&Instance>) -> Option<Refusal>
     ensures { result ≡ of_instances.is_absent (option_copied found.entry) }
 {
     when(found.is_none(), Refusal::NoSuchInstance)
@@ -105,7 +106,7 @@ fn line_by(
 
 /// One instance of a model, as canonical text has it.
 pub fn plan_get(alloc: Global, asked: &Asking<'_>, key: &Key, name: u64) -> Result<Plan, Refusal>
-    requires { TellsInOrder (told asked.now) }
+    requires { TellsNamed (told asked.now) }
     ensures { Plans (told asked.now) asked.now.caller.now (Request.Get key.now name) result }
 {
     let found = instance_in(asked, key, name);

@@ -6,12 +6,18 @@ ghost use Rattle.std.specs.Ordering.{is_lt, is_eq, is_gt};
 ghost use Rattle.std.specs.Str.{bytes_eq};
 ghost use Rattle.sorted_tables.specs.Table.{with_row};
 ghost use Rattle.rp_rows.specs.Rows.{text_cmp, key_cmp};
-ghost use Rattle.rp_core.specs.Entries.{entry_key, is_entry, place_in, IsThere, IsAbsent, with_value, standing};
+ghost use Rattle.std.specs.Vec.{vec_capacity};
+ghost use Rattle.rp_rows.specs.Instances.{with_instance, without_instance};
+ghost use Rattle.rp_core.specs.Entries.{entry_key, is_entry, place_in as place_of, IsThere, IsAbsent, with_value, revalued, HasAt, standing};
+ghost use Rattle.rp_core.specs.Named.{IsNamed, HasRoomIn};
 
+use crate::edited::{dropped, nothing, placed};
 use plain_data::Text;
-use rp_rows::rows::Key;
+use rp_content::Instance;
+use rp_rows::rows::{Key, ModelContent};
 use std::alloc::{AllocError, Global};
 use std::marker::Model;
+use std::mem::replace;
 
 /// What stands under a key.
 #[derive(Drop)]
@@ -91,7 +97,7 @@ impl<B> Keyed<B> {
 
     /// How many keys stand before this one.
     fn place(&self, key: &Key) -> usize
-        ensures { result ≡ place_in key.now self.now.entries }
+        ensures { result ≡ place_of key.now self.now.entries }
     {
         self.entries
             .partition_point(|entry| is_before_key(key, &entry.key))
@@ -191,6 +197,62 @@ impl<B: Drop> Keyed<B> {
     {
         if let Ok(place) = self.search(key) {
             let _ = self.entries.remove(place);
+        }
+    }
+}
+
+/// The instance stands in the model from now on.
+fn place_in(
+    alloc: Global,
+    entry: &mut Entry<ModelContent>,
+    instance: Instance,
+    spare: Vec<Instance>,
+)
+    requires empty { spare.items ≡ [] }
+    requires named { IsNamed entry.old.value }
+    requires room { HasRoomIn (vec_capacity spare) entry.old.value }
+    ensures { entry.new ≡ revalued (with_instance instance) entry.old }
+{
+    let model = replace(&mut entry.value, nothing(alloc));
+    entry.value = placed(alloc, model, instance, spare);
+}
+
+/// No instance stands under the name in the model from now on.
+fn drop_in(alloc: Global, entry: &mut Entry<ModelContent>, name: u64)
+    requires { IsNamed entry.old.value }
+    ensures { entry.new ≡ revalued (without_instance name) entry.old }
+{
+    let model = replace(&mut entry.value, nothing(alloc));
+    entry.value = dropped(alloc, model, name);
+}
+
+impl Keyed<ModelContent> {
+    /// The instance stands in the model of the key from now on, if there is one. The spare has room for one more instance
+    /// than the model has. It takes no memory.
+    pub fn place_instance(
+        &mut self,
+        alloc: Global,
+        key: &Key,
+        instance: Instance,
+        spare: Vec<Instance>,
+    )
+        requires empty { spare.items ≡ [] }
+        requires named { HasAt IsNamed key.now self.old.entries }
+        requires room { HasAt (HasRoomIn (vec_capacity spare)) key.now self.old.entries }
+        ensures { self.new.entries ≡ with_row key_cmp entry_key key.now (option_map (revalued (with_instance instance)) (find (is_entry key.now) self.old.entries)) self.old.entries }
+    {
+        if let Ok(place) = self.search(key) {
+            place_in(alloc, &mut self.entries[place], instance, spare);
+        }
+    }
+
+    /// No instance stands under the name in the model of the key from now on.
+    pub fn drop_instance(&mut self, alloc: Global, key: &Key, name: u64)
+        requires { HasAt IsNamed key.now self.old.entries }
+        ensures { self.new.entries ≡ with_row key_cmp entry_key key.now (option_map (revalued (without_instance name)) (find (is_entry key.now) self.old.entries)) self.old.entries }
+    {
+        if let Ok(place) = self.search(key) {
+            drop_in(alloc, &mut self.entries[place], name);
         }
     }
 }

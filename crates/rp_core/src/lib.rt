@@ -7,6 +7,7 @@
 
 mod asked;
 mod checks;
+mod edited;
 mod edits;
 mod faults;
 mod files;
@@ -16,12 +17,14 @@ mod instances;
 mod items;
 mod keyed;
 mod lists;
+mod model_names;
 mod models;
 mod opening;
 mod plans;
 mod regranted;
 mod schemas;
 mod sight;
+mod single;
 mod steps;
 mod table;
 

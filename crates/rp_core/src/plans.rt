@@ -1,7 +1,7 @@
 //! What a request is to be answered, and what it is to change, before anything is changed.
 
 ghost use Rattle.rp_core.specs.Told.{told};
-ghost use Rattle.rp_core.specs.InOrder.{TellsInOrder};
+ghost use Rattle.rp_core.specs.Named.{TellsNamed};
 ghost use Rattle.rp_core.specs.Plans.{Plans};
 
 use crate::asked::Asking;
@@ -12,12 +12,13 @@ use crate::grants::{plan_grant, plan_revoke};
 use crate::instances::plan_get;
 use crate::lists::{plan_list, plan_names, plan_schemas};
 use crate::models::{plan_create, plan_delete};
+use crate::single::{plan_add, plan_drop, plan_set};
 use rp_plain::messages::{Refusal, Request};
 use std::alloc::Global;
 
 /// The request's plan, or its refusal.
 pub fn plan(alloc: Global, asked: &Asking<'_>, request: Request) -> Result<Plan, Refusal>
-    requires { TellsInOrder (told asked.now) }
+    requires { TellsNamed (told asked.now) }
     ensures { Plans (told asked.now) asked.now.caller.now request result }
 {
     match request {
@@ -27,6 +28,13 @@ pub fn plan(alloc: Global, asked: &Asking<'_>, request: Request) -> Result<Plan,
         Request::Export { model } => plan_export(alloc, asked, &model),
         Request::Names { model } => plan_names(alloc, asked, &model),
         Request::Get { model, instance } => plan_get(alloc, asked, &model, instance),
+        Request::Add { model, text } => plan_add(alloc, asked, model, &text),
+        Request::Set {
+            model,
+            instance,
+            text,
+        } => plan_set(alloc, asked, model, instance, &text),
+        Request::DropInstance { model, instance } => plan_drop(asked, model, instance),
         Request::ListItems => plan_list(alloc, asked),
         Request::GrantModel { name, to, level } => plan_grant(alloc, asked, name, to, level),
         Request::RevokeModel { name, to } => plan_revoke(alloc, asked, name, to),

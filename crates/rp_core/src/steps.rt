@@ -1,14 +1,19 @@
 //! What a prepared request is still to do. No step takes memory.
 
-ghost use Rattle.std.specs.Prelude.{◌≡◌, IfOk};
-ghost use Rattle.std.specs.List.{find};
+ghost use Rattle.std.specs.Prelude.{◌≡◌, ◌<◌, ◌≤◌, [], IfOk};
+ghost use Rattle.std.specs.List.{find, AllByRecursion};
+ghost use Rattle.std.specs.Vec.{vec_capacity};
 ghost use Rattle.rp_rows.specs.Rows.{is_row};
-ghost use Rattle.rp_core.specs.Held.{step_of, steps_of, stepped, made_models, StepFits, StepsFit};
+ghost use Rattle.rp_rows.specs.Instances.{max_instances};
+ghost use Rattle.rp_core.specs.Held.{step_of, stepped, made_models, made_by, StepFits, StepsFit};
+ghost use Rattle.rp_core.specs.Named.{IsNamed, HoldsNamed, HasRoomIn};
+ghost use Rattle.rp_core.specs.Stored.{HasRowAt};
 
 use crate::edits::{Change, Edits, Plan};
 use crate::regranted::regranted_for;
 use crate::table::Table;
 use plain_data::Rows;
+use rp_content::Instance;
 use rp_plain::messages::{Refusal, Reply};
 use rp_rows::rows::{Grant, Key, ModelContent};
 use std::alloc::{AllocError, Global};
@@ -28,6 +33,9 @@ pub enum Step<A> {
 pub enum Steps {
     Nothing,
     OfModel(Key, Step<ModelContent>),
+    /// The instance stands in the model, whose instances are moved into the spare room where theirs is full.
+    Place(Key, Instance, Vec<Instance>),
+    DropInstance(Key, u64),
 }
 
 /// A request's reply, and what is still to be done. Dropped, it changes nothing.
@@ -70,15 +78,40 @@ fn step_for<A: Drop>(
     }
 }
 
+/// For how many instances the room of a model of so many is made anew.
+fn room_for(count: usize) -> usize
+    requires { count ≤ max_instances }
+    ensures { count < result }
+{
+    count + count / 2 + 1
+}
+
+/// Room for one more instance of the model of this key, and for more, so that it is seldom used.
+fn spare_for(
+    alloc: Global,
+    models: &Table<ModelContent>,
+    key: &Key,
+) -> Result<Vec<Instance>, AllocError>
+    requires { HasRowAt IsNamed key.now models.now.rows }
+    ensures empty { IfOk result (λ spare. spare.items ≡ []) }
+    ensures room { IfOk result (λ spare. HasRowAt (HasRoomIn (vec_capacity spare)) key.now models.now.rows) }
+{
+    match models.find(key) {
+        Some(model) => Vec::with_capacity(alloc, room_for(model.holds.content.instances.len())),
+        None => Ok(Vec::new(alloc)),
+    }
+}
+
 /// The steps that edits come to, with room for them.
 fn steps_for(
     alloc: Global,
     models: &mut Table<ModelContent>,
     edits: Edits,
 ) -> Result<Steps, AllocError>
+    requires { AllByRecursion HoldsNamed models.old.rows }
     ensures models { models.new.rows ≡ models.old.rows }
     ensures fits { IfOk result (λ steps. StepsFit models.new steps) }
-    ensures steps { IfOk result (λ steps. steps ≡ steps_of models.old.rows edits) }
+    ensures steps { IfOk result (λ steps. made_models steps models.old.rows ≡ made_by edits models.old.rows) }
 {
     match edits {
         Edits::Nothing => Ok(Steps::Nothing),
@@ -86,6 +119,11 @@ fn steps_for(
             let step = step_for(alloc, models, &key, change)?;
             Ok(Steps::OfModel(key, step))
         }
+        Edits::Place(key, instance) => {
+            let spare = spare_for(alloc, models, &key)?;
+            Ok(Steps::Place(key, instance, spare))
+        }
+        Edits::DropInstance(key, name) => Ok(Steps::DropInstance(key, name)),
     }
 }
 
@@ -108,6 +146,8 @@ pub fn make_steps(models: &mut Table<ModelContent>, steps: Steps)
     match steps {
         Steps::Nothing => {}
         Steps::OfModel(key, step) => make_step(models, key, step),
+        Steps::Place(key, instance, spare) => models.place_instance(&key, instance, spare),
+        Steps::DropInstance(key, name) => models.drop_instance(&key, name),
     }
 }
 
@@ -128,9 +168,11 @@ impl Pending {
         models: &mut Table<ModelContent>,
         plan: Plan,
     ) -> Result<Pending, AllocError>
+        requires { AllByRecursion HoldsNamed models.old.rows }
         ensures models { models.new.rows ≡ models.old.rows }
         ensures fits { IfOk result (λ pending. StepsFit models.new pending.steps) }
-        ensures pending { IfOk result (λ pending. pending ≡ record { reply = plan.reply; steps = steps_of models.old.rows plan.edits }) }
+        ensures reply { IfOk result (λ pending. pending.reply ≡ plan.reply) }
+        ensures steps { IfOk result (λ pending. made_models pending.steps models.old.rows ≡ made_by plan.edits models.old.rows) }
     {
         let Plan { reply, edits } = plan;
         let steps = steps_for(alloc, models, edits)?;

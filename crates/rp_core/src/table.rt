@@ -10,7 +10,8 @@ ghost use Rattle.rp_core.specs.Stored.{row_of, rewritten, HasRoom};
 
 use crate::keyed::Keyed;
 use plain_data::{Rows, Text};
-use rp_rows::rows::{Grant, Key};
+use rp_content::Instance;
+use rp_rows::rows::{Grant, Key, ModelContent};
 use std::alloc::{AllocError, Global};
 use std::marker::Model;
 
@@ -147,5 +148,32 @@ impl<A: Drop> Table<A> {
         ensures { self.new.rows ≡ rewritten key.now (λ x. record x { grants = grants }) self.old.rows }
     {
         self.rights.replace(key, grants);
+    }
+}
+
+impl Table<ModelContent> {
+    ghost use Rattle.std.specs.Prelude.{[]};
+    ghost use Rattle.std.specs.Vec.{vec_capacity};
+    ghost use Rattle.rp_rows.specs.Instances.{with_instance, without_instance};
+    ghost use Rattle.rp_core.specs.Stored.{reheld, HasRowAt};
+    ghost use Rattle.rp_core.specs.Named.{IsNamed, HasRoomIn};
+
+    /// The instance stands in the model of the key from now on, if there is one. The spare has room for one more instance
+    /// than the model has. It takes no memory.
+    pub fn place_instance(&mut self, key: &Key, instance: Instance, spare: Vec<Instance>)
+        requires empty { spare.items ≡ [] }
+        requires named { HasRowAt IsNamed key.now self.old.rows }
+        requires room { HasRowAt (HasRoomIn (vec_capacity spare)) key.now self.old.rows }
+        ensures { self.new.rows ≡ rewritten key.now (reheld (with_instance instance)) self.old.rows }
+    {
+        self.held.place_instance(self.alloc, key, instance, spare);
+    }
+
+    /// No instance stands under the name in the model of the key from now on.
+    pub fn drop_instance(&mut self, key: &Key, name: u64)
+        requires { HasRowAt IsNamed key.now self.old.rows }
+        ensures { self.new.rows ≡ rewritten key.now (reheld (without_instance name)) self.old.rows }
+    {
+        self.held.drop_instance(self.alloc, key, name);
     }
 }

@@ -10,7 +10,7 @@ use Rattle.p21_text.specs.declared.token.TokenKind.TheVariants as k
 use Rattle.p21_text.specs.Tokens.{Lexemes, Parser, sees, word, expect, file_lexemes}
 use Rattle.p21_read.specs.Grammar.{name_of, name, mapping_form, instance, instances}
 use Rattle.p21_read.specs.File.{line, header_section, section, data_section, mark, file_end, file, file_of, tree_of}
-use Rattle.rp_plain.specs.Valid.{max_name}
+use Rattle.rp_rows.specs.Instances.{max_name}
 
 -- what a parser gives has a property, whatever it reads
 abbrev Gives : {A : Type 0} → Parser A → (A → Type 0) → Type 0

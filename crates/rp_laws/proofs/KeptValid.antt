@@ -1,5 +1,5 @@
 -- The edits of each request are fit, and so a step keeps the repository valid.
-use Rattle.std.proofs.Common.{◌≡◌, Bool, true, false, not, ◌&&◌, ◌||◌, nat_le, nat_lt, inl, inr, List, [], ◌∷◌, length, Option, Some, None, Result, Ok, Err, refl, sym, subst, arith}
+use Rattle.std.proofs.Common.{◌≡◌, ℕ, Bool, true, false, not, ◌&&◌, ◌||◌, nat_le, nat_lt, inl, inr, List, [], ◌∷◌, length, Option, Some, None, Result, Ok, Err, refl, sym, subst, arith}
 use Rattle.std.specs.Prelude.{filter, if◌then◌else◌}
 use Rattle.std.specs.List.{find, list_any, AllByRecursion}
 use Rattle.std.specs.Str.{bytes_eq, str_to_ascii_uppercase}
@@ -20,11 +20,12 @@ use Rattle.rp_rows.specs.declared.rows.ModelContent.{ModelContent}
 use Rattle.rp_rows.specs.Names.{is_name}
 use Rattle.rp_rows.specs.Rows.{Text, Key, is_row, Model}
 use Rattle.rp_rows.specs.Contents as contents
+use Rattle.rp_rows.specs.Instances.{max_instances, max_name, with_instance, without_instance}
 use Rattle.rp_rows.specs.Sight.{owns, sees}
 use Rattle.rp_rows.specs.Alterations.{Grants}
 use Rattle.rp_rows.proofs.Keys.{owner_at, name_at, found_at}
 use Rattle.rp_plain.specs.declared.messages.Request.{Request}
-use Rattle.rp_plain.specs.declared.messages.Request.TheVariants.{CreateModel, DeleteModel, Put, GrantModel, RevokeModel}
+use Rattle.rp_plain.specs.declared.messages.Request.TheVariants.{CreateModel, DeleteModel, Put, Add, Set, DropInstance, GrantModel, RevokeModel}
 use Rattle.rp_plain.specs.declared.messages.Refusal.{Refusal}
 use Rattle.rp_plain.specs.declared.messages.Refusal.TheVariants as refusal
 use Rattle.rp_plain.specs.Plain.{Plain, model_at}
@@ -32,15 +33,17 @@ use Rattle.rp_plain.specs.Edits.{EditModel}
 use Rattle.rp_plain.specs.Asked.{asked, held}
 use Rattle.rp_plain.specs.Meaning.{when, first_some, has_text, schema_name, has_schema, schema_named}
 use Rattle.rp_plain.specs.Models.{max_models, new_content}
-use Rattle.rp_plain.specs.Files.{max_instances, Reading, told, bound_by, if_few, read_for, read_content, refilled, filled}
+use Rattle.rp_plain.specs.Files.{Reading, told, bound_by, if_few, read_for, read_content, refilled, filled}
 use Rattle.rp_plain.specs.Grants.{unless_own}
+use Rattle.rp_plain.specs.Instances.{Saying, said, is_absent, instance_in, next_in, is_full, is_needed, placing, dropping}
 use Rattle.rp_plain.specs.Step.{meaning, outcome, answer, next}
 use Rattle.rp_plain.specs.Opening.{new_fault, opened}
-use Rattle.rp_plain.specs.Valid.{IsValidContent, IsValidModel, max_name, IsValid}
+use Rattle.rp_plain.specs.Valid.{IsInstanceOfFile, IsSpelled, IsValidContent, IsValidModel, IsValid}
 use Rattle.rp_laws.proofs.BoundFiles.{bound_names, bound_refer, bound_apart, of_file}
 use Rattle.rp_laws.proofs.FileNames.{file_named}
 use Rattle.rp_laws.proofs.FileInstances.{ordered, all_spelled, all_sound, in_order_most, greatest_from}
-use Rattle.rp_laws.proofs.ValidTables.{all_found, MayHold}
+use Rattle.rp_laws.proofs.Single.{added_valid, set_valid, left_valid}
+use Rattle.rp_laws.proofs.ValidTables.{all_each, all_found, MayHold}
 use Rattle.rp_laws.proofs.ValidEdits.{Anything, AreFit, changed_valid}
 
 -- ---- what a request that is not refused has passed
@@ -166,7 +169,7 @@ refilled_valid schemas h file c t valid =
       loaded = t.loaded;
       header = inr (record { file = file; raw = t.raw; reads = t.reads; is = refl });
       instances = ordered read.found apart;
-      spelled = all_spelled t.schema file t.raw t.reads (content t.raw.header read.found) says;
+      spelled = all_each (IsInstanceOfFile t.schema) (IsSpelled t.schema) (λ i is. inl is) (content t.raw.header read.found).instances (all_spelled t.schema file t.raw t.reads (content t.raw.header read.found) says);
       sound = all_sound t.raw read.found same_names refer;
       few = grind (arith, nat_tests);
       in_use = greatest_from 0 h.greatest (contents.names (content t.raw.header read.found).instances) (omega arith);
@@ -183,6 +186,26 @@ filled_fit r c k file (Some m) (Ok said) seen reads valid =
 
 put_fit : (r : Plain) (c : Text) (k : Key) (file : Text) → IsValid r → AreFit r (meaning (asked r c) c (Put k file)).edits
 put_fit r c k file valid = filled_fit r c k file (model_at r c k) (read_content r.schemas (held (model_at r c k)) (file_of file)) refl refl valid
+
+-- ---- one instance is put or dropped
+
+added_fit : (r : Plain) (c : Text) (k : Key) (text : Text) (o : Option Model) (new : Saying) → model_at r c k ≡ o → said r.schemas (held o) (next_in (held o)) text ≡ new → is_full (held o) ≡ None → IsValid r → AreFit r (placing k (held o) new)
+added_fit r c k text None (Ok i) seen says room valid = tt
+added_fit r c k text None (Err refusal) seen says room valid = tt
+added_fit r c k text (Some m) (Err refusal) seen says room valid = tt
+added_fit r c k text (Some m) (Ok i) seen says room valid =
+    (held_there r c k (with_instance i m.holds) m seen (added_valid r.schemas m.holds text i says room) valid, tt)
+
+set_fit : (r : Plain) (c : Text) (k : Key) (name : ℕ) (text : Text) (o : Option Model) (new : Saying) → model_at r c k ≡ o → said r.schemas (held o) name text ≡ new → is_absent (instance_in (held o) name) ≡ None → IsValid r → AreFit r (placing k (held o) new)
+set_fit r c k name text None (Ok i) seen says there valid = tt
+set_fit r c k name text None (Err refusal) seen says there valid = tt
+set_fit r c k name text (Some m) (Err refusal) seen says there valid = tt
+set_fit r c k name text (Some m) (Ok i) seen says there valid =
+    (held_there r c k (with_instance i m.holds) m seen (set_valid r.schemas m.holds name text i says there) valid, tt)
+
+dropped_fit : (r : Plain) (c : Text) (k : Key) (name : ℕ) (o : Option Model) → model_at r c k ≡ o → is_needed name (held o) ≡ None → IsValid r → AreFit r (dropping k name (held o))
+dropped_fit r c k name None seen unused valid = tt
+dropped_fit r c k name (Some m) seen unused valid = (held_there r c k (without_instance name m.holds) m seen (left_valid r.schemas m.holds name unused) valid, tt)
 
 -- ---- grants
 
@@ -203,6 +226,16 @@ edits_fit : (r : Plain) (c : Text) (q : Request) → has_text r.partners c ≡ t
 edits_fit r c (CreateModel name schema) partner passes valid = (created r c name schema partner passes, tt)
 edits_fit r c (DeleteModel name) partner passes valid = (tt, tt)
 edits_fit r c (Put k file) partner passes valid = put_fit r c k file valid
+edits_fit r c (Add k text) partner passes valid =
+    let h = held (model_at r c k) in
+    let each = all_pass (meaning (asked r c) c (Add k text)).tests passes in
+    added_fit r c k text (model_at r c k) (said r.schemas h (next_in h) text) refl refl each.1.1.1.1.1.0 valid
+edits_fit r c (Set k name text) partner passes valid =
+    let each = all_pass (meaning (asked r c) c (Set k name text)).tests passes in
+    set_fit r c k name text (model_at r c k) (said r.schemas (held (model_at r c k)) name text) refl refl each.1.1.1.1.1.0 valid
+edits_fit r c (DropInstance k name) partner passes valid =
+    let each = all_pass (meaning (asked r c) c (DropInstance k name)).tests passes in
+    dropped_fit r c k name (model_at r c k) refl each.1.1.1.1.0 valid
 edits_fit r c (GrantModel name to l) partner passes valid =
     let each = all_pass (meaning (asked r c) c (GrantModel name to l)).tests passes in
     granted_fit r c name to l (is_so (has_text r.partners to) refusal.UnknownPartner each.1.0)

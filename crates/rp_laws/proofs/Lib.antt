@@ -15,4 +15,5 @@ pub mod Counts
 pub mod ValidTables
 pub mod ValidEdits
 pub mod SingleEdits
+pub mod Single
 pub mod KeptValid

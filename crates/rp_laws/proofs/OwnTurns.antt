@@ -1,5 +1,5 @@
 -- The edits of each request are such as its caller may make, and so what he sees after his turn comes from what he sees.
-use Rattle.std.proofs.Common.{◌≡◌, true, false, inl, inr, [], ◌∷◌, Option, Some, None, Ok, Err, is_some, refl, sym, ◌∙◌, ap}
+use Rattle.std.proofs.Common.{◌≡◌, ℕ, true, false, inl, inr, [], ◌∷◌, Option, Some, None, Ok, Err, is_some, refl, sym, ◌∙◌, ap}
 use Rattle.std.specs.Prelude.{if◌then◌else◌}
 use Rattle.std.specs.Str.{bytes_eq}
 use Rattle.std.proofs.lemmas.Slice.Eq.{bytes_eq-Decides}
@@ -7,7 +7,7 @@ use Rattle.p21_read.specs.File.{file_of}
 use Rattle.rp_rows.specs.Rows.{Text, Key, Model}
 use Rattle.rp_rows.specs.Alterations.{Grants}
 use Rattle.rp_plain.specs.declared.messages.Request.{Request}
-use Rattle.rp_plain.specs.declared.messages.Request.TheVariants.{CreateModel, DeleteModel, Put, GrantModel, RevokeModel}
+use Rattle.rp_plain.specs.declared.messages.Request.TheVariants.{CreateModel, DeleteModel, Put, Add, Set, DropInstance, GrantModel, RevokeModel}
 use Rattle.rp_plain.specs.declared.messages.Refusal.{Refusal}
 use Rattle.rp_plain.specs.Plain.{Plain, part, model_at}
 use Rattle.rp_plain.specs.Edits.{Edit, EditModel, changed}
@@ -15,6 +15,7 @@ use Rattle.rp_plain.specs.Asked.{asked, held}
 use Rattle.rp_plain.specs.Meaning.{first_some}
 use Rattle.rp_plain.specs.Files.{Reading, read_content, filled}
 use Rattle.rp_plain.specs.Grants.{unless_own}
+use Rattle.rp_plain.specs.Instances.{Saying, said, next_in, placing, dropping}
 use Rattle.rp_plain.specs.Step.{meaning, outcome, answer, next}
 use Rattle.rp_plain.specs.Valid.{IsOrdered}
 use Rattle.rp_laws.proofs.Sight.{part_twice}
@@ -33,6 +34,16 @@ filled_may r c k (Err refusal) None e = tt
 filled_may r c k (Ok content) (Some m) e = (inr (tt, ap is_some e), tt)
 filled_may r c k (Err refusal) (Some m) e = tt
 
+placing_may : (r : Plain) (c : Text) (k : Key) (new : Saying) (o : Option Model) → model_at r c k ≡ o → MayAll r c (placing k (held o) new)
+placing_may r c k (Ok i) None e = tt
+placing_may r c k (Err refusal) None e = tt
+placing_may r c k (Ok i) (Some m) e = (inr (tt, ap is_some e), tt)
+placing_may r c k (Err refusal) (Some m) e = tt
+
+dropping_may : (r : Plain) (c : Text) (k : Key) (name : ℕ) (o : Option Model) → model_at r c k ≡ o → MayAll r c (dropping k name (held o))
+dropping_may r c k name None e = tt
+dropping_may r c k name (Some m) e = (inr (tt, ap is_some e), tt)
+
 unless_own_may : (r : Plain) (c to : Text) (e : Edit) → MayEdit r c e → MayAll r c (unless_own c to e)
 unless_own_may r c to e may = elim (bytes_eq to c) as (λ t. MayAll r c (if t then [] else e ∷ [])) [ true ↦ tt | false ↦ (may, tt) ]
 
@@ -41,6 +52,9 @@ edits_may : (r : Plain) (c : Text) (q : Request) → MayAll r c (meaning (asked 
 edits_may r c (CreateModel name schema) = (inl (itself c), tt)
 edits_may r c (DeleteModel name) = (inl (itself c), tt)
 edits_may r c (Put k file) = filled_may r c k (read_content r.schemas (held (model_at r c k)) (file_of file)) (model_at r c k) refl
+edits_may r c (Add k text) = let h = held (model_at r c k) in placing_may r c k (said r.schemas h (next_in h) text) (model_at r c k) refl
+edits_may r c (Set k name text) = placing_may r c k (said r.schemas (held (model_at r c k)) name text) (model_at r c k) refl
+edits_may r c (DropInstance k name) = dropping_may r c k name (model_at r c k) refl
 edits_may r c (GrantModel name to l) = unless_own_may r c to (EditModel (c, name) (Grants to (Some l))) (inl (itself c))
 edits_may r c (RevokeModel name to) = (inl (itself c), tt)
 edits_may r c _ = tt

@@ -16,11 +16,10 @@ use Rattle.sorted_tables.proofs.Altered.{any-with_row}
 use Rattle.sorted_tables.proofs.Ascending.{all-append, with_row_ascends, with_none_ascends}
 use Rattle.rp_rows.specs.declared.rows.ModelContent.{ModelContent}
 use Rattle.rp_rows.specs.Contents.{instance_name, names, greatest_name, link_names, references_of}
-use Rattle.rp_store.specs.Instances.{instance_of, placed, dropped, refers_to, is_user, is_used}
-use Rattle.rp_store.specs.Contents.{with_instance, without_instance}
-use Rattle.rp_plain.specs.Files.{max_instances}
-use Rattle.rp_plain.specs.Valid.{IsInstanceOfFile, IsSound, max_name, IsValidContent}
-use Rattle.rp_laws.proofs.ValidTables.{all_each, all-with_row}
+use Rattle.rp_rows.specs.Instances.{max_instances, max_name, is_instance, instance_of, placed, dropped, refers_to, is_user, is_used, with_instance, without_instance}
+use Rattle.rp_plain.specs.Valid.{IsSpelled, IsSound, IsValidContent}
+use Rattle.rp_rows.proofs.Keys.{found_at}
+use Rattle.rp_laws.proofs.ValidTables.{all_each, all_found, all-with_row}
 use Rattle.rp_laws.proofs.Counts.{count-with_row, count-without, count-replaced}
 
 -- ---- names
@@ -199,14 +198,21 @@ greatest_dropped greatest k xs low =
     let Below : Instance → Type 0 = λ (j : Instance). j.name ≤ greatest in
     within greatest 0 (dropped k xs) (omega arith) (all-with_row nat_cmp instance_name nat_cmp_total Below k None xs (λ x e. cc) (all_within greatest 0 xs low).1)
 
+-- the name of an instance is no greater
+pub name_within : (greatest n : ℕ) (xs : List Instance) → greatest_name 0 xs ≤ greatest → (x : Instance) → instance_of n xs ≡ Some x → n ≤ greatest
+name_within greatest n xs low x found =
+    let here : x.name ≤ greatest = all_found (λ (j : Instance). j.name ≤ greatest) (is_instance n) xs x found (all_within greatest 0 xs low).1 in
+    let at : is_instance n x ≡ true = found_at (is_instance n) xs x found in
+    grind (arith, nat_tests)
+
 -- ---- contents
 
 -- An instance of the model's schema, whose references are defined in the model, may be put into it: under the name of another, or where there is room.
-pub placed_valid : (schemas : List Checked) (h : ModelContent) (i : Instance) (valid : IsValidContent schemas h) → IsInstanceOfFile valid.schema i → IsSound h.content i → i.name ≤ max_name
+pub placed_valid : (schemas : List Checked) (h : ModelContent) (i : Instance) (valid : IsValidContent schemas h) → IsSpelled valid.schema i → IsSound h.content i → i.name ≤ max_name
     → (instance_of i.name h.content.instances ≡ None → length h.content.instances < max_instances) → IsValidContent schemas (with_instance i h)
 placed_valid schemas h i valid spelled sound named room =
     let xs = h.content.instances in
-    let of_schema : Instance → Type 0 = IsInstanceOfFile valid.schema in
+    let of_schema : Instance → Type 0 = IsSpelled valid.schema in
     let greatest = valid.greatest in
     record {
       schema = valid.schema;
@@ -225,7 +231,7 @@ placed_valid schemas h i valid spelled sound named room =
 pub dropped_valid : (schemas : List Checked) (h : ModelContent) (k : ℕ) → is_used k h.content.instances ≡ false → IsValidContent schemas h → IsValidContent schemas (without_instance k h)
 dropped_valid schemas h k unused valid =
     let xs = h.content.instances in
-    let of_schema : Instance → Type 0 = IsInstanceOfFile valid.schema in
+    let of_schema : Instance → Type 0 = IsSpelled valid.schema in
     record {
       schema = valid.schema;
       loaded = valid.loaded;

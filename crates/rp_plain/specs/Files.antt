@@ -13,6 +13,7 @@ use Rattle.rp_rows.specs.declared.rows.ModelContent.{ModelContent}
 use Rattle.rp_rows.specs.declared.rows.Right.TheVariants.{Writes}
 use Rattle.rp_rows.specs.Rows.{Text, Key}
 use Rattle.rp_rows.specs.Contents.{greatest_name}
+use Rattle.rp_rows.specs.Instances.{max_instances}
 use Rattle.rp_rows.specs.Alterations.{Holds}
 use Rattle.rp_plain.specs.declared.messages.Refusal.{Refusal}
 use Rattle.rp_plain.specs.declared.messages.Refusal.TheVariants as refusal
@@ -28,10 +29,6 @@ max_file = 8388608
 
 abbrev pub too_large : Text → Option Refusal
 too_large text = when (nat_lt max_file (length text)) refusal.TooLarge
-
--- the instances of a model
-abbrev pub max_instances : ℕ
-max_instances = 200000
 
 -- ---- what a file says
 

@@ -2,7 +2,7 @@
 use Rattle.std.specs.Prelude.{List, [], Option, Some, None}
 use Rattle.rp_rows.specs.Rows.{Text}
 use Rattle.rp_plain.specs.declared.messages.Request.{Request}
-use Rattle.rp_plain.specs.declared.messages.Request.TheVariants.{CreateModel, DeleteModel, Put, Export, Names, Get, ListItems, GrantModel, RevokeModel, Schemas, CheckSchema}
+use Rattle.rp_plain.specs.declared.messages.Request.TheVariants.{CreateModel, DeleteModel, Put, Export, Names, Get, Add, Set, DropInstance, ListItems, GrantModel, RevokeModel, Schemas, CheckSchema}
 use Rattle.rp_plain.specs.declared.messages.Refusal.{Refusal}
 use Rattle.rp_plain.specs.declared.messages.Reply.{Reply}
 use Rattle.rp_plain.specs.declared.messages.Reply.TheVariants.{Refused}
@@ -14,7 +14,7 @@ use Rattle.rp_plain.specs.Models.{create_model, delete_model}
 use Rattle.rp_plain.specs.Grants.{grant_model, revoke_model}
 use Rattle.rp_plain.specs.Files.{put, export}
 use Rattle.rp_plain.specs.Lists.{names, list_items, schemas}
-use Rattle.rp_plain.specs.Instances.{get}
+use Rattle.rp_plain.specs.Instances.{get, add, set, drop_instance}
 use Rattle.rp_plain.specs.Checks.{check_schema}
 
 -- what c's request means, where he is told this
@@ -25,6 +25,9 @@ meaning a c (Put model file) = put a model file
 meaning a c (Export model) = export a model
 meaning a c (Names model) = names a model
 meaning a c (Get model instance) = get a model instance
+meaning a c (Add model text) = add a model text
+meaning a c (Set model instance text) = set a model instance text
+meaning a c (DropInstance model instance) = drop_instance a model instance
 meaning a c ListItems = list_items a
 meaning a c (GrantModel name to level) = grant_model a c name to level
 meaning a c (RevokeModel name to) = revoke_model a c name to

@@ -1,13 +1,15 @@
 -- Which repositories there can be: they are valid when they are opened, and steps keep them so.
-use Rattle.std.specs.Prelude.{◌≡◌, ◌≤◌, ◌⊎◌, ℕ, true, false, List, [], ◌∷◌, ◌++◌, Some, None, length, filter, Ok}
+use Rattle.std.specs.Prelude.{◌≡◌, ◌≤◌, ◌⊎◌, ℕ, Bool, true, false, List, [], ◌∷◌, ◌++◌, Some, None, length, filter, Ok}
 use Rattle.std.specs.List.{list_all, AllByRecursion}
 use Rattle.std.specs.Str.{bytes_eq}
 use Rattle.std.specs.Ordering.{nat_cmp}
 use Rattle.ex_types.specs.Checked.{Checked}
 use Rattle.p21_tree.specs.declared.raw.Raw.{Raw}
 use Rattle.p21_read.specs.File.{file_of}
-use Rattle.p21_instances.specs.Instances.{is_among}
+use Rattle.p21_tree.specs.declared.instance.Mapping.{Mapping}
+use Rattle.p21_read.specs.Single.{mapping_of}
 use Rattle.p21_bind.specs.Files.{header, bound_file}
+use Rattle.p21_bind.specs.Single.{bound_instance}
 use Rattle.rp_content.specs.declared.content.Content.{Content}
 use Rattle.rp_content.specs.declared.header.Header.{Header}
 use Rattle.rp_content.specs.declared.instance.Instance.{Instance}
@@ -18,13 +20,14 @@ use Rattle.rp_rows.specs.declared.rows.Grant.{Grant}
 use Rattle.rp_rows.specs.declared.rows.ModelContent.{ModelContent}
 use Rattle.rp_rows.specs.Names.{is_name}
 use Rattle.rp_rows.specs.Rows.{text_cmp, Key, key_cmp, grant_key, Row, row_key, Model, GroupRow}
-use Rattle.rp_rows.specs.Contents.{instance_name, names, greatest_name, link_names, references_of}
+use Rattle.rp_rows.specs.Contents.{instance_name, greatest_name, references_of}
+use Rattle.rp_rows.specs.Instances.{max_instances, max_name}
 use Rattle.rp_rows.specs.Sight.{owns}
 use Rattle.rp_plain.specs.Plain.{Plain}
 use Rattle.rp_plain.specs.Opening.{new_fault}
 use Rattle.rp_plain.specs.Meaning.{has_text, has_schema, schema_named}
 use Rattle.rp_plain.specs.Models.{max_models}
-use Rattle.rp_plain.specs.Files.{max_instances}
+use Rattle.rp_plain.specs.Instances.{is_defined}
 
 -- ---- rows
 
@@ -60,13 +63,21 @@ pub record IsInstanceOfFile (schema : Checked) (i : Instance) : Type 0 where
   pub behind : List Instance
   pub stands : content.instances ≡ before ++ i ∷ behind
 
+-- a text of one instance says this, where some names were defined
+pub record IsInstanceOfText (schema : Checked) (i : Instance) : Type 0 where
+  pub text : List ℕ
+  pub mapping : Mapping
+  pub reads : mapping_of text ≡ Ok mapping
+  pub defined : ℕ → Bool
+  pub says : bound_instance schema defined i.name mapping ≡ Ok i
+
+-- some text has it: a file, or one that was added or set by itself
+abbrev pub IsSpelled : Checked → Instance → Type 0
+IsSpelled schema i = IsInstanceOfFile schema i ⊎ IsInstanceOfText schema i
+
 -- each name that the instance refers to is an instance or a link of the model
 abbrev pub IsSound : Content → Instance → Type 0
-IsSound x i = list_all (is_among (names x.instances ++ link_names x.links)) (references_of i) ≡ true
-
--- the greatest name of an instance: 18 digits
-abbrev pub max_name : ℕ
-max_name = 999999999999999999
+IsSound x i = list_all (is_defined x) (references_of i) ≡ true
 
 pub record IsValidContent (schemas : List Checked) (h : ModelContent) : Type 0 where
   -- one that is loaded
@@ -75,7 +86,7 @@ pub record IsValidContent (schemas : List Checked) (h : ModelContent) : Type 0 w
   pub header : (h.content.header ≡ default_header) ⊎ IsHeaderOfFile h.content.header
   -- each name once, in order
   pub instances : IsAscending nat_cmp instance_name h.content.instances
-  pub spelled : AllByRecursion (IsInstanceOfFile schema) h.content.instances
+  pub spelled : AllByRecursion (IsSpelled schema) h.content.instances
   pub sound : AllByRecursion (IsSound h.content) h.content.instances
   pub few : length h.content.instances ≤ max_instances
   -- the greatest name is no less than those in use

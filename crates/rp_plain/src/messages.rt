@@ -38,6 +38,24 @@ pub enum Request {
         model: Key,
         instance: u64,
     },
+    /// One instance more of a model, under its greatest name and one.
+    Add {
+        model: Key,
+        /// Its mapping, without name and semicolon.
+        text: Text,
+    },
+    /// Another instance in place of the one of this name.
+    Set {
+        model: Key,
+        instance: u64,
+        /// Its mapping, without name and semicolon.
+        text: Text,
+    },
+    /// Without the instance of this name.
+    DropInstance {
+        model: Key,
+        instance: u64,
+    },
     /// The groups and the models that the caller sees.
     ListItems,
     /// A partner's level on a model of the caller's.
@@ -74,6 +92,8 @@ pub enum Refusal {
     FileFault(FileFault),
     InstanceFault(InstanceFault),
     NoSuchInstance,
+    /// Another instance of the model refers to the instance.
+    InUse,
     TooMany,
     NoMemory,
 }
@@ -112,6 +132,8 @@ pub enum Reply {
     Names(Rows<NamedType>),
     /// The line of an instance, without its line feed.
     Line(Text),
+    /// An instance was added under this name.
+    Added(u64),
     /// The groups and the models that the caller sees.
     Listed {
         groups: Rows<Item>,

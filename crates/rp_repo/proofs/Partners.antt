@@ -16,7 +16,7 @@ use Rattle.rp_plain.specs.Runs.{Effect, is_no_memory, left_by}
 use Rattle.rp_plain.specs.Turns.{after}
 use Rattle.rp_plain.specs.Valid.{IsValidModel, IsValid}
 use Rattle.rp_laws.specs.Laws.{KeepsValid}
-use Rattle.rp_core.specs.InOrder.{HasInOrder, IsInOrder}
+use Rattle.rp_core.specs.Named.{HoldsNamed, AreNamed}
 use Rattle.rp_core.specs.Held.{Kept, partner_at, turn, made, Fits, IsPrepared}
 use Rattle.rp_core.specs.declared.steps.Pending.{Pending}
 use Rattle.rp_repo.specs.Ready.{IsReady}
@@ -55,10 +55,10 @@ ready keeps old new place q pending within valid same prepared fits = record {
   valid = subst IsValid (sym (ap (made pending.steps) same ∙ prepared.changes)) (valid_after keeps old.content place q pending.reply within valid);
 }
 
-all_in_order : (r : Plain) (ms : List Model) → AllByRecursion (IsValidModel r.schemas r.partners) ms → AllByRecursion HasInOrder ms
-all_in_order r [] all = tt
-all_in_order r (m ∷ ms) all = (all.0.content.instances, all_in_order r ms all.1)
+all_named : (r : Plain) (ms : List Model) → AllByRecursion (IsValidModel r.schemas r.partners) ms → AllByRecursion HoldsNamed ms
+all_named r [] all = tt
+all_named r (m ∷ ms) all = (record { order = all.0.content.instances; few = all.0.content.few; greatest = all.0.content.greatest }, all_named r ms all.1)
 
--- in a valid repository the instances of each model stand in order
-pub valid_in_order : (r : Plain) → IsValid r → IsInOrder r
-valid_in_order r valid = all_in_order r r.models valid.models
+-- in a valid repository the instances of each model can be found by their names
+pub valid_named : (r : Plain) → IsValid r → AreNamed r
+valid_named r valid = all_named r r.models valid.models

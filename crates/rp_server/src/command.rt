@@ -34,6 +34,9 @@ A request names its partner in \"as\" and what to do in \"do\":
   {\"as\":\"ann\",\"do\":\"put\",\"owner\":\"ann\",\"model\":\"m\",\"file\":\"ISO-10303-21; ..\"}
   {\"as\":\"ann\",\"do\":\"names\",\"owner\":\"ann\",\"model\":\"m\"}
   {\"as\":\"ann\",\"do\":\"get\",\"owner\":\"ann\",\"model\":\"m\",\"instance\":1}
+  {\"as\":\"ann\",\"do\":\"add\",\"owner\":\"ann\",\"model\":\"m\",\"text\":\"P(2.,$)\"}
+  {\"as\":\"ann\",\"do\":\"set\",\"owner\":\"ann\",\"model\":\"m\",\"instance\":1,\"text\":\"P(5.,$)\"}
+  {\"as\":\"ann\",\"do\":\"drop\",\"owner\":\"ann\",\"model\":\"m\",\"instance\":1}
   {\"as\":\"ann\",\"do\":\"grant\",\"kind\":\"model\",\"name\":\"m\",\"to\":\"bob\",\"level\":\"read\"}
   {\"as\":\"ann\",\"do\":\"revoke\",\"kind\":\"model\",\"name\":\"m\",\"to\":\"bob\"}
   {\"as\":\"bob\",\"do\":\"list\"}

@@ -8,7 +8,7 @@ use Rattle.sorted_tables.proofs.Tables.{list_any-append, list_any-filter}
 use Rattle.std.specs.Ordering.{nat_cmp}
 use Rattle.rp_content.specs.declared.instance.Instance.{Instance}
 use Rattle.rp_rows.specs.Contents.{instance_name, references_of}
-use Rattle.rp_store.specs.Instances.{refers_to, is_used, placed, dropped}
+use Rattle.rp_rows.specs.Instances.{refers_to, is_used, placed, dropped}
 use Rattle.rp_store.specs.Marks.{mark_of, with_mark, with_marks, is_marked, AreMarked, IsKept}
 use Rattle.rp_store.proofs.Finding.{Becomes}
 

@@ -5,18 +5,10 @@ use Rattle.rp_store.specs.declared.changes.Change.{Change}
 use Rattle.rp_store.specs.declared.changes.Change.TheVariants.{Create, Remove, Put, Add, Set, DropInstance}
 use Rattle.rp_store.specs.declared.changes.StoreFault.{StoreFault}
 use Rattle.rp_store.specs.declared.changes.StoreFault.TheVariants.{Exists, Absent, TooMany, NoSuchInstance, InUse}
-use Rattle.rp_store.specs.Instances.{instance_of, is_used}
+use Rattle.rp_rows.specs.Instances.{max_instances, max_name, instance_of, is_used, with_instance, without_instance}
 use Rattle.rp_store.specs.Stocks.{content_of}
 use Rattle.rp_store.specs.Models.{Held, held_at, with_model, edited}
-use Rattle.rp_store.specs.Contents.{new_model, refilled, added, with_instance, without_instance}
-
--- the instances of a model
-abbrev pub max_instances : ℕ
-max_instances = 200000
-
--- the greatest name of an instance: 18 digits
-abbrev pub max_name : ℕ
-max_name = 999999999999999999
+use Rattle.rp_store.specs.Contents.{new_model, refilled, added}
 
 abbrev pub when : Bool → StoreFault → Option StoreFault
 when holds why = if holds then Some why else None

@@ -1,13 +1,12 @@
 -- Edits of what a model holds.
-use Rattle.std.specs.Prelude.{ℕ, ◌+◌, max, List, [], fold}
+use Rattle.std.specs.Prelude.{ℕ, max, List, [], fold}
 use Rattle.rp_value.specs.declared.value.Value.{Value}
 use Rattle.rp_content.specs.declared.content.Content.{Content}
-use Rattle.rp_content.specs.declared.instance.Instance.{Instance}
 use Rattle.rp_content.specs.declared.instance.Types.{Types}
 use Rattle.rp_content.specs.Headers.{default_header}
 use Rattle.rp_rows.specs.declared.rows.ModelContent.{ModelContent}
 use Rattle.rp_rows.specs.Contents.{greatest_name, link_names}
-use Rattle.rp_store.specs.Instances.{placed, dropped}
+use Rattle.rp_rows.specs.Instances.{next_name, with_instance}
 
 -- nothing, by this schema
 abbrev pub new_model : List ℕ → ModelContent
@@ -21,14 +20,6 @@ greatest_of start content = fold max (greatest_name start content.instances) (li
 abbrev pub refilled : Content → ModelContent → ModelContent
 refilled content h = record h { greatest = greatest_of h.greatest content; content = content }
 
--- the instance stands under its name
-abbrev pub with_instance : Instance → ModelContent → ModelContent
-with_instance i h = record h { greatest = max h.greatest i.name; content = record h.content { instances = placed i h.content.instances } }
-
 -- one instance more, under the greatest name and one
 abbrev pub added : Types → List Value → ModelContent → ModelContent
-added types values h = with_instance (record { name = h.greatest + 1; types = types; values = values }) h
-
--- no instance stands under the name
-abbrev pub without_instance : ℕ → ModelContent → ModelContent
-without_instance n h = record h { content = record h.content { instances = dropped n h.content.instances } }
+added types values h = with_instance (record { name = next_name h; types = types; values = values }) h

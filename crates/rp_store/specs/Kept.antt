@@ -10,7 +10,7 @@ use Rattle.rp_store.specs.declared.model.KeptModel.{KeptModel}
 use Rattle.rp_store.specs.Stocks.{Stock, holds_of}
 use Rattle.rp_store.specs.Places.{place_of}
 use Rattle.rp_store.specs.Models.{Held, held_key, held_at, instance_at, with_model, edited}
-use Rattle.rp_store.specs.Contents.{with_instance, without_instance}
+use Rattle.rp_rows.specs.Instances.{with_instance, without_instance}
 use Rattle.rp_store.specs.Changes.{fault, changed}
 
 -- ---- what a prepared change does, and asks

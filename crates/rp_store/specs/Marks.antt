@@ -2,7 +2,7 @@
 use Rattle.std.specs.Prelude.{◌≡◌, ℕ, ◌%◌, Bool, true, List, fold, slice_set, slice_index_or}
 use Rattle.std.specs.List.{list_any}
 use Rattle.rp_content.specs.declared.instance.Instance.{Instance}
-use Rattle.rp_store.specs.Instances.{IsInOrder, refers_to}
+use Rattle.rp_rows.specs.Instances.{IsInOrder, refers_to}
 
 abbrev pub mark_of : ℕ → ℕ
 mark_of n = n % 262144

@@ -5,7 +5,7 @@ use Rattle.sorted_tables.specs.Table.{is_at, with_row}
 use Rattle.rp_content.specs.declared.instance.Instance.{Instance}
 use Rattle.rp_rows.specs.declared.rows.ModelContent.{ModelContent}
 use Rattle.rp_rows.specs.Rows.{Key, key_cmp}
-use Rattle.rp_store.specs.Instances.{instance_of}
+use Rattle.rp_rows.specs.Instances.{instance_of}
 
 -- a model's owner and name, and what it holds
 pub record Held : Type 0 where

@@ -1,14 +1,16 @@
 //! Instances in the order of their names.
 
-ghost use Rattle.std.specs.Prelude.{◌≡◌, ◌<◌, [], length, OnOk, IfOk, MatchResult, option_copied};
+ghost use Rattle.std.specs.Prelude.{◌≡◌, ◌<◌, ◌-◌, [], length, OnOk, MatchResult, option_copied, vec_len};
+ghost use Rattle.std.specs.Vec.{vec_capacity};
 ghost use Rattle.std.specs.Ordering.{nat_cmp};
 ghost use Rattle.rp_rows.specs.Contents.{instance_name};
 ghost use Rattle.rp_store.specs.Places.{place_of, IsThere, IsAbsent};
-ghost use Rattle.rp_store.specs.Instances as spec;
-ghost use Rattle.rp_store.specs.Instances.{instance_of, placed, dropped, IsInOrder, Takes};
+ghost use Rattle.rp_rows.specs.Instances as spec;
+ghost use Rattle.rp_rows.specs.Instances.{instance_of, placed, dropped, IsInOrder};
+ghost use Rattle.rp_store.specs.Instances.{Takes};
 
 use crate::uses::{has_mark, is_used, mark_values, marks_of};
-use plain_data::Items;
+use plain_data::Rows;
 use rp_content::Instance;
 use std::alloc::{AllocError, Global};
 use std::marker::Model;
@@ -52,21 +54,24 @@ impl Instances {
         }
     }
 
-    /// Those of a list, each of which is moved.
-    pub(crate) fn of(alloc: Global, mut items: Items<Instance>) -> Result<Instances, AllocError>
-        requires { IsInOrder items }
-        ensures { IfOk result (λ l. l.items ≡ items) }
+    /// Those of a list, with the room that it has. It takes no memory.
+    pub fn of(alloc: Global, items: Vec<Instance>) -> Instances
+        requires { IsInOrder items.items }
+        ensures { result ≡ record { items = items.items; room = vec_capacity items - vec_len items } }
     {
-        let count = items.len();
-        let mut moved = Vec::with_capacity(alloc, count)?;
-        while let Some(item) = items.pop() {
-            moved.push(item)?;
-        }
-        moved.reverse();
-        Ok(Instances {
-            items: moved,
+        Instances {
+            items,
             marks: Vec::new(alloc),
-        })
+        }
+    }
+
+    /// The list of them. It takes no memory.
+    pub fn into_rows(self) -> Rows<Instance>
+        ensures { result ≡ self.items }
+    {
+        let Instances { items, marks } = self;
+        drop(marks);
+        Rows::from_vec(items)
     }
 
     /// All of them.
@@ -140,7 +145,7 @@ impl Instances {
     }
 
     /// The instance stands under its name from now on. It takes no memory.
-    pub(crate) fn put(&mut self, instance: Instance)
+    pub fn put(&mut self, instance: Instance)
         requires { Takes instance.name self.old }
         ensures { self.new.items ≡ placed instance self.old.items }
     {
@@ -153,7 +158,7 @@ impl Instances {
     }
 
     /// No instance stands under the name from now on.
-    pub(crate) fn drop_instance(&mut self, name: u64)
+    pub fn drop_instance(&mut self, name: u64)
         ensures { self.new.items ≡ dropped name self.old.items }
     {
         if let Ok(place) = self.search(name) {

@@ -16,3 +16,4 @@ pub use changes::{Change, Prepared, StoreFault};
 pub use instances::Instances;
 pub use model::{KeptContent, KeptModel};
 pub use store::Store;
+pub use uses::is_used;

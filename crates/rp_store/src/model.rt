@@ -52,7 +52,7 @@ fn greatest_link(start: u64, links: &[Link]) -> u64
 impl KeptContent {
     ghost use Rattle.std.specs.Prelude.{◌≡◌, [], IfOk};
     ghost use Rattle.rp_content.specs.Headers.{default_header};
-    ghost use Rattle.rp_store.specs.Instances.{IsInOrder};
+    ghost use Rattle.rp_rows.specs.Instances.{IsInOrder};
     ghost use Rattle.rp_store.specs.Stocks.{content_of};
     ghost use Rattle.rp_store.specs.Contents as spec;
 
@@ -67,21 +67,21 @@ impl KeptContent {
         })
     }
 
-    /// This content. Each of its instances is moved in memory.
-    pub fn of(alloc: Global, content: Content) -> Result<KeptContent, AllocError>
+    /// This content. It takes no memory.
+    pub fn of(alloc: Global, content: Content) -> KeptContent
         requires { IsInOrder content.instances }
-        ensures { IfOk result (λ c. content_of c ≡ content) }
+        ensures { content_of result ≡ content }
     {
         let Content {
             header,
             instances,
             links,
         } = content;
-        Ok(KeptContent {
+        KeptContent {
             header,
-            instances: Instances::of(alloc, instances)?,
+            instances: Instances::of(alloc, instances.into_vec()),
             links,
-        })
+        }
     }
 
     /// The greatest of a number and the names that are defined in it.
@@ -99,7 +99,7 @@ impl KeptModel {
     ghost use Rattle.std.specs.Prelude.{◌≡◌};
     ghost use Rattle.rp_store.specs.Instances.{Takes};
     ghost use Rattle.rp_store.specs.Stocks.{holds_of};
-    ghost use Rattle.rp_store.specs.Contents.{with_instance, without_instance};
+    ghost use Rattle.rp_rows.specs.Instances.{with_instance, without_instance};
 
     /// The instance stands under its name from now on. It takes no memory.
     pub(crate) fn place(&mut self, instance: Instance)

@@ -7,7 +7,7 @@ ghost use Rattle.std.specs.Ordering.{is_lt, is_eq};
 ghost use Rattle.rp_rows.specs.Rows.{key_cmp};
 ghost use Rattle.rp_store.specs.Places.{place_of, IsThere, IsAbsent};
 ghost use Rattle.rp_store.specs.Models.{held_key, is_held, held_at, instance_at, with_model, edited};
-ghost use Rattle.rp_store.specs.Contents.{with_instance, without_instance};
+ghost use Rattle.rp_rows.specs.Instances.{with_instance, without_instance};
 ghost use Rattle.rp_store.specs.Stocks.{holds_of, held_of};
 ghost use Rattle.rp_store.specs.Kept.{made, HasRoomAt, Fits};
 

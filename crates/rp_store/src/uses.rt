@@ -3,7 +3,7 @@
 ghost use Rattle.std.specs.Prelude.{◌≡◌, ◌==◌, length, IfOk};
 ghost use Rattle.std.specs.List.{flat_map, list_any};
 ghost use Rattle.rp_rows.specs.Contents.{references, references_of};
-ghost use Rattle.rp_store.specs.Instances as spec;
+ghost use Rattle.rp_rows.specs.Instances as spec;
 ghost use Rattle.rp_store.specs.Marks.{with_mark, with_marks, is_marked, AreMarked};
 
 use rp_content::Instance;

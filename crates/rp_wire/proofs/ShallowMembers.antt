@@ -8,7 +8,7 @@ use Rattle.serde_json.specs.Data.{Data, null, boolean, number, string, array, ob
 use Rattle.serde_json.specs.Find.{get_member, as_str, as_object}
 use Rattle.serde_json.specs.Read.{read}
 use Rattle.shallow_json.specs.Shallow.{plain, shallow, shallow_object}
-use Rattle.rp_wire.specs.Asks.{has_only, without, text_in, text_if_any, number_of, number_in, create_model_of, model_in, put_of, export_of, names_of, get_of, delete_model_of, list_of, is_model_kind, grant_of, revoke_of, schemas_of, check_schema_of, request_for, request_in, asked_in, asked_of}
+use Rattle.rp_wire.specs.Asks.{has_only, without, text_in, text_if_any, number_of, number_in, create_model_of, model_in, put_of, export_of, names_of, get_of, add_of, set_of, drop_of, delete_model_of, list_of, is_model_kind, grant_of, revoke_of, schemas_of, check_schema_of, request_for, request_in, asked_in, asked_of}
 
 has_only-shallow : (keys : List (List ℕ)) (ms : Members) → has_only keys (shallow ms) ≡ has_only keys ms
 has_only-shallow keys no_members = refl
@@ -88,6 +88,15 @@ names_of-shallow ms = rw (has_only-shallow (codes "model" ∷ codes "owner" ∷ 
 get_of-shallow : (ms : Members) → get_of (shallow ms) ≡ get_of ms
 get_of-shallow ms = rw (has_only-shallow (codes "instance" ∷ codes "model" ∷ codes "owner" ∷ []) ms, model_in-shallow ms, number_in-shallow (codes "instance") ms) refl
 
+add_of-shallow : (ms : Members) → add_of (shallow ms) ≡ add_of ms
+add_of-shallow ms = rw (has_only-shallow (codes "model" ∷ codes "owner" ∷ codes "text" ∷ []) ms, model_in-shallow ms, text_in-shallow (codes "text") ms) refl
+
+set_of-shallow : (ms : Members) → set_of (shallow ms) ≡ set_of ms
+set_of-shallow ms = rw (has_only-shallow (codes "instance" ∷ codes "model" ∷ codes "owner" ∷ codes "text" ∷ []) ms, model_in-shallow ms, number_in-shallow (codes "instance") ms, text_in-shallow (codes "text") ms) refl
+
+drop_of-shallow : (ms : Members) → drop_of (shallow ms) ≡ drop_of ms
+drop_of-shallow ms = rw (has_only-shallow (codes "instance" ∷ codes "model" ∷ codes "owner" ∷ []) ms, model_in-shallow ms, number_in-shallow (codes "instance") ms) refl
+
 delete_model_of-shallow : (ms : Members) → delete_model_of (shallow ms) ≡ delete_model_of ms
 delete_model_of-shallow ms = rw (has_only-shallow (codes "name" ∷ []) ms, text_in-shallow (codes "name") ms) refl
 
@@ -111,7 +120,7 @@ check_schema_of-shallow ms = rw (has_only-shallow (codes "text" ∷ []) ms, text
 
 request_for-shallow : (word : List ℕ) (ms : Members) → request_for word (shallow ms) ≡ request_for word ms
 request_for-shallow word ms =
-    rw (create_model_of-shallow ms, put_of-shallow ms, export_of-shallow ms, names_of-shallow ms, get_of-shallow ms, delete_model_of-shallow ms, list_of-shallow ms, grant_of-shallow ms, revoke_of-shallow ms, schemas_of-shallow ms, check_schema_of-shallow ms) refl
+    rw (create_model_of-shallow ms, put_of-shallow ms, export_of-shallow ms, names_of-shallow ms, get_of-shallow ms, add_of-shallow ms, set_of-shallow ms, drop_of-shallow ms, delete_model_of-shallow ms, list_of-shallow ms, grant_of-shallow ms, revoke_of-shallow ms, schemas_of-shallow ms, check_schema_of-shallow ms) refl
 
 for_word : (o : Option (List ℕ)) (ms : Members) → option_and_then (λ word. request_for word (without (codes "do") (shallow ms))) o ≡ option_and_then (λ word. request_for word (without (codes "do") ms)) o
 for_word None ms = refl

@@ -9,7 +9,7 @@ use Rattle.rp_rows.specs.declared.rows.Level.{Level}
 use Rattle.rp_rows.specs.declared.rows.Level.TheVariants.{Read, Write}
 use Rattle.rp_rows.specs.Rows.{Key}
 use Rattle.rp_plain.specs.declared.messages.Request.{Request}
-use Rattle.rp_plain.specs.declared.messages.Request.TheVariants.{CreateModel, DeleteModel, Put, Export, Names, Get, ListItems, GrantModel, RevokeModel, Schemas, CheckSchema}
+use Rattle.rp_plain.specs.declared.messages.Request.TheVariants.{CreateModel, DeleteModel, Put, Export, Names, Get, Add, Set, DropInstance, ListItems, GrantModel, RevokeModel, Schemas, CheckSchema}
 use Rattle.rp_wire.specs.declared.asks.Asked.{Asked}
 
 -- ---- the members of an object
@@ -73,6 +73,15 @@ names_of ms = if has_only (codes "model" ∷ codes "owner" ∷ []) ms then optio
 abbrev pub get_of : Members → Option Request
 get_of ms = if has_only (codes "instance" ∷ codes "model" ∷ codes "owner" ∷ []) ms then option_and_then (λ instance. option_map (λ model. Get model instance) (model_in ms)) (number_in (codes "instance") ms) else None
 
+abbrev pub add_of : Members → Option Request
+add_of ms = if has_only (codes "model" ∷ codes "owner" ∷ codes "text" ∷ []) ms then option_and_then (λ model. with_text (codes "text") ms (λ text. Some (Add model text))) (model_in ms) else None
+
+abbrev pub set_of : Members → Option Request
+set_of ms = if has_only (codes "instance" ∷ codes "model" ∷ codes "owner" ∷ codes "text" ∷ []) ms then option_and_then (λ instance. option_and_then (λ model. with_text (codes "text") ms (λ text. Some (Set model instance text))) (model_in ms)) (number_in (codes "instance") ms) else None
+
+abbrev pub drop_of : Members → Option Request
+drop_of ms = if has_only (codes "instance" ∷ codes "model" ∷ codes "owner" ∷ []) ms then option_and_then (λ instance. option_map (λ model. DropInstance model instance) (model_in ms)) (number_in (codes "instance") ms) else None
+
 abbrev pub delete_model_of : Members → Option Request
 delete_model_of ms = if has_only (codes "name" ∷ []) ms then with_text (codes "name") ms (λ name. Some (DeleteModel name)) else None
 
@@ -107,12 +116,15 @@ request_for word ms =
     else (if bytes_eq word (codes "export") then export_of ms
     else (if bytes_eq word (codes "names") then names_of ms
     else (if bytes_eq word (codes "get") then get_of ms
+    else (if bytes_eq word (codes "add") then add_of ms
+    else (if bytes_eq word (codes "set") then set_of ms
+    else (if bytes_eq word (codes "drop") then drop_of ms
     else (if bytes_eq word (codes "delete_model") then delete_model_of ms
     else (if bytes_eq word (codes "list") then list_of ms
     else (if bytes_eq word (codes "grant") then grant_of ms
     else (if bytes_eq word (codes "revoke") then revoke_of ms
     else (if bytes_eq word (codes "schemas") then schemas_of ms
-    else (if bytes_eq word (codes "check_schema") then check_schema_of ms else None))))))))))
+    else (if bytes_eq word (codes "check_schema") then check_schema_of ms else None)))))))))))))
 
 -- `do` has the word
 abbrev pub request_in : Members → Option Request

@@ -12,9 +12,9 @@ use Rattle.rp_rows.specs.declared.rows.Right.TheVariants.{Unseen, Reads, Groups,
 use Rattle.rp_plain.specs.declared.lists.Item.{Item}
 use Rattle.rp_plain.specs.declared.lists.NamedType.{NamedType}
 use Rattle.rp_plain.specs.declared.messages.Refusal.{Refusal}
-use Rattle.rp_plain.specs.declared.messages.Refusal.TheVariants.{BadRequest, TooLarge, BadName, UnknownPartner, UnknownSchema, Exists, NoSuchItem, NoRight, WrongSchema, FileFault, InstanceFault, NoSuchInstance, TooMany, NoMemory}
+use Rattle.rp_plain.specs.declared.messages.Refusal.TheVariants.{BadRequest, TooLarge, BadName, UnknownPartner, UnknownSchema, Exists, NoSuchItem, NoRight, WrongSchema, FileFault, InstanceFault, NoSuchInstance, InUse, TooMany, NoMemory}
 use Rattle.rp_plain.specs.declared.messages.Reply.{Reply}
-use Rattle.rp_plain.specs.declared.messages.Reply.TheVariants.{Done, Stored, File, Names, Line, Listed, Schemas, Checked, Faulty, Refused}
+use Rattle.rp_plain.specs.declared.messages.Reply.TheVariants.{Done, Stored, File, Names, Line, Added, Listed, Schemas, Checked, Faulty, Refused}
 use Rattle.ex_check.specs.declared.fault.SchemaFault.{SchemaFault}
 use Rattle.ex_check.specs.Check.{name as fault_name, place as fault_place}
 
@@ -74,6 +74,7 @@ refusal_members WrongSchema = coded 9 (codes "WrongSchema")
 refusal_members (FileFault fault) = with_number (codes "at") fault.at (with_number (codes "code") 11 (with_string (codes "kind") (file_kind fault.kind) (with_string (codes "name") (codes "FileFault") no_members)))
 refusal_members (InstanceFault fault) = with_number (codes "code") 12 (with_number (codes "instance") fault.instance (with_string (codes "kind") (instance_kind fault.kind) (with_string (codes "name") (codes "InstanceFault") no_members)))
 refusal_members NoSuchInstance = coded 14 (codes "NoSuchInstance")
+refusal_members InUse = coded 15 (codes "InUse")
 refusal_members TooMany = coded 16 (codes "TooMany")
 refusal_members NoMemory = coded 18 (codes "NoMemory")
 
@@ -112,6 +113,7 @@ reply_data (Stored n) = only (codes "ok") (only (codes "instances") (number (uns
 reply_data (File text) = only (codes "ok") (only (codes "file") (string text))
 reply_data (Names names) = only (codes "ok") (only (codes "names") (list_of named_type_data names))
 reply_data (Line text) = only (codes "ok") (only (codes "text") (string text))
+reply_data (Added name) = only (codes "ok") (only (codes "name") (number (unsigned name)))
 reply_data (Listed groups models) = only (codes "ok") (object (member (codes "groups") (list_of item_data groups) (member (codes "models") (list_of item_data models) no_members)))
 reply_data (Schemas names) = only (codes "ok") (only (codes "schemas") (list_of string names))
 reply_data (Checked schema warnings) = only (codes "ok") (object (with_string (codes "schema") schema (member (codes "warnings") (list_of warning_data warnings) no_members)))

@@ -3,7 +3,7 @@
 ghost use Rattle.std.specs.Prelude.{◌≡◌, ℕ, List, false, codes, IfOk, IsErrOf, None, Some};
 ghost use Rattle.std.specs.Str.{bytes_eq};
 ghost use Rattle.serde_json.specs.View.{members_view};
-ghost use Rattle.rp_wire.specs.Asks.{create_model_of, model_in, put_of, export_of, names_of, get_of, delete_model_of, list_of, level_of, is_model_kind, grant_of, revoke_of, schemas_of, check_schema_of, text_in, request_for, request_in, asked_in, asked_of};
+ghost use Rattle.rp_wire.specs.Asks.{create_model_of, model_in, put_of, export_of, names_of, get_of, add_of, set_of, drop_of, delete_model_of, list_of, level_of, is_model_kind, grant_of, revoke_of, schemas_of, check_schema_of, text_in, request_for, request_in, asked_in, asked_of};
 
 use crate::members::{Members, has_only_keys, take_number, take_text, take_text_if_any};
 use plain_data::Text;
@@ -65,6 +65,9 @@ fn request_for(word: &str, members: Members) -> Option<Request>
         "export" => export(members),
         "names" => names(members),
         "get" => get(members),
+        "add" => add(members),
+        "set" => set(members),
+        "drop" => drop_instance(members),
         "delete_model" => delete_model(members),
         "list" => list(members),
         "grant" => grant(members),
@@ -138,6 +141,44 @@ fn get(mut members: Members) -> Option<Request>
     let instance = take_number(&mut members, "instance")?;
     let model = take_model(&mut members)?;
     Some(Request::Get { model, instance })
+}
+
+fn add(mut members: Members) -> Option<Request>
+    ensures { result ≡ add_of (members_view members.entries) }
+{
+    if !has_only_keys(&members, &["model", "owner", "text"]) {
+        return None;
+    }
+    let model = take_model(&mut members)?;
+    let text = take_text(&mut members, "text")?;
+    Some(Request::Add { model, text })
+}
+
+fn set(mut members: Members) -> Option<Request>
+    ensures { result ≡ set_of (members_view members.entries) }
+{
+    if !has_only_keys(&members, &["instance", "model", "owner", "text"]) {
+        return None;
+    }
+    let instance = take_number(&mut members, "instance")?;
+    let model = take_model(&mut members)?;
+    let text = take_text(&mut members, "text")?;
+    Some(Request::Set {
+        model,
+        instance,
+        text,
+    })
+}
+
+fn drop_instance(mut members: Members) -> Option<Request>
+    ensures { result ≡ drop_of (members_view members.entries) }
+{
+    if !has_only_keys(&members, &["instance", "model", "owner"]) {
+        return None;
+    }
+    let instance = take_number(&mut members, "instance")?;
+    let model = take_model(&mut members)?;
+    Some(Request::DropInstance { model, instance })
 }
 
 fn delete_model(mut members: Members) -> Option<Request>

@@ -28,6 +28,7 @@ pub(crate) fn write_refusal(out: &mut Writer, refusal: Refusal) -> Result<(), Al
         Refusal::FileFault(fault) => write_file_fault(out, fault),
         Refusal::InstanceFault(fault) => write_instance_fault(out, fault),
         Refusal::NoSuchInstance => write_coded(out, 14, "NoSuchInstance"),
+        Refusal::InUse => write_coded(out, 15, "InUse"),
         Refusal::TooMany => write_coded(out, 16, "TooMany"),
         Refusal::NoMemory => write_coded(out, 18, "NoMemory"),
     }

@@ -1,7 +1,7 @@
 //! From a reply to bytes.
 
 ghost use Rattle.std.specs.Prelude.{◌≡◌, ◌++◌, codes, IfOk, OnOk};
-ghost use Rattle.serde_json.specs.Data.{string};
+ghost use Rattle.serde_json.specs.Data.{number as data_number, unsigned, string};
 ghost use Rattle.rp_wire.specs.Replies.{only, reply_data, reply_text, line_of_reply};
 ghost use Rattle.rp_wire.specs.Tokens.{tokens_of};
 
@@ -50,6 +50,7 @@ fn write_reply(out: &mut Writer, reply: &Reply) -> Result<(), AllocError>
         Reply::File(text) => write_text_at(out, "file", text),
         Reply::Names(names) => write_names(out, names.as_slice()),
         Reply::Line(text) => write_text_at(out, "text", text),
+        Reply::Added(name) => write_number_at(out, "name", *name),
         Reply::Listed { groups, models } => write_listed(out, groups.as_slice(), models.as_slice()),
         Reply::Schemas(names) => write_schemas(out, names.as_slice()),
         Reply::Checked { schema, warnings } => write_checked(out, schema, warnings.as_slice()),
@@ -70,8 +71,16 @@ fn write_stored(out: &mut Writer, count: usize) -> Result<(), AllocError>
     ensures ok { OnOk result (out.new.tokens ≡ out.old.tokens ++ tokens_of (reply_data (Reply.Stored count))) }
     ensures before { out.new.before ≡ out.old.before }
 {
+    write_number_at(out, "instances", count as u64)
+}
+
+/// What is done, with one number at a key.
+fn write_number_at(out: &mut Writer, key: &str, number: u64) -> Result<(), AllocError>
+    ensures ok { OnOk result (out.new.tokens ≡ out.old.tokens ++ tokens_of (only (codes "ok") (only key.now (data_number (unsigned number))))) }
+    ensures before { out.new.before ≡ out.old.before }
+{
     open(out, "ok")?;
-    number_at(out, "instances", count as u64)?;
+    number_at(out, key, number)?;
     close(out)
 }
 

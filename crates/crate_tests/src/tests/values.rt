@@ -87,7 +87,7 @@ fn is_new(content: &Content) -> bool {
         && is_this_text(level, "2;1")
         && is_one_empty_text(authors)
         && is_one_empty_text(organizations)
-        && content.instances.is_empty()
+        && content.instances.as_slice().is_empty()
         && content.links.is_empty()
 }
 

@@ -4,7 +4,7 @@ use Rattle.std.proofs.lemmas.Option.{slice_get_past}
 use Rattle.sorted_tables.specs.Table.{is_at}
 use Rattle.rp_rows.specs.Contents.{instance_name}
 use Rattle.rp_core.proofs.Looking.{chosen_seen, chosen_unseen}
-use Rattle.rp_core.proofs.Single.{got, found_named}
+use Rattle.rp_core.proofs.Names.{got, found_named}
 use Rattle.rp_core.proofs.instances.instance_named.Goals as goal
 
 pub returns-then-is_of_name : goal.returns-then-is_of_name

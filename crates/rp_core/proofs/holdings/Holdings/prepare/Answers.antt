@@ -1,13 +1,14 @@
 use Rattle.std.proofs.Common.{◌≡◌, ◌<◌, List, [], length, get_or, sym, subst, ◌∙◌, ap}
 use Rattle.std.proofs.lemmas.List.{get_or_read}
 use Rattle.std.specs.List.{AllByRecursion}
-use Rattle.rp_rows.specs.Rows.{Model}
+use Rattle.sorted_tables.specs.Table.{IsAscending}
+use Rattle.rp_rows.specs.Rows.{key_cmp, row_key, Model}
 use Rattle.rp_plain.specs.Plain.{Plain}
-use Rattle.rp_core.specs.Held.{partner_at, turn}
-use Rattle.rp_core.specs.InOrder.{HasInOrder}
+use Rattle.rp_core.specs.Held.{partner_at, turn, made_models}
+use Rattle.rp_core.specs.Named.{HoldsNamed}
 use Rattle.rp_core.specs.Told.{told}
 use Rattle.rp_core.proofs.Preparing.{prepared_from, refused_from, wanting}
-use Rattle.rp_core.proofs.Single.{told_in_order}
+use Rattle.rp_core.proofs.Names.{told_named}
 use Rattle.rp_core.proofs.holdings.Holdings.prepare.Goals as goal
 use Rattle.rp_core.proofs.holdings.Holdings.prepare.Goals.{in-Ok-of_plan, in-Err-of_plan}
 
@@ -16,7 +17,12 @@ unfolding told
 plan-requires c =
     let read : Plain = record { schemas = c.deref.result.now; partners = c.deref-2.result.now; models = c.self.inside.models.rows; groups = c.self.inside.groups.rows } in
     let models : c.self.inside.models.rows ≡ c.args.self.now.content.models = ap (λ h. h.content.models) c.self.view_is in
-    told_in_order read c.index.result.now (subst (λ (ms : List Model). AllByRecursion HasInOrder ms) (sym models) c.requires.order)
+    told_named read c.index.result.now (subst (λ (ms : List Model). AllByRecursion HoldsNamed ms) (sym models) c.requires.named)
+
+pub of_plan-requires : goal.of_plan-requires
+of_plan-requires c =
+    let models : c.self.inside.models.rows ≡ c.args.self.now.content.models = ap (λ h. h.content.models) c.self.view_is in
+    subst (λ (ms : List Model). AllByRecursion HoldsNamed ms) (sym models) c.requires.named
 
 pub returns-in-Err-clause-prepared : goal.returns-in-Err-clause-prepared
 unfolding told
@@ -38,7 +44,9 @@ returns-after-of_plan-clause-prepared c =
     let within : c.args.place < length c.self.inside.partners.items = rw partners c.requires.partner in
     let at = get_or_read c.self.inside.partners.items c.args.place c.index.result.now within c.index.ensures [] in
     let who : c.index.result.now ≡ partner_at c.args.self.now.content c.args.place = at ∙ ap (λ xs. get_or xs c.args.place []) partners in
+    let order : IsAscending key_cmp row_key read.models = subst (λ (ms : List Model). IsAscending key_cmp row_key ms) (sym (ap (λ h. h.content.models) c.self.view_is)) c.requires.order.models in
     elim c.match-of_plan.branch [
-      | in-Ok-of_plan w ↦ prepared_from c.args.self.now.content (partner_at c.args.self.now.content c.args.place) read c.index.result.now c.args.request c.in-Ok.plan c.match-of_plan.result same who c.in-Ok.ensures (w.result-is ∙ w.in-Ok-of_plan.ensures.pending)
+      | in-Ok-of_plan w ↦ prepared_from c.args.self.now.content (partner_at c.args.self.now.content c.args.place) read c.index.result.now c.args.request c.in-Ok.plan c.match-of_plan.result same who order c.in-Ok.ensures
+          (ap (λ p. p.reply) w.result-is ∙ w.in-Ok-of_plan.ensures.reply) (ap (λ p. made_models p.steps read.models) w.result-is ∙ w.in-Ok-of_plan.ensures.steps)
       | in-Err-of_plan w ↦ wanting c.args.self.now.content (turn c.args.self.now.content c.args.place c.args.request) w.into.result c.match-of_plan.result w.into.ensures (w.result-is ∙ w.refused-in-Err-of_plan.ensures)
     ]

@@ -1,5 +1,5 @@
 use Rattle.std.proofs.Common.{◌≡◌, false, sym, ◌∙◌, ap}
-use Rattle.rp_store.specs.Instances.{is_used}
+use Rattle.rp_rows.specs.Instances.{is_used}
 use Rattle.rp_store.specs.Marks.{is_marked}
 use Rattle.rp_store.proofs.Marking.{unmarked_unused}
 use Rattle.rp_store.proofs.instances.Instances.is_used.Goals as goal

@@ -2,7 +2,7 @@ use Rattle.std.proofs.Common.{◌≡◌, ◌<◌, ◌≤◌, length, get_or, sym
 use Rattle.std.specs.Ordering.{nat_cmp}
 use Rattle.std.proofs.lemmas.Cmp.{nat_cmp_total}
 use Rattle.rp_rows.specs.Contents.{instance_name}
-use Rattle.rp_store.specs.Instances.{IsInOrder}
+use Rattle.rp_rows.specs.Instances.{IsInOrder}
 use Rattle.rp_store.proofs.Finding.{is_named, is_not_named, there_at, absent_at, absent_past}
 use Rattle.rp_store.proofs.instances.Instances.search.Goals as goal
 

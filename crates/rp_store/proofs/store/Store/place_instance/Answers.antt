@@ -1,5 +1,5 @@
 use Rattle.std.proofs.Common.{ap}
-use Rattle.rp_store.specs.Contents.{with_instance}
+use Rattle.rp_rows.specs.Instances.{with_instance}
 use Rattle.rp_store.proofs.Keeping.{edit_there, edit_absent, takes_there}
 use Rattle.rp_store.proofs.store.Store.place_instance.Goals as goal
 

@@ -1,5 +1,5 @@
 use Rattle.std.proofs.Common.{ap}
-use Rattle.rp_store.specs.Contents.{without_instance}
+use Rattle.rp_rows.specs.Instances.{without_instance}
 use Rattle.rp_store.proofs.Keeping.{edit_there, edit_absent}
 use Rattle.rp_store.proofs.store.Store.remove_instance.Goals as goal
 

@@ -1,0 +1,69 @@
+#!/usr/bin/env python3
+"""Measures requests for single instances of a model of 180,000, in one process.
+
+    bench/single.py [PROGRAM] [COUNT]
+
+It puts a file like those of a CAD exporter, and asks for so many of each, 10,000 where nothing is said: lines that are
+refused because the model isn't there, then `get`, `add`, `set` and `drop`. It prints the microseconds that a processor ran
+the program for each in the mean, and the same less what a refused line takes.
+"""
+import os
+import sys
+
+from harness import TOP, Session, Table, compare, processor_seconds, request, run_bench
+from make_part21 import part21
+
+SCHEMA = os.path.join(TOP, "tests/data/automotive_design.exp")
+INSTANCES = 180_000
+OK = b'{"ok":{}}\n'
+NO_SUCH_ITEM = b'{"refused":{"code":7,"name":"NoSuchItem"}}\n'
+# an odd number of steps leads through all names before one comes again
+STEP = 7919
+
+
+def single(do, model="m", **keys):
+    return request(do, owner="ann", model=model, **keys)
+
+
+def point(k):
+    return f"CARTESIAN_POINT('',({k}.,0.E+000,-1.5))"
+
+
+def written(k):
+    """The text of a point in canonical text."""
+    digits, zeros = str(k).rstrip("0"), len(str(k)) - len(str(k).rstrip("0"))
+    return f"CARTESIAN_POINT('',({digits}.{f'E{zeros}' if zeros else ''},0.,-15.E-1))"
+
+
+def turns_of(count):
+    """The lines of each sort with their replies. What is read, and then dropped, is what was added and then set."""
+    added = range(INSTANCES + 1, INSTANCES + 1 + count)
+    mixed = [added[k * STEP % count] for k in range(count)]
+    yield "refused", [(single("get", model="z", instance=k), NO_SUCH_ITEM) for k in added]
+    yield "add", [(single("add", text=point(k)), b'{"ok":{"name":%d}}\n' % k) for k in added]
+    yield "set", [(single("set", instance=k, text=point(k + 1)), OK) for k in mixed]
+    yield "get", [(single("get", instance=k), b'{"ok":{"text":"#%d=%s;"}}\n' % (k, written(k + 1).encode())) for k in mixed]
+    yield "drop", [(single("drop", instance=k), OK) for k in mixed]
+
+
+def measure(count, folder):
+    with open(SCHEMA, encoding="utf-8") as it:
+        folder.configure(automotive_design=it.read())
+    table = Table({"request": "8", "microseconds": "12.1f", "less a refused line": "19.1f"})
+    with Session(folder) as session:
+        compare(session.ask(request("create_model", name="m", schema="AUTOMOTIVE_DESIGN"))[0], OK)
+        compare(session.ask(single("put", file=part21(INSTANCES)))[0], b'{"ok":{"instances":%d}}\n' % INSTANCES)
+        refused = None
+        for name, turns in turns_of(count):
+            begin = processor_seconds(session.process)
+            for line, reply in turns:
+                compare(session.ask(line)[0], reply)
+            mean = (processor_seconds(session.process) - begin) / count * 1e6
+            refused = mean if refused is None else refused
+            table.row(name, mean, mean - refused)
+
+
+if __name__ == "__main__":
+    words = sys.argv[1:]
+    asked = int(words.pop()) if words and words[-1].isdigit() else 10_000
+    run_bench(lambda folder: measure(asked, folder), words)

@@ -1,0 +1,60 @@
+-- What a binary search finds among a model's instances.
+use Rattle.std.proofs.Common.{◌≡◌, ℕ, ◌<◌, get_or, Bool, ◌&&◌, ◌||◌, ◌==◌, true, false, is_some, arith, List, [], ◌∷◌, length, Option, Some, None, refl, sym, ◌∙◌, ap, subst}
+use Rattle.std.specs.Prelude.{filter, slice_get, if◌then◌else◌}
+use Rattle.std.specs.List.{find, AllByRecursion}
+use Rattle.std.specs.Ordering.{is_eq, nat_cmp}
+use Rattle.std.proofs.lemmas.Bool.Decides.{nat_tests}
+use Rattle.std.proofs.lemmas.Cmp.{nat_cmp_total}
+use Rattle.std.proofs.lemmas.Option.{slice_get_read}
+use Rattle.sorted_tables.specs.Table.{is_at, is_before}
+use Rattle.sorted_tables.proofs.Searching.{at_place, chosen}
+use Rattle.rp_content.specs.declared.instance.Instance.{Instance}
+use Rattle.rp_rows.specs.Rows.{Text, is_row, Model}
+use Rattle.p21_instances.specs.Instances.{is_among}
+use Rattle.rp_rows.specs.Contents.{instance_name, names}
+use Rattle.rp_rows.specs.Instances.{is_instance, instance_of, IsInOrder}
+use Rattle.rp_rows.specs.Sight.{sees}
+use Rattle.rp_plain.specs.Plain.{Plain, model_at}
+use Rattle.rp_plain.specs.Asked.{asked, held}
+use Rattle.rp_core.specs.Named.{IsNamed, HoldsNamed, AreNamed, TellsNamed}
+
+-- what is read at a place stands there
+pub got : (xs : List Instance) (i : ℕ) (x : Instance) → i < length xs → x ≡ get_or xs i x → Some x ≡ slice_get xs i
+got xs i x within read = sym (slice_get_read xs (length xs) i x refl within read)
+
+-- what stands at the place of a name, if it has that name
+pub found_named : (name : ℕ) (xs : List Instance) (i : ℕ) (o : Option Instance) → IsInOrder xs → i ≡ length (filter (is_before nat_cmp instance_name name) xs) → o ≡ slice_get xs i
+    → chosen (is_at nat_cmp instance_name name) o ≡ instance_of name xs
+found_named name xs i o order is got =
+    ap (chosen (is_at nat_cmp instance_name name)) (got ∙ ap (slice_get xs) is) ∙ sym (at_place nat_cmp instance_name nat_cmp_total name xs order)
+
+pub all_found : {X : Type 0} (P : X → Type 0) (q : X → Bool) (xs : List X) (x : X) → find q xs ≡ Some x → AllByRecursion P xs → P x
+all_found P q [] x found all = cc
+all_found P q (y ∷ ys) x found all = by (λ f. all_found P q ys x f all.1) (q y) found
+  where
+    by : (find q ys ≡ Some x → P x) → (t : Bool) → (if t then Some y else find q ys) ≡ Some x → P x
+    by rest true f = let same : y ≡ x = cc in subst P same all.0
+    by rest false f = rest f
+
+pub told_named : (r : Plain) (c : Text) → AreNamed r → TellsNamed (asked r c)
+told_named r c all k h = by (model_at r c k) refl
+  where
+    by : (o : Option Model) → model_at r c k ≡ o → held o ≡ Some h → IsNamed h
+    by None seen e = cc
+    by (Some m) seen e =
+        let same : m.holds ≡ h = cc in
+        subst IsNamed same (all_found HoldsNamed (λ m. is_row k m && sees r.groups c m) r.models m seen all)
+
+-- a name stands among the instances exactly if an instance has it
+pub among_names : (n : ℕ) (xs : List Instance) → is_some (instance_of n xs) ≡ is_among (names xs) n
+among_names n [] = refl
+among_names n (x ∷ xs) = by (among_names n xs) (is_instance n x) (x.name == n) (same_test x.name n)
+  where
+    same_test : (m k : ℕ) → is_eq (nat_cmp m k) ≡ (m == k)
+    same_test m k = grind (arith, nat_tests)
+
+    by : is_some (instance_of n xs) ≡ is_among (names xs) n → (t u : Bool) → t ≡ u → is_some (if t then Some x else instance_of n xs) ≡ (u || is_among (names xs) n)
+    by rest true true e = refl
+    by rest true false e = cc
+    by rest false true e = cc
+    by rest false false e = rest

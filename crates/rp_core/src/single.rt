@@ -1,0 +1,180 @@
+//! Single instances that are added to models, set and dropped.
+
+ghost use Rattle.std.specs.Prelude.{◌≡◌, Some, option_copied};
+ghost use Rattle.p21_read.specs.Single.{mapping_of};
+ghost use Rattle.rp_plain.specs.Instances as of_instances;
+ghost use Rattle.rp_rows.specs.Instances.{IsInOrder};
+ghost use Rattle.rp_core.specs.Told.{told};
+ghost use Rattle.rp_core.specs.Named.{TellsNamed};
+ghost use Rattle.rp_core.specs.Single.{Says};
+ghost use Rattle.rp_core.specs.Plans.{Plans};
+
+use crate::asked::Asking;
+use crate::edits::{Edits, Plan};
+use crate::faults::{first, is_no_partner, key_fault, lacks, when};
+use crate::files::cheap_fault;
+use crate::instances::{instance_in, instance_named, is_absent};
+use crate::model_names::ModelNames;
+use ex_subtypes::Compiled;
+use p21_bind::bind_instance;
+use p21_read::{Mapping, read_instance};
+use plain_data::Text;
+use rp_content::Instance;
+use rp_plain::messages::{Refusal, Reply, Request};
+use rp_rows::rows::{Key, ModelContent, Right};
+use rp_store::is_used;
+use std::alloc::{AllocError, Global};
+use text_forms::Failure;
+
+/// The most instances of a model.
+const MAX_INSTANCES: usize = 200_000;
+
+/// The greatest name of an instance: 18 digits.
+const MAX_NAME: u64 = 999_999_999_999_999_999;
+
+/// The instance of this name that the mapping is by the schema, or its first fault.
+fn bound(
+    alloc: Global,
+    schema: Option<&Compiled>,
+    names: &ModelNames<'_>,
+    name: u64,
+    mapping: Mapping<'_>,
+) -> Result<Instance, Refusal>
+    ensures { Says (of_instances.bound_by (option_copied schema.entry) (of_instances.is_defined names.now) name mapping.entry) result }
+{
+    let Some(schema) = schema else {
+        return Err(Refusal::UnknownSchema);
+    };
+    match bind_instance(alloc, schema, name, mapping, names) {
+        Ok(instance) => Ok(instance),
+        Err(Failure::Fault(fault)) => Err(Refusal::InstanceFault(fault)),
+        Err(Failure::NoMemory) => Err(AllocError.into()),
+    }
+}
+
+/// The instance of this name that the text is by the model's schema, or why it is refused.
+fn said_by(
+    alloc: Global,
+    asked: &Asking<'_>,
+    model: &ModelContent,
+    name: u64,
+    text: &Text,
+) -> Result<Instance, Refusal>
+    requires { IsInOrder model.now.content.instances }
+    ensures { Says (of_instances.said_by (told asked.now).schemas model.now name (mapping_of text.now)) result }
+{
+    let mapping = match read_instance(alloc, text.as_bytes()) {
+        Ok(mapping) => mapping,
+        Err(Failure::Fault(fault)) => return Err(Refusal::FileFault(fault)),
+        Err(Failure::NoMemory) => return Err(AllocError.into()),
+    };
+    let names = ModelNames::of(&model.content);
+    bound(
+        alloc,
+        asked.schema_named(&model.schema),
+        &names,
+        name,
+        mapping,
+    )
+}
+
+/// Of a model that has all instances that it may, or whose last name is used.
+fn is_full(model: &ModelContent) -> Option<Refusal>
+    ensures { result ≡ of_instances.is_full (Some model.now) }
+{
+    when(
+        model.greatest >= MAX_NAME || model.content.instances.len() >= MAX_INSTANCES,
+        Refusal::TooMany,
+    )
+}
+
+/// One instance more of a model.
+pub fn plan_add(alloc: Global, asked: &Asking<'_>, key: Key, text: &Text) -> Result<Plan, Refusal>
+    requires { TellsNamed (told asked.now) }
+    ensures { Plans (told asked.now) asked.now.caller.now (Request.Add key text.now) result }
+{
+    if let Some(refusal) = cheap_fault(asked, &key, text) {
+        return Err(refusal);
+    }
+    let Some(model) = asked.content(&key) else {
+        return Err(Refusal::NoSuchItem);
+    };
+    let name = model.greatest + 1;
+    let instance = match said_by(alloc, asked, model, name, text) {
+        Ok(instance) => instance,
+        Err(refusal) => return Err(refusal),
+    };
+    if let Some(refusal) = is_full(model) {
+        return Err(refusal);
+    }
+    Ok(Plan {
+        reply: Reply::Added(name),
+        edits: Edits::Place(key, instance),
+    })
+}
+
+/// Another instance in place of the one of its name.
+pub fn plan_set(
+    alloc: Global,
+    asked: &Asking<'_>,
+    key: Key,
+    name: u64,
+    text: &Text,
+) -> Result<Plan, Refusal>
+    requires { TellsNamed (told asked.now) }
+    ensures { Plans (told asked.now) asked.now.caller.now (Request.Set key name text.now) result }
+{
+    if let Some(refusal) = cheap_fault(asked, &key, text) {
+        return Err(refusal);
+    }
+    let Some(model) = asked.content(&key) else {
+        return Err(Refusal::NoSuchItem);
+    };
+    let instance = match said_by(alloc, asked, model, name, text) {
+        Ok(instance) => instance,
+        Err(refusal) => return Err(refusal),
+    };
+    if let Some(refusal) = is_absent(instance_named(model.content.instances.as_slice(), name)) {
+        return Err(refusal);
+    }
+    Ok(Plan {
+        reply: Reply::Done,
+        edits: Edits::Place(key, instance),
+    })
+}
+
+/// Of an instance that another one of the model refers to, if the partner sees the model.
+fn is_needed(asked: &Asking<'_>, key: &Key, name: u64) -> Option<Refusal>
+    ensures { result ≡ of_instances.is_needed name ((told asked.now).content key.now) }
+{
+    match asked.content(key) {
+        Some(model) => when(
+            is_used(name, model.content.instances.as_slice()),
+            Refusal::InUse,
+        ),
+        None => None,
+    }
+}
+
+/// A model without the instance of this name.
+pub fn plan_drop(asked: &Asking<'_>, key: Key, name: u64) -> Result<Plan, Refusal>
+    requires { TellsNamed (told asked.now) }
+    ensures { Plans (told asked.now) asked.now.caller.now (Request.DropInstance key name) result }
+{
+    let tests = [
+        key_fault(&key),
+        is_no_partner(asked, &key.0),
+        lacks(Right::Writes, asked.model_right(&key)),
+        is_absent(instance_in(asked, &key, name)),
+    ];
+    if let Some(refusal) = first(&tests) {
+        return Err(refusal);
+    }
+    if let Some(refusal) = is_needed(asked, &key, name) {
+        return Err(refusal);
+    }
+    Ok(Plan {
+        reply: Reply::Done,
+        edits: Edits::DropInstance(key, name),
+    })
+}

@@ -1,0 +1,107 @@
+-- What a model holds stays valid by the requests for one instance.
+use Rattle.std.proofs.Common.{◌≡◌, ◌<◌, ◌≤◌, ℕ, Bool, true, false, ◌||◌, nat_le, inr, List, length, Option, Some, None, Result, Ok, Err, refl, sym, ◌∙◌, ap, subst, arith}
+use Rattle.std.proofs.lemmas.Bool.Decides.{nat_tests}
+use Rattle.ex_types.specs.Checked.{Checked}
+use Rattle.p21_tree.specs.declared.fault.FileFault.{FileFault}
+use Rattle.p21_tree.specs.declared.fault.InstanceFault.{InstanceFault}
+use Rattle.p21_tree.specs.declared.instance.Mapping.{Mapping}
+use Rattle.p21_read.specs.Single.{mapping_of}
+use Rattle.p21_bind.specs.Files as files
+use Rattle.p21_bind.specs.Instances.{Read, instance}
+use Rattle.p21_bind.specs.Single.{bound_instance}
+use Rattle.rp_content.specs.declared.instance.Instance.{Instance}
+use Rattle.rp_rows.specs.declared.rows.ModelContent.{ModelContent}
+use Rattle.rp_rows.specs.Rows.{Text}
+use Rattle.rp_rows.specs.Instances.{max_instances, max_name, instance_of, is_used, next_name, with_instance, without_instance}
+use Rattle.rp_plain.specs.declared.messages.Refusal.{Refusal}
+use Rattle.rp_plain.specs.declared.messages.Refusal.TheVariants as refusal
+use Rattle.rp_plain.specs.Meaning.{when, schema_named}
+use Rattle.rp_plain.specs.Instances.{told, bound_by, is_defined, said_by, said, is_absent, is_full, is_needed}
+use Rattle.rp_plain.specs.Valid.{IsInstanceOfText, IsSpelled, IsSound, IsValidContent}
+use Rattle.rp_laws.proofs.BoundInstances.{IsBound, instance_bound}
+use Rattle.rp_laws.proofs.SingleEdits.{placed_valid, dropped_valid, name_within}
+
+-- ---- what a text says
+
+bound_one : (schema : Checked) (defined : ℕ → Bool) (name : ℕ) (mapping : Mapping) (i : Instance) → bound_instance schema defined name mapping ≡ Ok i → IsBound schema defined name i
+unfolding bound_instance
+bound_one schema defined name mapping i e = by (instance schema defined false (record { name = name; mapping = mapping })) refl e
+  where
+    by : (o : Read Instance) → instance schema defined false (record { name = name; mapping = mapping }) ≡ o → files.told name o ≡ Ok i → IsBound schema defined name i
+    by (Ok j) is f =
+        let same : j ≡ i = cc in
+        (instance_bound schema defined false (record { name = name; mapping = mapping }) i (is ∙ ap Ok same)).1
+    by (Err kind) is f = cc
+
+-- an instance that is taken for a model, under this name
+record IsSaid (schemas : List Checked) (h : ModelContent) (name : ℕ) (i : Instance) : Type 0 where
+  schema : Checked
+  loaded : schema_named schemas h.schema ≡ Some schema
+  spelled : IsInstanceOfText schema i
+  named : i.name ≡ name
+  sound : IsSound h.content i
+
+taken : (schemas : List Checked) (h : ModelContent) (name : ℕ) (text : Text) (i : Instance) → said schemas (Some h) name text ≡ Ok i → IsSaid schemas h name i
+taken schemas h name text i e = read (mapping_of text) refl e
+  where
+    bound : (mapping : Mapping) → mapping_of text ≡ Ok mapping → (schema : Checked) → schema_named schemas h.schema ≡ Some schema → (o : Result Instance InstanceFault) → bound_instance schema (is_defined h.content) name mapping ≡ o → told o ≡ Ok i → IsSaid schemas h name i
+    bound mapping reads schema loaded (Err fault) is f = cc
+    bound mapping reads schema loaded (Ok j) is f =
+        let same : j ≡ i = cc in
+        let says : bound_instance schema (is_defined h.content) name mapping ≡ Ok i = is ∙ ap Ok same in
+        let one = bound_one schema (is_defined h.content) name mapping i says in
+        record {
+          schema = schema;
+          loaded = loaded;
+          spelled = record {
+            text = text;
+            mapping = mapping;
+            reads = reads;
+            defined = is_defined h.content;
+            says = ap (λ n. bound_instance schema (is_defined h.content) n mapping) one.name_is ∙ says;
+          };
+          named = one.name_is;
+          sound = one.references;
+        }
+
+    by_schema : (mapping : Mapping) → mapping_of text ≡ Ok mapping → (s : Option Checked) → schema_named schemas h.schema ≡ s → bound_by s (is_defined h.content) name mapping ≡ Ok i → IsSaid schemas h name i
+    by_schema mapping reads None loaded f = cc
+    by_schema mapping reads (Some schema) loaded f = bound mapping reads schema loaded (bound_instance schema (is_defined h.content) name mapping) refl f
+
+    read : (o : Result Mapping FileFault) → mapping_of text ≡ o → said_by schemas h name o ≡ Ok i → IsSaid schemas h name i
+    read (Err fault) reads f = cc
+    read (Ok mapping) reads f = by_schema mapping reads (schema_named schemas h.schema) refl f
+
+-- ---- it is put into the model
+
+said_valid : (schemas : List Checked) (h : ModelContent) (name : ℕ) (i : Instance) → IsSaid schemas h name i → name ≤ max_name → (instance_of name h.content.instances ≡ None → length h.content.instances < max_instances)
+    → IsValidContent schemas h → IsValidContent schemas (with_instance i h)
+said_valid schemas h name i is small room valid =
+    let same_schema : Some is.schema ≡ Some valid.schema = sym is.loaded ∙ valid.loaded in
+    let same : is.schema ≡ valid.schema = cc in
+    let spelled : IsSpelled valid.schema i = inr (subst (λ (s : Checked). IsInstanceOfText s i) same is.spelled) in
+    placed_valid schemas h i valid spelled is.sound (subst (λ n. n ≤ max_name) (sym is.named) small) (λ none. room (ap (λ n. instance_of n h.content.instances) (sym is.named) ∙ none))
+
+passed : (b : Bool) (why : Refusal) → when b why ≡ None → b ≡ false
+passed true why e = cc
+passed false why e = refl
+
+pub added_valid : (schemas : List Checked) (h : ModelContent) (text : Text) (i : Instance) → said schemas (Some h) (next_name h) text ≡ Ok i → is_full (Some h) ≡ None → IsValidContent schemas h → IsValidContent schemas (with_instance i h)
+added_valid schemas h text i says room =
+    let less : (nat_le max_name h.greatest || nat_le max_instances (length h.content.instances)) ≡ false = passed (nat_le max_name h.greatest || nat_le max_instances (length h.content.instances)) refusal.TooMany room in
+    said_valid schemas h (next_name h) i (taken schemas h (next_name h) text i says) (grind (arith, nat_tests)) (λ none. grind (arith, nat_tests))
+
+pub set_valid : (schemas : List Checked) (h : ModelContent) (name : ℕ) (text : Text) (i : Instance) → said schemas (Some h) name text ≡ Ok i → is_absent (instance_of name h.content.instances) ≡ None → IsValidContent schemas h → IsValidContent schemas (with_instance i h)
+set_valid schemas h name text i says there valid = by (instance_of name h.content.instances) refl there
+  where
+    by : (o : Option Instance) → instance_of name h.content.instances ≡ o → is_absent o ≡ None → IsValidContent schemas (with_instance i h)
+    by None is f = cc
+    by (Some x) is f =
+        let below : name ≤ h.greatest = name_within h.greatest name h.content.instances valid.in_use x is in
+        let most = valid.greatest in
+        said_valid schemas h name i (taken schemas h name text i says) (omega (arith, below, most)) (λ none. let wrong : None ≡ Some x = sym none ∙ is in cc) valid
+
+-- ---- it is dropped
+
+pub left_valid : (schemas : List Checked) (h : ModelContent) (name : ℕ) → is_needed name (Some h) ≡ None → IsValidContent schemas h → IsValidContent schemas (without_instance name h)
+left_valid schemas h name unused = dropped_valid schemas h name (passed (is_used name h.content.instances) refusal.InUse unused)
