@@ -73,10 +73,10 @@ module _ (schema : Checked) where
   instances_after defined stood [] = Ok []
   instances_after defined stood (x ∷ xs) = first_of (one defined stood x) (instances_after defined (λ n. (x.name == n) || stood n) xs)
 
-  -- in the order of the file
-  unfoldable pub instances : List tree.Instance → Instances
-  instances xs = instances_after (is_among (names xs)) (λ n. false) xs
+  -- in the order of the file; they may refer to one another and to the names that are linked
+  unfoldable pub instances : List ℕ → List tree.Instance → Instances
+  instances linked xs = instances_after (is_among (names xs ++ linked)) (λ n. false) xs
 
-  -- the content of a model that the file is put into, or the first fault
-  unfoldable pub bound_file : Raw → Result Content InstanceFault
-  bound_file raw = bound_by raw.header (instances raw.instances)
+  -- the content of a model that the file is put into, where these names are linked, or the first fault
+  unfoldable pub bound_file : List ℕ → Raw → Result Content InstanceFault
+  bound_file linked raw = bound_by raw.header (instances linked raw.instances)

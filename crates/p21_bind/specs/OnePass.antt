@@ -42,7 +42,7 @@ abbrev pub found : Result Content InstanceFault → Option Content
 found (Ok content) = Some content
 found (Err fault) = None
 
--- what a file of the schema of this name holds, where neither the file nor an instance has a fault
-abbrev pub loaded : Checked → List ℕ → Result Raw FileFault → Option Content
-loaded schema name (Ok raw) = if is_of_schema name raw then found (bound_file schema raw) else None
-loaded schema name (Err fault) = None
+-- what a file of the schema of this name holds, where these names are linked, and neither the file nor an instance has a fault
+abbrev pub loaded : Checked → List ℕ → List ℕ → Result Raw FileFault → Option Content
+loaded schema name linked (Ok raw) = if is_of_schema name raw then found (bound_file schema linked raw) else None
+loaded schema name linked (Err fault) = None

@@ -10,7 +10,7 @@ ghost use Rattle.p21_bind.specs.Instances as instances;
 
 use crate::header::header_of;
 use crate::instance::instance;
-use crate::names::{DefinedNames, Names};
+use crate::names::{Defined, DefinedNames, Names};
 use crate::plans::Plans;
 use ex_subtypes::Compiled;
 use p21_tree::{Header, Instance as Spelled, InstanceFault, Raw};
@@ -64,18 +64,20 @@ fn all_read(
     alloc: Global,
     plans: &mut Plans<'_>,
     names: &Names,
+    linked: &Names,
     reversed: Vec<Spelled<'_>>,
 ) -> Result<Vec<Instance>, Failure<InstanceFault>>
     requires { IsPermutation (order.names (reverse reversed.items)) names.now }
-    ensures { Gives (λ xs. xs.items) result (spec.instances_after plans.old (is_among names.now) (λ n. false) (reverse reversed.entry.items)) }
+    ensures { Gives (λ xs. xs.items) result (spec.instances_after plans.old (is_among (names.now ++ linked.now)) (λ n. false) (reverse reversed.entry.items)) }
 {
     let mut rest = reversed;
     let mut found = Vec::with_capacity(alloc, rest.len())?;
     let are_distinct = names.are_distinct();
+    let defined = Defined::of(names, linked);
     let mut before = BTreeSet::new(alloc);
     'instances: while let Some(spelled) = rest.pop() {
         let stood = stood_before(&before, spelled.name);
-        found.push(one(alloc, plans, names, stood, &spelled)?)?;
+        found.push(one(alloc, plans, &defined, stood, &spelled)?)?;
         note(&mut before, are_distinct, spelled.name)?;
     }
     Ok(found)
@@ -85,14 +87,16 @@ fn all_read(
 fn instances(
     alloc: Global,
     plans: &mut Plans<'_>,
+    linked: &[u64],
     spelled: Rows<Spelled<'_>>,
 ) -> Result<Vec<Instance>, Failure<InstanceFault>>
-    ensures { Gives (λ xs. xs.items) result (spec.instances plans.old spelled.entry) }
+    ensures { Gives (λ xs. xs.items) result (spec.instances plans.old linked.now spelled.entry) }
 {
     let names = Names::of(alloc, spelled.as_slice())?;
+    let linked = Names::of_slice(alloc, linked)?;
     let mut reversed = spelled.into_vec();
     reversed.reverse();
-    all_read(alloc, plans, &names, reversed)
+    all_read(alloc, plans, &names, &linked, reversed)
 }
 
 /// The instances in the order of their names.
@@ -120,12 +124,13 @@ fn parts_of(raw: Raw<'_>) -> (Header<'_>, Rows<Spelled<'_>>)
 fn content(
     alloc: Global,
     plans: &mut Plans<'_>,
+    linked: &[u64],
     header: &Header<'_>,
     spelled: Rows<Spelled<'_>>,
 ) -> Result<Content, Failure<InstanceFault>>
-    ensures { Gives (λ content. content) result (spec.bound_by header.now (spec.instances plans.old spelled.entry)) }
+    ensures { Gives (λ content. content) result (spec.bound_by header.now (spec.instances plans.old linked.now spelled.entry)) }
 {
-    let found = instances(alloc, plans, spelled)?;
+    let found = instances(alloc, plans, linked, spelled)?;
     let header = header_of(alloc, header)?;
     let instances = in_name_order(found)?;
     Ok(Content {
@@ -135,7 +140,8 @@ fn content(
     })
 }
 
-/// What a model holds that the file is put into: the header, the instances in the order of their names, and no links.
+/// What a model holds that the file is put into: the header, the instances in the order of their names, and no links. The
+/// instances may refer to one another and to the names that are linked.
 ///
 /// # Errors
 ///
@@ -144,11 +150,12 @@ fn content(
 pub fn bind(
     alloc: Global,
     schema: &Compiled,
+    linked: &[u64],
     raw: Raw<'_>,
 ) -> Result<Content, Failure<InstanceFault>>
-    ensures { Gives (λ content. content) result (spec.bound_file schema.now raw.entry) }
+    ensures { Gives (λ content. content) result (spec.bound_file schema.now linked.now raw.entry) }
 {
     let (header, spelled) = parts_of(raw);
     let mut plans = Plans::of(alloc, schema)?;
-    content(alloc, &mut plans, &header, spelled)
+    content(alloc, &mut plans, linked, &header, spelled)
 }

@@ -17,5 +17,5 @@ mod value;
 
 pub use file::bind;
 pub use loading::load;
-pub use names::DefinedNames;
+pub use names::{DefinedNames, Names};
 pub use single::bind_instance;

@@ -10,7 +10,7 @@ ghost use Rattle.p21_bind.specs.OnePass as spec;
 
 use crate::file::{in_name_order, one};
 use crate::header::header_of;
-use crate::names::{AnyName, DefinedNames, Names};
+use crate::names::{AnyName, Defined, DefinedNames, Names};
 use crate::plans::Plans;
 use ex_subtypes::Compiled;
 use p21_read::{Visitor, is_of_schema, read_visited};
@@ -95,14 +95,14 @@ impl<'s> Visitor for Loading<'s> {
 }
 
 /// Whether each reference is to one of the names.
-fn are_defined(names: &Names, references: &[u64]) -> bool
+fn are_defined(names: &Defined<'_>, references: &[u64]) -> bool
     ensures { result ≡ list_all (is_among names.now) references.now }
 {
     references.iter().all(|reference| names.has(*reference))
 }
 
 impl<'s> Loading<'s> {
-    ghost use Rattle.std.specs.Prelude.{◌≡◌, ◌==◌, ◌&&◌, [], true, false, not, IfOk, IfSome};
+    ghost use Rattle.std.specs.Prelude.{◌≡◌, ◌++◌, ◌==◌, ◌&&◌, [], true, false, not, IfOk, IfSome};
     ghost use Rattle.std.specs.List.{list_all};
     ghost use Rattle.p21_instances.specs.Instances.{has_twice, is_among};
 
@@ -122,11 +122,11 @@ impl<'s> Loading<'s> {
         })
     }
 
-    /// The instances, if no name stands twice and each reference is to one of them.
-    fn into_whole(self) -> Option<Vec<Instance>>
+    /// The instances, if no name stands twice and each reference is to one of them or is linked.
+    fn into_whole(self, linked: &Names) -> Option<Vec<Instance>>
         ensures instances { IfSome result (λ found. found.items ≡ self.entry.instances.items) }
         ensures once { IfSome result (λ found. has_twice (λ m n. m == n) self.entry.names.items ≡ false) }
-        ensures defined { IfSome result (λ found. list_all (is_among self.entry.names.items) self.entry.references.items ≡ true) }
+        ensures defined { IfSome result (λ found. list_all (is_among (self.entry.names.items ++ linked.now)) self.entry.references.items ≡ true) }
     {
         let Loading {
             plans,
@@ -136,7 +136,7 @@ impl<'s> Loading<'s> {
         } = self;
         drop(plans);
         let names = Names::of_numbers(names);
-        if names.are_distinct() && are_defined(&names, &references) {
+        if names.are_distinct() && are_defined(&Defined::of(&names, linked), &references) {
             Some(instances)
         } else {
             None
@@ -162,8 +162,9 @@ fn content(
     })
 }
 
-/// What a model holds that the file is put into which a text spells, read in one pass and without its tree. Nothing where
-/// the file has a fault, is not of the schema of this name, or has a faulty instance: then `read_raw` and `bind` tell more.
+/// What a model holds that the file is put into which a text spells, read in one pass and without its tree. The instances
+/// may refer to one another and to the names that are linked. Nothing where the file has a fault, is not of the schema of
+/// this name, or has a faulty instance: then `read_raw` and `bind` tell more.
 ///
 /// # Errors
 ///
@@ -172,9 +173,10 @@ pub fn load(
     alloc: Global,
     schema: &Compiled,
     name: &[u8],
+    linked: &[u64],
     text: &[u8],
 ) -> Result<Option<Content>, AllocError>
-    ensures { IfOk result (λ found. IfSome found (λ content. spec.loaded schema.now name.now (file_of text.now) ≡ Some content)) }
+    ensures { IfOk result (λ found. IfSome found (λ content. spec.loaded schema.now name.now linked.now (file_of text.now) ≡ Some content)) }
 {
     let mut loading = Loading::new(alloc, schema, text.len())?;
     let Some(raw) = read_visited(alloc, text, &mut loading)? else {
@@ -183,7 +185,8 @@ pub fn load(
     if !is_of_schema(alloc, &raw, name)? {
         return Ok(None);
     }
-    match loading.into_whole() {
+    let linked = Names::of_slice(alloc, linked)?;
+    match loading.into_whole(&linked) {
         Some(instances) => Ok(Some(content(alloc, &raw.header, instances)?)),
         None => Ok(None),
     }

@@ -1,6 +1,6 @@
-//! The names of a file's instances.
+//! The names of a file's instances, and those that are linked.
 
-ghost use Rattle.std.specs.Prelude.{◌≡◌, ℕ, Bool, true, IfOk, IsTrue};
+ghost use Rattle.std.specs.Prelude.{◌≡◌, ◌++◌, ℕ, Bool, true, IfOk, IsTrue};
 ghost use Rattle.std.specs.List.Sorted.{IsPermutation, IsSorted};
 ghost use Rattle.std.specs.Ordering.{nat_cmp};
 ghost use Rattle.p21_instances.specs.Instances as spec;
@@ -29,7 +29,7 @@ impl DefinedNames for AnyName {
     }
 }
 
-/// The names of a file's instances, in order. A name stands as often as instances have it.
+/// Names in order. One stands as often as instances of the file, or links, have it.
 #[derive(Drop)]
 pub struct Names {
     numbers: Vec<u64>,
@@ -123,6 +123,13 @@ impl Names {
         Names { numbers, step }
     }
 
+    /// A copy of these numbers.
+    pub fn of_slice(alloc: Global, numbers: &[u64]) -> Result<Names, AllocError>
+        ensures { IfOk result (λ names. IsPermutation numbers.now names) }
+    {
+        Ok(Names::of_numbers(Vec::from_slice(alloc, numbers)?))
+    }
+
     /// Whether none of them stands twice.
     pub fn are_distinct(&self) -> bool
         ensures { result ≡ not (spec.has_twice (λ m n. m == n) self.now) }
@@ -138,5 +145,36 @@ impl DefinedNames for Names {
         // Names mostly follow each other at one distance.
         let place = place_of(&self.numbers, self.step, name);
         stands_at(&self.numbers, place, name) || stands(&self.numbers, name)
+    }
+}
+
+/// What the instances of a file may refer to: the names of the file, and those that are linked.
+#[derive(Drop)]
+pub struct Defined<'a> {
+    file: &'a Names,
+    linked: &'a Names,
+}
+
+impl<'a> Model for Defined<'a> {
+    ghost use Rattle.std.specs.Prelude.{List, ℕ, ◌++◌};
+
+    ghost Value = { List ℕ };
+
+    ghost view = { λ d. d.file.now ++ d.linked.now };
+}
+
+impl<'a> Defined<'a> {
+    pub fn of(file: &'a Names, linked: &'a Names) -> Defined<'a>
+        ensures { result ≡ file.now ++ linked.now }
+    {
+        Defined { file, linked }
+    }
+}
+
+impl<'a> DefinedNames for Defined<'a> {
+    ghost is_defined = { spec.is_among };
+
+    fn has(&self, name: u64) -> bool {
+        self.file.has(name) || self.linked.has(name)
     }
 }

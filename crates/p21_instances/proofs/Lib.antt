@@ -3,3 +3,4 @@ pub mod Twice
 pub mod Sets
 pub mod SortedNames
 pub mod Keywords
+pub mod SortedBy

@@ -78,7 +78,7 @@ module _ (types : List NamedType) where
     pub spelled : (spelling x).is_spelled ≡ true → (spelling (shown_as s w)).is_spelled ≡ true
     pub levels : (spelling (shown_as s w)).levels ≤ (spelling x).levels
 
-refers-Derived : references t.Derived ≡ []
+pub refers-Derived : references t.Derived ≡ []
 refers-Derived = ap references (sym t.rolls-Derived) ∙ trees.fold-roll-Value (List ℕ) referred Value-F.Derived
 
 module _ (schema : Checked) where

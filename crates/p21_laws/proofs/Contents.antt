@@ -1,22 +1,24 @@
 -- What a file holds is read again of what is written of it.
-use Rattle.std.proofs.Common.{◌≡◌, ℕ, Bool, true, false, ◌||◌, ◌==◌, nat_lt, List, [], ◌∷◌, map, Ok, Err, refl, sym, ◌∙◌, ap, subst, arith}
+use Rattle.std.proofs.Common.{◌≡◌, ℕ, Bool, true, false, ◌||◌, ◌==◌, nat_lt, List, [], ◌∷◌, ◌++◌, map, Ok, Err, refl, sym, ◌∙◌, ap, subst, arith}
 use Rattle.std.proofs.lemmas.Bool.Decides.{nat_tests}
-use Rattle.std.proofs.lemmas.List.Folds.{list_all-append}
+use Rattle.std.proofs.lemmas.List.Folds.{list_all-append, list_any-append}
 use Rattle.std.specs.List.{AllByRecursion, flat_map, list_all, list_any}
 use Rattle.ex_slots.specs.Slots.{Slot}
 use Rattle.ex_types.specs.Checked.{Checked}
-use Rattle.p21_bind.specs.Files.{Instances, behind, bound_by, bound_file, content, first_of, instances, instances_after, told}
+use Rattle.p21_bind.specs.Files.{Instances, behind, bound_by, bound_file, content, first_of, header, instances, instances_after, told}
 use Rattle.p21_bind.specs.Instances.{Read, instance}
 use Rattle.p21_instances.specs.Instances.{in_order, is_among, names, references}
+use Rattle.p21_spelling.proofs.Runs.{both_hold, first_holds, second_holds}
 use Rattle.p21_tree.specs.declared.header.Header as spelled_header
 use Rattle.p21_tree.specs.declared.instance.Instance as tree
 use Rattle.p21_tree.specs.declared.instance.Mapping.{Mapping}
 use Rattle.p21_tree.specs.declared.instance.Record.{Record}
 use Rattle.p21_tree.specs.declared.raw.Raw.{Raw}
 use Rattle.p21_tree.specs.declared.value.Value.{Value as Spelled}
-use Rattle.p21_write.specs.Trees.{content_tree, instance_tree, mapping}
+use Rattle.p21_write.specs.Trees.{content_tree, header_tree, instance_tree, mapping}
 use Rattle.rp_content.specs.declared.content.Content.{Content}
 use Rattle.rp_content.specs.declared.instance.Instance.{Instance}
+use Rattle.rp_content.specs.declared.link.Link.{Link}
 use Rattle.rp_value.specs.declared.value.Value.{Value}
 use Rattle.p21_laws.proofs.Again.{read_again, refers, refers_all}
 use Rattle.p21_laws.proofs.Attributes.{Kept, shown_as, trees_pass, value_read}
@@ -24,7 +26,9 @@ use Rattle.p21_laws.proofs.Headers.{header_again}
 use Rattle.p21_laws.proofs.Instances.{instance_read}
 use Rattle.p21_laws.proofs.Order.{OnceBy, all_in_order, any_in_order, neither, once_in_order, order_again}
 use Rattle.p21_laws.proofs.Shapes.{OfTypes, parts_pass}
+use Rattle.p21_laws.specs.Contents.{AreAmong}
 use Rattle.p21_laws.specs.Instances.{parts, references_of}
+use Rattle.p21_laws.specs.Kept.{IsSound}
 use Rattle.p21_laws.specs.Schemas.{IsAccepted}
 
 -- ---- lists
@@ -40,6 +44,15 @@ all_units P all (x ∷ xs) = (all x, all_units P all xs)
 each_more : {X : Type 0} (P R : X → Type 0) → ((x : X) → P x → R x) → (xs : List X) → AllByRecursion P xs → AllByRecursion R xs
 each_more P R more [] all = tt
 each_more P R more (x ∷ xs) all = (more x all.0, each_more P R more xs all.1)
+
+pub all_more : (p q : ℕ → Bool) → ((n : ℕ) → p n ≡ true → q n ≡ true) → (ns : List ℕ) → list_all p ns ≡ true → list_all q ns ≡ true
+all_more p q more [] all = refl
+all_more p q more (n ∷ ns) all =
+    both_hold (q n) (list_all q ns) (more n (first_holds (p n) (list_all p ns) all)) (all_more p q more ns (second_holds (p n) (list_all p ns) all))
+
+pub either_more : (a b c : Bool) → (a || b) ≡ true → (b ≡ true → c ≡ true) → (a || c) ≡ true
+either_more true b c e more = refl
+either_more false b c e more = more e
 
 any_mapped : (f : Instance → ℕ) (n : ℕ) (xs : List Instance) → is_among (map f xs) n ≡ list_any (λ x. f x == n) xs
 any_mapped f n [] = refl
@@ -174,58 +187,79 @@ module _ (schema : Checked) (accepted : IsAccepted schema.named) where
 
   -- ---- the file
 
-  -- the names that a file defines
-  abbrev pub defined_in : List tree.Instance → ℕ → Bool
-  defined_in xs = is_among (names xs)
+  -- the names that instances of a file may refer to
+  abbrev pub defined_in : List ℕ → List tree.Instance → ℕ → Bool
+  defined_in linked xs = is_among (names xs ++ linked)
 
   names_written : (is : List Instance) → names (map (instance_tree schema) is) ≡ map name_of is
   names_written [] = refl
   names_written (i ∷ is) = ap (λ ns. i.name ∷ ns) (names_written is)
 
-  module _ (S : tree.Instance → Type 0) (xs : List tree.Instance) (is : List Instance) (read : AreRead (defined_in xs) S (λ n. false) xs is) where
-    same_names : defined_in xs ≡ defined_in (map (instance_tree schema) (ordered is))
-    same_names = λ d n.
-        (ap (λ ns. is_among ns n) (sym read.named)
-        ∙ any_mapped name_of n is
-        ∙ sym (any_in_order name_of (λ i. i.name == n) is)
-        ∙ sym (any_mapped name_of n (ordered is))
-        ∙ ap (λ ns. is_among ns n) (sym (names_written (ordered is)))) d
+  -- an instance that was read, where some names were defined
+  abbrev pub Said : (tree.Instance → Type 0) → Instance → Type 0
+  Said S i = (is_defined : ℕ → Bool) × From is_defined S i
 
-    pub from_ordered : AllByRecursion (From (defined_in xs) S) (ordered is)
-    from_ordered = all_in_order name_of (From (defined_in xs) S) is read.from
+  said_again : (defined : ℕ → Bool) (S : tree.Instance → Type 0) (is : List Instance) → AllByRecursion (Said S) is → AllByRecursion (λ i. list_all defined (references_of (instance_tree schema i).mapping) ≡ true) is
+      → AllByRecursion (λ i. instance schema defined false (instance_tree schema i) ≡ Ok i) is
+  said_again defined S [] said sound = tt
+  said_again defined S (i ∷ is) said sound =
+      let from = said.0.1 in
+      (instance_again said.0.0 from.1.0 from.0 i from.1.1.0 defined sound.0, said_again defined S is said.1 sound.1)
 
-    again_one : (i : Instance) → From (defined_in xs) S i → instance schema (defined_in (map (instance_tree schema) (ordered is))) false (instance_tree schema i) ≡ Ok i
-    again_one i from =
-        instance_again (defined_in xs) from.1.0 from.0 i from.1.1.0 (defined_in (map (instance_tree schema) (ordered is)))
-        (ap (λ d. list_all d (references_of (instance_tree schema i).mapping)) (sym same_names) ∙ instance_refers (defined_in xs) from.1.0 from.0 i from.1.1.0)
+  -- instances in order that were read anywhere are those of the file that is written of them
+  pub content_stands : (now : List ℕ) (S : tree.Instance → Type 0) (h : spelled_header.Header) (is : List Instance) (links : List Link) → AllByRecursion (Said S) is → AllByRecursion (IsSound schema now is) is
+      → OnceBy name_of is → ordered is ≡ is
+      → bound_file schema now (content_tree schema (record { header = header h; instances = is; links = links })) ≡ Ok (record { header = header h; instances = is; links = [] })
+  unfolding bound_file instances
+  content_stands now S h is links said sound once order =
+      let written : List tree.Instance = map (instance_tree schema) is in
+      let here = said_again (is_among (map name_of is ++ now)) S is said sound in
+      let all = written_again (is_among (map name_of is ++ now)) (λ n. false) is here once (all_units (λ (i : Instance). false ≡ false) (λ i. refl) is) in
+      ap (bound_by (header_tree (header h))) (ap (λ ns. instances_after schema (is_among (ns ++ now)) (λ n. false) written) (names_written is) ∙ all)
+      ∙ (λ i. Ok (record { header = header_again h i; instances = order i; links = [] }))
 
-    instances_again : instances schema (map (instance_tree schema) (ordered is)) ≡ Ok (ordered is)
-    unfolding instances
-    instances_again =
-        written_again (defined_in (map (instance_tree schema) (ordered is))) (λ n. false) (ordered is)
-        (each_more (From (defined_in xs) S) (λ i. instance schema (defined_in (map (instance_tree schema) (ordered is))) false (instance_tree schema i) ≡ Ok i) again_one (ordered is) from_ordered)
-        (once_in_order name_of name_of is read.once)
-        (all_units (λ (i : Instance). false ≡ false) (λ i. refl) (ordered is))
+  module _ (linked : List ℕ) (S : tree.Instance → Type 0) (xs : List tree.Instance) (is : List Instance) (read : AreRead (defined_in linked xs) S (λ n. false) xs is) where
+    same_names : (n : ℕ) → is_among (names xs) n ≡ is_among (map name_of (ordered is)) n
+    same_names n =
+        ap (λ ns. is_among ns n) (sym read.named) ∙ any_mapped name_of n is ∙ sym (any_in_order name_of (λ i. i.name == n) is) ∙ sym (any_mapped name_of n (ordered is))
 
-    pub content_read_again : (h : spelled_header.Header) → bound_file schema (content_tree schema (content h is)) ≡ Ok (content h is)
-    unfolding bound_file
-    content_read_again h =
-        ap (bound_by (content_tree schema (content h is)).header) instances_again
-        ∙ (λ i. Ok (record { header = header_again h i; instances = order_again name_of is i; links = [] }))
+    from_ordered : AllByRecursion (From (defined_in linked xs) S) (ordered is)
+    from_ordered = all_in_order name_of (From (defined_in linked xs) S) is read.from
+
+    pub said_ordered : AllByRecursion (Said S) (ordered is)
+    said_ordered = each_more (From (defined_in linked xs) S) (Said S) (λ i from. (defined_in linked xs, from)) (ordered is) from_ordered
+
+    module _ (now : List ℕ) (among : AreAmong linked now) where
+      still_defined : (n : ℕ) → defined_in linked xs n ≡ true → is_among (map name_of (ordered is) ++ now) n ≡ true
+      still_defined n there =
+          let in_file = list_any-append (λ m. m == n) (names xs) linked in
+          list_any-append (λ m. m == n) (map name_of (ordered is)) now
+          ∙ ap (λ b. b || is_among now n) (sym (same_names n))
+          ∙ either_more (is_among (names xs) n) (is_among linked n) (is_among now n) (sym in_file ∙ there) (among n)
+
+      is_sound : (i : Instance) → From (defined_in linked xs) S i → IsSound schema now (ordered is) i
+      is_sound i from =
+          all_more (defined_in linked xs) (is_among (map name_of (ordered is) ++ now)) still_defined (references_of (instance_tree schema i).mapping) (instance_refers (defined_in linked xs) from.1.0 from.0 i from.1.1.0)
+
+      pub content_read_again : (h : spelled_header.Header) → bound_file schema now (content_tree schema (content h is)) ≡ Ok (content h is)
+      content_read_again h =
+          content_stands now S h (ordered is) [] said_ordered
+          (each_more (From (defined_in linked xs) S) (IsSound schema now (ordered is)) is_sound (ordered is) from_ordered) (once_in_order name_of name_of is read.once) (order_again name_of is)
 
   -- the instances that were read of a file
-  pub file_read : (S : tree.Instance → Type 0) (raw : Raw) (c : Content) → AllByRecursion S raw.instances → bound_file schema raw ≡ Ok c
-      → (is : List Instance) × (AreRead (defined_in raw.instances) S (λ n. false) raw.instances is × (content raw.header is ≡ c))
+  pub file_read : (linked : List ℕ) (S : tree.Instance → Type 0) (raw : Raw) (c : Content) → AllByRecursion S raw.instances → bound_file schema linked raw ≡ Ok c
+      → (is : List Instance) × (AreRead (defined_in linked raw.instances) S (λ n. false) raw.instances is × (content raw.header is ≡ c))
   unfolding bound_file instances
-  file_read S raw c s e = by_result (instances schema raw.instances) refl e
+  file_read linked S raw c s e = by_result (instances schema linked raw.instances) refl e
     where
-      by_result : (r : Instances) → instances schema raw.instances ≡ r → bound_by raw.header r ≡ Ok c → (is : List Instance) × (AreRead (defined_in raw.instances) S (λ n. false) raw.instances is × (content raw.header is ≡ c))
-      by_result (Ok is) found e = (is, (all_read (defined_in raw.instances) S (λ n. false) raw.instances is s found, cc))
+      by_result : (r : Instances) → instances schema linked raw.instances ≡ r → bound_by raw.header r ≡ Ok c
+          → (is : List Instance) × (AreRead (defined_in linked raw.instances) S (λ n. false) raw.instances is × (content raw.header is ≡ c))
+      by_result (Ok is) found e = (is, (all_read (defined_in linked raw.instances) S (λ n. false) raw.instances is s found, cc))
       by_result (Err fault) found e = cc
 
-  pub content_again : (raw : Raw) (c : Content) → bound_file schema raw ≡ Ok c → bound_file schema (content_tree schema c) ≡ Ok c
-  content_again raw c e =
-      let read = file_read (λ x. Unit {0}) raw c (all_units (λ x. Unit {0}) (λ x. tt) raw.instances) e in
-      subst (λ c. bound_file schema (content_tree schema c) ≡ Ok c) read.1.1 (content_read_again (λ x. Unit {0}) raw.instances read.0 read.1.0 raw.header)
+  pub content_again : (linked now : List ℕ) → AreAmong linked now → (raw : Raw) (c : Content) → bound_file schema linked raw ≡ Ok c → bound_file schema now (content_tree schema c) ≡ Ok c
+  content_again linked now among raw c e =
+      let read = file_read linked (λ x. Unit {0}) raw c (all_units (λ x. Unit {0}) (λ x. tt) raw.instances) e in
+      subst (λ c. bound_file schema now (content_tree schema c) ≡ Ok c) read.1.1 (content_read_again linked (λ x. Unit {0}) raw.instances read.0 read.1.0 now among raw.header)
 
 pub ruleset instance_laws = (instance_again, instance_refers)

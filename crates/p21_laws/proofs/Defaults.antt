@@ -1,27 +1,18 @@
--- A content that no file has given is the content of a text as well.
-use Rattle.std.proofs.Common.{◌≡◌, ℕ, Bool, true, ◌&&◌, List, [], ◌∷◌, None, Ok, codes, refl, ◌∙◌, ap}
-use Rattle.ex_types.specs.Checked.{Checked}
-use Rattle.p21_bind.specs.Files.{bound_file, header, header_value, instances, text}
+-- The header that stands by default is read of one that is well spelled.
+use Rattle.std.proofs.Common.{◌≡◌, ℕ, true, List, [], ◌∷◌, Ok, codes, refl, ◌∙◌, ap}
+use Rattle.p21_bind.specs.Files.{header, header_value, text}
 use Rattle.p21_spelling.proofs.Equations.{header_spelling-List, header_spelling-Text}
-use Rattle.p21_spelling.proofs.Files.{file_again}
-use Rattle.p21_spelling.proofs.Written.{written_text}
-use Rattle.p21_spelling.specs.Files.{file_text, is_file, is_header}
+use Rattle.p21_spelling.specs.Files.{is_header}
 use Rattle.p21_spelling.specs.Tokens.{is_string, quoted}
 use Rattle.p21_spelling.specs.Values.{header_spelling, leaf, list}
 use Rattle.p21_strings.specs.Decoding.{decoded, fault, front, spelled}
-use Rattle.p21_strings.specs.Encoding.{encoded}
 use Rattle.p21_tree.specs.declared.header.Header as tree
 use Rattle.p21_tree.specs.declared.header.HeaderValue.{HeaderValue}
 use Rattle.p21_tree.specs.declared.header.HeaderValue.TheVariants as h
-use Rattle.p21_tree.specs.declared.raw.Raw.{Raw}
 use Rattle.p21_values.specs.Tokens.{ok}
-use Rattle.p21_write.specs.Trees.{canonical}
 use Rattle.rp_content.specs.Headers as held
 use Rattle.rp_value.specs.declared.value.Value.TheVariants as v
-use Rattle.p21_laws.proofs.Files.{text_again, word_utf8}
 use Rattle.p21_laws.proofs.Headers.{as_list, value-List, value-Text}
-use Rattle.p21_laws.specs.Contents.{IsRead, new_content}
-use Rattle.p21_laws.specs.Schemas.{IsAccepted}
 
 -- the implementation level
 abbrev level : List ℕ
@@ -51,7 +42,7 @@ empty = h.Text []
 abbrev one_empty : HeaderValue
 one_empty = h.List (empty ∷ [])
 
-abbrev default_header : tree.Header
+abbrev pub default_header : tree.Header
 default_header = record { description = one_empty ∷ h.Text level ∷ []; name = empty ∷ empty ∷ one_empty ∷ one_empty ∷ empty ∷ empty ∷ empty ∷ [] }
 
 value-token : (t : List ℕ) → decoded t ≡ Ok t → header_value (h.Text t) ≡ v.Str t
@@ -63,7 +54,7 @@ value-empty = value-token [] decoded-none
 value-one : header_value one_empty ≡ held.empty_texts
 value-one = value-List (empty ∷ []) ∙ ap (λ u. as_list (u ∷ [])) value-empty
 
-header-default : header default_header ≡ held.default_header
+pub header-default : header default_header ≡ held.default_header
 header-default = λ i. record {
   description = value-one i ∷ value-token level decoded-level i ∷ [];
   name = value-empty i ∷ value-empty i ∷ value-one i ∷ value-one i ∷ value-empty i ∷ value-empty i ∷ value-empty i ∷ [];
@@ -72,23 +63,5 @@ header-default = λ i. record {
 spelled-one : header_spelling one_empty ≡ list (leaf (quoted []) (is_string []) ∷ [])
 spelled-one = header_spelling-List (empty ∷ []) ∙ ap (λ s. list (s ∷ [])) (header_spelling-Text [])
 
-default_fits : is_header default_header ≡ true
+pub default_fits : is_header default_header ≡ true
 default_fits = rw (spelled-one, header_spelling-Text [], header_spelling-Text level, string-none, string-level) refl
-
-module _ (schema : Checked) (accepted : IsAccepted schema.named) where
-  -- a file that has this header and no instance
-  abbrev file : Raw
-  file = record { header = default_header; schema = encoded schema.named.schema.name.text; section = None; instances = [] }
-
-  file_fits : is_file file ≡ true
-  file_fits = together (is_header file.header) (is_string file.schema) default_fits (written_text schema.named.schema.name.text (word_utf8 schema.named.schema.name.text accepted.words.schema))
-    where
-      together : (a b : Bool) → a ≡ true → b ≡ true → (a && b && true && true) ≡ true
-      together a b p q = rw (p, q) refl
-
-  file_bound : bound_file schema file ≡ Ok new_content
-  unfolding bound_file instances
-  file_bound = ap (λ h. Ok (record { header = h; instances = []; links = [] })) header-default
-
-  pub new_again : IsRead schema (canonical schema new_content) new_content
-  new_again = text_again schema accepted (file_text file) new_content (file, (file_again file file_fits, file_bound))

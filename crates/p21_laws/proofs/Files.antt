@@ -1,13 +1,16 @@
 -- What is written of what was read is well spelled, and so it is read again.
-use Rattle.std.proofs.Common.{◌≡◌, ◌≤◌, ◌<◌, ℕ, zero, suc, Bool, true, ◌&&◌, nat_le, nat_lt, List, [], ◌∷◌, length, map, Ok, IsUtf8, refl, sym, ◌∙◌, ap, subst, arith}
+use Rattle.std.proofs.Common.{◌≡◌, ◌≤◌, ◌<◌, ℕ, zero, suc, Bool, true, ◌&&◌, nat_le, ◌==◌, nat_lt, List, [], ◌∷◌, ◌++◌, length, map, Ok, IsUtf8, refl, sym, ◌∙◌, ap, subst, arith}
+use Rattle.std.proofs.lemmas.Bool.{or_left, or_right}
 use Rattle.std.proofs.lemmas.Bool.Decides.{nat_tests}
+use Rattle.std.proofs.lemmas.List.Folds.{list_any-append}
 use Rattle.std.proofs.lemmas.Str.{IsUtf8-from_ascii}
 use Rattle.std.specs.List.{AllByRecursion, list_all}
 use Rattle.std.specs.Str.{IsAscii}
 use Rattle.ex_slots.specs.Slots.{Slot}
 use Rattle.ex_types.specs.Checked.{Checked}
-use Rattle.p21_bind.specs.Files.{bound_file, content}
+use Rattle.p21_bind.specs.Files.{bound_file, content, header}
 use Rattle.p21_bind.specs.Instances.{instance}
+use Rattle.p21_instances.specs.Instances.{is_among}
 use Rattle.p21_read.specs.File.{file_of}
 use Rattle.p21_read.specs.Grammar.{max_nesting}
 use Rattle.p21_spelling.proofs.Files.{file_again}
@@ -20,26 +23,28 @@ use Rattle.p21_spelling.specs.Tokens.{is_name, is_string, is_word}
 use Rattle.p21_spelling.specs.Values.{all_spelled, deepest, spelling}
 use Rattle.p21_strings.specs.Encoding.{encoded}
 use Rattle.p21_text.specs.Lexical.{is_letter, is_word_byte}
+use Rattle.p21_tree.specs.declared.header.Header as spelled_header
 use Rattle.p21_tree.specs.declared.instance.Instance as tree
 use Rattle.p21_tree.specs.declared.instance.Mapping.{Mapping}
 use Rattle.p21_tree.specs.declared.instance.Mapping.TheVariants.{External, Internal}
 use Rattle.p21_tree.specs.declared.instance.Record.{Record}
 use Rattle.p21_tree.specs.declared.raw.Raw.{Raw}
 use Rattle.p21_tree.specs.declared.value.Value.{Value as Spelled}
-use Rattle.p21_write.specs.Trees.{canonical, content_tree, entity_name, instance_tree, mapping, own_parts, records}
+use Rattle.p21_write.specs.Trees.{canonical, content_tree, entity_name, header_tree, instance_tree, mapping, own_parts, records}
 use Rattle.rp_content.specs.declared.content.Content.{Content}
 use Rattle.rp_content.specs.declared.instance.Instance.{Instance}
 use Rattle.rp_content.specs.declared.instance.Types.{Types}
 use Rattle.rp_content.specs.declared.instance.Types.TheVariants.{Leaf, Several}
+use Rattle.rp_content.specs.declared.link.Link.{Link}
 use Rattle.rp_value.specs.declared.value.Value.{Value}
 use Rattle.p21_laws.proofs.Attributes.{shown_as, trees_of, value_read}
-use Rattle.p21_laws.proofs.Contents.{From, content_again, defined_in, file_read, from_ordered, ordered, same_name}
+use Rattle.p21_laws.proofs.Contents.{Said, content_again, file_read, ordered, said_ordered, same_name}
 use Rattle.p21_laws.proofs.Entities.{IsEntity, entities_of, entity_word}
 use Rattle.p21_laws.proofs.Headers.{header_fit}
 use Rattle.p21_laws.proofs.Instances.{instance_read}
 use Rattle.p21_laws.proofs.Pairs.{AllBoth}
 use Rattle.p21_laws.proofs.Shapes.{OfTypes, leaf_passes, made, record_by, several_pass, several_records}
-use Rattle.p21_laws.specs.Contents.{IsRead}
+use Rattle.p21_laws.specs.Contents.{AreAmong, IsRead}
 use Rattle.p21_laws.specs.Instances.{parts}
 use Rattle.p21_laws.specs.Schemas.{IsAccepted}
 
@@ -100,6 +105,17 @@ mapping_fits : (m : Mapping) → is_mapping m ≡ true → AllByRecursion (λ r.
 mapping_fits (Internal r) e = (values_fit r.values (second_holds (is_word r.keyword) (are_values (map spelling r.values)) e), tt)
 mapping_fits (External rs) e = records_fit rs (second_holds (nat_lt 0 (length rs)) (list_all is_record rs) e)
 
+-- ---- names
+
+pub among_first : (xs ys : List ℕ) → AreAmong xs (xs ++ ys)
+among_first xs ys n there = list_any-append (λ m. m == n) xs ys ∙ or_left (is_among xs n) (is_among ys n) there
+
+pub among_second : (xs ys : List ℕ) → AreAmong ys (xs ++ ys)
+among_second xs ys n there = list_any-append (λ m. m == n) xs ys ∙ or_right (is_among xs n) (is_among ys n) there
+
+abbrev pub IsSpelled : tree.Instance → Type 0
+IsSpelled x = is_instance x ≡ true
+
 module _ (schema : Checked) (accepted : IsAccepted schema.named) where
   -- ---- records
 
@@ -146,20 +162,17 @@ module _ (schema : Checked) (accepted : IsAccepted schema.named) where
       stood x i e (mapping_fits x.mapping (second_holds (is_name x.name) (is_mapping x.mapping) spelled)) in
       read.1.1
 
-  abbrev IsSpelled : tree.Instance → Type 0
-  IsSpelled x = is_instance x ≡ true
-
-  instance_spelled : (is_defined : ℕ → Bool) (i : Instance) → From schema accepted is_defined IsSpelled i → is_instance (instance_tree schema i) ≡ true
-  instance_spelled is_defined i from =
+  instance_spelled : (i : Instance) → Said schema accepted IsSpelled i → is_instance (instance_tree schema i) ≡ true
+  instance_spelled i said =
+      let from = said.1 in
       let x : tree.Instance = from.0 in
       both_hold (is_name i.name) (is_mapping (mapping schema i.types i.values))
-      (ap is_name (same_name schema accepted is_defined from.1.0 x i from.1.1.0) ∙ first_holds (is_name x.name) (is_mapping x.mapping) from.1.1.1)
-      (mapping_spelled i.types i.values (shows is_defined x i from.1.0 from.1.1.0 from.1.1.1))
+      (ap is_name (same_name schema accepted said.0 from.1.0 x i from.1.1.0) ∙ first_holds (is_name x.name) (is_mapping x.mapping) from.1.1.1)
+      (mapping_spelled i.types i.values (shows said.0 x i from.1.0 from.1.1.0 from.1.1.1))
 
-  all_instances : (is_defined : ℕ → Bool) (is : List Instance) → AllByRecursion (From schema accepted is_defined IsSpelled) is → list_all is_instance (map (instance_tree schema) is) ≡ true
-  all_instances is_defined [] all = refl
-  all_instances is_defined (i ∷ is) all =
-      both_hold (is_instance (instance_tree schema i)) (list_all is_instance (map (instance_tree schema) is)) (instance_spelled is_defined i all.0) (all_instances is_defined is all.1)
+  all_instances : (is : List Instance) → AllByRecursion (Said schema accepted IsSpelled) is → list_all is_instance (map (instance_tree schema) is) ≡ true
+  all_instances [] all = refl
+  all_instances (i ∷ is) all = both_hold (is_instance (instance_tree schema i)) (list_all is_instance (map (instance_tree schema) is)) (instance_spelled i all.0) (all_instances is all.1)
 
   all_by : (xs : List tree.Instance) → list_all is_instance xs ≡ true → AllByRecursion IsSpelled xs
   all_by [] e = tt
@@ -167,53 +180,64 @@ module _ (schema : Checked) (accepted : IsAccepted schema.named) where
 
   -- ---- files
 
-  record Parts (raw : Raw) : Type 0 where
-    head : is_header raw.header ≡ true
-    body : list_all is_instance raw.instances ≡ true
+  pub record Parts (raw : Raw) : Type 0 where
+    pub head : is_header raw.header ≡ true
+    pub body : list_all is_instance raw.instances ≡ true
 
-  parts_of : (raw : Raw) → is_file raw ≡ true → Parts raw
+  pub parts_of : (raw : Raw) → is_file raw ≡ true → Parts raw
   parts_of raw e = apart (is_header raw.header) (is_string raw.schema) (is_section raw.section) (list_all is_instance raw.instances) e refl refl
     where
       apart : (a b c d : Bool) → (a && b && c && d) ≡ true → is_header raw.header ≡ a → list_all is_instance raw.instances ≡ d → Parts raw
       apart true true true true e head body = record { head = head; body = body }
       apart _ _ _ _ e head body = cc
 
-  pub tree_spelled : (raw : Raw) (c : Content) → is_file raw ≡ true → bound_file schema raw ≡ Ok c → is_file (content_tree schema c) ≡ true
-  tree_spelled raw c spelled e =
-      let parts = parts_of raw spelled in
-      let read = file_read schema accepted IsSpelled raw c (all_by raw.instances parts.body) e in
-      let is : List Instance = read.0 in
-      subst (λ c. is_file (content_tree schema c) ≡ true) read.1.1
-      (together (is_header (content_tree schema (content raw.header is)).header) (is_string (encoded schema.named.schema.name.text)) (list_all is_instance (map (instance_tree schema) (ordered is)))
-      (header_fit raw.header parts.head)
-      (written_text schema.named.schema.name.text (word_utf8 schema.named.schema.name.text accepted.words.schema))
-      (all_instances (defined_in schema accepted raw.instances) (ordered is) (from_ordered schema accepted IsSpelled raw.instances is read.1.0)))
+  -- a content whose header and instances were read is well spelled where it is written
+  pub content_spelled : (h : spelled_header.Header) (is : List Instance) (links : List Link) → is_header h ≡ true → AllByRecursion (Said schema accepted IsSpelled) is
+      → is_file (content_tree schema (record { header = header h; instances = is; links = links })) ≡ true
+  content_spelled h is links fits said =
+      together (is_header (header_tree (header h))) (is_string (encoded schema.named.schema.name.text)) (list_all is_instance (map (instance_tree schema) is)) (header_fit h fits)
+      (written_text schema.named.schema.name.text (word_utf8 schema.named.schema.name.text accepted.words.schema)) (all_instances is said)
     where
       together : (a b d : Bool) → a ≡ true → b ≡ true → d ≡ true → (a && b && true && d) ≡ true
       together a b d p q r = rw (p, q, r) refl
 
-  -- ---- texts
+  -- the instances of a file that was read
+  pub file_said : (linked : List ℕ) (raw : Raw) (c : Content) → is_file raw ≡ true → bound_file schema linked raw ≡ Ok c → (is : List Instance) × (AllByRecursion (Said schema accepted IsSpelled) (ordered is) × (content raw.header is ≡ c))
+  file_said linked raw c spelled e =
+      let read = file_read schema accepted linked IsSpelled raw c (all_by raw.instances (parts_of raw spelled).body) e in
+      (read.0, (said_ordered schema accepted linked IsSpelled raw.instances read.0 read.1.0, read.1.1))
 
-  pub tree_again : (text : List ℕ) (c : Content) → IsRead schema text c → file_of (canonical schema c) ≡ Ok (content_tree schema c)
+  tree_spelled : (linked : List ℕ) (raw : Raw) (c : Content) → is_file raw ≡ true → bound_file schema linked raw ≡ Ok c → is_file (content_tree schema c) ≡ true
+  tree_spelled linked raw c spelled e =
+      let said = file_said linked raw c spelled e in
+      subst (λ c. is_file (content_tree schema c) ≡ true) said.1.1 (content_spelled raw.header (ordered said.0) [] (parts_of raw spelled).head said.1.0)
+
+  -- ---- texts, where names are linked
+
+  pub tree_again : (linked text : List ℕ) (c : Content) → IsRead schema linked text c → file_of (canonical schema c) ≡ Ok (content_tree schema c)
   unfolding canonical
-  tree_again text c read = file_again (content_tree schema c) (tree_spelled read.0 c (file_is read.0 text read.1.0) read.1.1)
+  tree_again linked text c read = file_again (content_tree schema c) (tree_spelled linked read.0 c (file_is read.0 text read.1.0) read.1.1)
 
-  pub text_again : (text : List ℕ) (c : Content) → IsRead schema text c → IsRead schema (canonical schema c) c
-  text_again text c read = (content_tree schema c, (tree_again text c read, content_again schema accepted read.0 c read.1.1))
+  pub text_again : (linked now : List ℕ) → AreAmong linked now → (text : List ℕ) (c : Content) → IsRead schema linked text c → IsRead schema now (canonical schema c) c
+  text_again linked now among text c read = (content_tree schema c, (tree_again linked text c read, content_again schema accepted linked now among read.0 c read.1.1))
 
   -- what is read of a text is one content
-  one_content : (text : List ℕ) (c c2 : Content) → IsRead schema text c → IsRead schema text c2 → c ≡ c2
-  one_content text c c2 read read2 =
+  pub one_content : (linked text : List ℕ) (c c2 : Content) → IsRead schema linked text c → IsRead schema linked text c2 → c ≡ c2
+  one_content linked text c c2 read read2 =
       let files : Ok read.0 ≡ Ok read2.0 = sym read.1.0 ∙ read2.1.0 in
       let one : read.0 ≡ read2.0 = cc in
-      let both : Ok c ≡ Ok c2 = sym read.1.1 ∙ ap (bound_file schema) one ∙ read2.1.1 in
+      let both : Ok c ≡ Ok c2 = sym read.1.1 ∙ ap (bound_file schema linked) one ∙ read2.1.1 in
       cc
 
   -- contents that have one text are one
-  pub one_text : (text text2 : List ℕ) (c c2 : Content) → IsRead schema text c → IsRead schema text2 c2 → canonical schema c ≡ canonical schema c2 → c ≡ c2
-  one_text text text2 c c2 read read2 same =
-      one_content (canonical schema c2) c c2 (subst (λ t. IsRead schema t c) same (text_again text c read)) (text_again text2 c2 read2)
+  pub one_text : (linked linked2 text text2 : List ℕ) (c c2 : Content) → IsRead schema linked text c → IsRead schema linked2 text2 c2 → canonical schema c ≡ canonical schema c2 → c ≡ c2
+  one_text linked linked2 text text2 c c2 read read2 same =
+      let all : List ℕ = linked ++ linked2 in
+      one_content all (canonical schema c2) c c2
+      (subst (λ t. IsRead schema all t c) same (text_again linked all (among_first linked linked2) text c read))
+      (text_again linked2 all (among_second linked linked2) text2 c2 read2)
 
   -- what is read of canonical text has this text again
-  pub text_stays : (text : List ℕ) (c c2 : Content) → IsRead schema text c → IsRead schema (canonical schema c) c2 → canonical schema c2 ≡ canonical schema c
-  text_stays text c c2 read again = ap (canonical schema) (one_content (canonical schema c) c2 c again (text_again text c read))
+  pub text_stays : (linked text : List ℕ) (c c2 : Content) → IsRead schema linked text c → IsRead schema linked (canonical schema c) c2 → canonical schema c2 ≡ canonical schema c
+  text_stays linked text c c2 read again =
+      ap (canonical schema) (one_content linked (canonical schema c) c2 c again (text_again linked linked (λ n there. there) text c read))

@@ -11,10 +11,10 @@ mod Read
 mod Sets
 mod Order
 mod Pairs
-mod Referred
+pub mod Referred
 mod Entities
 mod Keywords
-mod Attributes
+pub mod Attributes
 mod Plans
 mod Shapes
 mod Instances
@@ -23,5 +23,6 @@ mod Headers
 mod Contents
 mod Files
 mod Defaults
+pub mod Kept
 mod Words
 mod Accepted

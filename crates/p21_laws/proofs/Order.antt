@@ -28,7 +28,7 @@ module _ {X : Type 0} (n : X → ℕ) where
   IsFront x [] = Unit {0}
   IsFront x (y ∷ ys) = below y x ≡ false
 
-  abbrev Rises : List X → Type 0
+  abbrev pub Rises : List X → Type 0
   Rises [] = Unit {0}
   Rises (x ∷ xs) = IsFront x xs × Rises xs
 
@@ -57,7 +57,7 @@ module _ {X : Type 0} (n : X → ℕ) where
   rises_in_order [] = tt
   rises_in_order (x ∷ xs) = rises_placed x (in_order below xs) (rises_in_order xs)
 
-  stays : (xs : List X) → Rises xs → in_order below xs ≡ xs
+  pub stays : (xs : List X) → Rises xs → in_order below xs ≡ xs
   stays [] up = refl
   stays (x ∷ xs) up = ap (placed below x) (stays xs up.1) ∙ at_front x xs up.0
 

@@ -64,7 +64,7 @@ module _ (types : List NamedType) where
   layer_rolls (Value-F.Agg kind elements) = t.rolls-List elements.items
   layer_rolls (Value-F.Named n value) = t.rolls-Typed (type_name types n) value
 
-  abbrev opened_tree : Value-F Value → opened.Value-F tree.Value
+  abbrev pub opened_tree : Value-F Value → opened.Value-F tree.Value
   opened_tree x = as_open (map-Value Value tree.Value (value_tree types) x)
 
   tree_rolls : (x : Value-F Value) → value_tree types (roll-Value x) ≡ views.roll-Value (opened_tree x)
@@ -106,7 +106,7 @@ module _ (types : List NamedType) where
   abbrev pub names_of : Value → List ℕ
   names_of w = references (value_tree types w)
 
-  names_rolls : (x : Value-F Value) → names_of (roll-Value x) ≡ referred (trees.map-Value tree.Value (List ℕ) references (opened_tree x))
+  pub names_rolls : (x : Value-F Value) → names_of (roll-Value x) ≡ referred (trees.map-Value tree.Value (List ℕ) references (opened_tree x))
   names_rolls x = ap references (tree_rolls x) ∙ trees.fold-roll-Value (List ℕ) referred (opened_tree x)
 
   names-Indet : names_of v.Indet ≡ []

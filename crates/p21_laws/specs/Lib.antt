@@ -2,3 +2,4 @@ pub mod Types
 pub mod Schemas
 pub mod Instances
 pub mod Contents
+pub mod Kept

@@ -1,4 +1,4 @@
-use Rattle.std.proofs.Common.{◌≡◌, ◌∷◌, Ok, Bool, true, false, not, reverse, ◌∙◌, refl, sym, ap}
+use Rattle.std.proofs.Common.{◌≡◌, ◌∷◌, ◌++◌, Ok, Bool, true, false, not, reverse, ◌∙◌, refl, sym, ap}
 use Rattle.std.specs.List.{list_any}
 use Rattle.p21_instances.specs.Instances.{has_twice, is_among, names}
 use Rattle.p21_instances.proofs.SortedNames.{is_one, once_in_any_order}
@@ -13,6 +13,7 @@ none_left false e = refl
 
 pub instances-init : goal.instances-init
 instances-init c =
+    let defined = is_among (c.args.names.now ++ c.args.linked.now) in
     let names_once : has_twice is_one c.args.names.now ≡ false → has_twice is_one (names (reverse c.args.reversed.items)) ≡ false =
     once_in_any_order (names (reverse c.args.reversed.items)) c.args.names.now c.requires in
     record {
@@ -20,8 +21,8 @@ instances-init c =
       once = λ d. names_once (none_left (has_twice is_one c.args.names.now) (sym d ∙ c.are_distinct-are_distinct.ensures));
       read =
           (λ i. spec.behind (c.in_ok-found.ensures.items i)
-          (spec.instances_after c.args.plans.now (is_among c.args.names.now) (is_among (c.new-before.ensures.empty i)) (reverse c.args.reversed.items)))
-          ∙ none_behind (spec.instances_after c.args.plans.now (is_among c.args.names.now) (λ n. false) (reverse c.args.reversed.items));
+          (spec.instances_after c.args.plans.now defined (is_among (c.new-before.ensures.empty i)) (reverse c.args.reversed.items)))
+          ∙ none_behind (spec.instances_after c.args.plans.now defined (λ n. false) (reverse c.args.reversed.items));
     }
 
 pub instances-preserved : goal.instances-preserved
@@ -29,15 +30,16 @@ instances-preserved c =
     let s = c.in-Some.spelled in
     let rest = c.instances.rest.items in
     let left = c.pop.new.self.items in
+    let defined = is_among (c.args.names.now ++ c.args.linked.now) in
     let once : c.are_distinct-are_distinct.result ≡ true → has_twice is_one (s.name ∷ names (reverse left)) ≡ false =
     λ d. sym (ap (λ xs. has_twice is_one (names xs)) (first_is rest left s c.in-Some.ensures.items)) ∙ c.instances.invariant.once d in
-    let read : spec.one c.args.plans.now (is_among c.args.names.now) (is_among c.instances.before.keys) s ≡ Ok c.in_ok-one.field-0 =
-    (λ i. spec.told s.name (instances.instance (sym c.instances.invariant.plans i) (is_among c.args.names.now) (sym c.stood_before-stood.ensures i) s)) ∙ c.in_ok-one.ensures.made in
+    let read : spec.one c.args.plans.now defined (is_among c.instances.before.keys) s ≡ Ok c.in_ok-one.field-0 =
+    (λ i. spec.told s.name (instances.instance (sym c.instances.invariant.plans i) (is_among (sym c.of-defined.ensures i)) (sym c.stood_before-stood.ensures i) s)) ∙ c.in_ok-one.ensures.made in
     record {
       plans = c.one.ensures.plans ∙ c.instances.invariant.plans;
       once = λ d. (neither (list_any (is_one s.name) (names (reverse left))) (has_twice is_one (names (reverse left))) (once d)).1;
       read =
-          read_on c.args.plans.now (is_among c.args.names.now) (is_among c.instances.before.keys) (is_among c.note.new.before.keys)
+          read_on c.args.plans.now defined (is_among c.instances.before.keys) (is_among c.note.new.before.keys)
           c.instances.found.items c.push.new.self.items rest left s c.in_ok-one.field-0
           c.in-Some.ensures.items read c.in_ok-push.ensures.items
           (λ n there. c.in_ok-note.ensures n ∙ noted c.are_distinct-are_distinct.result s.name (names (reverse left)) once n there (is_among c.instances.before.keys n))

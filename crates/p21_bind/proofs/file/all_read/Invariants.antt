@@ -1,4 +1,4 @@
-use Rattle.std.proofs.Common.{◌≡◌, true, false, length, reverse}
+use Rattle.std.proofs.Common.{◌≡◌, ◌++◌, true, false, length, reverse}
 use Rattle.p21_instances.specs.Instances.{has_twice, is_among, names}
 use Rattle.p21_instances.proofs.SortedNames.{is_one}
 use Rattle.p21_bind.specs.Files as spec
@@ -12,6 +12,6 @@ invariant-instances l = record {
   plans : l.plans ≡ l.fn.plans;
   once : l.are_distinct ≡ true → has_twice is_one (names (reverse l.rest.items)) ≡ false;
   read :
-      spec.behind l.found.items (spec.instances_after l.fn.plans (is_among l.names) (is_among l.before.keys) (reverse l.rest.items))
-      ≡ spec.instances_after l.fn.plans (is_among l.names) (λ n. false) (reverse l.fn.reversed.items);
+      spec.behind l.found.items (spec.instances_after l.fn.plans (is_among (l.names ++ l.linked)) (is_among l.before.keys) (reverse l.rest.items))
+      ≡ spec.instances_after l.fn.plans (is_among (l.names ++ l.linked)) (λ n. false) (reverse l.fn.reversed.items);
 }

@@ -1,6 +1,6 @@
 use Rattle.std.proofs.Common.{rules, ◌∙◌}
 use Rattle.std.proofs.lemmas.Fn.{always_returns_same}
-use Rattle.p21_bind.proofs.Ordered.{sorted_by}
+use Rattle.p21_instances.proofs.SortedBy.{sorted_by}
 use Rattle.p21_bind.proofs.file.in_name_order.Goals as goal
 
 pub returns : goal.returns

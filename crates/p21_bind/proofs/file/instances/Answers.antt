@@ -1,10 +1,10 @@
-use Rattle.std.proofs.Common.{◌==◌, false, reverse, sym, ◌∙◌, ap, subst}
+use Rattle.std.proofs.Common.{◌++◌, false, reverse, sym, ◌∙◌, ap, subst}
 use Rattle.std.proofs.lemmas.List.{reverse-reverse}
-use Rattle.std.proofs.lemmas.List.Sorted.{list_any-IsPermutation}
 use Rattle.std.specs.List.Sorted.{IsPermutation}
 use Rattle.text_forms.specs.Gives.{Gives}
 use Rattle.p21_instances.specs.Instances.{is_among, names}
 use Rattle.p21_bind.specs.Files as spec
+use Rattle.p21_bind.proofs.Linked.{same_names}
 use Rattle.p21_bind.proofs.file.instances.Goals as goal
 
 pub all_read-requires : goal.all_read-requires
@@ -20,6 +20,6 @@ returns c =
     let turned = ap reverse c.reverse.ensures.items ∙ reverse-reverse c.into_vec-reversed.result.items ∙ c.into_vec-reversed.ensures in
     let same = subst (λ ys. IsPermutation (names ys) c.in_ok-names.names) c.as_slice.ensures c.in_ok-names.ensures in
     subst (λ o. Gives (λ ys. ys.items) c.all_read.result o)
-    (ap (spec.instances_after schema (is_among c.in_ok-names.names) (λ n. false)) turned
-    ∙ (λ i. spec.instances_after schema (λ n. sym (list_any-IsPermutation (λ m. m == n) (names xs) c.in_ok-names.names same) i) (λ n. false) xs))
+    (ap (spec.instances_after schema (is_among (c.in_ok-names.names ++ c.in_ok-linked.linked)) (λ n. false)) turned
+    ∙ (λ i. spec.instances_after schema (λ n. sym (same_names (names xs) c.in_ok-names.names c.args.linked.now c.in_ok-linked.linked same c.in_ok-linked.ensures n) i) (λ n. false) xs))
     c.all_read.ensures

@@ -1,7 +1,7 @@
 use Rattle.std.proofs.Common.{rules, ◌∙◌, ap}
 use Rattle.std.proofs.lemmas.Fn.{always_returns_same}
 use Rattle.p21_bind.specs.Plans as spec
-use Rattle.p21_bind.proofs.Ordered.{sorted_by}
+use Rattle.p21_instances.proofs.SortedBy.{sorted_by}
 use Rattle.p21_bind.proofs.plan.in_name_order.Goals as goal
 
 pub returns : goal.returns

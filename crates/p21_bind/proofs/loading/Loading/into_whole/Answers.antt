@@ -1,8 +1,9 @@
-use Rattle.std.proofs.Common.{◌≡◌, Bool, true, false, not, ◌==◌, refl, sym, ◌∙◌, ap}
-use Rattle.std.proofs.lemmas.List.Sorted.{list_any-IsPermutation}
+use Rattle.std.proofs.Common.{◌≡◌, Bool, true, false, not, refl, sym, ◌∙◌}
+use Rattle.std.proofs.lemmas.List.Sorted.{IsPermutation-refl}
 use Rattle.std.specs.List.{list_all}
 use Rattle.p21_instances.specs.Instances.{has_twice, is_among}
 use Rattle.p21_instances.proofs.SortedNames.{is_one, once_in_any_order}
+use Rattle.p21_bind.proofs.Linked.{same_names}
 use Rattle.p21_bind.proofs.loading.Loading.into_whole.Goals as goal
 
 none : (b : Bool) → true ≡ not b → b ≡ false
@@ -15,4 +16,9 @@ returns-then-are_defined-clause-once c =
 
 pub returns-then-are_defined-clause-defined : goal.returns-then-are_defined-clause-defined
 returns-then-are_defined-clause-defined c =
-    (λ i. list_all (λ n. list_any-IsPermutation (λ m. m == n) c.args.self.names.items c.of_numbers-names.result c.of_numbers-names.ensures i) c.args.self.references.items) ∙ ap (list_all (is_among c.of_numbers-names.result)) (sym c.deref.ensures.value) ∙ sym c.are_defined.ensures ∙ c.if-are_defined.true
+    let file = c.of_numbers-names in
+    let linked = c.args.linked.now in
+    (λ i. list_all (λ n. same_names c.args.self.names.items file.result linked linked file.ensures (IsPermutation-refl linked) n i) c.args.self.references.items)
+    ∙ (λ i. list_all (is_among (sym c.of.ensures i)) (sym c.deref.ensures.value i))
+    ∙ sym c.are_defined.ensures
+    ∙ c.if-are_defined.true

@@ -17,7 +17,7 @@ module _ {X : Type 0} (n : X → ℕ) where
   has m x = n x == m
 
   -- no number is less than one before it
-  abbrev Rises : List X → Type 0
+  abbrev pub Rises : List X → Type 0
   Rises [] = Unit {0}
   Rises (x ∷ xs) = AllByRecursion (λ y. n x ≤ n y) xs × Rises xs
 
@@ -52,7 +52,7 @@ module _ {X : Type 0} (n : X → ℕ) where
       (λ (e : below y x ≡ false). let less : n x ≤ n y = grind (arith, nat_tests) in rw e ((less, all_more (n x) (n y) ys less up.0), up))
       (cases_Bool (below y x))
 
-  rises_in_order : (xs : List X) → Rises (in_order below xs)
+  pub rises_in_order : (xs : List X) → Rises (in_order below xs)
   rises_in_order [] = tt
   rises_in_order (x ∷ xs) = rises_placed x (in_order below xs) (rises_in_order xs)
 
