@@ -1,17 +1,18 @@
 #!/usr/bin/env python3
-"""Measures requests for single instances of a model of 180,000, in one process.
+"""Measures requests for single instances of a model of 180,000, and links to them, in one process.
 
     bench/single.py [PROGRAM] [COUNT]
 
 It puts a file like those of a CAD exporter, and asks for so many of each, 10,000 where nothing is said: lines that are
-refused because the model isn't there, then `get`, `add`, `set` and `drop`. It prints the microseconds that a processor ran
-the program for each in the mean, and the same less what a refused line takes.
+refused because the model isn't there, then `get`, `add`, `set` and `drop`; and then puts as many links, at most 10,000, into
+another model at once, first where it isn't there. It prints the microseconds that a processor ran the program for each request
+and for each link in the mean, and the same less what the refused ones take.
 """
 import os
 import sys
 
 from harness import TOP, Session, Table, compare, processor_seconds, request, run_bench
-from make_part21 import part21
+from make_part21 import FOOTER, HEADER, part21
 
 SCHEMA = os.path.join(TOP, "tests/data/automotive_design.exp")
 INSTANCES = 180_000
@@ -19,6 +20,7 @@ OK = b'{"ok":{}}\n'
 NO_SUCH_ITEM = b'{"refused":{"code":7,"name":"NoSuchItem"}}\n'
 # an odd number of steps leads through all names before one comes again
 STEP = 7919
+LINKS = 10_000
 
 
 def single(do, model="m", **keys):
@@ -35,31 +37,41 @@ def written(k):
     return f"CARTESIAN_POINT('',({digits}.{f'E{zeros}' if zeros else ''},0.,-15.E-1))"
 
 
+def put_of(model, links):
+    """A put of an empty file with links."""
+    return single("put", model, file=HEADER + FOOTER, links=links)
+
+
 def turns_of(count):
-    """The lines of each sort with their replies. What is read, and then dropped, is what was added and then set."""
+    """The lines of each sort with their replies, and how many they count for. What is read, and then dropped, is what was added
+    and then set."""
     added = range(INSTANCES + 1, INSTANCES + 1 + count)
     mixed = [added[k * STEP % count] for k in range(count)]
-    yield "refused", [(single("get", model="z", instance=k), NO_SUCH_ITEM) for k in added]
-    yield "add", [(single("add", text=point(k)), b'{"ok":{"name":%d}}\n' % k) for k in added]
-    yield "set", [(single("set", instance=k, text=point(k + 1)), OK) for k in mixed]
-    yield "get", [(single("get", instance=k), b'{"ok":{"text":"#%d=%s;"}}\n' % (k, written(k + 1).encode())) for k in mixed]
-    yield "drop", [(single("drop", instance=k), OK) for k in mixed]
+    yield "refused", count, [(single("get", model="z", instance=k), NO_SUCH_ITEM) for k in added]
+    yield "add", count, [(single("add", text=point(k)), b'{"ok":{"name":%d}}\n' % k) for k in added]
+    yield "set", count, [(single("set", instance=k, text=point(k + 1)), OK) for k in mixed]
+    yield "get", count, [(single("get", instance=k), b'{"ok":{"text":"#%d=%s;"}}\n' % (k, written(k + 1).encode())) for k in mixed]
+    yield "drop", count, [(single("drop", instance=k), OK) for k in mixed]
+    number = min(count, LINKS)
+    links = [{"name": k, "owner": "ann", "model": "m", "instance": 1 + k * STEP % INSTANCES} for k in range(number)]
+    yield "refused", number, [(put_of("z", links), NO_SUCH_ITEM)]
+    yield "link", number, [(put_of("n", links), b'{"ok":{"instances":0}}\n')]
 
 
 def measure(count, folder):
     with open(SCHEMA, encoding="utf-8") as it:
         folder.configure(automotive_design=it.read())
-    table = Table({"request": "8", "microseconds": "12.1f", "less a refused line": "19.1f"})
+    table = Table({"request": "8", "microseconds": "12.1f", "less a refused one": "18.1f"})
     with Session(folder) as session:
         compare(session.ask(request("create_model", name="m", schema="AUTOMOTIVE_DESIGN"))[0], OK)
         compare(session.ask(single("put", file=part21(INSTANCES)))[0], b'{"ok":{"instances":%d}}\n' % INSTANCES)
-        refused = None
-        for name, turns in turns_of(count):
+        compare(session.ask(request("create_model", name="n", schema="AUTOMOTIVE_DESIGN"))[0], OK)
+        for name, number, turns in turns_of(count):
             begin = processor_seconds(session.process)
             for line, reply in turns:
                 compare(session.ask(line)[0], reply)
-            mean = (processor_seconds(session.process) - begin) / count * 1e6
-            refused = mean if refused is None else refused
+            mean = (processor_seconds(session.process) - begin) / number * 1e6
+            refused = mean if name == "refused" else refused
             table.row(name, mean, mean - refused)
 
 

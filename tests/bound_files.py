@@ -12,7 +12,7 @@ import sys
 
 from harness import TOP, run_parts, unmarked
 from messages import (
-    CONFIG, OK, T, Repository, canonical, create, export, exported, file_fault, file_of, instance_fault, instances, named, names, put,
+    CONFIG, E, OK, T, Repository, canonical, create, export, exported, file_fault, file_of, instance_fault, instances, named, names, put,
 )
 from plain_binding import spelled_list
 from plain_files import read
@@ -217,10 +217,6 @@ ENTITY s SUBTYPE OF (r); b : INTEGER; END_ENTITY;
 ENTITY t SUBTYPE OF (r); c : INTEGER; END_ENTITY;
 ENTITY v SUBTYPE OF (s, t); d : INTEGER; END_ENTITY; END_SCHEMA;
 """
-CHOICE = """SCHEMA E; ENTITY e ABSTRACT SUPERTYPE OF (ONEOF(a, b) ANDOR c); END_ENTITY;
-ENTITY a SUBTYPE OF (e); END_ENTITY; ENTITY b SUBTYPE OF (e); END_ENTITY;
-ENTITY c SUBTYPE OF (e); END_ENTITY; END_SCHEMA;
-"""
 # an own attribute with the name of an inherited one, a redeclared one, and some that subtypes derive
 NAMESAKES = """SCHEMA N; ENTITY e; a : INTEGER; b : NUMBER; END_ENTITY;
 ENTITY f SUBTYPE OF (e); a : STRING; SELF\\e.b : REAL; END_ENTITY;
@@ -245,7 +241,7 @@ def schemas(it):
         ("a value too many", "#1=V(1,2,3,4,5);", instance_fault("WrongCount", 1)),
         ("a supertype too few", "#1=(S(2)V(4));", illegal),
     ])
-    looks(it, "E", CHOICE, [
+    looks(it, "E", E, [
         ("one of the choice", "#1=A();#2=(E()B());", ["#1=A();", "#2=B();"]),
         ("one of the choice, and what may be beside", "#1=(C()A()E());", ["#1=(A()C()E());"]),
         ("what may be beside alone", "#1=C();", ["#1=C();"]),

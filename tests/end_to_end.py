@@ -17,11 +17,11 @@ import time
 
 from harness import TOP, Folder, Wrong, run_tests, shortened
 from messages import (
-    BAD_NAME, BAD_REQUEST, CONFIG, EXISTS, FILE_LIMIT, FIRST, FIRST_EXPORT, FIRST_LINES, FIRST_NAMES, FIRST_REPLIES, HEAD,
-    IN_USE, LINE_LIMIT, NO_RIGHT, NO_SUCH_INSTANCE, NO_SUCH_ITEM, OK, T, TOO_LARGE, TOO_MANY, UNKNOWN_PARTNER, UNKNOWN_SCHEMA, WRONG_SCHEMA, Repository,
-    add, added, canonical, check, create, delete, drop, expect, expect_config_fault, expect_fault, expect_replies, export, exported, fault, file_fault, file_of, get, got, grant,
-    instance_fault, instances, line, list_of, listed, loaded, named, names, put, refused, schemas,
-    set_instance,
+    BAD_NAME, BAD_REQUEST, CONFIG, E, EXISTS, FILE_LIMIT, FIRST, FIRST_EXPORT, FIRST_LINES, FIRST_NAMES, FIRST_REPLIES, HAS_LINKS, HEAD,
+    IN_USE, LINE_LIMIT, NO_RIGHT, NO_SUCH_INSTANCE, NO_SUCH_ITEM, OK, T, TOO_LARGE, TOO_MANY, UNKNOWN_PARTNER, UNKNOWN_SCHEMA, WRONG_SCHEMA,
+    Repository, add, added, canonical, check, create, delete, drop, expect, expect_config_fault, expect_fault, expect_replies, export, exported,
+    fault, file_fault, file_of, get, got, grant, instance_fault, instances, line, link, link_fault, linked, list_of, listed, loaded, named, names,
+    put, refused, revoke, schemas, set_instance,
 )
 
 sys.path.insert(0, os.path.join(TOP, "bench"))
@@ -333,10 +333,8 @@ def test_lines_that_are_no_request():
 def test_requests_that_come_later():
     """What a later version of the program brings is no request yet."""
     group = {"owner": "ann", "group": "g"}
-    model = {"owner": "ann", "model": "m"}
     lines = [
         line("ann", "create_group", name="g", schema="T"), line("ann", "delete_group", name="g"),
-        line("ann", "put", **model, file=file_of(""), links=[]), line("ann", "export", **model, links=True),
         line("ann", "members", **group), line("ann", "extent", **group, type="P"), line("ann", "validate", **group),
         line("ann", "grant", kind="model", name="m", to="bob", level="group"),
         line("ann", "grant", kind="group", name="g", to="bob", level="read"),
@@ -368,6 +366,9 @@ def test_what_a_line_asks():
         (b'{"as":"bob","do":"list"}', listed((b"read", b"m", b"ann"))),
         (b'{"as":"ann","do":"grant","kind":"model","name":"m","to":"bob","level":"write"}', OK),
         (b'{"as":"bob","do":"list"}', listed((b"write", b"m", b"ann"))),
+        (b'{"as":"ann","do":"export","owner":"ann","model":"m","links":false}', exported(canonical())),
+        (b'{"links":true,"model":"m","owner":"ann","do":"export","as":"bob"}', linked(canonical())),
+        (b'{"links":[],"model":"m","owner":"ann","do":"put","as":"bob","file":""}', file_fault("Syntax", 0)),
         (f'{{"file":{file},"model":"m","owner":"ann","do":"put","as":"bob"}}'.encode(), file_fault("Syntax", 19)),
         (b'{"file":"#1=P(0.10,\'\\u00e9\');\\n","model":"m","owner":"ann","do":"put","as":"bob"}', file_fault("Syntax", 0)),
         (b'{"as":"ann","do":"revoke","kind":"model","name":"m","to":"bob"}', OK),
@@ -403,11 +404,9 @@ def test_lines_of_bytes_that_are_no_request():
         b'{"as":"ann","do":["names"],"owner":"ann","model":"m"}',
         b'{"as":"ann","do":"Names","owner":"ann","model":"m"}',
         b'{"as":"ann","do":"export"}',
-        b'{"as":"ann","do":"export","owner":"ann","model":"m","links":false}',
         b'{"as":"ann","do":"names","owner":"ann"}',
         b'{"as":"ann","do":"names","owner":"ann","model":1}',
         b'{"as":"ann","do":"names","owner":"ann","model":"m","x":""}',
-        b'{"as":"ann","do":"put","owner":"ann","model":"m","file":"","links":[]}',
         b'{"as":"ann","do":"create_model","name":1.0,"schema":"T"}',
         b'{"as":"ann","do":"names","owner":"ann","model":"\xff"}',
         b'{"as":"ann","do":"names","owner":"ann","model":"\\ud800"}',
@@ -434,9 +433,269 @@ def test_each_refusal():
         (put("ann", "ann", "m", "     'x"), b'{"refused":{"at":5,"code":11,"kind":"Open","name":"FileFault"}}'),
         (put("ann", "ann", "m", file_of("#1=P($,$);#1=P($,$);")),
          b'{"refused":{"code":12,"instance":1,"kind":"Twice","name":"InstanceFault"}}'),
+        (put("ann", "ann", "m", file_of("#1=P($,$);"), link(2, "ann", "m", 1)),
+         b'{"refused":{"code":13,"kind":"Own","link":2,"name":"LinkFault"}}'),
+        (get("ann", "ann", "m", 3), refused(14, "NoSuchInstance")),
+        (drop("ann", "ann", "m", 1), refused(15, "InUse")),
         (names("ann", "ann", "m"), FIRST_NAMES),
         *models, (create("ann", "m99"), refused(16, "TooMany")),
+        (put("ann", "ann", "m0", file_of(""), link(2, "ann", "m", 1)), instances(0)),
+        (export("ann", "ann", "m0"), refused(17, "HasLinks")),
     ])
+
+
+# ---- links
+
+# ann's first model, which bob may read, and his model with a link to its first instance
+TO_ANN = link(9, "ann", "m", 1)
+BOBS_FILE = file_of("#1=Q(#9);")
+BOBS_EXPORT = linked(canonical("#1=Q(#9);"), TO_ANN)
+SEEN = [*FIRST, (grant("ann", "m", "bob", "read"), OK), (create("bob", "b"), OK)]
+LINKED = [*SEEN, (put("bob", "bob", "b", BOBS_FILE, TO_ANN), instances(1))]
+
+
+def test_a_model_with_a_link():
+    """A put brings it, an export tells it where that is asked for, and is refused else. The model that it leads to is as before."""
+    hers = [(names("ann", "ann", "m"), FIRST_NAMES), (export("ann", "ann", "m"), FIRST_EXPORT), (get("ann", "ann", "m", 1), got("#1=P(1.E-1,'a');")),
+            (list_of("ann"), listed((b"owner", b"m", b"ann"))), (export("ann", "ann", "m", links=True), linked(canonical("#1=P(1.E-1,'a');", "#2=Q(#1);")))]
+    text = b'{"ok":{"file":%s,"links":[{"instance":1,"model":"m","name":9,"owner":"ann"}]}}' % json.dumps(canonical("#1=Q(#9);")).encode()
+    absent = b'{"refused":{"code":13,"kind":"NotSeen","link":9,"name":"LinkFault"}}'
+    to_z = link(9, "ann", "z", 1)
+    expect([*SEEN, *hers, (put("bob", "bob", "b", BOBS_FILE, TO_ANN), instances(1)), *hers,
+            (export("bob", "bob", "b"), b'{"refused":{"code":17,"name":"HasLinks"}}'),
+            (export("bob", "bob", "b", links=False), HAS_LINKS), (export("bob", "bob", "b", links=True), text),
+            (names("bob", "bob", "b"), named((1, "Q"))), (get("bob", "bob", "b", 1), got("#1=Q(#9);")),
+            (put("bob", "bob", "b", BOBS_FILE, to_z), absent), (create("ann", "z"), OK), (put("bob", "bob", "b", BOBS_FILE, to_z), absent),
+            (put("ann", "ann", "z", file_of("#1=P(1.,$);")), instances(1)), (put("bob", "bob", "b", BOBS_FILE, to_z), absent),
+            (export("bob", "ann", "z"), NO_SUCH_ITEM), (export("bob", "bob", "b", links=True), text),
+            (put("bob", "bob", "b", canonical("#1=Q(#9);"), TO_ANN), instances(1)), (export("bob", "bob", "b", links=True), text)])
+
+
+def test_a_model_without_links():
+    """Its list of links is empty, whether a put had one or not, and also before the first put."""
+    empty, whole = linked(canonical()), linked(canonical("#1=P(1.E-1,'a');", "#2=Q(#1);"))
+    expect([(create("ann", "n"), OK), (export("ann", "ann", "n", links=True), empty), *FIRST, (export("ann", "ann", "m", links=True), whole),
+            (line("ann", "put", owner="ann", model="n", file=file_of(""), links=[]), instances(0)),
+            (export("ann", "ann", "n", links=True), empty), (export("ann", "ann", "n", links=False), exported(canonical())),
+            (export("ann", "ann", "n"), exported(canonical()))])
+
+
+def test_links_that_may_not_be():
+    """Into the model itself, into one of another schema, to an instance that isn't there, to no partner's model; one whose name the
+    file has."""
+    def fault_of(kind, name):
+        return b'{"refused":{"code":13,"kind":"%s","link":%d,"name":"LinkFault"}}' % (kind, name)
+    expect([*FIRST, (create("ann", "k", "E"), OK), (create("ann", "n"), OK),
+            (put("ann", "ann", "n", file_of("#1=Q(#9);"), link(9, "ann", "n", 1)), fault_of(b"Own", 9)),
+            (put("ann", "ann", "n", file_of("#1=Q(#9);"), link(9, "ann", "k", 1)), fault_of(b"OtherSchema", 9)),
+            (put("ann", "ann", "n", file_of("#1=Q(#9);"), link(9, "ann", "m", 7)), fault_of(b"NoInstance", 9)),
+            (put("ann", "ann", "n", file_of("#1=Q(#9);"), link(9, "carl", "m", 1)), fault_of(b"NotSeen", 9)),
+            (put("ann", "ann", "n", file_of("#1=Q(#9);"), link(9, "ann", "m", 1), link(1, "ann", "m", 1)), fault_of(b"Defined", 1)),
+            (names("ann", "ann", "n"), named()), (export("ann", "ann", "n"), exported(canonical())),
+            (put("ann", "ann", "n", file_of("#1=Q(#9);"), link(9, "ann", "m", 1)), instances(1)),
+            (put("ann", "ann", "n", file_of("#999999999999999999=P(1.,$);")), instances(1)),
+            (add("ann", "ann", "n", "P(2.,$)"), b'{"refused":{"code":16,"name":"TooMany"}}')],
+           {**CONFIG, "schemas": ["t.exp", "e.exp"]}, e=E)
+
+
+def test_faults_of_links_in_their_order():
+    """The link of the least name that has one is told with the first that holds, wherever it stands in the list."""
+    rows = [
+        ([link(5, "ann", "n", 1)], "Defined", 5), ([link(1, "carl", "a b", 9)], "Defined", 1), ([link(5, "bob", "y", 3)], "Defined", 5),
+        ([TO_ANN, TO_ANN], "Defined", 9), ([TO_ANN, link(9, "ann", "m", 2)], "Defined", 9), ([link(9, "carl", "m", 1), link(9, "ann", "n", 1)], "Defined", 9),
+        ([link(9, "ann", "n", 1)], "Own", 9), ([link(9, "ann", "n", 77)], "Own", 9),
+        *(([link(9, *target)], "NotSeen", 9) for target in (
+            ("bob", "x", 1), ("bob", "x", 2), ("bob", "y", 1), ("bob", "y", 2), ("bob", "n", 1), ("ann", "z", 1), ("carl", "m", 1), ("", "", 0),
+            ("a b", "m", 1), ("ann", "a b", 1), ("ANN", "m", 1), ("ann", "M", 1), ("ann", "é", 1), ("ann", "m" * 65, 1))),
+        ([link(9, "ann", "k", 1)], "OtherSchema", 9), ([link(9, "ann", "k", 2)], "OtherSchema", 9),
+        ([link(9, "ann", "m", 0)], "NoInstance", 9), ([link(9, "ann", "m", 999_999_999_999_999_999)], "NoInstance", 9),
+        ([link(30, "ann", "n", 1), link(20, "ann", "k", 1), link(10, "ann", "m", 1), link(25, "ann", "m", 7)], "OtherSchema", 20),
+        ([link(10, "ann", "m", 9), link(9, "ann", "n", 1)], "Own", 9), ([link(999_999_999_999_999_999, "ann", "n", 1), link(0, "carl", "m", 1)], "NotSeen", 0),
+        ([link(30, "ann", "m", 1), link(30, "ann", "m", 1), link(20, "ann", "m", 1), link(25, "ann", "m", 7)], "NoInstance", 25),
+        ([link(999_999_999_999_999_999, "ann", "m", 3)], "NoInstance", 999_999_999_999_999_999),
+    ]
+    good = [link(0, "ann", "m", 1), link(7, "ann", "m", 1), link(999_999_999_999_999_999, "ann", "m", 2)]
+    text, file = canonical("#1=P(1.,$);", "#5=Q(#7);"), file_of("#5=Q(#7);#1=P(1.,$);")
+    expect([*FIRST, (create("ann", "k", "L"), OK), (put("ann", "ann", "k", file_of("#1=E();", "L")), instances(1)), (create("ann", "n"), OK),
+            (create("bob", "x"), OK), (put("bob", "bob", "x", file_of("#1=P(1.,$);")), instances(1)),
+            (create("bob", "y", "L"), OK), (put("bob", "bob", "y", file_of("#1=E();", "L")), instances(1)),
+            *[(put("ann", "ann", "n", file_of("#1=P(1.,$);#5=P(2.,$);"), *links), link_fault(kind, name)) for links, kind, name in rows],
+            (names("ann", "ann", "n"), named()), (export("ann", "ann", "n", links=True), linked(canonical())),
+            (put("ann", "ann", "n", file, good[2], good[0], good[1]), instances(2)), (export("ann", "ann", "n", links=True), linked(text, *good)),
+            (put("ann", "ann", "n", file, *reversed(good)), instances(2)), (export("ann", "ann", "n", links=True), linked(text, *good)),
+            *[(put("ann", "ann", "n", file_of("#1=P(1.,$);#5=P(2.,$);"), *links), link_fault(kind, name)) for links, kind, name in rows],
+            (export("ann", "ann", "n", links=True), linked(text, *good))])
+
+
+def test_refusals_of_puts_with_links():
+    """A link's fault comes behind all that may be wrong with the file, and before too many. What is linked counts as defined there."""
+    bad = link(9, "a b", "c d", 1)
+    large = "x" * (FILE_LIMIT + 1)
+    expect([*SEEN,
+            (line("ann", "put", owner="carl", model="a b", file=large, links=[{}]), BAD_REQUEST),
+            (put("carl", "ann", "m", "", bad), BAD_REQUEST), (put("ann", "carl", "a b", large, bad), TOO_LARGE),
+            (put("ann", "carl", "a b", "ISO", bad), BAD_NAME), (put("ann", "carl", "z", "ISO", bad), UNKNOWN_PARTNER),
+            (put("ann", "ann", "z", "ISO", bad), NO_SUCH_ITEM), (put("ann", "bob", "b", "ISO", bad), NO_SUCH_ITEM),
+            (put("bob", "ann", "m", "ISO", bad), NO_RIGHT), (put("ann", "ann", "m", file_of("#1=Q(#8);", "L"), bad), WRONG_SCHEMA),
+            (put("ann", "ann", "m", "ISO-10303-2", bad), file_fault("Token", 0)),
+            (put("ann", "ann", "m", file_of("#1=Q(#8);"), bad), instance_fault("Undefined", 1)),
+            (put("ann", "ann", "m", file_of("#9=P($);"), bad), instance_fault("WrongCount", 9)),
+            (put("ann", "ann", "m", file_of("#9=Q(#9);#9=Q(#9);"), bad), instance_fault("Twice", 9)),
+            (put("ann", "ann", "m", file_of("#1=Q(#9);#2=Q('a');"), bad), instance_fault("WrongKind", 2)),
+            (put("ann", "ann", "m", file_of("#1=Q(#9);#2=Q(#1);"), bad), link_fault("NotSeen", 9)),
+            (put("ann", "ann", "m", file_of("#9=Q(#9);"), bad), link_fault("Defined", 9)),
+            (names("ann", "ann", "m"), FIRST_NAMES), (export("ann", "ann", "m"), FIRST_EXPORT)])
+
+
+# the keys of a link with what is written of their values
+GOOD = {"instance": b"1", "model": b'"m"', "name": b"9", "owner": b'"ann"'}
+
+
+def link_text(*members):
+    """A link with these keys and what is written of their values."""
+    return b"{%s}" % b",".join(b'"%s":%s' % (key.encode(), value) for key, value in members)
+
+
+GOOD_LINK = link_text(*GOOD.items())
+
+
+def bad_links():
+    """Links that are none, each otherwise."""
+    numbers = [b'"9"', b"9.0", b"9e0", b"0.5", b"-9", b"-0", b"1000000000000000000", b"18446744073709551616", b"1e18", b"09", b"1e999", b"1" * 400]
+    strings = [b"1", b"ann", b'"\\ud800"', b'"\x01"', b'"\xff"', b'["ann"]']
+    for key, good in GOOD.items():
+        others = [it for it in GOOD.items() if it[0] != key]
+        yield link_text(*others)
+        for name in ("", "x", key.title(), key + " ", "do"):
+            yield link_text(*others, (name, good))
+        for value in (numbers if good.isdigit() else strings) + [b"null", b"true", b"[]", b"{}", b""]:
+            yield link_text(*others, (key, value))
+            yield link_text((key, good), *others, (key, value))
+    for name in ("x", "", "Name", "links", "as"):
+        yield link_text(*GOOD.items(), (name, b"1"))
+    yield link_text(("name", b"[" * 125 + b"]" * 125), *GOOD.items())
+
+
+def test_links_that_are_no_links():
+    """`links` of a put is a list of objects, each with exactly its keys: two whole numbers of at most 18 digits, and two strings.
+    That of an export is a truth value."""
+    bad = [
+        b"null", b"true", b"false", b"0", b"9", b'""', b'"x"', b"{}", GOOD_LINK, b"[null]", b"[9]", b'["x"]', b"[[]]", b"[{}]", b"[[%s]]" % GOOD_LINK,
+        b"[%s,{}]" % GOOD_LINK, b"[%s,null]" % GOOD_LINK, b"[{},%s]" % GOOD_LINK, b"[%s,]" % GOOD_LINK, b"[,%s]" % GOOD_LINK, b"[%s" % GOOD_LINK, b"%s]" % GOOD_LINK,
+        b"[%s %s]" % (GOOD_LINK, GOOD_LINK), b'[],"links":null', b'[],"x":[]', *(b"[%s]" % it for it in bad_links()),
+    ]
+    put_of = b'{"as":"ann","do":"put","owner":"ann","model":"n","file":%s,"links":%%s}' % json.dumps(file_of("#1=Q(#9);")).encode()
+    export_of = b'{"as":"ann","do":"export","owner":"ann","model":"m","links":%s}'
+    model = {"owner": "ann", "model": "n"}
+    expect([*FIRST, (create("ann", "n"), OK), *[(put_of % it, BAD_REQUEST) for it in bad],
+            *[(export_of % it, BAD_REQUEST) for it in (b"null", b"0", b"1", b'"true"', b'""', b"[]", b"{}", b"[true]", b"True", b"")],
+            (line("ann", "names", **model, links=[]), BAD_REQUEST), (line("ann", "names", **model, links=True), BAD_REQUEST),
+            (line("ann", "put", **model, links=[]), BAD_REQUEST), (line("ann", "put", **model, file=file_of(""), links=True), BAD_REQUEST),
+            (line("ann", "add", **model, text="P(1.,$)", links=[]), BAD_REQUEST),
+            (names("ann", "ann", "n"), named()), (put_of % (b"[%s]" % GOOD_LINK), instances(1))])
+
+
+def test_links_as_they_may_be_written():
+    """Blanks, escapes and the order of keys don't matter. Of equal keys the last stands, in a link too."""
+    good = [
+        b" [ %s\t]\r" % GOOD_LINK, b"[%s]" % link_text(*reversed(GOOD.items())), b'[{ "owner" : "ann" , "name" : 9 , "model" : "m" , "instance" : 1 } ]',
+        b'[{"\\u006fwner":"\\u0061nn","n\\u0061me":9,"model":"\\u006D","instance":1}]', b"[%s]" % link_text(("name", b'"9"'), *GOOD.items()),
+        b"[%s]" % link_text(("name", b"1000000000000000000"), ("owner", b'[{"owner":"bob"}]'), *GOOD.items()),
+        b"[%s]" % link_text(*((key, b"7" if it.isdigit() else b'"z"') for key, it in GOOD.items()), *GOOD.items()),
+        b"[%s]" % link_text(("name", b"[" * 124 + b"]" * 124), *GOOD.items()),
+        b'null,"links":[%s]' % GOOD_LINK, b'[{"x":1}],"links":[%s]' % GOOD_LINK, b'[%s,%s],"links":[%s]' % (GOOD_LINK, GOOD_LINK, GOOD_LINK),
+    ]
+    put_of = b'{"links":%%s,"as":"ann","do":"put","owner":"ann","model":"n","file":%s}' % json.dumps(file_of("#1=Q(#9);")).encode()
+    turns = [*FIRST, (create("ann", "n"), OK)]
+    for it in good:
+        turns += [(put("ann", "ann", "n", file_of("")), instances(0)), (export("ann", "ann", "n"), exported(canonical())), (put_of % it, instances(1)),
+                  (export("ann", "ann", "n", links=True), linked(canonical("#1=Q(#9);"), TO_ANN))]
+    asked = b'"as":"ann","do":"export","owner":"ann","model":"m"}'
+    expect([*turns, (b'{"links":[],"links":true,' + asked, linked(canonical("#1=P(1.E-1,'a');", "#2=Q(#1);"))),
+            (b'{"links":true,"links":false,' + asked, FIRST_EXPORT)])
+
+
+def test_names_that_are_linked():
+    """An instance that is added or set may refer to them. They are no instances, and the next name comes behind them."""
+    one = canonical("#1=Q(#9);")
+    expect([*LINKED, (get("bob", "bob", "b", 9), NO_SUCH_INSTANCE), (drop("bob", "bob", "b", 9), NO_SUCH_INSTANCE),
+            (set_instance("bob", "bob", "b", 9, "P(1.,$)"), NO_SUCH_INSTANCE), (set_instance("bob", "bob", "b", 9, "P("), file_fault("Syntax", 2)),
+            (set_instance("bob", "bob", "b", 9, "P($)"), instance_fault("WrongCount", 9)), (add("bob", "bob", "b", "Q(#8)"), instance_fault("Undefined", 10)),
+            (add("bob", "bob", "b", "Q(#9)"), added(10)), (get("bob", "bob", "b", 10), got("#10=Q(#9);")),
+            (set_instance("bob", "bob", "b", 1, "Q(#10)"), OK), (drop("bob", "bob", "b", 10), IN_USE), (set_instance("bob", "bob", "b", 1, "Q(#9)"), OK),
+            (export("bob", "bob", "b", links=True), linked(canonical("#1=Q(#9);", "#10=Q(#9);"), TO_ANN)),
+            (drop("bob", "bob", "b", 10), OK), (export("bob", "bob", "b", links=True), linked(one, TO_ANN)), (drop("bob", "bob", "b", 1), OK),
+            (names("bob", "bob", "b"), named()), (export("bob", "bob", "b"), HAS_LINKS), (export("bob", "bob", "b", links=True), linked(canonical(), TO_ANN)),
+            (add("bob", "bob", "b", "Q(#9)"), added(11))])
+
+
+def test_names_that_are_given_to_links():
+    """The greatest name that a model ever had may be that of a link. It stays when another put replaces the links."""
+    last = 999_999_999_999_999_999
+    expect([*LINKED, (put("bob", "bob", "b", file_of("#3=Q(#50);"), link(50, "ann", "m", 2), link(4, "ann", "m", 1)), instances(1)),
+            (export("bob", "bob", "b", links=True), linked(canonical("#3=Q(#50);"), link(4, "ann", "m", 1), link(50, "ann", "m", 2))),
+            (add("bob", "bob", "b", "Q(#50)"), added(51)), (put("bob", "bob", "b", file_of("#3=Q(#50);")), instance_fault("Undefined", 3)),
+            (put("bob", "bob", "b", file_of("#3=P(1.,$);")), instances(1)), (export("bob", "bob", "b"), exported(canonical("#3=P(1.,$);"))),
+            (add("bob", "bob", "b", "Q(#50)"), instance_fault("Undefined", 52)), (add("bob", "bob", "b", "Q(#3)"), added(52)),
+            (put("bob", "bob", "b", file_of("#50=Q(#3);"), link(3, "ann", "m", 1)), instances(1)), (add("bob", "bob", "b", "Q(#3)"), added(53)),
+            (put("bob", "bob", "b", file_of(""), link(last, "ann", "m", 1)), instances(0)), (add("bob", "bob", "b", f"Q(#{last})"), TOO_MANY),
+            (add("bob", "bob", "b", "P($)"), instance_fault("WrongCount", last + 1)), (put("bob", "bob", "b", file_of("")), instances(0)),
+            (add("bob", "bob", "b", "P(1.,$)"), TOO_MANY), (delete("bob", "b"), OK), (create("bob", "b"), OK), (add("bob", "bob", "b", "P(1.,$)"), added(1))])
+
+
+def test_an_instance_that_others_link_to():
+    """It is dropped as any other, also where their models are seen: what its own model refers to is asked alone."""
+    to_3 = link(9, "ann", "m", 3)
+    expect([*FIRST, (drop("ann", "ann", "m", 1), IN_USE), (drop("ann", "ann", "m", 2), OK), (add("ann", "ann", "m", "Q(#1)"), added(3)),
+            (drop("ann", "ann", "m", 2), NO_SUCH_INSTANCE), (grant("ann", "m", "bob", "read"), OK), (create("bob", "b"), OK),
+            (put("bob", "bob", "b", BOBS_FILE, to_3), instances(1)), (grant("bob", "b", "ann", "write"), OK), (create("ann", "n"), OK),
+            (put("ann", "ann", "n", BOBS_FILE, to_3), instances(1)), (drop("ann", "ann", "m", 1), IN_USE), (drop("ann", "ann", "m", 3), OK),
+            (names("ann", "ann", "m"), named((1, "P"))), (export("bob", "bob", "b", links=True), linked(canonical("#1=Q(#9);"), to_3)),
+            (get("bob", "bob", "b", 1), got("#1=Q(#9);")), (put("bob", "bob", "b", BOBS_FILE, to_3), link_fault("NoInstance", 9)),
+            (put("bob", "bob", "b", BOBS_FILE, TO_ANN), instances(1)), (drop("ann", "ann", "m", 1), OK), (names("ann", "ann", "m"), named())])
+
+
+def test_links_that_lead_nowhere():
+    """A link stays as it is, whatever becomes of its model and of the right to see it. Another put of it is tested anew."""
+    def turn(reply):
+        told = (export("bob", "bob", "b", links=True), BOBS_EXPORT)
+        return [told, (put("bob", "bob", "b", BOBS_FILE, TO_ANN), reply), told]
+    read = (grant("ann", "m", "bob", "read"), OK)
+    expect([*LINKED, *turn(instances(1)), (revoke("ann", "m", "bob"), OK), *turn(link_fault("NotSeen", 9)), read, *turn(instances(1)),
+            (put("ann", "ann", "m", file_of("#2=P(1.,$);")), instances(1)), *turn(link_fault("NoInstance", 9)),
+            (delete("ann", "m"), OK), *turn(link_fault("NotSeen", 9)), (create("ann", "m"), OK), *turn(link_fault("NotSeen", 9)),
+            read, *turn(link_fault("NoInstance", 9)), (add("ann", "ann", "m", "P(1.,$)"), added(1)), *turn(instances(1)),
+            (delete("ann", "m"), OK), (create("ann", "m", "L"), OK), read, *turn(link_fault("OtherSchema", 9)),
+            (add("bob", "bob", "b", "Q(#9)"), added(10)), (drop("bob", "bob", "b", 1), OK)])
+
+
+def test_which_model_is_its_own():
+    """The one that is put into, whoever puts, and not another owner's of the same name. What is itself linked is no instance."""
+    of_one_name = link(9, "bob", "m", 1)
+    expect([*FIRST, (grant("ann", "m", "bob", "write"), OK), (create("bob", "b"), OK), (put("bob", "bob", "b", BOBS_FILE, TO_ANN), instances(1)),
+            (put("bob", "ann", "m", BOBS_FILE, TO_ANN), link_fault("Own", 9)), (put("bob", "ann", "m", BOBS_FILE, link(9, "bob", "b", 9)), link_fault("NoInstance", 9)),
+            (put("bob", "ann", "m", BOBS_FILE, of_one_name), link_fault("NotSeen", 9)), (create("bob", "m"), OK),
+            (put("bob", "bob", "m", file_of("#1=P(1.,$);")), instances(1)), (put("bob", "ann", "m", BOBS_FILE, of_one_name), instances(1)),
+            (export("ann", "ann", "m", links=True), linked(canonical("#1=Q(#9);"), of_one_name)),
+            (put("bob", "ann", "m", BOBS_FILE, link(9, "bob", "b", 1)), instances(1)),
+            (export("ann", "ann", "m", links=True), linked(canonical("#1=Q(#9);"), link(9, "bob", "b", 1))), (export("bob", "bob", "b", links=True), BOBS_EXPORT)])
+
+
+def test_many_links():
+    """A model has at most 10,000. Whether there are too many, of links or of instances, is asked behind the links' faults."""
+    links = [link(k, "ann", "m", 1 + k % 2) for k in range(2, 10_003)]
+    many = "".join(f"#{k}=P($,$);" for k in range(1, 200_002))
+    file, text = file_of("#1=Q(#10001);"), canonical("#1=Q(#10001);")
+    expect([*FIRST, (create("ann", "n"), OK), (put("ann", "ann", "n", file, *links), TOO_MANY),
+            (put("ann", "ann", "n", file, *links[:-1], link(10_002, "ann", "m", 3)), link_fault("NoInstance", 10_002)),
+            (put("ann", "ann", "n", file, link(10_002, "ann", "m", 1), *links), link_fault("Defined", 10_002)),
+            (put("ann", "ann", "n", file, *links, *links), link_fault("Defined", 2)),
+            (put("ann", "ann", "n", file_of(many), link(0, "ann", "n", 1)), link_fault("Own", 0)),
+            (put("ann", "ann", "n", file_of(many), link(0, "ann", "m", 1)), TOO_MANY),
+            (names("ann", "ann", "n"), named()), (export("ann", "ann", "n"), exported(canonical())),
+            (put("ann", "ann", "n", file, *reversed(links[:-1])), instances(1)), (export("ann", "ann", "n"), HAS_LINKS),
+            (export("ann", "ann", "n", links=True), linked(text, *links[:-1])), (add("ann", "ann", "n", "Q(#5000)"), added(10_002)),
+            (drop("ann", "ann", "n", 10_002), OK), (export("ann", "ann", "n", links=True), linked(text, *links[:-1]))])
 
 
 # ---- lines

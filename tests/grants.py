@@ -11,9 +11,9 @@ import sys
 
 from harness import Wrong, run_tests
 from messages import (
-    BAD_NAME, BAD_REQUEST, EXISTS, FIRST, FIRST_EXPORT, FIRST_LINES, FIRST_NAMES, NO_RIGHT, NO_SUCH_INSTANCE, NO_SUCH_ITEM, OK, TOO_MANY,
-    UNKNOWN_PARTNER, WRONG_SCHEMA, canonical, create, delete, expect, export, exported, file_fault, file_of, get, got, grant,
-    instance_fault, instances, line, list_of, listed, named, names, put, replies_to, revoke,
+    BAD_NAME, BAD_REQUEST, EXISTS, FIRST, FIRST_EXPORT, FIRST_LINES, FIRST_NAMES, HAS_LINKS, IN_USE, NO_RIGHT, NO_SUCH_INSTANCE, NO_SUCH_ITEM,
+    OK, TOO_MANY, UNKNOWN_PARTNER, WRONG_SCHEMA, add, added, canonical, create, delete, drop, expect, export, exported, file_fault, file_of, get,
+    got, grant, instance_fault, instances, line, link, link_fault, linked, list_of, listed, named, names, put, replies_to, revoke, set_instance,
 )
 
 
@@ -58,6 +58,26 @@ def test_a_model_that_is_granted_to_write():
             (list_of("bob"), listed((b"write", b"m", b"ann"))),
             (grant("ann", "m", "bob", "read"), OK),
             (put("bob", "ann", "m", file_of("")), NO_RIGHT)])
+
+
+def test_links_of_a_model_that_is_granted():
+    """Who reads it reads its links, and who writes it replaces them. He may lead them only to what he sees himself."""
+    to_x, to_y = link(9, "ann", "x", 1), link(9, "bob", "y", 1)
+    one = file_of("#1=P(1.,$);")
+    expect([*FIRST, (create("ann", "x"), OK), (put("ann", "ann", "x", one), instances(1)), (create("bob", "y"), OK), (put("bob", "bob", "y", one), instances(1)),
+            (put("ann", "ann", "m", file_of("#1=Q(#9);"), to_x), instances(1)),
+            (export("bob", "ann", "m"), NO_SUCH_ITEM), (export("bob", "ann", "m", links=True), NO_SUCH_ITEM),
+            (grant("ann", "m", "bob", "read"), OK),
+            (export("bob", "ann", "m"), HAS_LINKS), (export("bob", "ann", "m", links=True), linked(canonical("#1=Q(#9);"), to_x)),
+            (names("bob", "ann", "x"), NO_SUCH_ITEM), (put("bob", "ann", "m", file_of("#1=Q(#9);"), to_y), NO_RIGHT),
+            (grant("ann", "m", "bob", "write"), OK),
+            (put("bob", "ann", "m", file_of("#1=Q(#9);"), to_x), link_fault("NotSeen", 9)),
+            (put("bob", "ann", "m", file_of("#1=Q(#9);"), to_y), instances(1)),
+            (add("bob", "ann", "m", "Q(#9)"), added(10)), (set_instance("bob", "ann", "m", 1, "Q(#9)"), OK),
+            (put("ann", "ann", "m", file_of("#1=Q(#9);"), to_y), link_fault("NotSeen", 9)),
+            (export("ann", "ann", "m", links=True), linked(canonical("#1=Q(#9);", "#10=Q(#9);"), to_y)),
+            (grant("ann", "x", "bob", "read"), OK), (put("bob", "ann", "m", file_of("#1=Q(#9);"), to_x), instances(1)),
+            (put("bob", "ann", "m", file_of("")), instances(0)), (export("ann", "ann", "m"), exported(canonical()))])
 
 
 def test_a_model_that_is_created_anew():
@@ -177,6 +197,73 @@ def test_two_inputs_that_look_the_same_to_bob():
               listed((b"read", b"m", b"ann"), (b"owner", b"x", b"bob")), exported(canonical("#7=P(1.,$);")), OK, NO_SUCH_ITEM]
     if alone != wanted:
         raise Wrong(f"{alone!r} in place of {wanted!r}")
+
+
+# ann's file with a link to each of bob's first two instances
+TO_BOB = [link(8, "bob", "b", 1), link(9, "bob", "b", 2)]
+TWO_USERS = file_of("#1=Q(#8);#2=Q(#9);")
+
+# What bob does with a model of his own, and between it what ann does with hers, which he doesn't see, once he lets her read his.
+BESIDE = [
+    (create("ann", "x"), OK),
+    (create("bob", "b"), OK),
+    (put("ann", "ann", "x", TWO_USERS, *TO_BOB), link_fault("NotSeen", 8)),
+    (put("bob", "bob", "b", file_of("#1=P(1.,$);#2=Q(#1);")), instances(2)),
+    (put("ann", "ann", "x", TWO_USERS, *TO_BOB), link_fault("NotSeen", 8)),
+    (grant("bob", "b", "ann", "read"), OK),
+    (put("ann", "ann", "x", TWO_USERS, *TO_BOB), instances(2)),
+    (list_of("bob"), listed((b"read", b"m", b"ann"), (b"owner", b"b", b"bob"))),
+    (names("bob", "bob", "b"), named((1, "P"), (2, "Q"))),
+    (put("ann", "ann", "x", TWO_USERS), instance_fault("Undefined", 1)),
+    (export("bob", "bob", "b"), exported(canonical("#1=P(1.,$);", "#2=Q(#1);"))),
+    (export("ann", "ann", "x", links=True), linked(canonical("#1=Q(#8);", "#2=Q(#9);"), *TO_BOB)),
+    (export("bob", "bob", "b", links=True), linked(canonical("#1=P(1.,$);", "#2=Q(#1);"))),
+    (put("ann", "bob", "b", file_of("#1=Q(#9);"), link(9, "ann", "x", 1)), NO_RIGHT),
+    (drop("bob", "bob", "b", 1), IN_USE),
+    (drop("bob", "bob", "b", 2), OK),
+    (put("ann", "ann", "x", TWO_USERS, *TO_BOB), link_fault("NoInstance", 9)),
+    (put("ann", "ann", "x", file_of("#1=Q(#8);"), TO_BOB[0]), instances(1)),
+    (drop("bob", "bob", "b", 1), OK),
+    (put("ann", "ann", "x", file_of("#1=Q(#8);"), TO_BOB[0]), link_fault("NoInstance", 8)),
+    (names("bob", "bob", "b"), named()),
+    (delete("ann", "x"), OK),
+    (add("bob", "bob", "b", "P(2.,$)"), added(3)),
+    (create("ann", "x"), OK),
+    (get("bob", "bob", "b", 3), got("#3=P(2.,$);")),
+    (put("ann", "ann", "x", file_of(""), link(1, "bob", "b", 3)), instances(0)),
+    (put("bob", "bob", "b", file_of("#1=Q(#9);"), link(9, "ann", "x", 1)), link_fault("NotSeen", 9)),
+    (put("bob", "bob", "b", file_of("#1=Q(#9);"), link(9, "ann", "m", 1)), instances(1)),
+    (put("ann", "ann", "x", file_of("#1=Q(#8);"), TO_BOB[0]), instances(1)),
+    (export("bob", "bob", "b"), HAS_LINKS),
+    (export("bob", "bob", "b", links=True), linked(canonical("#1=Q(#9);"), link(9, "ann", "m", 1))),
+    (drop("ann", "ann", "x", 1), OK),
+    (set_instance("bob", "bob", "b", 1, "P(5.,$)"), OK),
+    (names("bob", "ann", "x"), NO_SUCH_ITEM),
+    (revoke("bob", "b", "ann"), OK),
+    (export("ann", "ann", "x", links=True), linked(canonical(), TO_BOB[0])),
+    (export("bob", "ann", "m", links=True), linked(canonical("#1=P(1.E-1,'a');", "#2=Q(#1);"))),
+    (delete("bob", "b"), OK),
+    (export("ann", "ann", "x", links=True), linked(canonical(), TO_BOB[0])),
+    (create("bob", "b"), OK),
+    (add("bob", "bob", "b", "P(1.,$)"), added(1)),
+    (drop("bob", "bob", "b", 1), OK),
+]
+
+
+def test_links_to_what_bob_has():
+    """Models that he doesn't see, with links to his instances, change none of his replies: not while they are put, refused, replaced
+    and deleted, nor while they stay."""
+    start = [*FIRST, (grant("ann", "m", "bob", "read"), OK)]
+    his = [turn for turn in BESIDE if turn[0].startswith(b'{"as":"bob"')]
+    expect([*start, *his])
+    expect([*start, *BESIDE])
+    granted = his.index((grant("bob", "b", "ann", "read"), OK)) + 1
+    hers = [(create("ann", "x"), OK), (create("ann", "y"), OK), (put("ann", "ann", "y", file_of("#1=P(1.,$);")), instances(1)),
+            (put("ann", "ann", "x", TWO_USERS, link(7, "ann", "y", 1), *TO_BOB), instances(2)),
+            (put("ann", "ann", "y", file_of("#1=Q(#9);"), TO_BOB[1]), instances(1))]
+    told = [(export("ann", "ann", "x", links=True), linked(canonical("#1=Q(#8);", "#2=Q(#9);"), link(7, "ann", "y", 1), *TO_BOB)),
+            (export("ann", "ann", "y", links=True), linked(canonical("#1=Q(#9);"), TO_BOB[1]))]
+    expect([*start, *his[:granted], *hers, *his[granted:], *told])
 
 
 if __name__ == "__main__":

@@ -19,6 +19,10 @@ RULE r1 FOR (e); WHERE SIZEOF(QUERY(p <* e | TRUE)) >= 0; END_RULE;
 RULE r2 FOR (e); WHERE NOT (SIZEOF(QUERY(p <* e | TRUE)) < 0); END_RULE;
 END_SCHEMA;
 """
+E = """SCHEMA E; ENTITY e ABSTRACT SUPERTYPE OF (ONEOF(a, b) ANDOR c); END_ENTITY;
+ENTITY a SUBTYPE OF (e); END_ENTITY; ENTITY b SUBTYPE OF (e); END_ENTITY;
+ENTITY c SUBTYPE OF (e); END_ENTITY; END_SCHEMA;
+"""
 CONFIG = {"partners": [{"name": "ann", "token": "ta"}, {"name": "bob", "token": "tb"}],
           "schemas": ["t.exp", "l.exp"]}
 
@@ -55,12 +59,18 @@ def delete(who, name):
     return line(who, "delete_model", name=name)
 
 
-def put(who, owner, model, file):
-    return line(who, "put", owner=owner, model=model, file=file)
+def link(name, owner, model, instance):
+    """A name that stands for an instance of another model: a member of `links`."""
+    return {"instance": instance, "model": model, "name": name, "owner": owner}
 
 
-def export(who, owner, model):
-    return line(who, "export", owner=owner, model=model)
+def put(who, owner, model, file, *links):
+    """Without `links` where there are none."""
+    return line(who, "put", owner=owner, model=model, file=file, **({"links": links} if links else {}))
+
+
+def export(who, owner, model, **links):
+    return line(who, "export", owner=owner, model=model, **links)
 
 
 def names(who, owner, model):
@@ -122,6 +132,12 @@ def exported(text):
     return b'{"ok":{"file":%s}}' % json.dumps(text, ensure_ascii=False).encode()
 
 
+def linked(text, *links):
+    """The reply to `export` with links of a model with this canonical text and these links."""
+    shown = ",".join('{"instance":%(instance)d,"model":"%(model)s","name":%(name)d,"owner":"%(owner)s"}' % it for it in links)
+    return b'{"ok":{"file":%s,"links":[%s]}}' % (json.dumps(text, ensure_ascii=False).encode(), shown.encode())
+
+
 def named(*rows):
     """The reply to `names` for instances of these names and types."""
     shown = ",".join('{"name":%d,"type":"%s"}' % row for row in rows)
@@ -167,6 +183,10 @@ def instance_fault(kind, instance):
     return b'{"refused":{"code":12,"instance":%d,"kind":"%s","name":"InstanceFault"}}' % (instance, kind.encode())
 
 
+def link_fault(kind, name):
+    return b'{"refused":{"code":13,"kind":"%s","link":%d,"name":"LinkFault"}}' % (kind.encode(), name)
+
+
 BAD_REQUEST = refused(1, "BadRequest")
 TOO_LARGE = refused(2, "TooLarge")
 BAD_NAME = refused(3, "BadName")
@@ -179,6 +199,7 @@ WRONG_SCHEMA = refused(9, "WrongSchema")
 NO_SUCH_INSTANCE = refused(14, "NoSuchInstance")
 IN_USE = refused(15, "InUse")
 TOO_MANY = refused(16, "TooMany")
+HAS_LINKS = refused(17, "HasLinks")
 
 # ---- turns
 

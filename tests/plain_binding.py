@@ -403,14 +403,14 @@ def bound_instance(schema, instance, names, before):
     return Bound(name, types, found)
 
 
-def refers_to(instance, name):
-    """Whether a bound instance has a reference to this name."""
-    return any(Reference(name) == it for value in instance.values.values() for it in within(value))
+def references_of(instance):
+    """The references of a bound instance, at any depth."""
+    return [it for value in instance.values.values() for it in within(value) if isinstance(it, Reference)]
 
 
-def bound(schema, instances):
-    """The instances of a file by a schema, in order of name. InstanceFault where one is faulty."""
-    names, before, found = {it.name for it in instances}, set(), []
+def bound(schema, instances, linked=frozenset()):
+    """The instances of a file by a schema, in order of name, where these names are linked. InstanceFault where one is faulty."""
+    names, before, found = {it.name for it in instances} | linked, set(), []
     for instance in instances:
         found.append(bound_instance(schema, instance, names, before))
         before.add(instance.name)

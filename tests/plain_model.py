@@ -5,9 +5,10 @@ question is asked of all rows. What an exchange file and a schema's text spell i
 knows it. What a file says by its schema is found in plain_binding.py.
 
 A request is a method of Repository that is marked by `request`. Its name is the request's `do`, and its parameters behind
-the partner who asks are the request's keys, in any order. It answers the content of the reply and the change, which is
-made when it is called, or None.
+the partner who asks are the request's keys, in any order; one with a default may be left out, and its annotation says what
+it may be. It answers the content of the reply and the change, which is made when it is called, or None.
 """
+import collections
 import inspect
 import json
 import math
@@ -16,24 +17,24 @@ from dataclasses import dataclass, field
 from typing import NamedTuple
 
 import plain_binding
-from plain_binding import DEFAULT_HEADER, Header, InstanceFault
+from plain_binding import DEFAULT_HEADER, Header, InstanceFault, Reference
 
 MIB = 1024 * 1024
 TEXT_LIMIT = 8 * MIB
 LINE_LIMIT = 16 * MIB
 MODELS_OF_ONE_OWNER = 100
 INSTANCES_OF_ONE_MODEL = 200_000
+LINKS_OF_ONE_MODEL = 10_000
 NESTING = 127
 
 CODES = {
     "BadRequest": 1, "TooLarge": 2, "BadName": 3, "UnknownPartner": 4, "UnknownSchema": 5, "Exists": 6, "NoSuchItem": 7,
-    "NoRight": 8, "WrongSchema": 9, "FileFault": 11, "InstanceFault": 12, "NoSuchInstance": 14,
-    "InUse": 15, "TooMany": 16, "NoMemory": 18,
+    "NoRight": 8, "WrongSchema": 9, "FileFault": 11, "InstanceFault": 12, "LinkFault": 13, "NoSuchInstance": 14,
+    "InUse": 15, "TooMany": 16, "HasLinks": 17, "NoMemory": 18,
 }
 
-# keys whose values are words, and keys whose values are whole numbers of at most 18 digits; those of the others are any strings
+# keys whose values are words; those of the others are any strings, but for what is annotated
 WORDS = {"kind": ["model"], "level": ["read", "write"]}
-NUMBERS = {"instance"}
 GREATEST_NUMBER = 999_999_999_999_999_999
 
 
@@ -60,6 +61,18 @@ class FileFault(NamedTuple):
 
     kind: str
     at: int
+
+
+class Link(NamedTuple):
+    """A name of a model that stands for an instance of another model. Its fields are its keys in a request."""
+
+    instance: int
+    model: str
+    name: int
+    owner: str
+
+
+Links = list[Link]
 
 
 def upper(text):
@@ -136,21 +149,43 @@ def json_of(line):
     return json.loads(text, object_pairs_hook=members, parse_int=integer, parse_float=number, parse_constant=number)
 
 
+def is_number(value):
+    """Whether a value is a whole number of at most 18 digits."""
+    return type(value) is int and 0 <= value <= GREATEST_NUMBER
+
+
+def is_links(value):
+    """Whether a value is a list of links: objects with exactly the keys of one."""
+    return isinstance(value, list) and all(
+        isinstance(it, dict) and set(it) == set(Link._fields) and is_number(it["name"]) and is_number(it["instance"])
+        and isinstance(it["owner"], str) and isinstance(it["model"], str) for it in value)
+
+
+# what a value may be, by the annotation of its key
+FITS = {int: is_number, bool: lambda it: isinstance(it, bool), Links: is_links, inspect.Parameter.empty: lambda it: isinstance(it, str)}
+
+
 def fits(key, value):
     """Whether a key may have a value."""
-    if key in NUMBERS:
-        return type(value) is int and 0 <= value <= GREATEST_NUMBER
-    return value in WORDS[key] if key in WORDS else isinstance(value, str)
+    return value in WORDS[key.name] if key.name in WORDS else FITS[key.annotation](value)
 
 
-# the method and the keys of each request
+# the method of each request, and its keys
 REQUESTS = {}
 
 
 def request(meaning):
     """Enters a request by the method that says what it means."""
-    REQUESTS[meaning.__name__] = (meaning, list(inspect.signature(meaning).parameters)[2:])
+    _, _, *keys = inspect.signature(meaning).parameters.values()
+    REQUESTS[meaning.__name__] = (meaning, {it.name: it for it in keys})
     return meaning
+
+
+def are_keys_of(do, given):
+    """Whether these are the keys of a request, each with a value that it may have."""
+    keys = REQUESTS[do][1]
+    due = {name for name, it in keys.items() if it.default is it.empty}
+    return due <= set(given) <= set(keys) and all(fits(keys[name], value) for name, value in given.items())
 
 
 def request_of(line):
@@ -164,16 +199,15 @@ def request_of(line):
     who, do = value.pop("as", None), value.pop("do", None)
     if not isinstance(who, str) or not isinstance(do, str) or do not in REQUESTS:
         return None
-    is_whole = sorted(value) == sorted(REQUESTS[do][1]) and all(fits(*it) for it in value.items())
-    return (who, do, value) if is_whole else None
+    return (who, do, value) if are_keys_of(do, value) else None
 
 
 # ---- the repository
 
 @dataclass
 class Model:
-    """A model. Its grants are levels by partner, its instances are those of plain_binding.bound, in order of name. The
-    greatest name is that of all instances that it ever had."""
+    """A model. Its grants are levels by partner, its instances are those of plain_binding.bound, and its links are as they
+    are told; both are in order of name. The greatest name is that of all instances and links that it ever had."""
 
     owner: str
     name: str
@@ -181,11 +215,16 @@ class Model:
     grants: dict = field(default_factory=dict)
     header: Header = DEFAULT_HEADER
     instances: list = field(default_factory=list)
+    links: list = field(default_factory=list)
     greatest: int = 0
 
-    def fill(self, header, instances):
-        self.header, self.instances = header, instances
-        self.greatest = max([self.greatest, *(it.name for it in instances)])
+    def names(self):
+        """What a reference may name."""
+        return [it.name for it in self.instances + self.links]
+
+    def fill(self, header, instances, links):
+        self.header, self.instances, self.links = header, instances, links
+        self.greatest = max([self.greatest, *self.names()])
 
     def place(self, instance):
         """The instance stands under its name."""
@@ -199,6 +238,15 @@ class Model:
             if it.name == name:
                 return it
         raise Refused("NoSuchInstance")
+
+    def is_valid(self):
+        """What holds of each model: a name stands once, a reference names something, and no link leads into the model itself."""
+        names = self.names()
+        references = {it.name for instance in self.instances for it in plain_binding.references_of(instance)}
+        return (names == sorted({it.name for it in self.instances}) + sorted({it.name for it in self.links})
+                and len(set(names)) == len(names) and references <= set(names) and max([0, *names]) <= self.greatest <= GREATEST_NUMBER
+                and len(self.instances) <= INSTANCES_OF_ONE_MODEL and len(self.links) <= LINKS_OF_ONE_MODEL
+                and all((it.owner, it.model) != (self.owner, self.name) for it in self.links))
 
 
 class Repository:
@@ -245,14 +293,40 @@ class Repository:
         """A partner's level on a model, or None where he doesn't see it."""
         return "owner" if model.owner == who else model.grants.get(who)
 
-    def seen(self, who, owner, name, levels):
-        """The model of this name, which the partner has to see, and on which he has to have one of the levels."""
+    def visible(self, who, owner, name):
+        """The model of this name, or None where the partner doesn't see one."""
         for model in self.models:
             if (model.owner, model.name) == (owner, name) and self.level(who, model):
-                if self.level(who, model) not in levels:
-                    raise Refused("NoRight")
                 return model
-        raise Refused("NoSuchItem")
+        return None
+
+    def seen(self, who, owner, name, levels):
+        """The model of this name, which the partner has to see, and on which he has to have one of the levels."""
+        model = self.visible(who, owner, name)
+        if not model:
+            raise Refused("NoSuchItem")
+        if self.level(who, model) not in levels:
+            raise Refused("NoRight")
+        return model
+
+    def link_fault(self, who, holder, link):
+        """What is wrong with a link of a model whose name stands nowhere else, or None."""
+        target = self.visible(who, link.owner, link.model)
+        if (link.owner, link.model) == (holder.owner, holder.name):
+            return "Own"
+        if not target:
+            return "NotSeen"
+        if target.schema != holder.schema:
+            return "OtherSchema"
+        return None if any(it.name == link.instance for it in target.instances) else "NoInstance"
+
+    def test_links(self, who, holder, instances, links):
+        """The links, in order of name, of a model that is to have these instances. The first with a fault is told."""
+        count = collections.Counter(it.name for it in instances + links)
+        for link in links:
+            kind = "Defined" if count[link.name] > 1 else self.link_fault(who, holder, link)
+            if kind:
+                raise Refused("LinkFault", link=link.name, kind=kind)
 
     @request
     def create_model(self, who, name, schema):
@@ -271,26 +345,31 @@ class Repository:
         return {}, lambda: self.models.remove(model)
 
     @request
-    def put(self, who, owner, model, file):
+    def put(self, who, owner, model, file, links: Links = ()):
         target = self.seen(who, owner, model, ["owner", "write"])
+        linked = sorted((Link(**it) for it in links), key=lambda it: it.name)
         found = self.file_of(file)
         if isinstance(found, FileFault):
             raise Refused("FileFault", at=found.at, kind=found.kind)
         if any(schema_named(it) != target.schema for it in found.schemas):
             raise Refused("WrongSchema")
         try:
-            instances = plain_binding.bound(self.schemas_by_name[target.schema], found.instances)
+            instances = plain_binding.bound(self.schemas_by_name[target.schema], found.instances, {it.name for it in linked})
         except InstanceFault as fault:
             raise Refused("InstanceFault", instance=fault.name, kind=fault.kind) from None
-        if len(instances) > INSTANCES_OF_ONE_MODEL:
+        self.test_links(who, target, instances, linked)
+        if len(instances) > INSTANCES_OF_ONE_MODEL or len(linked) > LINKS_OF_ONE_MODEL:
             raise Refused("TooMany")
 
-        return {"instances": len(instances)}, lambda: target.fill(found.header, instances)
+        return {"instances": len(instances)}, lambda: target.fill(found.header, instances, linked)
 
     @request
-    def export(self, who, owner, model):
+    def export(self, who, owner, model, links: bool = False):
         found = self.seen(who, owner, model, ["owner", "write", "read"])
-        return {"file": plain_binding.canonical_text(self.schemas_by_name[found.schema], found.header, found.instances)}, None
+        if found.links and not links:
+            raise Refused("HasLinks")
+        file = plain_binding.canonical_text(self.schemas_by_name[found.schema], found.header, found.instances)
+        return {"file": file, **({"links": [it._asdict() for it in found.links]} if links else {})}, None
 
     @request
     def names(self, who, owner, model):
@@ -299,7 +378,7 @@ class Repository:
         return {"names": [{"name": it.name, "type": plain_binding.type_text(schema, it.types)} for it in found.instances]}, None
 
     @request
-    def get(self, who, owner, model, instance):
+    def get(self, who, owner, model, instance: int):
         found = self.seen(who, owner, model, ["owner", "write", "read"])
         return {"text": plain_binding.instance_text(self.schemas_by_name[found.schema], found.instance(instance))}, None
 
@@ -309,9 +388,8 @@ class Repository:
         if isinstance(found, FileFault):
             raise Refused("FileFault", at=found.at, kind=found.kind)
         spelled = plain_binding.Instance(name, *found)
-        names = {it.name for it in model.instances}
         try:
-            return plain_binding.bound_instance(self.schemas_by_name[model.schema], spelled, names, {})
+            return plain_binding.bound_instance(self.schemas_by_name[model.schema], spelled, set(model.names()), {})
         except InstanceFault as fault:
             raise Refused("InstanceFault", instance=fault.name, kind=fault.kind) from None
 
@@ -324,18 +402,18 @@ class Repository:
         return {"name": new.name}, lambda: target.place(new)
 
     @request
-    def set(self, who, owner, model, instance, text):
+    def set(self, who, owner, model, instance: int, text):
         target = self.seen(who, owner, model, ["owner", "write"])
         new = self.said(target, instance, text)
         target.instance(instance)
         return {}, lambda: target.place(new)
 
     @request
-    def drop(self, who, owner, model, instance):
+    def drop(self, who, owner, model, instance: int):
         target = self.seen(who, owner, model, ["owner", "write"])
         dropped = target.instance(instance)
         others = [it for it in target.instances if it is not dropped]
-        if any(plain_binding.refers_to(it, instance) for it in others):
+        if any(Reference(instance) in plain_binding.references_of(it) for it in others):
             raise Refused("InUse")
         return {}, lambda: setattr(target, "instances", others)
 

@@ -268,8 +268,8 @@ def instance(random, name, names):
     return [*tokens, "(", *spelled, ";"], Instance(name, [said for _, said in parts], False)
 
 
-def data(random, schema):
-    """The tokens of a data section, and its instances."""
+def data(random, schema, linked):
+    """The tokens of a data section whose instances may refer to the names that are linked, and these instances."""
     tokens = [cased(random, "DATA")]
     if schema is not None:
         tokens += listed([["'s'"], listed([[f"'{schema}'"]])])
@@ -279,7 +279,7 @@ def data(random, schema):
     is_odd = random.random() < 0.3
     if names and is_odd and random.random() < 0.4:
         names.append(random.choice(names))
-    may_refer = names + [UNDEFINED] * 2 if is_odd else names
+    may_refer = names + linked * 2 + [UNDEFINED] * 2 * is_odd
     instances = []
     for name in names:
         spelled, said = instance(random, name, may_refer)
@@ -317,9 +317,10 @@ def faulty(random, tokens):
     return front + ("⟦Syntax⟧;" if at == "=" else "⟦Syntax⟧=") + back
 
 
-def exchange_file(random, schema, section):
-    """A file whose header and data section name these schemas, the latter none where it is None; and what there is to find."""
-    spelled, instances = data(random, section)
+def exchange_file(random, schema, section, linked=()):
+    """A file whose header and data section name these schemas, the latter none where it is None; and what there is to find. It
+    may refer to the names that are linked."""
+    spelled, instances = data(random, section, list(linked))
     head, said = header(random, schema)
     tokens = [cased(random, "ISO-10303-21"), ";", *head, *spelled, cased(random, "END-ISO-10303-21"), ";"]
     is_whole = not any("⟦" in it for it in tokens)

@@ -21,8 +21,10 @@ import sys
 
 from harness import end, shortened, take_program
 from messages import Repository as RepositoryFolder
-from plain_binding import Entity, Schema, express
-from plain_model import CODES, LINE_LIMIT, REQUESTS, TEXT_LIMIT, FileFault, Repository, request_of
+from plain_binding import Entity, InstanceFault, Schema, bound, express
+from plain_model import (
+    CODES, LINE_LIMIT, LINKS_OF_ONE_MODEL, REQUESTS, TEXT_LIMIT, File, FileFault, Link, Repository, request_of,
+)
 from random_files import POOL, UNDEFINED, T, exchange_file, instance_text, long_file, schema_text
 
 LABEL = "random lines"
@@ -36,8 +38,9 @@ NO_NAMES = ["", "a b", "y" * 65, "é", "a/b", "m\n", "\0", " m"]
 # more models than one owner may have
 CROWD = [f"c{place}" for place in range(103)]
 
-# names of instances, whole numbers that are too great, and numbers that aren't whole
-NUMBERS = POOL + [12, 102, 10**18, 2**63, 2**64 - 1, 2**64, 10**308, -1, -2**63, -2**64, 1.0, -0.0, 0.5, 1e300]
+# names of links that few instances have; names of instances, whole numbers that are too great, and numbers that aren't whole
+LINKED = [*range(20, 32), 102, 103, 999_999_999_999_999_997]
+NUMBERS = POOL + [12, 20, 102, 10**18, 2**63, 2**64 - 1, 2**64, 10**308, -1, -2**63, -2**64, 1.0, -0.0, 0.5, 1e300]
 
 NAMED_SCHEMAS = ["T"] * 30 + ["t", "T {1 0 10303}", "t{", "T\r\n", "\nT\t", "L", "l x", "S", "ſ", "", " T", "TT"]
 
@@ -48,6 +51,7 @@ DUE = {
     *(f"FileFault {kind}" for kind in ("Token", "Open", "Number", "Syntax", "Sections", "Deep")),
     *(f"InstanceFault {kind}" for kind in ("Twice", "UnknownEntity", "IllegalCombination", "WrongCount", "NotDerived", "WrongKind",
                                            "Undefined")),
+    *(f"LinkFault {kind}" for kind in ("Defined", "Own", "NotSeen", "OtherSchema", "NoInstance")), "put with links", "export with links",
 }
 
 
@@ -99,19 +103,64 @@ class Maker:
     def text_said(self, text):
         return self.texts[text]
 
+    def models(self, who, *levels):
+        """The models on which a partner has one of these levels."""
+        return [it for it in self.repository.models if self.repository.level(who, it) in levels]
+
     def model(self, who):
-        """The owner and the name of a model, mostly of one that the partner may write, and the names of its instances."""
-        may_write = [it for it in self.repository.models if self.repository.level(who, it) in ("owner", "write")]
+        """The owner and the name of a model, mostly of one that the partner may write, and the names of its instances and links."""
+        may_write = self.models(who, "owner", "write")
         if may_write and self.happens(0.8):
-            found = self.choice(may_write)
-            return found.owner, found.name, [it.name for it in found.instances]
+            found = self.choice([it for it in may_write if it.names()] or may_write)
+            return found.owner, found.name, found.names()
         return self.owner(who), self.name(), []
+
+    def target(self, who, owner, name):
+        """An instance that a link of the model of this name may lead to, or at times of the model itself, of any or of one of
+        another schema, or one that isn't there."""
+        holder = self.repository.visible(who, owner, name)
+        others = [it for it in self.models(who, "owner", "write", "read") if it is not holder]
+        fitting = [it for it in others if it.instances and (not holder or it.schema == holder.schema)]
+        kind = self.random.random()
+        if kind < 0.04:
+            return owner, name, self.choice(POOL)
+        if kind < 0.12:
+            fitting = [it for it in others if holder and it.schema != holder.schema]
+        if kind > 0.95 or not fitting:
+            return self.partner(), self.name(), self.choice(POOL)
+        found = self.choice(fitting)
+        is_there = found.instances and self.happens(0.95)
+        return found.owner, found.name, self.choice([it.name for it in found.instances] if is_there else POOL)
+
+    def links(self, who, owner, name):
+        """Links of a model of this name, mostly such as it may have."""
+        names = self.random.sample(LINKED, self.choice([1, 1, 2, 3, 4]))
+        if self.happens(0.15):
+            names.append(self.choice(names if self.happens(0.5) else POOL))
+        targets = [(it, *self.target(who, owner, name)) for it in names]
+        return [{"name": it, "owner": of, "model": model, "instance": instance} for it, of, model, instance in targets]
+
+
+def is_taken(said, linked):
+    """Whether a file has no fault, nor an instance of it by the schema T, where these names are linked."""
+    try:
+        return isinstance(said, File) and bool(bound(T, said.instances, linked))
+    except InstanceFault:
+        return False
+
+
+def whole_file(it, linked=frozenset()):
+    """A file that a model of the schema T takes, where these names are linked."""
+    while True:
+        text, said = exchange_file(it.random, "T", None, sorted(linked))
+        if is_taken(said, linked):
+            return text, said
 
 
 # ---- requests
 
 def create_model(it, _):
-    return {"name": it.name(), "schema": it.choice("T" * 20, "tLls", ["U", "", "ſ", "TL", " T"])}
+    return {"name": it.name(), "schema": it.choice("T" * 18, "tLLlls", ["U", "", "ſ", "TL", " T"])}
 
 
 def delete_model(it, _):
@@ -119,13 +168,19 @@ def delete_model(it, _):
 
 
 def put(it, who):
-    section = it.choice(NAMED_SCHEMAS) if it.happens(0.25) else None
-    file = it.file_of(*exchange_file(it.random, it.choice(NAMED_SCHEMAS), section))
-    return {"owner": it.owner(who), "model": it.name(), "file": file}
+    owner, name = it.model(who)[:2] if it.happens(0.5) else (it.owner(who), it.name())
+    links = it.links(who, owner, name) if it.happens(0.4) else []
+    if links and it.happens(0.6):
+        made = whole_file(it, {link["name"] for link in links})
+    else:
+        section = it.choice(NAMED_SCHEMAS) if it.happens(0.25) else None
+        made = exchange_file(it.random, it.choice(NAMED_SCHEMAS), section, [link["name"] for link in links])
+    return {"owner": owner, "model": name, "file": it.file_of(*made), **({"links": links} if links or it.happens(0.1) else {})}
 
 
 def export(it, who):
-    return {"owner": it.owner(who), "model": it.name()}
+    owner, name = it.model(who)[:2] if it.happens(0.3) else (it.owner(who), it.name())
+    return {"owner": owner, "model": name, **it.choice([{}, {}, {"links": True}, {"links": True}, {"links": False}])}
 
 
 def names(it, who):
@@ -171,7 +226,7 @@ def check_schema(it, _):
 
 # what makes the keys of each request of a partner's, and how often it is made
 MAKERS = {
-    "create_model": (create_model, 12), "delete_model": (delete_model, 2), "put": (put, 40), "export": (export, 15), "names": (names, 12),
+    "create_model": (create_model, 12), "delete_model": (delete_model, 2), "put": (put, 55), "export": (export, 18), "names": (names, 12),
     "get": (get, 12), "add": (add, 20), "set": (set_instance, 15), "drop": (get, 15),
     "list": (list_models, 8), "grant": (grant, 14), "revoke": (revoke, 4), "schemas": (schemas, 2),
     "check_schema": (check_schema, 5),
@@ -214,14 +269,34 @@ def blank(it):
     return it.choice(" \t\r") if it.happens(0.05) else ""
 
 
-def object_of(it, members):
+def written_object(it, members):
     """A JSON object of keys with what is written of their values."""
     written = ",".join(f"{blank(it)}{string(it, key)}{blank(it)}:{blank(it)}{value}{blank(it)}" for key, value in members)
-    return f"{blank(it)}{{{written}}}{blank(it)}".encode()
+    return f"{blank(it)}{{{written}}}{blank(it)}"
+
+
+def written_links(it, links):
+    """A JSON list of objects, with their keys in some order, and at times, where they aren't too many, one of them twice."""
+    objects = []
+    for link in links:
+        members = members_of(it, it.random.sample([*link.items()], len(link)))
+        is_odd = len(links) < 100 and it.happens(0.02)
+        objects.append(written_object(it, twice(it, members, it.choice(REPLACED)) if is_odd else members))
+    return f"[{blank(it)}{','.join(objects)}]"
+
+
+def written(it, value):
+    if isinstance(value, str):
+        return string(it, value)
+    return written_links(it, value) if isinstance(value, list) else json.dumps(value)
 
 
 def members_of(it, pairs):
-    return [(key, string(it, value) if isinstance(value, str) else json.dumps(value)) for key, value in pairs]
+    return [(key, written(it, value)) for key, value in pairs]
+
+
+def object_of(it, members):
+    return written_object(it, members).encode()
 
 
 def twice(it, members, value):
@@ -268,6 +343,30 @@ def another_word(it):
     return members_of(it, [(key, it.choice(NO_WORDS[key]) if key == changed else value) for key, value in pairs])
 
 
+def another_link(it):
+    """A put whose links are mostly none: one has a key less or more, or another value, or they are no list of objects."""
+    pairs = dict(request(it, "put"))
+    links = it.links(pairs["as"], pairs["owner"], pairs["model"])
+    objects = [members_of(it, link.items()) for link in links]
+    changed = it.choice(objects)
+    place = it.random.randrange(len(changed))
+    key, value = changed[place]
+    way = it.choice(["less", "more", "number", "value", "list"])
+    if way == "less":
+        del changed[place]
+    elif way == "more":
+        changed.insert(place, (it.choice(["x", "Name", "", "links", "owners"]), value))
+    elif way == "number":
+        changed[place] = (key, json.dumps(it.choice(NUMBERS)))
+    elif way == "value":
+        changed[place] = (key, it.choice(REPLACED, NO_JSON))
+    text = f"[{','.join(written_object(it, members) for members in objects)}]"
+    if way == "list":
+        text = it.choice(REPLACED, NO_JSON, [text[1:-1], f"[{text}]", f"[{it.choice(REPLACED, NO_JSON)}]", text.replace("}", "},", 1)])
+    pairs.pop("links", None)
+    return members_of(it, pairs.items()) + [("links", text)]
+
+
 def near(it, line):
     """Bytes that are like a line."""
     cut = it.random.randrange(len(line) + 1)
@@ -278,7 +377,7 @@ def near(it, line):
     ])
 
 
-NO_REQUESTS = [replaced_no_json, one_key_less, one_key_more, another_value, another_word]
+NO_REQUESTS = [replaced_no_json, one_key_less, one_key_more, another_value, another_word, another_link]
 
 
 def no_request(it):
@@ -293,13 +392,6 @@ def padded(text, size):
     return text + " " * (size - len(text.encode()))
 
 
-def whole_file(it):
-    while True:
-        text, said = exchange_file(it.random, "T", None)
-        if not isinstance(said, FileFault):
-            return text, said
-
-
 def crowd(it):
     """The lines of a partner who makes more models than he may have, and then those that delete them."""
     who = it.choice(PARTNERS)
@@ -307,6 +399,19 @@ def crowd(it):
         yield line_of(it, [("as", who), ("do", "create_model"), ("name", name), ("schema", "T")])
     for name in CROWD:
         yield line_of(it, [("as", who), ("do", "delete_model"), ("name", name)])
+
+
+def greatly_linked(it, who):
+    """Puts of a partner's model `great` with as many links as a model may have, with more, and with one more that is faulty."""
+    put_of = [("as", who), ("do", "put"), ("owner", who), ("file", it.file_of(*long_file("T", 1)))]
+    yield line_of(it, [("as", who), ("do", "create_model"), ("name", "target"), ("schema", "T")])
+    yield line_of(it, [*put_of, ("model", "target")])
+    links = [Link(1, "target", name, who)._asdict() for name in range(2, LINKS_OF_ONE_MODEL + 3)]
+    it.random.shuffle(links)
+    for given in (links[1:], links, [*links[1:], Link(2, "target", LINKS_OF_ONE_MODEL + 3, who)._asdict()]):
+        yield line_of(it, [*put_of, ("model", "great"), ("links", given)])
+    yield line_of(it, [("as", who), ("do", "export"), ("owner", who), ("model", "great"), ("links", True)])
+    yield line_of(it, [("as", who), ("do", "delete_model"), ("name", "target")])
 
 
 def great(it):
@@ -318,6 +423,7 @@ def great(it):
     for size in (TEXT_LIMIT, TEXT_LIMIT + 1):
         yield line_of(it, [*put_of, ("file", it.file_of(padded(text, size), said))])
     yield line_of(it, [*put_of, ("file", it.file_of(*long_file("T", 200_001)))])
+    yield from greatly_linked(it, who)
     yield line_of(it, [("as", who), ("do", "check_schema"), ("text", "x" * (TEXT_LIMIT + 1))])
     yield line_of(it, [("as", who), ("do", "add"), ("owner", who), ("model", "great"), ("text", "x" * (TEXT_LIMIT + 1))])
     for size in (LINE_LIMIT, LINE_LIMIT + 1):
@@ -345,7 +451,8 @@ def sort_of(line, reply):
     """The sorts of a reply: the request that is done, or the refusal and, where it has one, its kind."""
     told = json.loads(reply)
     if "ok" in told:
-        return [request_of(line)[1]]
+        _, do, keys = request_of(line)
+        return [do, f"{do} with links"] if keys.get("links") else [do]
     name, kind = told["refused"]["name"], told["refused"].get("kind")
     return [name, f"{name} {kind}"] if kind else [name]
 
@@ -361,6 +468,8 @@ def turns_of(seed, count):
             change()
         turns.append((line, reply))
         due.update(sort_of(line, reply))
+    if not all(model.is_valid() for model in repository.models):
+        raise AssertionError(f"seed {seed}: plain_model.py has come to a model that isn't valid")
     return turns, due
 
 

@@ -5,7 +5,9 @@ pub mod Looking
 pub mod Firsts
 pub mod SchemaNames
 pub mod Names
+pub mod LinkOrder
 pub mod Repeats
 pub mod Making
 pub mod Preparing
 pub mod Loaded
+pub mod Putting

@@ -1,12 +1,14 @@
 -- A plan gives the reply of the turn, and its steps what the turn leaves.
-use Rattle.std.proofs.Common.{◌≡◌, true, false, Bool, Result, Ok, Err, refl, sym, ◌∙◌, ap, subst}
+use Rattle.std.proofs.Common.{◌≡◌, true, false, Bool, List, Result, Ok, Err, refl, sym, ◌∙◌, ap, subst}
 use Rattle.std.proofs.lemmas.Bool.{false≢true}
 use Rattle.ex_types.specs.Checked.{Checked}
 use Rattle.ex_check.specs.declared.fault.SchemaFault.{SchemaFault}
 use Rattle.ex_check.specs.Check.{schema as schema_of}
 use Rattle.p21_read.specs.File.{file_of}
 use Rattle.sorted_tables.specs.Table.{IsAscending}
+use Rattle.rp_content.specs.declared.link.Link.{Link}
 use Rattle.rp_rows.specs.Rows.{Text, key_cmp, row_key}
+use Rattle.rp_rows.specs.Contents.{link_names}
 use Rattle.rp_plain.specs.declared.messages.Request.{Request}
 use Rattle.rp_plain.specs.declared.messages.Request.TheVariants.{CreateModel, DeleteModel, Put, Export, Names, Get, Add, Set, DropInstance, ListItems, GrantModel, RevokeModel, Schemas, CheckSchema}
 use Rattle.rp_plain.specs.declared.messages.Refusal.{Refusal}
@@ -16,7 +18,8 @@ use Rattle.rp_plain.specs.declared.messages.Reply.TheVariants.{Refused}
 use Rattle.rp_plain.specs.Plain.{Plain}
 use Rattle.rp_plain.specs.Edits.{changed}
 use Rattle.rp_plain.specs.Asked.{Asked, asked}
-use Rattle.rp_plain.specs.Files.{Reading, read_content, stored}
+use Rattle.rp_plain.specs.Files.{Reading, read_content, stored, text_by, links_of, exported}
+use Rattle.rp_plain.specs.Meaning.{schema_of as of_schema}
 use Rattle.rp_plain.specs.Checks as checks
 use Rattle.rp_plain.specs.Step.{meaning, outcome}
 use Rattle.rp_plain.specs.Runs.{is_no_memory}
@@ -33,6 +36,10 @@ stored_told : (read : Reading) → is_no_memory (stored read) ≡ false
 stored_told (Ok content) = refl
 stored_told (Err refusal) = refl
 
+exported_told : (linked : Bool) (file : Text) (links : List Link) → is_no_memory (exported linked file links) ≡ false
+exported_told true file links = refl
+exported_told false file links = refl
+
 check_told : (schema : Result Checked SchemaFault) → is_no_memory (checks.told schema) ≡ false
 check_told (Ok schema) = refl
 check_told (Err fault) = refl
@@ -41,8 +48,8 @@ check_told (Err fault) = refl
 told : (a : Asked) (c : Text) (q : Request) → is_no_memory (meaning a c q).reply ≡ false
 told a c (CreateModel name schema) = refl
 told a c (DeleteModel name) = refl
-told a c (Put k file) = stored_told (read_content a.schemas (a.content k) (file_of file))
-told a c (Export k) = refl
+told a c (Put k file links) = stored_told (read_content a.schemas (a.content k) (link_names links) (file_of file))
+told a c (Export k linked) = exported_told linked (text_by (of_schema a.schemas (a.content k)) (a.content k)) (links_of (a.content k))
 told a c (Names k) = refl
 told a c (Get k name) = refl
 told a c (Add k text) = refl

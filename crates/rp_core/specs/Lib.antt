@@ -4,5 +4,6 @@ pub mod Named
 pub mod Told
 pub mod Plans
 pub mod Files
+pub mod Links
 pub mod Single
 pub mod Held

@@ -1,31 +1,31 @@
-//! Files that are put into models, and exported.
+//! Files that are put into models with their links, and exported.
 
-ghost use Rattle.std.specs.Prelude.{◌≡◌, Ok, IfOk, IfSome, option_copied};
+ghost use Rattle.std.specs.Prelude.{◌≡◌, List, Ok, IfOk, IfSome, option_copied, fold, length, max};
 ghost use Rattle.p21_read.specs.File.{file_of};
 ghost use Rattle.rp_rows.specs.Contents as contents;
 ghost use Rattle.rp_plain.specs.Meaning.{first_some, schema_of};
 ghost use Rattle.rp_plain.specs.Files as of_files;
 ghost use Rattle.rp_core.specs.Told.{told};
+ghost use Rattle.rp_core.specs.Named.{TellsNamed};
 ghost use Rattle.rp_core.specs.Files.{cheap_tests, Reads};
 ghost use Rattle.rp_core.specs.Plans.{Plans};
 
 use crate::asked::Asking;
 use crate::edits::{Change, Edits, Plan};
-use crate::faults::{first, is_no_partner, key_fault, lacks, too_large, unseen};
+use crate::faults::{first, is_no_partner, key_fault, lacks, too_large, unseen, when};
+use crate::limits::{MAX_INSTANCES, MAX_LINKS};
+use crate::links::{in_order, link_refusal, names_of, no_request};
 use ex_subtypes::Compiled;
 use p21_bind::{bind, load};
 use p21_read::{is_of_schema, read_raw};
 use p21_tree::Raw;
 use p21_write::write;
-use plain_data::Text;
-use rp_content::{Content, Instance};
+use plain_data::{Items, Rows, Text};
+use rp_content::{Content, Instance, Link};
 use rp_plain::messages::{Refusal, Reply, Request};
 use rp_rows::rows::{Key, ModelContent, Right};
 use std::alloc::{AllocError, Global};
 use text_forms::Failure;
-
-/// The most instances of a model.
-const MAX_INSTANCES: usize = 200_000;
 
 /// Why a request that puts a text into a model is refused without a look into the text.
 pub fn cheap_fault(asked: &Asking<'_>, key: &Key, file: &Text) -> Option<Refusal>
@@ -40,27 +40,22 @@ pub fn cheap_fault(asked: &Asking<'_>, key: &Key, file: &Text) -> Option<Refusal
 }
 
 /// What a file that reads says by the schema, or its first faulty instance.
-fn bound(alloc: Global, schema: Option<&Compiled>, raw: Raw<'_>) -> Result<Content, Refusal>
-    ensures { Reads (of_files.bound_by (option_copied schema.entry) raw.entry) result }
+fn bound(
+    alloc: Global,
+    schema: Option<&Compiled>,
+    linked: &[u64],
+    raw: Raw<'_>,
+) -> Result<Content, Refusal>
+    ensures { Reads (of_files.bound_by (option_copied schema.entry) linked.now raw.entry) result }
 {
     let Some(schema) = schema else {
         return Err(Refusal::UnknownSchema);
     };
-    match bind(alloc, schema, raw) {
+    match bind(alloc, schema, linked, raw) {
         Ok(content) => Ok(content),
         Err(Failure::Fault(fault)) => Err(Refusal::InstanceFault(fault)),
         Err(Failure::NoMemory) => Err(AllocError.into()),
     }
-}
-
-/// The content, unless it has too many instances.
-fn if_few(content: Content) -> Result<Content, Refusal>
-    ensures { result ≡ of_files.if_few (Ok content) }
-{
-    if content.instances.len() > MAX_INSTANCES {
-        return Err(Refusal::TooMany);
-    }
-    Ok(content)
 }
 
 /// What the file says by the schema of the model that it is for, if nothing is wrong with it.
@@ -69,28 +64,36 @@ fn loaded(
     alloc: Global,
     asked: &Asking<'_>,
     model: &ModelContent,
+    linked: &[u64],
     file: &Text,
 ) -> Result<Option<Content>, AllocError>
-    ensures { IfOk result (λ found. IfSome found (λ content. of_files.read_for (told asked.now).schemas model.now (file_of file.now) ≡ of_files.if_few (Ok content))) }
+    ensures { IfOk result (λ found. IfSome found (λ content. of_files.read_for (told asked.now).schemas model.now linked.now (file_of file.now) ≡ Ok content)) }
 {
     match asked.schema_named(&model.schema) {
-        Some(schema) => load(alloc, schema, model.schema.as_bytes(), file.as_bytes()),
+        Some(schema) => load(
+            alloc,
+            schema,
+            model.schema.as_bytes(),
+            linked,
+            file.as_bytes(),
+        ),
         None => Ok(None),
     }
 }
 
-/// What the file says by the schema of the model that it is for, or why it is refused.
+/// What the file says by the schema of the model that it is for, where these names are linked, or why it is refused.
 fn read_for(
     alloc: Global,
     asked: &Asking<'_>,
     model: &ModelContent,
+    linked: &[u64],
     file: &Text,
 ) -> Result<Content, Refusal>
-    ensures { Reads (of_files.read_for (told asked.now).schemas model.now (file_of file.now)) result }
+    ensures { Reads (of_files.read_for (told asked.now).schemas model.now linked.now (file_of file.now)) result }
 {
     // A faulty file is read once more, to tell its fault.
-    if let Some(content) = loaded(alloc, asked, model, file)? {
-        return if_few(content);
+    if let Some(content) = loaded(alloc, asked, model, linked, file)? {
+        return Ok(content);
     }
     let raw = match read_raw(alloc, file.as_bytes()) {
         Ok(raw) => raw,
@@ -100,10 +103,17 @@ fn read_for(
     if !is_of_schema(alloc, &raw, model.schema.as_bytes())? {
         return Err(Refusal::WrongSchema);
     }
-    match bound(alloc, asked.schema_named(&model.schema), raw) {
-        Ok(content) => if_few(content),
-        Err(refusal) => Err(refusal),
-    }
+    bound(alloc, asked.schema_named(&model.schema), linked, raw)
+}
+
+/// Of more instances than a model may have, or more links.
+fn too_many(content: &Content, links: usize) -> Option<Refusal>
+    ensures { (all : List Link) → length all ≡ links → result ≡ of_files.too_many all (Ok content.now) }
+{
+    when(
+        content.instances.len() > MAX_INSTANCES || links > MAX_LINKS,
+        Refusal::TooMany,
+    )
 }
 
 /// The greatest of a number and the names of the instances.
@@ -117,39 +127,80 @@ fn greatest_name(start: u64, instances: &[Instance]) -> u64
     greatest
 }
 
-/// What the model holds once the file is put into it.
+/// The greatest of a number and the names of the links.
+fn greatest_link(start: u64, links: &[Link]) -> u64
+    ensures { result ≡ fold max start (contents.link_names links.now) }
+{
+    let mut greatest = start;
+    for link in links {
+        greatest = greatest.max(link.name);
+    }
+    greatest
+}
+
+/// What the model holds once this content and these links are put into it.
 fn refilled(
     alloc: Global,
     model: &ModelContent,
     content: Content,
+    links: Items<Link>,
 ) -> Result<ModelContent, AllocError>
-    ensures { IfOk result (λ h. h ≡ of_files.refilled model.now content) }
+    ensures { IfOk result (λ h. h ≡ of_files.refilled model.now (record content { links = links })) }
 {
     let schema = model.schema.copy(alloc)?;
     let greatest = greatest_name(model.greatest, content.instances.as_slice());
+    let greatest = greatest_link(greatest, links.as_slice());
     Ok(ModelContent {
         schema,
         greatest,
-        content,
+        content: Content {
+            header: content.header,
+            instances: content.instances,
+            links,
+        },
     })
 }
 
-/// A model's content is replaced by that of a file.
-pub fn plan_put(alloc: Global, asked: &Asking<'_>, key: Key, file: &Text) -> Result<Plan, Refusal>
-    ensures { Plans (told asked.now) asked.now.caller.now (Request.Put key file.now) result }
+/// A model's content is replaced by that of a file, and its links by these.
+pub fn plan_put(
+    alloc: Global,
+    asked: &Asking<'_>,
+    key: Key,
+    file: &Text,
+    links: Rows<Link>,
+) -> Result<Plan, Refusal>
+    requires { TellsNamed (told asked.now) }
+    ensures { Plans (told asked.now) asked.now.caller.now (Request.Put key file.now links) result }
 {
+    if let Some(refusal) = no_request(links.as_slice()) {
+        return Err(refusal);
+    }
     if let Some(refusal) = cheap_fault(asked, &key, file) {
         return Err(refusal);
     }
     let Some(model) = asked.content(&key) else {
         return Err(Refusal::NoSuchItem);
     };
-    let content = match read_for(alloc, asked, model, file) {
+    let linked = names_of(alloc, links.as_slice())?;
+    let content = match read_for(alloc, asked, model, &linked, file) {
         Ok(content) => content,
         Err(refusal) => return Err(refusal),
     };
+    let many = too_many(&content, links.len());
+    let links = in_order(links)?;
+    let fault = link_refusal(
+        alloc,
+        asked,
+        &key,
+        &model.schema,
+        links.as_slice(),
+        &content,
+    )?;
+    if let Some(refusal) = first(&[fault, many]) {
+        return Err(refusal);
+    }
     let reply = Reply::Stored(content.instances.len());
-    let holds = refilled(alloc, model, content)?;
+    let holds = refilled(alloc, model, content, links)?;
     Ok(Plan {
         reply,
         edits: Edits::OfModel(key, Change::Hold(holds)),
@@ -169,20 +220,66 @@ fn text_of(alloc: Global, asked: &Asking<'_>, key: &Key) -> Result<Text, AllocEr
     write(alloc, schema, &model.content)
 }
 
-/// The canonical text of what a model holds.
-pub fn plan_export(alloc: Global, asked: &Asking<'_>, key: &Key) -> Result<Plan, Refusal>
-    ensures { Plans (told asked.now) asked.now.caller.now (Request.Export key.now) result }
+/// The links of the model, if the partner sees it.
+fn links_of<'a>(asked: &Asking<'a>, key: &Key) -> &'a [Link]
+    ensures { result.now ≡ of_files.links_of ((told asked.now).content key.now) }
+{
+    match asked.content(key) {
+        Some(model) => model.content.links.as_slice(),
+        None => &[],
+    }
+}
+
+/// Of a model whose links aren't asked for.
+fn has_links(linked: bool, asked: &Asking<'_>, key: &Key) -> Option<Refusal>
+    ensures { result ≡ of_files.has_links linked ((told asked.now).content key.now) }
+{
+    when(!linked && links_of(asked, key).len() > 0, Refusal::HasLinks)
+}
+
+/// The same links.
+fn copies(alloc: Global, links: &[Link]) -> Result<Rows<Link>, AllocError>
+    ensures { IfOk result (λ copies. copies ≡ links.now) }
+{
+    let mut copies = Rows::new(alloc);
+    for link in links {
+        copies.push(link.copy(alloc)?)?;
+    }
+    Ok(copies)
+}
+
+/// The file, with the links if they are asked for.
+fn exported(alloc: Global, linked: bool, file: Text, links: &[Link]) -> Result<Reply, AllocError>
+    ensures { IfOk result (λ reply. reply ≡ of_files.exported linked file links.now) }
+{
+    if !linked {
+        return Ok(Reply::File(file));
+    }
+    let links = copies(alloc, links)?;
+    Ok(Reply::Linked { file, links })
+}
+
+/// The canonical text of what a model holds, with its links if they are asked for.
+pub fn plan_export(
+    alloc: Global,
+    asked: &Asking<'_>,
+    key: &Key,
+    linked: bool,
+) -> Result<Plan, Refusal>
+    ensures { Plans (told asked.now) asked.now.caller.now (Request.Export key.now linked) result }
 {
     let tests = [
         key_fault(key),
         is_no_partner(asked, &key.0),
         unseen(asked.model_right(key)),
+        has_links(linked, asked, key),
     ];
     if let Some(refusal) = first(&tests) {
         return Err(refusal);
     }
+    let file = text_of(alloc, asked, key)?;
     Ok(Plan {
-        reply: Reply::File(text_of(alloc, asked, key)?),
+        reply: exported(alloc, linked, file, links_of(asked, key))?,
         edits: Edits::Nothing,
     })
 }

@@ -16,6 +16,8 @@ mod holdings;
 mod instances;
 mod items;
 mod keyed;
+mod limits;
+mod links;
 mod lists;
 mod model_names;
 mod models;

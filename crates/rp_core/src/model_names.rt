@@ -1,9 +1,12 @@
 //! The names that a reference in a model may have.
 
-ghost use Rattle.std.specs.Prelude.{◌≡◌};
+ghost use Rattle.std.specs.Prelude.{◌≡◌, filter, length};
+ghost use Rattle.std.specs.Ordering.{is_lt, nat_cmp};
+ghost use Rattle.sorted_tables.specs.Table.{is_before, IsAscending};
 ghost use Rattle.p21_instances.specs.Instances.{is_among};
-ghost use Rattle.rp_rows.specs.Contents.{names, link_names};
+ghost use Rattle.rp_rows.specs.Contents.{names, link_name, link_names};
 ghost use Rattle.rp_rows.specs.Instances.{IsInOrder};
+ghost use Rattle.rp_core.specs.Named.{IsSearchable};
 
 use crate::instances::instance_named;
 use p21_bind::DefinedNames;
@@ -18,7 +21,7 @@ pub struct ModelNames<'a> {
 
 impl<'a> Model for ModelNames<'a> {
     ghost use Rattle.rp_content.specs.declared.content.Content.{Content};
-    ghost use Rattle.rp_rows.specs.Instances.{IsInOrder};
+    ghost use Rattle.rp_core.specs.Named.{IsSearchable};
 
     ghost Value = { Content };
 
@@ -29,7 +32,7 @@ impl<'a> Model for ModelNames<'a> {
 
     ghost view = { λ n. n.content.now };
 
-    ghost invariant = { λ n. IsInOrder n.content.now.instances };
+    ghost invariant = { λ n. IsSearchable n.content.now };
 }
 
 /// Whether an instance has this name. The others aren't walked over.
@@ -40,20 +43,34 @@ fn has_instance(instances: &[Instance], name: u64) -> bool
     instance_named(instances, name).is_some()
 }
 
+fn is_before_name(name: u64, link: &Link) -> bool
+    ensures { result ≡ is_lt (nat_cmp link.now.name name) }
+{
+    link.name.cmp(&name).is_lt()
+}
+
+/// How many links have a name before this one.
+fn link_place(links: &[Link], name: u64) -> usize
+    requires { IsAscending nat_cmp link_name links.now }
+    ensures { result ≡ length (filter (is_before nat_cmp link_name name) links.now) }
+{
+    links.partition_point(|link| is_before_name(name, link))
+}
+
+/// Whether a link has this name. The others aren't walked over.
 fn has_link(links: &[Link], name: u64) -> bool
+    requires { IsAscending nat_cmp link_name links.now }
     ensures { result ≡ is_among (link_names links.now) name }
 {
-    for link in links {
-        if link.name == name {
-            return true;
-        }
+    match links.get(link_place(links, name)) {
+        Some(link) => link.name == name,
+        None => false,
     }
-    false
 }
 
 impl<'a> ModelNames<'a> {
     pub fn of(content: &'a Content) -> ModelNames<'a>
-        requires { IsInOrder content.now.instances }
+        requires { IsSearchable content.now }
         ensures { result ≡ content.now }
     {
         ModelNames { content }

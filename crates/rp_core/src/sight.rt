@@ -46,7 +46,7 @@ pub fn group_right(caller: &Text, group: &RowRef<'_, Listing>) -> Right
     }
 }
 
-fn is_same_key(key: &Key, other: &Key) -> bool
+pub fn is_same_key(key: &Key, other: &Key) -> bool
     ensures { result ≡ same_key key.now other.now }
 {
     other.0.is(&key.0) && other.1.is(&key.1)

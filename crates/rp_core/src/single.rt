@@ -3,9 +3,8 @@
 ghost use Rattle.std.specs.Prelude.{◌≡◌, Some, option_copied};
 ghost use Rattle.p21_read.specs.Single.{mapping_of};
 ghost use Rattle.rp_plain.specs.Instances as of_instances;
-ghost use Rattle.rp_rows.specs.Instances.{IsInOrder};
 ghost use Rattle.rp_core.specs.Told.{told};
-ghost use Rattle.rp_core.specs.Named.{TellsNamed};
+ghost use Rattle.rp_core.specs.Named.{IsSearchable, TellsNamed};
 ghost use Rattle.rp_core.specs.Single.{Says};
 ghost use Rattle.rp_core.specs.Plans.{Plans};
 
@@ -14,6 +13,7 @@ use crate::edits::{Edits, Plan};
 use crate::faults::{first, is_no_partner, key_fault, lacks, when};
 use crate::files::cheap_fault;
 use crate::instances::{instance_in, instance_named, is_absent};
+use crate::limits::{MAX_INSTANCES, MAX_NAME};
 use crate::model_names::ModelNames;
 use ex_subtypes::Compiled;
 use p21_bind::bind_instance;
@@ -25,12 +25,6 @@ use rp_rows::rows::{Key, ModelContent, Right};
 use rp_store::is_used;
 use std::alloc::{AllocError, Global};
 use text_forms::Failure;
-
-/// The most instances of a model.
-const MAX_INSTANCES: usize = 200_000;
-
-/// The greatest name of an instance: 18 digits.
-const MAX_NAME: u64 = 999_999_999_999_999_999;
 
 /// The instance of this name that the mapping is by the schema, or its first fault.
 fn bound(
@@ -60,7 +54,7 @@ fn said_by(
     name: u64,
     text: &Text,
 ) -> Result<Instance, Refusal>
-    requires { IsInOrder model.now.content.instances }
+    requires { IsSearchable model.now.content }
     ensures { Says (of_instances.said_by (told asked.now).schemas model.now name (mapping_of text.now)) result }
 {
     let mapping = match read_instance(alloc, text.as_bytes()) {

@@ -1,31 +1,25 @@
--- The instances of a file that is bound: those of the file, each name once, each referring to names of the file.
-use Rattle.std.proofs.Common.{◌≡◌, ℕ, Bool, true, false, ◌||◌, ◌==◌, List, [], ◌∷◌, Ok, Err, refl, sym, ◌∙◌, ap, subst, arith}
+-- The instances of a file that is bound: those of the file, each name once, each referring to names of the file or to such as are linked.
+use Rattle.std.proofs.Common.{◌≡◌, ℕ, Bool, true, false, ◌||◌, ◌==◌, List, [], ◌∷◌, ◌++◌, Ok, Err, refl, sym, ◌∙◌, ap, subst, arith}
 use Rattle.std.specs.List.{AllByRecursion, list_all}
-use Rattle.std.proofs.lemmas.Bool.{eq-eqb, or_left, or_right}
+use Rattle.std.proofs.lemmas.Bool.{eq-eqb, or_from, or_left, or_right}
 use Rattle.std.proofs.lemmas.Bool.Decides.{nat_tests}
 use Rattle.ex_types.specs.Checked.{Checked}
 use Rattle.p21_bind.specs.Files.{Instances, told, first_of, content, bound_by, instances_after, instances, bound_file}
 use Rattle.p21_bind.specs.Instances.{Read, instance}
 use Rattle.p21_instances.specs.Instances as spelled
+use Rattle.p21_instances.specs.Instances.{is_among}
 use Rattle.p21_tree.specs.declared.instance.Instance as tree
 use Rattle.p21_tree.specs.declared.raw.Raw.{Raw}
 use Rattle.rp_content.specs.declared.content.Content.{Content}
 use Rattle.rp_content.specs.declared.instance.Instance.{Instance}
-use Rattle.rp_rows.specs.Contents.{names, references_of}
+use Rattle.rp_rows.specs.Contents.{instance_name, names, references_of}
 use Rattle.rp_laws.proofs.BoundInstances.{IsBound, instance_bound}
+use Rattle.rp_laws.proofs.ByName.{AreOnce}
 
--- no two have one name
-abbrev pub IsApart : ℕ → Instance → Type 0
-IsApart n i = (n == i.name) ≡ false
-
-abbrev pub AreApart : List Instance → Type 0
-AreApart [] = Unit {0}
-AreApart (i ∷ is) = AllByRecursion (IsApart i.name) is × AreApart is
-
-other_name : (stood : ℕ → Bool) (n m : ℕ) → stood n ≡ true → stood m ≡ false → (n == m) ≡ false
-other_name stood n m there away = by (n == m) refl
+other_name : (stood : ℕ → Bool) (n m : ℕ) → stood n ≡ true → stood m ≡ false → (m == n) ≡ false
+other_name stood n m there away = by (m == n) refl
   where
-    by : (t : Bool) → (n == m) ≡ t → t ≡ false
+    by : (t : Bool) → (m == n) ≡ t → t ≡ false
     by false e = refl
     by true e = let same : n ≡ m = grind (arith, nat_tests) in let here : stood m ≡ true = ap stood (sym same) ∙ there in cc
 
@@ -70,30 +64,35 @@ module _ (schema : Checked) (defined : ℕ → Bool) where
       subst (AllByRecursion (λ i. list_all defined (references_of i) ≡ true)) b.are (b.bound.references, bound_refer (more stood x) xs b.later b.follow)
 
   -- none has a name that stood before
-  later_apart : (stood : ℕ → Bool) (n : ℕ) (xs : List tree.Instance) (is : List Instance) → stood n ≡ true → instances_after schema defined stood xs ≡ Ok is → AllByRecursion (IsApart n) is
-  later_apart stood n [] is there e = subst (AllByRecursion (IsApart n)) (none_are is stood e) tt
+  later_apart : (stood : ℕ → Bool) (n : ℕ) (xs : List tree.Instance) (is : List Instance) → stood n ≡ true → instances_after schema defined stood xs ≡ Ok is → is_among (names is) n ≡ false
+  later_apart stood n [] is there e = subst (λ js. is_among (names js) n ≡ false) (none_are is stood e) refl
   later_apart stood n (x ∷ xs) is there e =
       let b = begun stood x xs is e in
-      let here : (n == b.first.name) ≡ false = ap (λ m. n == m) b.bound.name_is ∙ other_name stood n x.name there b.is_new in
-      subst (AllByRecursion (IsApart n)) b.are (here, later_apart (more stood x) n xs b.later (or_right (x.name == n) (stood n) there) b.follow)
+      let here : (b.first.name == n) ≡ false = ap (λ m. m == n) b.bound.name_is ∙ other_name stood n x.name there b.is_new in
+      let rest = later_apart (more stood x) n xs b.later (or_right (x.name == n) (stood n) there) b.follow in
+      subst (λ js. is_among (names js) n ≡ false) b.are (or_from (b.first.name == n) (is_among (names b.later) n) here rest)
 
-  pub bound_apart : (stood : ℕ → Bool) (xs : List tree.Instance) (is : List Instance) → instances_after schema defined stood xs ≡ Ok is → AreApart is
-  bound_apart stood [] is e = subst AreApart (none_are is stood e) tt
-  bound_apart stood (x ∷ xs) is e =
+  pub bound_once : (stood : ℕ → Bool) (xs : List tree.Instance) (is : List Instance) → instances_after schema defined stood xs ≡ Ok is → AreOnce instance_name is
+  bound_once stood [] is e = subst (AreOnce instance_name) (none_are is stood e) tt
+  bound_once stood (x ∷ xs) is e =
       let b = begun stood x xs is e in
       let stands : more stood x b.first.name ≡ true = or_left (x.name == b.first.name) (stood b.first.name) (eq-eqb x.name b.first.name (sym b.bound.name_is)) in
-      subst AreApart b.are (later_apart (more stood x) b.first.name xs b.later stands b.follow, bound_apart (more stood x) xs b.later b.follow)
+      subst (AreOnce instance_name) b.are (later_apart (more stood x) b.first.name xs b.later stands b.follow, bound_once (more stood x) xs b.later b.follow)
+
+-- the names that references of a file's instances may have, where these are linked
+abbrev pub defined_by : List ℕ → Raw → ℕ → Bool
+defined_by linked raw = is_among (spelled.names raw.instances ++ linked)
 
 -- what a file says is made of its instances in the order of the file
-pub record IsOfFile (schema : Checked) (raw : Raw) (c : Content) : Type 0 where
+pub record IsOfFile (schema : Checked) (linked : List ℕ) (raw : Raw) (c : Content) : Type 0 where
   pub found : List Instance
-  pub reads : instances_after schema (spelled.is_among (spelled.names raw.instances)) (λ n. false) raw.instances ≡ Ok found
+  pub reads : instances_after schema (defined_by linked raw) (λ n. false) raw.instances ≡ Ok found
   pub are : content raw.header found ≡ c
 
-pub of_file : (schema : Checked) (raw : Raw) (c : Content) → bound_file schema raw ≡ Ok c → IsOfFile schema raw c
+pub of_file : (schema : Checked) (linked : List ℕ) (raw : Raw) (c : Content) → bound_file schema linked raw ≡ Ok c → IsOfFile schema linked raw c
 unfolding bound_file instances
-of_file schema raw c e = by (instances_after schema (spelled.is_among (spelled.names raw.instances)) (λ n. false) raw.instances) refl e
+of_file schema linked raw c e = by (instances_after schema (defined_by linked raw) (λ n. false) raw.instances) refl e
   where
-    by : (o : Instances) → instances_after schema (spelled.is_among (spelled.names raw.instances)) (λ n. false) raw.instances ≡ o → bound_by raw.header o ≡ Ok c → IsOfFile schema raw c
+    by : (o : Instances) → instances_after schema (defined_by linked raw) (λ n. false) raw.instances ≡ o → bound_by raw.header o ≡ Ok c → IsOfFile schema linked raw c
     by (Ok found) reads f = let same : content raw.header found ≡ c = cc in record { found = found; reads = reads; are = same }
     by (Err fault) reads f = cc

@@ -1,9 +1,9 @@
 -- The edits of each request are fit, and so a step keeps the repository valid.
-use Rattle.std.proofs.Common.{◌≡◌, ℕ, Bool, true, false, not, ◌&&◌, ◌||◌, nat_le, nat_lt, inl, inr, List, [], ◌∷◌, length, Option, Some, None, Result, Ok, Err, refl, sym, subst, arith}
+use Rattle.std.proofs.Common.{◌≡◌, ℕ, Bool, true, false, ◌&&◌, ◌||◌, nat_le, nat_lt, inl, inr, List, [], ◌∷◌, length, Option, Some, None, Result, Ok, Err, refl, sym, ◌∙◌, ap, subst, arith}
 use Rattle.std.specs.Prelude.{filter, if◌then◌else◌}
 use Rattle.std.specs.List.{find, list_any, AllByRecursion}
 use Rattle.std.specs.Str.{bytes_eq, str_to_ascii_uppercase}
-use Rattle.std.proofs.lemmas.Bool.{both_ways, not-false, and_parts, false_from_ne_true}
+use Rattle.std.proofs.lemmas.Bool.{both_ways, false_from_ne_true, or_parts}
 use Rattle.std.proofs.lemmas.Bool.Decides.{nat_tests}
 use Rattle.std.proofs.lemmas.Slice.Eq.{bytes_eq-Decides}
 use Rattle.ex_types.specs.Checked.{Checked}
@@ -12,18 +12,17 @@ use Rattle.p21_tree.specs.declared.fault.FileFault.{FileFault}
 use Rattle.p21_tree.specs.declared.fault.InstanceFault.{InstanceFault}
 use Rattle.p21_read.specs.File.{file_of}
 use Rattle.p21_read.specs.Schemas.{is_of_schema}
-use Rattle.p21_instances.specs.Instances.{is_among, names}
 use Rattle.p21_bind.specs.Files.{content, bound_file}
 use Rattle.rp_content.specs.declared.content.Content.{Content}
+use Rattle.rp_content.specs.declared.link.Link.{Link}
 use Rattle.rp_rows.specs.declared.rows.Level.{Level}
 use Rattle.rp_rows.specs.declared.rows.ModelContent.{ModelContent}
 use Rattle.rp_rows.specs.Names.{is_name}
 use Rattle.rp_rows.specs.Rows.{Text, Key, is_row, Model}
-use Rattle.rp_rows.specs.Contents as contents
+use Rattle.rp_rows.specs.Contents.{instance_name, names, greatest_name, link_name, link_names}
 use Rattle.rp_rows.specs.Instances.{max_instances, max_name, with_instance, without_instance}
 use Rattle.rp_rows.specs.Sight.{owns, sees}
 use Rattle.rp_rows.specs.Alterations.{Grants}
-use Rattle.rp_rows.proofs.Keys.{owner_at, name_at, found_at}
 use Rattle.rp_plain.specs.declared.messages.Request.{Request}
 use Rattle.rp_plain.specs.declared.messages.Request.TheVariants.{CreateModel, DeleteModel, Put, Add, Set, DropInstance, GrantModel, RevokeModel}
 use Rattle.rp_plain.specs.declared.messages.Refusal.{Refusal}
@@ -31,19 +30,22 @@ use Rattle.rp_plain.specs.declared.messages.Refusal.TheVariants as refusal
 use Rattle.rp_plain.specs.Plain.{Plain, model_at}
 use Rattle.rp_plain.specs.Edits.{EditModel}
 use Rattle.rp_plain.specs.Asked.{asked, held}
-use Rattle.rp_plain.specs.Meaning.{when, first_some, has_text, schema_name, has_schema, schema_named}
+use Rattle.rp_plain.specs.Meaning.{first_some, has_text, schema_name, has_schema, schema_named}
 use Rattle.rp_plain.specs.Models.{max_models, new_content}
-use Rattle.rp_plain.specs.Files.{Reading, told, bound_by, if_few, read_for, read_content, refilled, filled}
+use Rattle.rp_plain.specs.Links.{max_links, links_in_order, linking, no_request}
+use Rattle.rp_plain.specs.Files.{Reading, told, bound_by, read_for, read_content, ill_linked, too_many, refilled, filled}
 use Rattle.rp_plain.specs.Grants.{unless_own}
 use Rattle.rp_plain.specs.Instances.{Saying, said, is_absent, instance_in, next_in, is_full, is_needed, placing, dropping}
 use Rattle.rp_plain.specs.Step.{meaning, outcome, answer, next}
 use Rattle.rp_plain.specs.Opening.{new_fault, opened}
-use Rattle.rp_plain.specs.Valid.{IsInstanceOfFile, IsSpelled, IsValidContent, IsValidModel, IsValid}
-use Rattle.rp_laws.proofs.BoundFiles.{bound_names, bound_refer, bound_apart, of_file}
+use Rattle.rp_plain.specs.Valid.{IsInstanceOfFile, IsSpelled, IsValidContent, IsValid}
+use Rattle.rp_laws.proofs.ByName.{once-in_order, ordered, within, greatest_from}
+use Rattle.rp_laws.proofs.BoundFiles.{bound_names, bound_refer, bound_once, defined_by, of_file}
 use Rattle.rp_laws.proofs.FileNames.{file_named}
-use Rattle.rp_laws.proofs.FileInstances.{ordered, all_spelled, all_sound, in_order_most, greatest_from}
+use Rattle.rp_laws.proofs.FileInstances.{all_spelled, all_sound, in_order_most}
+use Rattle.rp_laws.proofs.Links.{passed, is_so, no_more, seen_valid, AreTaken, links_taken}
 use Rattle.rp_laws.proofs.Single.{added_valid, set_valid, left_valid}
-use Rattle.rp_laws.proofs.ValidTables.{all_each, all_found, MayHold}
+use Rattle.rp_laws.proofs.ValidTables.{all_each, MayHold}
 use Rattle.rp_laws.proofs.ValidEdits.{Anything, AreFit, changed_valid}
 
 -- ---- what a request that is not refused has passed
@@ -52,14 +54,6 @@ all_pass : {A : Type 0} (ts : List (Option A)) → first_some ts ≡ None → Al
 all_pass [] h = tt
 all_pass (None ∷ ts) h = (refl, all_pass ts h)
 all_pass (Some x ∷ ts) h = cc
-
-passed : (b : Bool) (refusal : Refusal) → when b refusal ≡ None → b ≡ false
-passed true refusal h = cc
-passed false refusal h = refl
-
--- a test that something isn't
-is_so : (b : Bool) (refusal : Refusal) → when (not b) refusal ≡ None → b ≡ true
-is_so b refusal h = not-false b (passed (not b) refusal h)
 
 -- ---- creation
 
@@ -72,7 +66,7 @@ found_by {X = X} test (x ∷ xs) e = by (test x) (found_by test xs) e
     by false rest e = rest e
 
 created : (r : Plain) (c name schema : Text) → has_text r.partners c ≡ true → first_some (meaning (asked r c) c (CreateModel name schema)).tests ≡ None
-    → MayHold r.partners (IsValidContent r.schemas) Anything max_models r.models (c, name) (new_content schema)
+    → MayHold r.partners (IsValidContent r.schemas r.partners) Anything max_models r.models (c, name) (new_content schema)
 created r c name schema partner passes =
     let each = all_pass (meaning (asked r c) c (CreateModel name schema)).tests passes in
     let few : nat_le max_models (length (filter (owns c) r.models)) ≡ false = passed (nat_le max_models (length (filter (owns c) r.models))) refusal.TooMany each.1.1.1.0 in
@@ -91,7 +85,9 @@ created r c name schema partner passes =
         few = omega arith;
         in_use = omega arith;
         greatest = omega arith;
-        links = refl;
+        links = tt;
+        linked = tt;
+        few_links = omega arith;
       };
       room = λ none. grind (arith, nat_tests);
     }
@@ -108,84 +104,87 @@ there p q (x ∷ xs) m found none = by (there p q xs m) (p x) found none
     by rest false f n = rest f n
 
 -- a model that is seen may hold what is as valid as what it holds
-held_there : (r : Plain) (c : Text) (k : Key) (h : ModelContent) (m : Model) → model_at r c k ≡ Some m → (IsValidContent r.schemas m.holds → IsValidContent r.schemas h) → IsValid r
-    → MayHold r.partners (IsValidContent r.schemas) Anything max_models r.models k h
+held_there : (r : Plain) (c : Text) (k : Key) (h : ModelContent) (m : Model) → model_at r c k ≡ Some m → (IsValidContent r.schemas r.partners k m.holds → IsValidContent r.schemas r.partners k h) → IsValid r
+    → MayHold r.partners (IsValidContent r.schemas r.partners) Anything max_models r.models k h
 held_there r c k h m seen content valid =
-    let old = all_found (IsValidModel r.schemas r.partners) (λ x. is_row k x && sees r.groups c x) r.models m seen valid.models in
-    let at = (and_parts (is_row k m) (sees r.groups c m) (found_at (λ x. is_row k x && sees r.groups c x) r.models m seen)).0 in
+    let old = seen_valid r c k m seen valid in
     record {
-      owner = subst (λ o. has_text r.partners o ≡ true) (owner_at k m at) old.row.owner;
-      name = subst (λ n. is_name n ≡ true) (name_at k m at) old.row.name;
-      valid = content old.content;
+      owner = subst (λ (j : Key). has_text r.partners j.0 ≡ true) old.1 old.0.row.owner;
+      name = subst (λ (j : Key). is_name j.1 ≡ true) old.1 old.0.row.name;
+      valid = content (subst (λ (j : Key). IsValidContent r.schemas r.partners j m.holds) old.1 old.0.content);
       room = λ none. absurd (there (is_row k) (sees r.groups c) r.models m seen none);
     }
 
 -- ---- a file is put
 
 -- what a file says that is taken for a model
-record IsTaken (schemas : List Checked) (h : ModelContent) (file : Result Raw FileFault) (c : Content) : Type 0 where
+record IsTaken (schemas : List Checked) (h : ModelContent) (linked : List ℕ) (file : Result Raw FileFault) (c : Content) : Type 0 where
   raw : Raw
   schema : Checked
   reads : file ≡ Ok raw
   loaded : schema_named schemas h.schema ≡ Some schema
-  says : bound_file schema raw ≡ Ok c
-  few : nat_lt max_instances (length c.instances) ≡ false
+  says : bound_file schema linked raw ≡ Ok c
 
-taken_few : (schemas : List Checked) (h : ModelContent) (raw : Raw) (schema : Checked) (c : Content) → schema_named schemas h.schema ≡ Some schema → (o : Result Content InstanceFault) → bound_file schema raw ≡ o → if_few (told o) ≡ Ok c
-    → IsTaken schemas h (Ok raw) c
-taken_few schemas h raw schema c loaded (Err fault) says e = cc
-taken_few schemas h raw schema c loaded (Ok d) says e = by (nat_lt max_instances (length d.instances)) refl e
+taken_by : (schemas : List Checked) (h : ModelContent) (linked : List ℕ) (raw : Raw) (c : Content) (o : Option Checked) → schema_named schemas h.schema ≡ o → bound_by o linked raw ≡ Ok c → IsTaken schemas h linked (Ok raw) c
+taken_by schemas h linked raw c None loaded e = cc
+taken_by schemas h linked raw c (Some schema) loaded e = by (bound_file schema linked raw) refl e
   where
-    by : (t : Bool) → nat_lt max_instances (length d.instances) ≡ t → (if t then Err refusal.TooMany else Ok d) ≡ Ok c → IsTaken schemas h (Ok raw) c
-    by true few f = cc
-    by false few f =
-        let same : d ≡ c = cc in
-        subst (IsTaken schemas h (Ok raw)) same (record { raw = raw; schema = schema; reads = refl; loaded = loaded; says = says; few = few })
+    by : (o : Result Content InstanceFault) → bound_file schema linked raw ≡ o → told o ≡ Ok c → IsTaken schemas h linked (Ok raw) c
+    by (Err fault) says f = cc
+    by (Ok d) says f = let same : d ≡ c = cc in record { raw = raw; schema = schema; reads = refl; loaded = loaded; says = says ∙ ap Ok same }
 
-taken_by : (schemas : List Checked) (h : ModelContent) (raw : Raw) (c : Content) (o : Option Checked) → schema_named schemas h.schema ≡ o → if_few (bound_by o raw) ≡ Ok c → IsTaken schemas h (Ok raw) c
-taken_by schemas h raw c None loaded e = cc
-taken_by schemas h raw c (Some schema) loaded e = taken_few schemas h raw schema c loaded (bound_file schema raw) refl e
-
-taken : (schemas : List Checked) (h : ModelContent) (file : Result Raw FileFault) (c : Content) → read_for schemas h file ≡ Ok c → IsTaken schemas h file c
-taken schemas h (Err fault) c e = cc
-taken schemas h (Ok raw) c e = by (is_of_schema h.schema raw) e
+taken : (schemas : List Checked) (h : ModelContent) (linked : List ℕ) (file : Result Raw FileFault) (c : Content) → read_for schemas h linked file ≡ Ok c → IsTaken schemas h linked file c
+taken schemas h linked (Err fault) c e = cc
+taken schemas h linked (Ok raw) c e = by (is_of_schema h.schema raw) e
   where
-    by : (t : Bool) → (if t then if_few (bound_by (schema_named schemas h.schema) raw) else Err refusal.WrongSchema) ≡ Ok c → IsTaken schemas h (Ok raw) c
-    by true f = taken_by schemas h raw c (schema_named schemas h.schema) refl f
+    by : (t : Bool) → (if t then bound_by (schema_named schemas h.schema) linked raw else Err refusal.WrongSchema) ≡ Ok c → IsTaken schemas h linked (Ok raw) c
+    by true f = taken_by schemas h linked raw c (schema_named schemas h.schema) refl f
     by false f = cc
 
-refilled_valid : (schemas : List Checked) (h : ModelContent) (file : Text) (c : Content) → IsTaken schemas h (file_of file) c → IsValidContent schemas h → IsValidContent schemas (refilled h c)
-refilled_valid schemas h file c t valid =
-    let read = of_file t.schema t.raw c t.says in
-    let defined = is_among (names t.raw.instances) in
+refilled_valid : (schemas : List Checked) (partners : List Text) (k : Key) (h : ModelContent) (file : Text) (links : List Link) (c : Content) → IsTaken schemas h (link_names links) (file_of file) c → AreTaken partners k links c
+    → nat_lt max_instances (length c.instances) ≡ false → IsValidContent schemas partners k h → IsValidContent schemas partners k (refilled h (linking links c))
+refilled_valid schemas partners k h file links c t beside few valid =
+    let linked = link_names links in
+    let read = of_file t.schema linked t.raw c t.says in
+    let defined = defined_by linked t.raw in
     let same_names = bound_names t.schema defined (λ n. false) t.raw.instances read.found read.reads in
     let most = in_order_most max_name h.greatest read.found t.raw.instances same_names (file_named file t.raw t.reads) valid.greatest in
-    let apart = bound_apart t.schema defined (λ n. false) t.raw.instances read.found read.reads in
+    let once = bound_once t.schema defined (λ n. false) t.raw.instances read.found read.reads in
     let refer = bound_refer t.schema defined (λ n. false) t.raw.instances read.found read.reads in
-    let Valid : Content → Type 0 = λ d. bound_file t.schema t.raw ≡ Ok d → nat_lt max_instances (length d.instances) ≡ false → IsValidContent schemas (refilled h d) in
+    let Valid : Content → Type 0 = λ d. bound_file t.schema linked t.raw ≡ Ok d → AreTaken partners k links d → nat_lt max_instances (length d.instances) ≡ false → IsValidContent schemas partners k (refilled h (linking links d)) in
+    let held = content t.raw.header read.found in
+    let start = greatest_name h.greatest held.instances in
     subst Valid read.are
-    (λ says few. record {
+    (λ says beside few. record {
       schema = t.schema;
       loaded = t.loaded;
       header = inr (record { file = file; raw = t.raw; reads = t.reads; is = refl });
-      instances = ordered read.found apart;
-      spelled = all_each (IsInstanceOfFile t.schema) (IsSpelled t.schema) (λ i is. inl is) (content t.raw.header read.found).instances (all_spelled t.schema file t.raw t.reads (content t.raw.header read.found) says);
-      sound = all_sound t.raw read.found same_names refer;
-      few = grind (arith, nat_tests);
-      in_use = greatest_from 0 h.greatest (contents.names (content t.raw.header read.found).instances) (omega arith);
-      greatest = most;
-      links = refl;
-    }) t.says t.few
+      instances = ordered instance_name read.found (once-in_order instance_name read.found once);
+      spelled = all_each (IsInstanceOfFile t.schema) (IsSpelled t.schema) (λ i is. inl is) held.instances (all_spelled t.schema file t.raw t.reads linked held says);
+      sound = all_sound t.raw links read.found same_names refer;
+      few = no_more max_instances (length held.instances) few;
+      in_use = greatest_from (greatest_name 0 held.instances) start (link_names (links_in_order links)) (greatest_from 0 h.greatest (names held.instances) (omega arith));
+      greatest = within link_name max_name start (links_in_order links) most beside.named;
+      links = beside.order;
+      linked = beside.each;
+      few_links = beside.few;
+    }) t.says beside few
 
-filled_fit : (r : Plain) (c : Text) (k : Key) (file : Text) (o : Option Model) (read : Reading) → model_at r c k ≡ o → read_content r.schemas (held o) (file_of file) ≡ read → IsValid r → AreFit r (filled k (held o) read)
-filled_fit r c k file None (Ok said) seen reads valid = tt
-filled_fit r c k file None (Err refusal) seen reads valid = tt
-filled_fit r c k file (Some m) (Err refusal) seen reads valid = tt
-filled_fit r c k file (Some m) (Ok said) seen reads valid =
-    (held_there r c k (refilled m.holds said) m seen (refilled_valid r.schemas m.holds file said (taken r.schemas m.holds (file_of file) said reads)) valid, tt)
+filled_fit : (r : Plain) (c : Text) (k : Key) (file : Text) (links : List Link) (o : Option Model) (read : Reading) → model_at r c k ≡ o → read_content r.schemas (held o) (link_names links) (file_of file) ≡ read → no_request links ≡ None
+    → ill_linked (asked r c) k (held o) links read ≡ None → too_many links read ≡ None → IsValid r → AreFit r (filled k (held o) links read)
+filled_fit r c k file links None (Ok said) seen reads request fault few valid = tt
+filled_fit r c k file links None (Err refusal) seen reads request fault few valid = tt
+filled_fit r c k file links (Some m) (Err refusal) seen reads request fault few valid = tt
+filled_fit r c k file links (Some m) (Ok said) seen reads request fault few valid =
+    let both = or_parts (nat_lt max_instances (length said.instances)) (nat_lt max_links (length links)) (passed (nat_lt max_instances (length said.instances) || nat_lt max_links (length links)) refusal.TooMany few) in
+    let read = taken r.schemas m.holds (link_names links) (file_of file) said reads in
+    let beside = links_taken r c k m.holds.schema links said request fault both.1 valid in
+    (held_there r c k (refilled m.holds (linking links said)) m seen (refilled_valid r.schemas r.partners k m.holds file links said read beside both.0) valid, tt)
 
-put_fit : (r : Plain) (c : Text) (k : Key) (file : Text) → IsValid r → AreFit r (meaning (asked r c) c (Put k file)).edits
-put_fit r c k file valid = filled_fit r c k file (model_at r c k) (read_content r.schemas (held (model_at r c k)) (file_of file)) refl refl valid
+put_fit : (r : Plain) (c : Text) (k : Key) (file : Text) (links : List Link) → first_some (meaning (asked r c) c (Put k file links)).tests ≡ None → IsValid r → AreFit r (meaning (asked r c) c (Put k file links)).edits
+put_fit r c k file links passes valid =
+    let each = all_pass (meaning (asked r c) c (Put k file links)).tests passes in
+    filled_fit r c k file links (model_at r c k) (read_content r.schemas (held (model_at r c k)) (link_names links) (file_of file)) refl refl each.0 each.1.1.1.1.1.1.0 each.1.1.1.1.1.1.1.0 valid
 
 -- ---- one instance is put or dropped
 
@@ -194,18 +193,18 @@ added_fit r c k text None (Ok i) seen says room valid = tt
 added_fit r c k text None (Err refusal) seen says room valid = tt
 added_fit r c k text (Some m) (Err refusal) seen says room valid = tt
 added_fit r c k text (Some m) (Ok i) seen says room valid =
-    (held_there r c k (with_instance i m.holds) m seen (added_valid r.schemas m.holds text i says room) valid, tt)
+    (held_there r c k (with_instance i m.holds) m seen (added_valid r.schemas r.partners k m.holds text i says room) valid, tt)
 
 set_fit : (r : Plain) (c : Text) (k : Key) (name : ℕ) (text : Text) (o : Option Model) (new : Saying) → model_at r c k ≡ o → said r.schemas (held o) name text ≡ new → is_absent (instance_in (held o) name) ≡ None → IsValid r → AreFit r (placing k (held o) new)
 set_fit r c k name text None (Ok i) seen says there valid = tt
 set_fit r c k name text None (Err refusal) seen says there valid = tt
 set_fit r c k name text (Some m) (Err refusal) seen says there valid = tt
 set_fit r c k name text (Some m) (Ok i) seen says there valid =
-    (held_there r c k (with_instance i m.holds) m seen (set_valid r.schemas m.holds name text i says there) valid, tt)
+    (held_there r c k (with_instance i m.holds) m seen (set_valid r.schemas r.partners k m.holds name text i says there) valid, tt)
 
 dropped_fit : (r : Plain) (c : Text) (k : Key) (name : ℕ) (o : Option Model) → model_at r c k ≡ o → is_needed name (held o) ≡ None → IsValid r → AreFit r (dropping k name (held o))
 dropped_fit r c k name None seen unused valid = tt
-dropped_fit r c k name (Some m) seen unused valid = (held_there r c k (without_instance name m.holds) m seen (left_valid r.schemas m.holds name unused) valid, tt)
+dropped_fit r c k name (Some m) seen unused valid = (held_there r c k (without_instance name m.holds) m seen (left_valid r.schemas r.partners k m.holds name unused) valid, tt)
 
 -- ---- grants
 
@@ -225,7 +224,7 @@ granted_fit r c name to l known = by (bytes_eq to c) refl
 edits_fit : (r : Plain) (c : Text) (q : Request) → has_text r.partners c ≡ true → first_some (meaning (asked r c) c q).tests ≡ None → IsValid r → AreFit r (meaning (asked r c) c q).edits
 edits_fit r c (CreateModel name schema) partner passes valid = (created r c name schema partner passes, tt)
 edits_fit r c (DeleteModel name) partner passes valid = (tt, tt)
-edits_fit r c (Put k file) partner passes valid = put_fit r c k file valid
+edits_fit r c (Put k file links) partner passes valid = put_fit r c k file links passes valid
 edits_fit r c (Add k text) partner passes valid =
     let h = held (model_at r c k) in
     let each = all_pass (meaning (asked r c) c (Add k text)).tests passes in

@@ -9,11 +9,14 @@ pub mod AllRuns
 pub mod FileNames
 pub mod BoundValues
 pub mod BoundInstances
-pub mod BoundFiles
-pub mod FileInstances
 pub mod Counts
 pub mod ValidTables
 pub mod ValidEdits
+pub mod ByName
+pub mod BoundFiles
+pub mod FileInstances
+pub mod Links
 pub mod SingleEdits
 pub mod Single
 pub mod KeptValid
+pub mod TextAgain

@@ -1,10 +1,12 @@
 -- The edits of each request are such as its caller may make, and so what he sees after his turn comes from what he sees.
-use Rattle.std.proofs.Common.{◌≡◌, ℕ, true, false, inl, inr, [], ◌∷◌, Option, Some, None, Ok, Err, is_some, refl, sym, ◌∙◌, ap}
+use Rattle.std.proofs.Common.{◌≡◌, ℕ, true, false, inl, inr, List, [], ◌∷◌, Option, Some, None, Ok, Err, is_some, refl, sym, ◌∙◌, ap}
 use Rattle.std.specs.Prelude.{if◌then◌else◌}
 use Rattle.std.specs.Str.{bytes_eq}
 use Rattle.std.proofs.lemmas.Slice.Eq.{bytes_eq-Decides}
 use Rattle.p21_read.specs.File.{file_of}
+use Rattle.rp_content.specs.declared.link.Link.{Link}
 use Rattle.rp_rows.specs.Rows.{Text, Key, Model}
+use Rattle.rp_rows.specs.Contents.{link_names}
 use Rattle.rp_rows.specs.Alterations.{Grants}
 use Rattle.rp_plain.specs.declared.messages.Request.{Request}
 use Rattle.rp_plain.specs.declared.messages.Request.TheVariants.{CreateModel, DeleteModel, Put, Add, Set, DropInstance, GrantModel, RevokeModel}
@@ -28,11 +30,11 @@ use Rattle.rp_laws.proofs.Own.{MayEdit, MayAll, own_edits}
 itself : (c : Text) → bytes_eq c c ≡ true
 itself c = (bytes_eq-Decides c c).1 refl
 
-filled_may : (r : Plain) (c : Text) (k : Key) (read : Reading) (o : Option Model) → model_at r c k ≡ o → MayAll r c (filled k (held o) read)
-filled_may r c k (Ok content) None e = tt
-filled_may r c k (Err refusal) None e = tt
-filled_may r c k (Ok content) (Some m) e = (inr (tt, ap is_some e), tt)
-filled_may r c k (Err refusal) (Some m) e = tt
+filled_may : (r : Plain) (c : Text) (k : Key) (links : List Link) (read : Reading) (o : Option Model) → model_at r c k ≡ o → MayAll r c (filled k (held o) links read)
+filled_may r c k links (Ok content) None e = tt
+filled_may r c k links (Err refusal) None e = tt
+filled_may r c k links (Ok content) (Some m) e = (inr (tt, ap is_some e), tt)
+filled_may r c k links (Err refusal) (Some m) e = tt
 
 placing_may : (r : Plain) (c : Text) (k : Key) (new : Saying) (o : Option Model) → model_at r c k ≡ o → MayAll r c (placing k (held o) new)
 placing_may r c k (Ok i) None e = tt
@@ -51,7 +53,7 @@ unless_own_may r c to e may = elim (bytes_eq to c) as (λ t. MayAll r c (if t th
 edits_may : (r : Plain) (c : Text) (q : Request) → MayAll r c (meaning (asked r c) c q).edits
 edits_may r c (CreateModel name schema) = (inl (itself c), tt)
 edits_may r c (DeleteModel name) = (inl (itself c), tt)
-edits_may r c (Put k file) = filled_may r c k (read_content r.schemas (held (model_at r c k)) (file_of file)) (model_at r c k) refl
+edits_may r c (Put k file links) = filled_may r c k links (read_content r.schemas (held (model_at r c k)) (link_names links) (file_of file)) (model_at r c k) refl
 edits_may r c (Add k text) = let h = held (model_at r c k) in placing_may r c k (said r.schemas h (next_in h) text) (model_at r c k) refl
 edits_may r c (Set k name text) = placing_may r c k (said r.schemas (held (model_at r c k)) name text) (model_at r c k) refl
 edits_may r c (DropInstance k name) = dropping_may r c k name (model_at r c k) refl

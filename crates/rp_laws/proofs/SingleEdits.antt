@@ -1,5 +1,5 @@
 -- What a model holds stays valid where one of its instances is put, replaced or dropped.
-use Rattle.std.proofs.Common.{◌≡◌, ◌≤◌, ◌<◌, ℕ, suc, Bool, true, false, not, ◌&&◌, ◌||◌, ◌==◌, List, [], ◌∷◌, ◌++◌, length, Option, Some, None, refl, sym, ◌∙◌, ap, subst, arith}
+use Rattle.std.proofs.Common.{◌≡◌, ◌≤◌, ◌<◌, ℕ, suc, Bool, true, false, not, ◌&&◌, ◌||◌, ◌==◌, List, [], ◌∷◌, ◌++◌, length, Option, Some, None, refl, sym, ◌∙◌, ap, subst, arith, le_trans}
 use Rattle.std.specs.Prelude.{filter, max, option_to_list, if◌then◌else◌}
 use Rattle.std.specs.List.{list_all, list_any, AllByRecursion}
 use Rattle.std.specs.Ordering.{nat_cmp}
@@ -11,16 +11,20 @@ use Rattle.ex_types.specs.Checked.{Checked}
 use Rattle.p21_instances.specs.Instances.{is_among}
 use Rattle.rp_content.specs.declared.content.Content.{Content}
 use Rattle.rp_content.specs.declared.instance.Instance.{Instance}
+use Rattle.rp_content.specs.declared.link.Link.{Link}
 use Rattle.sorted_tables.specs.Table.{is_at, is_before, is_after, with_row}
 use Rattle.sorted_tables.proofs.Altered.{any-with_row}
 use Rattle.sorted_tables.proofs.Ascending.{all-append, with_row_ascends, with_none_ascends}
+use Rattle.sorted_tables.proofs.Tables.{list_any-append as none-append, list_any-filter}
 use Rattle.rp_rows.specs.declared.rows.ModelContent.{ModelContent}
-use Rattle.rp_rows.specs.Contents.{instance_name, names, greatest_name, link_names, references_of}
+use Rattle.rp_rows.specs.Rows.{Text, Key}
+use Rattle.rp_rows.specs.Contents.{instance_name, names, greatest_name, link_name, link_names, greatest_of, references_of}
 use Rattle.rp_rows.specs.Instances.{max_instances, max_name, is_instance, instance_of, placed, dropped, refers_to, is_user, is_used, with_instance, without_instance}
-use Rattle.rp_plain.specs.Valid.{IsSpelled, IsSound, IsValidContent}
+use Rattle.rp_plain.specs.Valid.{IsSpelled, IsSound, IsValidLink, IsValidContent}
 use Rattle.rp_rows.proofs.Keys.{found_at}
 use Rattle.rp_laws.proofs.ValidTables.{all_each, all_found, all-with_row}
 use Rattle.rp_laws.proofs.Counts.{count-with_row, count-without, count-replaced}
+use Rattle.rp_laws.proofs.ByName.{AreWithin, within, all_within}
 
 -- ---- names
 
@@ -52,6 +56,15 @@ name_stays i n xs stood = by (i.name == n) refl
     by : (t : Bool) → (i.name == n) ≡ t → is_among (names (placed i xs)) n ≡ true
     by true same = is_there n i (filter (is_before nat_cmp instance_name i.name) xs) (filter (is_after nat_cmp instance_name i.name) xs) same
     by false other = other_name_stays i.name n other (Some i) xs (ap (λ t. t || false) other) ∙ stood
+
+-- a name that didn't stand doesn't where an instance is dropped
+stays_free : (k n : ℕ) (xs : List Instance) → is_among (names xs) n ≡ false → is_among (names (dropped k xs)) n ≡ false
+stays_free k n xs free =
+    let before = filter (is_before nat_cmp instance_name k) xs in
+    let after = filter (is_after nat_cmp instance_name k) xs in
+    let none : list_any (is_named n) xs ≡ false = sym (any_named n xs) ∙ free in
+    any_named n (dropped k xs)
+    ∙ none-append (is_named n) (before ++ []) after (none-append (is_named n) before [] (list_any-filter (is_named n) (is_before nat_cmp instance_name k) xs none) refl) (list_any-filter (is_named n) (is_after nat_cmp instance_name k) xs none)
 
 -- a name among several that stands among others
 module _ (links : List ℕ) (xs ys : List Instance) (n : ℕ) (stays : is_among (names xs) n ≡ true → is_among (names ys) n ≡ true) where
@@ -169,49 +182,55 @@ few_dropped most k xs few =
 
 -- ---- the greatest name
 
-abbrev AreBelow : ℕ → List Instance → Type 0
-AreBelow most xs = AllByRecursion (λ (i : Instance). i.name ≤ most) xs
-
-within : (most n : ℕ) (xs : List Instance) → n ≤ most → AreBelow most xs → greatest_name n xs ≤ most
-within most n [] low all = low
-within most n (x ∷ xs) low all = let here : x.name ≤ most = all.0 in within most (max n x.name) xs (omega arith) all.1
-
-all_within : (most n : ℕ) (xs : List Instance) → greatest_name n xs ≤ most → (n ≤ most) × AreBelow most xs
-all_within most n [] low = (low, tt)
-all_within most n (x ∷ xs) low =
-    let rest = all_within most (max n x.name) xs low in
-    let both : max n x.name ≤ most = rest.0 in
-    (omega arith, (omega arith, rest.1))
-
-above : (less most : ℕ) → less ≤ most → (i : Instance) → i.name ≤ less → i.name ≤ most
-above less most order i low = omega arith
-
 greatest_placed : (greatest : ℕ) (i : Instance) (xs : List Instance) → greatest_name 0 xs ≤ greatest → greatest_name 0 (placed i xs) ≤ max greatest i.name
 greatest_placed greatest i xs low =
     let most = max greatest i.name in
+    let more : greatest ≤ most = omega arith in
     let Below : Instance → Type 0 = λ (j : Instance). j.name ≤ most in
-    within most 0 (placed i xs) (omega arith)
-    (all-with_row nat_cmp instance_name nat_cmp_total Below i.name (Some i) xs (is_same i Below (omega arith)) (all_each (λ (j : Instance). j.name ≤ greatest) Below (above greatest most (omega arith)) xs (all_within greatest 0 xs low).1))
+    within instance_name most 0 (placed i xs) (omega arith)
+    (all-with_row nat_cmp instance_name nat_cmp_total Below i.name (Some i) xs (is_same i Below (omega arith)) (all_each (λ (j : Instance). j.name ≤ greatest) Below (λ j less. le_trans less more) xs (all_within instance_name greatest 0 xs low).1))
 
 greatest_dropped : (greatest k : ℕ) (xs : List Instance) → greatest_name 0 xs ≤ greatest → greatest_name 0 (dropped k xs) ≤ greatest
 greatest_dropped greatest k xs low =
     let Below : Instance → Type 0 = λ (j : Instance). j.name ≤ greatest in
-    within greatest 0 (dropped k xs) (omega arith) (all-with_row nat_cmp instance_name nat_cmp_total Below k None xs (λ x e. cc) (all_within greatest 0 xs low).1)
+    within instance_name greatest 0 (dropped k xs) (omega arith) (all-with_row nat_cmp instance_name nat_cmp_total Below k None xs (λ x e. cc) (all_within instance_name greatest 0 xs low).1)
 
 -- the name of an instance is no greater
 pub name_within : (greatest n : ℕ) (xs : List Instance) → greatest_name 0 xs ≤ greatest → (x : Instance) → instance_of n xs ≡ Some x → n ≤ greatest
 name_within greatest n xs low x found =
-    let here : x.name ≤ greatest = all_found (λ (j : Instance). j.name ≤ greatest) (is_instance n) xs x found (all_within greatest 0 xs low).1 in
+    let here : x.name ≤ greatest = all_found (λ (j : Instance). j.name ≤ greatest) (is_instance n) xs x found (all_within instance_name greatest 0 xs low).1 in
     let at : is_instance n x ≡ true = found_at (is_instance n) xs x found in
     grind (arith, nat_tests)
 
+-- those of instances and of links are no greater than the greatest
+pub in_use_parts : (h : ModelContent) → greatest_of 0 h.content ≤ h.greatest → (greatest_name 0 h.content.instances ≤ h.greatest) × AreWithin link_name h.greatest h.content.links
+in_use_parts h low = all_within link_name h.greatest (greatest_name 0 h.content.instances) h.content.links low
+
+-- ---- links
+
+-- an instance of another name is put beside the links
+placed_links : (partners : List Text) (k : Key) (x : Content) (i : Instance) (ls : List Link) → AllByRecursion (λ (l : Link). (i.name == l.name) ≡ false) ls → AllByRecursion (IsValidLink partners k x) ls
+    → AllByRecursion (IsValidLink partners k (with_placed i x)) ls
+placed_links partners k x i [] apart all = tt
+placed_links partners k x i (l ∷ ls) apart all =
+    let old = all.0 in
+    let free = other_name_stays i.name l.name apart.0 (Some i) x.instances (ap (λ t. t || false) apart.0) ∙ old.free in
+    (record { free = free; target = old.target; owner = old.owner; model = old.model; other = old.other }, placed_links partners k x i ls apart.1 all.1)
+
+left_link : (partners : List Text) (k : Key) (x : Content) (n : ℕ) (l : Link) → IsValidLink partners k x l → IsValidLink partners k (without n x) l
+left_link partners k x n l old = record { free = stays_free n l.name x.instances old.free; target = old.target; owner = old.owner; model = old.model; other = old.other }
+
 -- ---- contents
 
--- An instance of the model's schema, whose references are defined in the model, may be put into it: under the name of another, or where there is room.
-pub placed_valid : (schemas : List Checked) (h : ModelContent) (i : Instance) (valid : IsValidContent schemas h) → IsSpelled valid.schema i → IsSound h.content i → i.name ≤ max_name
-    → (instance_of i.name h.content.instances ≡ None → length h.content.instances < max_instances) → IsValidContent schemas (with_instance i h)
-placed_valid schemas h i valid spelled sound named room =
+-- An instance of the model's schema, whose references are defined in the model, may be put into it under a name of no link: that of another, or where there is room.
+pub placed_valid : (schemas : List Checked) (partners : List Text) (k : Key) (h : ModelContent) (i : Instance) (valid : IsValidContent schemas partners k h) → IsSpelled valid.schema i → IsSound h.content i → i.name ≤ max_name
+    → AllByRecursion (λ (l : Link). (i.name == l.name) ≡ false) h.content.links → (instance_of i.name h.content.instances ≡ None → length h.content.instances < max_instances) → IsValidContent schemas partners k (with_instance i h)
+placed_valid schemas partners k h i valid spelled sound named apart room =
     let xs = h.content.instances in
+    let ls = h.content.links in
+    let low = in_use_parts h valid.in_use in
+    let most = max h.greatest i.name in
+    let more : h.greatest ≤ most = omega arith in
     let of_schema : Instance → Type 0 = IsSpelled valid.schema in
     let greatest = valid.greatest in
     record {
@@ -222,25 +241,31 @@ placed_valid schemas h i valid spelled sound named room =
       spelled = all-with_row nat_cmp instance_name nat_cmp_total of_schema i.name (Some i) xs (is_same i of_schema spelled) valid.spelled;
       sound = all_placed_sound i h.content sound valid.sound;
       few = few_placed max_instances i xs valid.few room;
-      in_use = greatest_placed h.greatest i xs valid.in_use;
+      in_use = within link_name most (greatest_name 0 (placed i xs)) ls (greatest_placed h.greatest i xs low.0) (all_each (λ (l : Link). l.name ≤ h.greatest) (λ (l : Link). l.name ≤ most) (λ l less. le_trans less more) ls low.1);
       greatest = omega (arith, greatest, named);
       links = valid.links;
+      linked = placed_links partners k h.content i ls apart valid.linked;
+      few_links = valid.few_links;
     }
 
 -- An instance that no other one refers to may be dropped.
-pub dropped_valid : (schemas : List Checked) (h : ModelContent) (k : ℕ) → is_used k h.content.instances ≡ false → IsValidContent schemas h → IsValidContent schemas (without_instance k h)
-dropped_valid schemas h k unused valid =
+pub dropped_valid : (schemas : List Checked) (partners : List Text) (k : Key) (h : ModelContent) (n : ℕ) → is_used n h.content.instances ≡ false → IsValidContent schemas partners k h → IsValidContent schemas partners k (without_instance n h)
+dropped_valid schemas partners k h n unused valid =
     let xs = h.content.instances in
+    let ls = h.content.links in
+    let low = in_use_parts h valid.in_use in
     let of_schema : Instance → Type 0 = IsSpelled valid.schema in
     record {
       schema = valid.schema;
       loaded = valid.loaded;
       header = valid.header;
-      instances = with_none_ascends nat_cmp instance_name nat_cmp_total k xs valid.instances;
-      spelled = all-with_row nat_cmp instance_name nat_cmp_total of_schema k None xs (λ x e. cc) valid.spelled;
-      sound = all_dropped_sound k h.content unused valid.sound;
-      few = few_dropped max_instances k xs valid.few;
-      in_use = greatest_dropped h.greatest k xs valid.in_use;
+      instances = with_none_ascends nat_cmp instance_name nat_cmp_total n xs valid.instances;
+      spelled = all-with_row nat_cmp instance_name nat_cmp_total of_schema n None xs (λ x e. cc) valid.spelled;
+      sound = all_dropped_sound n h.content unused valid.sound;
+      few = few_dropped max_instances n xs valid.few;
+      in_use = within link_name h.greatest (greatest_name 0 (dropped n xs)) ls (greatest_dropped h.greatest n xs low.0) low.1;
       greatest = valid.greatest;
       links = valid.links;
+      linked = all_each (IsValidLink partners k h.content) (IsValidLink partners k (without n h.content)) (left_link partners k h.content n) ls valid.linked;
+      few_links = valid.few_links;
     }

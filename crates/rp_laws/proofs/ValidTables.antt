@@ -51,11 +51,11 @@ module _ {K X : Type 0} (cmp : K → K → Ordering) (key : X → K) (total : Is
 
 -- ---- tables whose rows hold what is valid
 
--- V is what holds of what a row holds, L of each of its grants, and no one owns more than most of them
-module _ {A : Type 0} (partners : List Text) (V : A → Type 0) (L : Grant → Type 0) (most : ℕ) where
+-- V is what holds of what a row of a key holds, L of each of its grants, and no one owns more than most of them
+module _ {A : Type 0} (partners : List Text) (V : Key → A → Type 0) (L : Grant → Type 0) (most : ℕ) where
   pub record IsGood (x : Row A) : Type 0 where
     pub row : IsValidRow partners x
-    pub holds : V x.holds
+    pub holds : V (row_key x) x.holds
     pub grants : AllByRecursion L x.grants
 
   pub record IsGoodTable (xs : List (Row A)) : Type 0 where
@@ -67,7 +67,7 @@ module _ {A : Type 0} (partners : List Text) (V : A → Type 0) (L : Grant → T
   pub record MayHold (xs : List (Row A)) (k : Key) (h : A) : Type 0 where
     pub owner : has_text partners k.0 ≡ true
     pub name : is_name k.1 ≡ true
-    pub valid : V h
+    pub valid : V k h
     pub room : find (is_row k) xs ≡ None → length (filter (owns k.0) xs) < most
 
   pub record MayGrant (k : Key) (g : Grant) : Type 0 where

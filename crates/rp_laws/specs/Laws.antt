@@ -1,14 +1,19 @@
 -- What holds of the plain repository for each partner.
-use Rattle.std.specs.Prelude.{◌≡◌, ℕ, Bool, true, false, not, ◌&&◌, List, None, filter}
-use Rattle.std.specs.List.{list_any}
+use Rattle.std.specs.Prelude.{◌≡◌, ℕ, Bool, true, false, not, ◌&&◌, List, [], Some, None, filter}
+use Rattle.std.specs.List.{AllByRecursion, list_any}
 use Rattle.ex_types.specs.Checked.{Checked}
+use Rattle.p21_laws.specs.Contents.{IsRead}
+use Rattle.p21_laws.specs.Schemas.{IsAccepted}
+use Rattle.p21_write.specs.Trees.{canonical}
+use Rattle.rp_content.specs.declared.content.Content.{Content}
+use Rattle.rp_rows.specs.Contents.{link_names}
 use Rattle.rp_rows.specs.Rows.{Key, is_row, Model, GroupRow}
 use Rattle.rp_plain.specs.declared.messages.Request.{Request}
 use Rattle.rp_plain.specs.declared.messages.Reply.{Reply}
 use Rattle.rp_plain.specs.Plain.{Plain, Kind, OfModel, OfGroup, part, reaches}
 use Rattle.rp_plain.specs.Edits.{names_of, Avoids}
 use Rattle.rp_plain.specs.Asked.{asked}
-use Rattle.rp_plain.specs.Meaning.{has_text}
+use Rattle.rp_plain.specs.Meaning.{has_text, schema_named}
 use Rattle.rp_plain.specs.Step.{answer, reply_to, next}
 use Rattle.rp_plain.specs.Opening.{new_fault, opened}
 use Rattle.rp_plain.specs.Turns.{Turn, Run, OthersOutside, requests_of, replies_to, alone, alone_end}
@@ -69,3 +74,15 @@ abbrev pub TwoRuns : Type 0
 TwoRuns = (r s end last : Plain) (c : List ℕ) (turns others : List Turn) (replies answers : List Reply) → IsOrdered r → IsOrdered s
     → Run r turns replies end → Run s others answers last → OthersOutside r c turns replies → OthersOutside s c others answers
     → part r c ≡ part s c → requests_of c turns ≡ requests_of c others → replies_to c turns replies ≡ replies_to c others answers
+
+-- a content is read of its canonical text, but for its links, where their names are linked
+abbrev pub IsReadAgain : Checked → Content → Type 0
+IsReadAgain schema c = IsRead schema (link_names c.links) (canonical schema c) (record c { links = [] })
+
+-- by the schema that a model is of
+abbrev pub IsModelReadAgain : List Checked → Model → Type 0
+IsModelReadAgain schemas m = (schema : Checked) → schema_named schemas m.holds.schema ≡ Some schema → IsAccepted schema.named → IsReadAgain schema m.holds.content
+
+-- so it is with each model of a valid repository
+abbrev pub TextAgain : Type 0
+TextAgain = (r : Plain) → IsValid r → AllByRecursion (IsModelReadAgain r.schemas) r.models

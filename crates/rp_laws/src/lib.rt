@@ -3,7 +3,7 @@
 //! Each function has a law as its contract, over the definitions that the repository's own calls cite.
 #![tactic(auto)]
 
-ghost use Rattle.rp_laws.specs.Laws.{KeepsOrder, KeepsValid, OpensValid, ChangesOnlyNamed, OwnTurnReply, OwnTurnPart, OutsideTurnPart, OutsideTurnReach, OneRunReplies, OneRunPart, TwoRuns};
+ghost use Rattle.rp_laws.specs.Laws.{KeepsOrder, KeepsValid, OpensValid, ChangesOnlyNamed, OwnTurnReply, OwnTurnPart, OutsideTurnPart, OutsideTurnReach, OneRunReplies, OneRunPart, TwoRuns, TextAgain};
 
 /// A step keeps models and groups in order.
 pub fn step_keeps_order()
@@ -42,4 +42,10 @@ pub fn one_run()
 /// Two runs that begin with the same for a partner give him equal replies to equal requests.
 pub fn two_runs()
     ensures { TwoRuns }
+{}
+
+/// In a valid repository, what a model holds is read of its canonical text, where the names of its links are
+/// linked, as the same header and instances, by each schema that was accepted.
+pub fn model_text_again()
+    ensures { TextAgain }
 {}

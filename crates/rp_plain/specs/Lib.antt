@@ -4,6 +4,7 @@ pub mod Asked
 pub mod Meaning
 pub mod Models
 pub mod Grants
+pub mod Links
 pub mod Files
 pub mod Lists
 pub mod Instances

@@ -21,8 +21,8 @@ use Rattle.rp_plain.specs.Checks.{check_schema}
 abbrev pub meaning : Asked → Text → Request → Meaning
 meaning a c (CreateModel name schema) = create_model a c name schema
 meaning a c (DeleteModel name) = delete_model a c name
-meaning a c (Put model file) = put a model file
-meaning a c (Export model) = export a model
+meaning a c (Put model file links) = put a model file links
+meaning a c (Export model links) = export a model links
 meaning a c (Names model) = names a model
 meaning a c (Get model instance) = get a model instance
 meaning a c (Add model text) = add a model text

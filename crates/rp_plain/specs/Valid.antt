@@ -4,6 +4,7 @@ use Rattle.std.specs.List.{list_all, AllByRecursion}
 use Rattle.std.specs.Str.{bytes_eq}
 use Rattle.std.specs.Ordering.{nat_cmp}
 use Rattle.ex_types.specs.Checked.{Checked}
+use Rattle.p21_instances.specs.Instances.{is_among}
 use Rattle.p21_tree.specs.declared.raw.Raw.{Raw}
 use Rattle.p21_read.specs.File.{file_of}
 use Rattle.p21_tree.specs.declared.instance.Mapping.{Mapping}
@@ -13,20 +14,22 @@ use Rattle.p21_bind.specs.Single.{bound_instance}
 use Rattle.rp_content.specs.declared.content.Content.{Content}
 use Rattle.rp_content.specs.declared.header.Header.{Header}
 use Rattle.rp_content.specs.declared.instance.Instance.{Instance}
+use Rattle.rp_content.specs.declared.link.Link.{Link}
 use Rattle.rp_content.specs.Headers.{default_header}
 use Rattle.sorted_tables.specs.Table.{IsAscending}
 use Rattle.rp_rows.specs.declared.rows.Level.TheVariants.{Read}
 use Rattle.rp_rows.specs.declared.rows.Grant.{Grant}
 use Rattle.rp_rows.specs.declared.rows.ModelContent.{ModelContent}
 use Rattle.rp_rows.specs.Names.{is_name}
-use Rattle.rp_rows.specs.Rows.{text_cmp, Key, key_cmp, grant_key, Row, row_key, Model, GroupRow}
-use Rattle.rp_rows.specs.Contents.{instance_name, greatest_name, references_of}
+use Rattle.rp_rows.specs.Rows.{text_cmp, Key, key_cmp, same_key, grant_key, Row, row_key, Model, GroupRow}
+use Rattle.rp_rows.specs.Contents.{instance_name, names, link_name, greatest_of, references_of}
 use Rattle.rp_rows.specs.Instances.{max_instances, max_name}
 use Rattle.rp_rows.specs.Sight.{owns}
 use Rattle.rp_plain.specs.Plain.{Plain}
 use Rattle.rp_plain.specs.Opening.{new_fault}
 use Rattle.rp_plain.specs.Meaning.{has_text, has_schema, schema_named}
 use Rattle.rp_plain.specs.Models.{max_models}
+use Rattle.rp_plain.specs.Links.{max_links, target_model}
 use Rattle.rp_plain.specs.Instances.{is_defined}
 
 -- ---- rows
@@ -52,13 +55,14 @@ pub record IsHeaderOfFile (h : Header) : Type 0 where
   pub reads : file_of file ≡ Ok raw
   pub is : h ≡ header raw.header
 
--- a file of the schema has this instance
+-- a file of the schema has this instance, where some names were linked
 pub record IsInstanceOfFile (schema : Checked) (i : Instance) : Type 0 where
   pub file : List ℕ
   pub raw : Raw
   pub reads : file_of file ≡ Ok raw
+  pub linked : List ℕ
   pub content : Content
-  pub says : bound_file schema raw ≡ Ok content
+  pub says : bound_file schema linked raw ≡ Ok content
   pub before : List Instance
   pub behind : List Instance
   pub stands : content.instances ≡ before ++ i ∷ behind
@@ -79,7 +83,15 @@ IsSpelled schema i = IsInstanceOfFile schema i ⊎ IsInstanceOfText schema i
 abbrev pub IsSound : Content → Instance → Type 0
 IsSound x i = list_all (is_defined x) (references_of i) ≡ true
 
-pub record IsValidContent (schemas : List Checked) (h : ModelContent) : Type 0 where
+-- a link has a name of no instance, and leads to another model of a partner's; whether there is such a model now isn't asked
+pub record IsValidLink (partners : List (List ℕ)) (k : List ℕ × List ℕ) (x : Content) (l : Link) : Type 0 where
+  pub free : is_among (names x.instances) l.name ≡ false
+  pub target : l.target ≤ max_name
+  pub owner : has_text partners l.owner ≡ true
+  pub model : is_name l.model ≡ true
+  pub other : same_key k (target_model l) ≡ false
+
+pub record IsValidContent (schemas : List Checked) (partners : List (List ℕ)) (k : List ℕ × List ℕ) (h : ModelContent) : Type 0 where
   -- one that is loaded
   pub schema : Checked
   pub loaded : schema_named schemas h.schema ≡ Some schema
@@ -90,14 +102,16 @@ pub record IsValidContent (schemas : List Checked) (h : ModelContent) : Type 0 w
   pub sound : AllByRecursion (IsSound h.content) h.content.instances
   pub few : length h.content.instances ≤ max_instances
   -- the greatest name is no less than those in use
-  pub in_use : greatest_name 0 h.content.instances ≤ h.greatest
+  pub in_use : greatest_of 0 h.content ≤ h.greatest
   pub greatest : h.greatest ≤ max_name
-  -- a file brings no links
-  pub links : h.content.links ≡ []
+  -- each link's name once, in order
+  pub links : IsAscending nat_cmp link_name h.content.links
+  pub linked : AllByRecursion (IsValidLink partners k h.content) h.content.links
+  pub few_links : length h.content.links ≤ max_links
 
 pub record IsValidModel (schemas : List Checked) (partners : List (List ℕ)) (m : Model) : Type 0 where
   pub row : IsValidRow partners m
-  pub content : IsValidContent schemas m.holds
+  pub content : IsValidContent schemas partners (row_key m) m.holds
 
 -- ---- what groups hold
 

@@ -4,6 +4,7 @@ use crate::lists::{Item, NamedType};
 use ex_check::SchemaFault;
 use p21_tree::{FileFault, InstanceFault};
 use plain_data::{Rows, Text};
+use rp_content::Link;
 use rp_rows::rows::{Key, Level};
 use std::alloc::{AllocError, AllocFailed};
 
@@ -20,14 +21,17 @@ pub enum Request {
     DeleteModel {
         name: Text,
     },
-    /// The content of a model is replaced by that of a file.
+    /// The content of a model is replaced by that of a file, and of these links, in any order.
     Put {
         model: Key,
         file: Text,
+        links: Rows<Link>,
     },
     /// The canonical text of what a model holds.
     Export {
         model: Key,
+        /// With its links.
+        links: bool,
     },
     /// The names of a model's instances, with their types.
     Names {
@@ -77,6 +81,28 @@ pub enum Request {
     },
 }
 
+/// What is wrong with a link.
+#[derive(Clone, Copy, PartialEq, Eq)]
+pub enum LinkFaultKind {
+    /// Its name is that of an instance of the file, or of another link.
+    Defined,
+    /// It leads into the model that it is for.
+    Own,
+    /// It leads into no model that the caller sees.
+    NotSeen,
+    /// The model that it leads into is of another schema.
+    OtherSchema,
+    /// The model that it leads into lacks the instance.
+    NoInstance,
+}
+
+/// The first link in the order of names that can't stand, and why.
+#[derive(Clone, Copy, PartialEq, Eq)]
+pub struct LinkFault {
+    pub link: u64,
+    pub kind: LinkFaultKind,
+}
+
 /// Why a request is refused.
 #[derive(Clone, Copy, PartialEq, Eq)]
 pub enum Refusal {
@@ -91,10 +117,13 @@ pub enum Refusal {
     WrongSchema,
     FileFault(FileFault),
     InstanceFault(InstanceFault),
+    LinkFault(LinkFault),
     NoSuchInstance,
     /// Another instance of the model refers to the instance.
     InUse,
     TooMany,
+    /// The model has links, and they weren't asked for.
+    HasLinks,
     NoMemory,
 }
 
@@ -121,7 +150,6 @@ impl<T: Drop> From<AllocFailed<T>> for Refusal {
 }
 
 /// What a partner is answered.
-#[derive(Drop)]
 pub enum Reply {
     /// The request is done, and there is nothing to tell.
     Done,
@@ -129,6 +157,11 @@ pub enum Reply {
     Stored(usize),
     /// An exchange file.
     File(Text),
+    /// An exchange file, and the links beside it, in the order of their names.
+    Linked {
+        file: Text,
+        links: Rows<Link>,
+    },
     Names(Rows<NamedType>),
     /// The line of an instance, without its line feed.
     Line(Text),
@@ -149,6 +182,35 @@ pub enum Reply {
     /// The text is no schema: this is its first fault.
     Faulty(SchemaFault),
     Refused(Refusal),
+}
+
+// (By hand, so that a reply is opened here alone and not wherever one is dropped.)
+impl Drop for Reply {
+    fn drop(self) {
+        match self {
+            Reply::Done
+            | Reply::Stored(_)
+            | Reply::Added(_)
+            | Reply::Faulty(_)
+            | Reply::Refused(_) => {}
+            Reply::File(text) => drop(text),
+            Reply::Line(text) => drop(text),
+            Reply::Linked { file, links } => {
+                drop(file);
+                drop(links);
+            }
+            Reply::Names(names) => drop(names),
+            Reply::Listed { groups, models } => {
+                drop(groups);
+                drop(models);
+            }
+            Reply::Schemas(names) => drop(names),
+            Reply::Checked { schema, warnings } => {
+                drop(schema);
+                drop(warnings);
+            }
+        }
+    }
 }
 
 /// Why there is no repository of these schemas and partners.

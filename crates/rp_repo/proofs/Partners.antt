@@ -57,8 +57,8 @@ ready keeps old new place q pending within valid same prepared fits = record {
 
 all_named : (r : Plain) (ms : List Model) → AllByRecursion (IsValidModel r.schemas r.partners) ms → AllByRecursion HoldsNamed ms
 all_named r [] all = tt
-all_named r (m ∷ ms) all = (record { order = all.0.content.instances; few = all.0.content.few; greatest = all.0.content.greatest }, all_named r ms all.1)
+all_named r (m ∷ ms) all = (record { order = all.0.content.instances; few = all.0.content.few; greatest = all.0.content.greatest; links = all.0.content.links }, all_named r ms all.1)
 
--- in a valid repository the instances of each model can be found by their names
+-- in a valid repository the instances and links of each model can be found by their names
 pub valid_named : (r : Plain) → IsValid r → AreNamed r
 valid_named r valid = all_named r r.models valid.models

@@ -1,6 +1,7 @@
--- The instances that a model holds: their names, and what they refer to.
+-- The instances and the links that a model holds: their names, and what they refer to.
 use Rattle.std.specs.Prelude.{ℕ, max, List, [], ◌∷◌, map, fold}
 use Rattle.std.specs.List.{flat_map}
+use Rattle.rp_content.specs.declared.content.Content.{Content}
 use Rattle.rp_content.specs.declared.instance.Instance.{Instance}
 use Rattle.rp_content.specs.declared.link.Link.{Link}
 use Rattle.rp_value.specs.declared.value.Value.{Value}
@@ -17,8 +18,15 @@ names = map instance_name
 abbrev pub greatest_name : ℕ → List Instance → ℕ
 greatest_name start instances = fold max start (names instances)
 
+abbrev pub link_name : Link → ℕ
+link_name l = l.name
+
 abbrev pub link_names : List Link → List ℕ
-link_names = map (λ l. l.name)
+link_names = map link_name
+
+-- the greatest of a number and the names that a content defines
+abbrev pub greatest_of : ℕ → Content → ℕ
+greatest_of start content = fold max (greatest_name start content.instances) (link_names content.links)
 
 -- the names that one level of a value refers to, given those of the values in it
 abbrev pub referred : Value-F (List ℕ) → List ℕ

@@ -1,20 +1,16 @@
 -- Edits of what a model holds.
-use Rattle.std.specs.Prelude.{ℕ, max, List, [], fold}
+use Rattle.std.specs.Prelude.{ℕ, List, []}
 use Rattle.rp_value.specs.declared.value.Value.{Value}
 use Rattle.rp_content.specs.declared.content.Content.{Content}
 use Rattle.rp_content.specs.declared.instance.Types.{Types}
 use Rattle.rp_content.specs.Headers.{default_header}
 use Rattle.rp_rows.specs.declared.rows.ModelContent.{ModelContent}
-use Rattle.rp_rows.specs.Contents.{greatest_name, link_names}
+use Rattle.rp_rows.specs.Contents.{greatest_of}
 use Rattle.rp_rows.specs.Instances.{next_name, with_instance}
 
 -- nothing, by this schema
 abbrev pub new_model : List ℕ → ModelContent
 new_model schema = record { schema = schema; greatest = 0; content = record { header = default_header; instances = []; links = [] } }
-
--- the greatest of a number and the names that a content defines
-abbrev pub greatest_of : ℕ → Content → ℕ
-greatest_of start content = fold max (greatest_name start content.instances) (link_names content.links)
 
 -- this content in place of the former
 abbrev pub refilled : Content → ModelContent → ModelContent

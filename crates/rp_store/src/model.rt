@@ -54,7 +54,7 @@ impl KeptContent {
     ghost use Rattle.rp_content.specs.Headers.{default_header};
     ghost use Rattle.rp_rows.specs.Instances.{IsInOrder};
     ghost use Rattle.rp_store.specs.Stocks.{content_of};
-    ghost use Rattle.rp_store.specs.Contents as spec;
+    ghost use Rattle.rp_rows.specs.Contents as contents;
 
     /// That of a model that nothing was put into.
     pub(crate) fn new(alloc: Global) -> Result<KeptContent, AllocError>
@@ -86,7 +86,7 @@ impl KeptContent {
 
     /// The greatest of a number and the names that are defined in it.
     pub(crate) fn greatest_of(&self, start: u64) -> u64
-        ensures { result ≡ spec.greatest_of start (content_of self.now) }
+        ensures { result ≡ contents.greatest_of start (content_of self.now) }
     {
         greatest_link(
             greatest_name(start, self.instances.as_slice()),

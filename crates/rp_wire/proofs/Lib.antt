@@ -1,3 +1,4 @@
+mod LinkLemmas
 mod ListLemmas
 mod MemberLemmas
 mod ShallowMembers

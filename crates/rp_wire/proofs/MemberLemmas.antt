@@ -12,7 +12,7 @@ use Rattle.serde_json.specs.Find.{get_member, as_str}
 use Rattle.serde_json.specs.View.{view, members_view}
 use Rattle.serde_json.specs.declared.value.Value.{Value}
 use Rattle.serde_json.proofs.Views.{Entry, view-lookup}
-use Rattle.rp_wire.specs.Asks.{has_only, without, text_in, text_if_any, number_of, number_in}
+use Rattle.rp_wire.specs.Asks.{has_only, without, text_in, text_if_any, flag_if_any, number_of, number_in}
 
 list_any-map : {X Y : Type 0} (p : X → Bool) (h : Y → X) (ys : List Y) → list_any p (map h ys) ≡ list_any (λ y. p (h y)) ys
 list_any-map p h [] = refl
@@ -65,6 +65,9 @@ unequal key other apart h = true≢false (sym ((bytes_eq-Decides key other).1 (s
 pub text_in-without : (key other : List ℕ) (ms : Members) → bytes_eq key other ≡ false → text_in other (without key ms) ≡ text_in other ms
 text_in-without key other ms apart = ap (option_and_then as_str) (get_member-without key other ms (unequal key other apart))
 
+pub number_in-without : (key other : List ℕ) (ms : Members) → bytes_eq key other ≡ false → number_in other (without key ms) ≡ number_in other ms
+number_in-without key other ms apart = ap (option_and_then number_of) (get_member-without key other ms (unequal key other apart))
+
 pub text_in-lookup : (name : List ℕ) (es : List Entry) (found : Option Value) (text : Option (List ℕ)) → found ≡ lookup (is_named name) es
     → MatchOption found (text ≡ None) (λ v. text ≡ as_str (view v)) → text ≡ text_in name (members_view es)
 text_in-lookup name es None text is told = told ∙ ap (option_and_then as_str) (ap (option_map view) is ∙ view-lookup name es)
@@ -77,3 +80,6 @@ number_in-lookup name es (Some v) number is told = told ∙ ap (option_and_then 
 
 pub text_if_any-lookup : (name : List ℕ) (es : List Entry) (found : Option Value) → found ≡ lookup (is_named name) es → text_if_any (option_map view found) ≡ text_if_any (get_member name (members_view es))
 text_if_any-lookup name es found is = ap text_if_any (ap (option_map view) is ∙ view-lookup name es)
+
+pub flag_if_any-lookup : (name : List ℕ) (es : List Entry) (found : Option Value) → found ≡ lookup (is_named name) es → flag_if_any (option_map view found) ≡ flag_if_any (get_member name (members_view es))
+flag_if_any-lookup name es found is = ap flag_if_any (ap (option_map view) is ∙ view-lookup name es)

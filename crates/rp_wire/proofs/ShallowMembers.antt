@@ -1,4 +1,4 @@
--- A request has no lists and no objects: what they hold plays no part.
+-- What lists and objects hold plays no part in a request, but for its links.
 use Rattle.std.proofs.Common.{◌≡◌, ℕ, List, [], ◌∷◌, Bool, true, false, ◌&&◌, cond, codes, bytes_eq, Ordering, Less, Equal, Greater, Option, Some, None, option_map, option_and_then, refl, sym, ap, ◌∙◌, nat_cmp}
 use Rattle.std.specs.Cmp.Lexicographic.{slice_cmp}
 use Rattle.std.specs.List.{list_any}
@@ -7,8 +7,11 @@ use Rattle.std.specs.Str.{is_utf8}
 use Rattle.serde_json.specs.Data.{Data, null, boolean, number, string, array, object, Members, no_members, member}
 use Rattle.serde_json.specs.Find.{get_member, as_str, as_object}
 use Rattle.serde_json.specs.Read.{read}
-use Rattle.shallow_json.specs.Shallow.{plain, shallow, shallow_object}
-use Rattle.rp_wire.specs.Asks.{has_only, without, text_in, text_if_any, number_of, number_in, create_model_of, model_in, put_of, export_of, names_of, get_of, add_of, set_of, drop_of, delete_model_of, list_of, is_model_kind, grant_of, revoke_of, schemas_of, check_schema_of, request_for, request_in, asked_in, asked_of}
+use Rattle.rp_content.specs.declared.link.Link.{Link}
+use Rattle.shallow_json.proofs.Reading.{pick}
+use Rattle.shallow_json.specs.Shallow.{plain, shallow, flat}
+use Rattle.rp_wire.specs.Kept.{kept}
+use Rattle.rp_wire.specs.Asks.{has_only, without, text_in, text_if_any, flag_if_any, number_of, number_in, link_in, link_of, links_in, create_model_of, model_in, put_of, export_of, names_of, get_of, add_of, set_of, drop_of, delete_model_of, list_of, is_model_kind, grant_of, revoke_of, schemas_of, check_schema_of, other_request_for, request_for, request_in, asked_with, asked_in, asked_of}
 
 has_only-shallow : (keys : List (List ℕ)) (ms : Members) → has_only keys (shallow ms) ≡ has_only keys ms
 has_only-shallow keys no_members = refl
@@ -61,6 +64,18 @@ text_if_any-member : (o : Option Data) → text_if_any (option_map plain o) ≡ 
 text_if_any-member None = refl
 text_if_any-member (Some d) = ap (option_map Some) (as_str-plain d)
 
+flag_if_any-plain : (d : Data) → flag_if_any (Some (plain d)) ≡ flag_if_any (Some d)
+flag_if_any-plain null = refl
+flag_if_any-plain (boolean b) = refl
+flag_if_any-plain (number n) = refl
+flag_if_any-plain (string s) = refl
+flag_if_any-plain (array ds) = refl
+flag_if_any-plain (object ms) = refl
+
+flag_if_any-member : (o : Option Data) → flag_if_any (option_map plain o) ≡ flag_if_any o
+flag_if_any-member None = refl
+flag_if_any-member (Some d) = flag_if_any-plain d
+
 text_in-shallow : (k : List ℕ) (ms : Members) → text_in k (shallow ms) ≡ text_in k ms
 text_in-shallow k ms = ap (option_and_then as_str) (get_member-shallow k ms) ∙ as_str-member (get_member k ms)
 
@@ -70,17 +85,31 @@ number_in-shallow k ms = ap (option_and_then number_of) (get_member-shallow k ms
 text_if_any-shallow : (k : List ℕ) (ms : Members) → text_if_any (get_member k (shallow ms)) ≡ text_if_any (get_member k ms)
 text_if_any-shallow k ms = ap text_if_any (get_member-shallow k ms) ∙ text_if_any-member (get_member k ms)
 
+flag_if_any-shallow : (k : List ℕ) (ms : Members) → flag_if_any (get_member k (shallow ms)) ≡ flag_if_any (get_member k ms)
+flag_if_any-shallow k ms = ap flag_if_any (get_member-shallow k ms) ∙ flag_if_any-member (get_member k ms)
+
 create_model_of-shallow : (ms : Members) → create_model_of (shallow ms) ≡ create_model_of ms
 create_model_of-shallow ms = rw (has_only-shallow (codes "name" ∷ codes "schema" ∷ []) ms, text_in-shallow (codes "name") ms, text_in-shallow (codes "schema") ms) refl
 
 model_in-shallow : (ms : Members) → model_in (shallow ms) ≡ model_in ms
 model_in-shallow ms = rw (text_in-shallow (codes "owner") ms, text_in-shallow (codes "model") ms) refl
 
-put_of-shallow : (ms : Members) → put_of (shallow ms) ≡ put_of ms
-put_of-shallow ms = rw (has_only-shallow (codes "file" ∷ codes "model" ∷ codes "owner" ∷ []) ms, model_in-shallow ms, text_in-shallow (codes "file") ms) refl
+link_in-shallow : (ms : Members) → link_in (shallow ms) ≡ link_in ms
+link_in-shallow ms = rw (has_only-shallow (codes "instance" ∷ codes "model" ∷ codes "name" ∷ codes "owner" ∷ []) ms, number_in-shallow (codes "instance") ms, number_in-shallow (codes "name") ms, model_in-shallow ms) refl
+
+pub link_of-flat : (d : Data) → link_of (flat d) ≡ link_of d
+link_of-flat null = refl
+link_of-flat (boolean b) = refl
+link_of-flat (number n) = refl
+link_of-flat (string s) = refl
+link_of-flat (array ds) = refl
+link_of-flat (object ms) = link_in-shallow ms
+
+put_of-shallow : (links : Option (List Link)) (ms : Members) → put_of links (shallow ms) ≡ put_of links ms
+put_of-shallow links ms = rw (has_only-shallow (codes "file" ∷ codes "links" ∷ codes "model" ∷ codes "owner" ∷ []) ms, model_in-shallow ms, text_in-shallow (codes "file") ms) refl
 
 export_of-shallow : (ms : Members) → export_of (shallow ms) ≡ export_of ms
-export_of-shallow ms = rw (has_only-shallow (codes "model" ∷ codes "owner" ∷ []) ms, model_in-shallow ms) refl
+export_of-shallow ms = rw (has_only-shallow (codes "links" ∷ codes "model" ∷ codes "owner" ∷ []) ms, flag_if_any-shallow (codes "links") ms, model_in-shallow ms) refl
 
 names_of-shallow : (ms : Members) → names_of (shallow ms) ≡ names_of ms
 names_of-shallow ms = rw (has_only-shallow (codes "model" ∷ codes "owner" ∷ []) ms, model_in-shallow ms) refl
@@ -118,26 +147,41 @@ schemas_of-shallow ms = rw (has_only-shallow [] ms) refl
 check_schema_of-shallow : (ms : Members) → check_schema_of (shallow ms) ≡ check_schema_of ms
 check_schema_of-shallow ms = rw (has_only-shallow (codes "text" ∷ []) ms, text_in-shallow (codes "text") ms) refl
 
-request_for-shallow : (word : List ℕ) (ms : Members) → request_for word (shallow ms) ≡ request_for word ms
-request_for-shallow word ms =
-    rw (create_model_of-shallow ms, put_of-shallow ms, export_of-shallow ms, names_of-shallow ms, get_of-shallow ms, add_of-shallow ms, set_of-shallow ms, drop_of-shallow ms, delete_model_of-shallow ms, list_of-shallow ms, grant_of-shallow ms, revoke_of-shallow ms, schemas_of-shallow ms, check_schema_of-shallow ms) refl
+other_request_for-shallow : (word : List ℕ) (ms : Members) → other_request_for word (shallow ms) ≡ other_request_for word ms
+other_request_for-shallow word ms =
+    rw (create_model_of-shallow ms, export_of-shallow ms, names_of-shallow ms, get_of-shallow ms, add_of-shallow ms, set_of-shallow ms, drop_of-shallow ms, delete_model_of-shallow ms, list_of-shallow ms, grant_of-shallow ms, revoke_of-shallow ms, schemas_of-shallow ms, check_schema_of-shallow ms) refl
 
-for_word : (o : Option (List ℕ)) (ms : Members) → option_and_then (λ word. request_for word (without (codes "do") (shallow ms))) o ≡ option_and_then (λ word. request_for word (without (codes "do") ms)) o
-for_word None ms = refl
-for_word (Some word) ms = ap (request_for word) (without-shallow (codes "do") ms) ∙ request_for-shallow word (without (codes "do") ms)
+request_for-shallow : (word : List ℕ) (links : Option (List Link)) (ms : Members) → request_for word links (shallow ms) ≡ request_for word links ms
+request_for-shallow word links ms = rw (put_of-shallow links ms, other_request_for-shallow word ms) refl
 
-request_in-shallow : (ms : Members) → request_in (shallow ms) ≡ request_in ms
-request_in-shallow ms =
-    ap (option_and_then (λ word. request_for word (without (codes "do") (shallow ms)))) (text_in-shallow (codes "do") ms)
-    ∙ for_word (text_in (codes "do") ms) ms
+for_word : (o : Option (List ℕ)) (links : Option (List Link)) (ms : Members)
+    → option_and_then (λ word. request_for word links (without (codes "do") (shallow ms))) o ≡ option_and_then (λ word. request_for word links (without (codes "do") ms)) o
+for_word None links ms = refl
+for_word (Some word) links ms = ap (request_for word links) (without-shallow (codes "do") ms) ∙ request_for-shallow word links (without (codes "do") ms)
 
-pub asked_in-shallow : (ms : Members) → asked_in (shallow ms) ≡ asked_in ms
-asked_in-shallow ms = rw (text_if_any-shallow (codes "as") ms, without-shallow (codes "as") ms, request_in-shallow (without (codes "as") ms)) refl
+request_in-shallow : (links : Option (List Link)) (ms : Members) → request_in links (shallow ms) ≡ request_in links ms
+request_in-shallow links ms =
+    ap (option_and_then (λ word. request_for word links (without (codes "do") (shallow ms)))) (text_in-shallow (codes "do") ms)
+    ∙ for_word (text_in (codes "do") ms) links ms
 
-either_way : (b : Bool) (o : Option Members) → cond b (option_and_then asked_in o) None ≡ option_and_then asked_in (cond b (option_map shallow o) None)
-either_way true None = refl
-either_way true (Some ms) = sym (asked_in-shallow ms)
-either_way false o = refl
+pub asked_with-shallow : (links : Option (List Link)) (ms : Members) → asked_with links (shallow ms) ≡ asked_with links ms
+asked_with-shallow links ms = rw (text_if_any-shallow (codes "as") ms, without-shallow (codes "as") ms, request_in-shallow links (without (codes "as") ms)) refl
 
-pub asked_of-shallow_object : (line : List ℕ) → asked_of line ≡ option_and_then asked_in (shallow_object line)
-asked_of-shallow_object line = either_way (is_utf8 line) (option_and_then as_object (read line))
+-- a line's members, and their links
+either_way : (o : Option Members) (links : Option (List Link)) (found : Members) → option_map kept o ≡ Some (found, links)
+    → option_and_then asked_in o ≡ asked_with links found
+either_way None links found is = absurd (cc)
+either_way (Some ms) links found is =
+    let same = ap (pick (found, links)) is in
+    sym (asked_with-shallow (links_in ms) ms) ∙ ap (λ p. asked_with p.1 p.0) same
+
+pub asked_of-read : (line : List ℕ) (links : Option (List Link)) (found : Members) → is_utf8 line ≡ true
+    → option_map kept (option_and_then as_object (read line)) ≡ Some (found, links) → asked_of line ≡ asked_with links found
+asked_of-read line links found valid is = rw valid (either_way (option_and_then as_object (read line)) links found is)
+
+no_object : (line : List ℕ) (b : Bool) → is_utf8 line ≡ b → option_and_then as_object (read line) ≡ None → asked_of line ≡ None
+no_object line true valid none = rw (valid, none) refl
+no_object line false valid none = rw valid refl
+
+pub asked_of-none : (line : List ℕ) → option_and_then as_object (read line) ≡ None → asked_of line ≡ None
+asked_of-none line = no_object line (is_utf8 line) refl

@@ -1,3 +1,4 @@
 pub mod Asks
+pub mod Kept
 pub mod Replies
 pub mod Tokens

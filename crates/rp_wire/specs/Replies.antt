@@ -7,14 +7,17 @@ use Rattle.p21_tree.specs.declared.fault.FaultKind.{FaultKind}
 use Rattle.p21_tree.specs.declared.fault.FaultKind.TheVariants.{Token, Open, Escape, Page, Code, Utf8, Number, Syntax, Sections, Deep}
 use Rattle.p21_tree.specs.declared.fault.InstanceFaultKind.{InstanceFaultKind}
 use Rattle.p21_tree.specs.declared.fault.InstanceFaultKind.TheVariants.{Twice, UnknownEntity, IllegalCombination, WrongCount, NotDerived, WrongKind, Undefined}
+use Rattle.rp_content.specs.declared.link.Link.{Link}
 use Rattle.rp_rows.specs.declared.rows.Right.{Right}
 use Rattle.rp_rows.specs.declared.rows.Right.TheVariants.{Unseen, Reads, Groups, Writes, Owns}
 use Rattle.rp_plain.specs.declared.lists.Item.{Item}
 use Rattle.rp_plain.specs.declared.lists.NamedType.{NamedType}
+use Rattle.rp_plain.specs.declared.messages.LinkFaultKind.{LinkFaultKind}
+use Rattle.rp_plain.specs.declared.messages.LinkFaultKind.TheVariants.{Defined, Own, NotSeen, OtherSchema, NoInstance}
 use Rattle.rp_plain.specs.declared.messages.Refusal.{Refusal}
-use Rattle.rp_plain.specs.declared.messages.Refusal.TheVariants.{BadRequest, TooLarge, BadName, UnknownPartner, UnknownSchema, Exists, NoSuchItem, NoRight, WrongSchema, FileFault, InstanceFault, NoSuchInstance, InUse, TooMany, NoMemory}
+use Rattle.rp_plain.specs.declared.messages.Refusal.TheVariants.{BadRequest, TooLarge, BadName, UnknownPartner, UnknownSchema, Exists, NoSuchItem, NoRight, WrongSchema, FileFault, InstanceFault, LinkFault, NoSuchInstance, InUse, TooMany, HasLinks, NoMemory}
 use Rattle.rp_plain.specs.declared.messages.Reply.{Reply}
-use Rattle.rp_plain.specs.declared.messages.Reply.TheVariants.{Done, Stored, File, Names, Line, Added, Listed, Schemas, Checked, Faulty, Refused}
+use Rattle.rp_plain.specs.declared.messages.Reply.TheVariants.{Done, Stored, File, Linked, Names, Line, Added, Listed, Schemas, Checked, Faulty, Refused}
 use Rattle.ex_check.specs.declared.fault.SchemaFault.{SchemaFault}
 use Rattle.ex_check.specs.Check.{name as fault_name, place as fault_place}
 
@@ -57,6 +60,13 @@ instance_kind NotDerived = codes "NotDerived"
 instance_kind WrongKind = codes "WrongKind"
 instance_kind Undefined = codes "Undefined"
 
+abbrev pub link_kind : LinkFaultKind → List ℕ
+link_kind Defined = codes "Defined"
+link_kind Own = codes "Own"
+link_kind NotSeen = codes "NotSeen"
+link_kind OtherSchema = codes "OtherSchema"
+link_kind NoInstance = codes "NoInstance"
+
 -- a refusal that has a code and a name alone
 abbrev pub coded : ℕ → List ℕ → Members
 coded code name = with_number (codes "code") code (with_string (codes "name") name no_members)
@@ -73,9 +83,11 @@ refusal_members NoRight = coded 8 (codes "NoRight")
 refusal_members WrongSchema = coded 9 (codes "WrongSchema")
 refusal_members (FileFault fault) = with_number (codes "at") fault.at (with_number (codes "code") 11 (with_string (codes "kind") (file_kind fault.kind) (with_string (codes "name") (codes "FileFault") no_members)))
 refusal_members (InstanceFault fault) = with_number (codes "code") 12 (with_number (codes "instance") fault.instance (with_string (codes "kind") (instance_kind fault.kind) (with_string (codes "name") (codes "InstanceFault") no_members)))
+refusal_members (LinkFault fault) = with_number (codes "code") 13 (with_string (codes "kind") (link_kind fault.kind) (with_number (codes "link") fault.link (with_string (codes "name") (codes "LinkFault") no_members)))
 refusal_members NoSuchInstance = coded 14 (codes "NoSuchInstance")
 refusal_members InUse = coded 15 (codes "InUse")
 refusal_members TooMany = coded 16 (codes "TooMany")
+refusal_members HasLinks = coded 17 (codes "HasLinks")
 refusal_members NoMemory = coded 18 (codes "NoMemory")
 
 -- ---- lists
@@ -94,6 +106,9 @@ level_word Owns = codes "owner"
 abbrev pub item_data : Item → Data
 item_data i = object (with_string (codes "level") (level_word i.right) (with_string (codes "name") i.name (with_string (codes "owner") i.owner (with_string (codes "schema") i.schema no_members))))
 
+abbrev pub link_data : Link → Data
+link_data l = object (with_number (codes "instance") l.target (with_string (codes "model") l.model (with_number (codes "name") l.name (with_string (codes "owner") l.owner no_members))))
+
 -- a place in a text, and of which kind it is
 abbrev pub place_data : ℕ → List ℕ → Data
 place_data at kind = object (with_number (codes "at") at (with_string (codes "kind") kind no_members))
@@ -111,6 +126,7 @@ abbrev pub reply_data : Reply → Data
 reply_data Done = only (codes "ok") (object no_members)
 reply_data (Stored n) = only (codes "ok") (only (codes "instances") (number (unsigned n)))
 reply_data (File text) = only (codes "ok") (only (codes "file") (string text))
+reply_data (Linked file links) = only (codes "ok") (object (with_string (codes "file") file (member (codes "links") (list_of link_data links) no_members)))
 reply_data (Names names) = only (codes "ok") (only (codes "names") (list_of named_type_data names))
 reply_data (Line text) = only (codes "ok") (only (codes "text") (string text))
 reply_data (Added name) = only (codes "ok") (only (codes "name") (number (unsigned name)))

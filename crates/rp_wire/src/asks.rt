@@ -3,13 +3,16 @@
 ghost use Rattle.std.specs.Prelude.{◌≡◌, ℕ, List, false, codes, IfOk, IsErrOf, None, Some};
 ghost use Rattle.std.specs.Str.{bytes_eq};
 ghost use Rattle.serde_json.specs.View.{members_view};
-ghost use Rattle.rp_wire.specs.Asks.{create_model_of, model_in, put_of, export_of, names_of, get_of, add_of, set_of, drop_of, delete_model_of, list_of, level_of, is_model_kind, grant_of, revoke_of, schemas_of, check_schema_of, text_in, request_for, request_in, asked_in, asked_of};
+ghost use Rattle.rp_wire.specs.Asks.{create_model_of, put_of, export_of, names_of, get_of, add_of, set_of, drop_of, delete_model_of, list_of, level_of, is_model_kind, grant_of, revoke_of, schemas_of, check_schema_of, text_in, other_request_for, request_for, request_in, asked_with, asked_of};
 
-use crate::members::{Members, has_only_keys, take_number, take_text, take_text_if_any};
+use crate::lines::read_line;
+use crate::links::Links;
+use crate::members::{
+    Members, has_only_keys, take_flag, take_model, take_number, take_text, take_text_if_any,
+};
 use plain_data::Text;
 use rp_plain::messages::Request;
-use rp_rows::rows::{Key, Level};
-use shallow_json::members_of;
+use rp_rows::rows::Level;
 use std::alloc::Global;
 
 /// A request, and who asks.
@@ -29,39 +32,49 @@ pub enum Unread {
 }
 
 /// The request of a line, which stands without its line feed, or of a body. A string of it is copied
-/// once, out of the bytes; a list or an object among its members, which no request has, is passed over.
+/// once, out of the bytes. Lists and objects are passed over, but for links.
 pub fn request_of(alloc: Global, line: &[u8]) -> Result<Asked, Unread>
     ensures ok { IfOk result (λ asked. asked_of line.now ≡ Some asked) }
     ensures bad { IsErrOf result Unread.BadRequest → asked_of line.now ≡ None }
 {
-    match members_of(alloc, line) {
-        Ok(members) => asked_in(members).ok_or(Unread::BadRequest),
-        Err(shallow_json::Unread::NoObject) => Err(Unread::BadRequest),
+    match read_line(alloc, line) {
+        Ok((members, links)) => asked_with(links, members).ok_or(Unread::BadRequest),
+        Err(shallow_json::Unread::Invalid) => Err(Unread::BadRequest),
         Err(shallow_json::Unread::NoMemory) => Err(Unread::NoMemory),
     }
 }
 
-fn asked_in(mut members: Members) -> Option<Asked>
-    ensures { result ≡ asked_in (members_view members.entries) }
+fn asked_with(links: Links, mut members: Members) -> Option<Asked>
+    ensures { result ≡ asked_with links (members_view members.entries) }
 {
     let caller = take_text_if_any(&mut members, "as")?;
-    let request = request_in(members)?;
+    let request = request_in(links, members)?;
     Some(Asked { caller, request })
 }
 
-fn request_in(mut members: Members) -> Option<Request>
-    ensures { result ≡ request_in (members_view members.entries) }
+fn request_in(links: Links, mut members: Members) -> Option<Request>
+    ensures { result ≡ request_in links (members_view members.entries) }
 {
     let word = take_text(&mut members, "do")?;
-    request_for(word.as_str(), members)
+    request_for(word.as_str(), links, members)
 }
 
-fn request_for(word: &str, members: Members) -> Option<Request>
-    ensures { result ≡ request_for word.now (members_view members.entries) }
+fn request_for(word: &str, links: Links, members: Members) -> Option<Request>
+    ensures { result ≡ request_for word.now links (members_view members.entries) }
+{
+    if word == "put" {
+        put(links, members)
+    } else {
+        other_request_for(word, members)
+    }
+}
+
+/// Any request but a put, which alone has links.
+fn other_request_for(word: &str, members: Members) -> Option<Request>
+    ensures { result ≡ other_request_for word.now (members_view members.entries) }
 {
     match word {
         "create_model" => create_model(members),
-        "put" => put(members),
         "export" => export(members),
         "names" => names(members),
         "get" => get(members),
@@ -89,37 +102,27 @@ fn create_model(mut members: Members) -> Option<Request>
     Some(Request::CreateModel { name, schema })
 }
 
-/// Takes out the owner and the name of a model.
-fn take_model(members: &mut Members) -> Option<Key>
-    ensures model { result ≡ model_in (members_view members.old.entries) }
-    ensures others { (other : List ℕ) → bytes_eq (codes "owner") other ≡ false → bytes_eq (codes "model") other ≡ false
-        → text_in other (members_view members.new.entries)
-        ≡ text_in other (members_view members.old.entries) }
+fn put(links: Links, mut members: Members) -> Option<Request>
+    ensures { result ≡ put_of links (members_view members.entries) }
 {
-    let owner = take_text(members, "owner")?;
-    let name = take_text(members, "model")?;
-    Some((owner, name))
-}
-
-fn put(mut members: Members) -> Option<Request>
-    ensures { result ≡ put_of (members_view members.entries) }
-{
-    if !has_only_keys(&members, &["file", "model", "owner"]) {
+    if !has_only_keys(&members, &["file", "links", "model", "owner"]) {
         return None;
     }
+    let links = links?;
     let model = take_model(&mut members)?;
     let file = take_text(&mut members, "file")?;
-    Some(Request::Put { model, file })
+    Some(Request::Put { model, file, links })
 }
 
 fn export(mut members: Members) -> Option<Request>
     ensures { result ≡ export_of (members_view members.entries) }
 {
-    if !has_only_keys(&members, &["model", "owner"]) {
+    if !has_only_keys(&members, &["links", "model", "owner"]) {
         return None;
     }
+    let links = take_flag(&mut members, "links")?;
     let model = take_model(&mut members)?;
-    Some(Request::Export { model })
+    Some(Request::Export { model, links })
 }
 
 fn names(mut members: Members) -> Option<Request>

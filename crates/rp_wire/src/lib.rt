@@ -2,6 +2,8 @@
 #![tactic(auto)]
 
 mod asks;
+mod lines;
+mod links;
 mod lists;
 mod members;
 mod refusals;

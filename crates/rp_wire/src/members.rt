@@ -1,14 +1,15 @@
 //! The members of a JSON object, taken out one after another.
 
-ghost use Rattle.std.specs.Prelude.{◌≡◌, false, map, List, ℕ, option_map, string_bytes};
+ghost use Rattle.std.specs.Prelude.{◌≡◌, false, map, codes, List, ℕ, option_map, string_bytes};
 ghost use Rattle.std.specs.List.{list_all, list_any};
 ghost use Rattle.std.specs.Str.{bytes_eq};
 ghost use Rattle.std.specs.BTreeMap.{keys as map_keys};
 ghost use Rattle.serde_json.specs.View.{view, members_view};
 ghost use Rattle.serde_json.specs.Find.{get_member, as_str};
-ghost use Rattle.rp_wire.specs.Asks.{has_only, without, text_in, text_if_any, number_in, number_of, unless_greater};
+ghost use Rattle.rp_wire.specs.Asks.{has_only, without, text_in, text_if_any, flag_if_any, number_in, number_of, unless_greater, model_in};
 
 use plain_data::Text;
+use rp_rows::rows::Key;
 use serde_json::{Map, Value};
 
 pub(crate) type Members = Map<String, Value>;
@@ -56,12 +57,48 @@ fn text_of(value: Value) -> Option<Text>
     }
 }
 
+/// Takes out the owner and the name of a model.
+pub(crate) fn take_model(members: &mut Members) -> Option<Key>
+    ensures model { result ≡ model_in (members_view members.old.entries) }
+    ensures others { (other : List ℕ) → bytes_eq (codes "owner") other ≡ false → bytes_eq (codes "model") other ≡ false
+        → text_in other (members_view members.new.entries)
+        ≡ text_in other (members_view members.old.entries) }
+{
+    let owner = take_text(members, "owner")?;
+    let name = take_text(members, "model")?;
+    Some((owner, name))
+}
+
+/// Takes out the truth value at this key: false where the key is missing. Another member goes too,
+/// and gives nothing.
+pub(crate) fn take_flag(members: &mut Members, key: &str) -> Option<bool>
+    ensures flag { result ≡ flag_if_any (get_member key.now (members_view members.old.entries)) }
+    ensures others { (other : List ℕ) → bytes_eq key.now other ≡ false
+        → text_in other (members_view members.new.entries)
+        ≡ text_in other (members_view members.old.entries) }
+{
+    flag_if_any(members.remove(key))
+}
+
+fn flag_if_any(member: Option<Value>) -> Option<bool>
+    ensures { result ≡ flag_if_any (option_map view member) }
+{
+    match member {
+        Some(Value::Bool(flag)) => Some(flag),
+        Some(_) => None,
+        None => Some(false),
+    }
+}
+
 /// Takes out the number at this key. A member that is no number goes too.
 pub(crate) fn take_number(members: &mut Members, key: &str) -> Option<u64>
     ensures number { result ≡ number_in key.now (members_view members.old.entries) }
     ensures others { (other : List ℕ) → bytes_eq key.now other ≡ false
         → text_in other (members_view members.new.entries)
         ≡ text_in other (members_view members.old.entries) }
+    ensures numbers { (other : List ℕ) → bytes_eq key.now other ≡ false
+        → number_in other (members_view members.new.entries)
+        ≡ number_in other (members_view members.old.entries) }
 {
     members.remove(key).and_then(number_of)
 }

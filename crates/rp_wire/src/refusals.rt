@@ -2,13 +2,13 @@
 
 ghost use Rattle.std.specs.Prelude.{◌≡◌, ◌++◌, OnOk};
 ghost use Rattle.serde_json.specs.Data.{object};
-ghost use Rattle.rp_wire.specs.Replies.{file_kind, instance_kind, coded, refusal_members};
+ghost use Rattle.rp_wire.specs.Replies.{file_kind, instance_kind, link_kind, coded, refusal_members};
 ghost use Rattle.rp_wire.specs.Tokens.{tokens_of};
 
 use crate::writing::{number_at, string_at};
 use json::Writer;
 use p21_tree::{FaultKind, FileFault, InstanceFault, InstanceFaultKind};
-use rp_plain::messages::Refusal;
+use rp_plain::messages::{LinkFault, LinkFaultKind, Refusal};
 use std::alloc::AllocError;
 
 pub(crate) fn write_refusal(out: &mut Writer, refusal: Refusal) -> Result<(), AllocError>
@@ -27,9 +27,11 @@ pub(crate) fn write_refusal(out: &mut Writer, refusal: Refusal) -> Result<(), Al
         Refusal::WrongSchema => write_coded(out, 9, "WrongSchema"),
         Refusal::FileFault(fault) => write_file_fault(out, fault),
         Refusal::InstanceFault(fault) => write_instance_fault(out, fault),
+        Refusal::LinkFault(fault) => write_link_fault(out, fault),
         Refusal::NoSuchInstance => write_coded(out, 14, "NoSuchInstance"),
         Refusal::InUse => write_coded(out, 15, "InUse"),
         Refusal::TooMany => write_coded(out, 16, "TooMany"),
+        Refusal::HasLinks => write_coded(out, 17, "HasLinks"),
         Refusal::NoMemory => write_coded(out, 18, "NoMemory"),
     }
 }
@@ -69,6 +71,18 @@ fn write_instance_fault(out: &mut Writer, fault: InstanceFault) -> Result<(), Al
     out.end_object()
 }
 
+fn write_link_fault(out: &mut Writer, fault: LinkFault) -> Result<(), AllocError>
+    ensures ok { OnOk result (out.new.tokens ≡ out.old.tokens ++ tokens_of (object (refusal_members (Refusal.LinkFault fault)))) }
+    ensures before { out.new.before ≡ out.old.before }
+{
+    out.begin_object()?;
+    number_at(out, "code", 13)?;
+    string_at(out, "kind", word_of_link_fault(fault.kind))?;
+    number_at(out, "link", fault.link)?;
+    string_at(out, "name", "LinkFault")?;
+    out.end_object()
+}
+
 fn word_of_file_fault(kind: FaultKind) -> &'static str
     ensures { result.now ≡ file_kind kind }
 {
@@ -97,5 +111,17 @@ fn word_of_instance_fault(kind: InstanceFaultKind) -> &'static str
         InstanceFaultKind::NotDerived => "NotDerived",
         InstanceFaultKind::WrongKind => "WrongKind",
         InstanceFaultKind::Undefined => "Undefined",
+    }
+}
+
+fn word_of_link_fault(kind: LinkFaultKind) -> &'static str
+    ensures { result.now ≡ link_kind kind }
+{
+    match kind {
+        LinkFaultKind::Defined => "Defined",
+        LinkFaultKind::Own => "Own",
+        LinkFaultKind::NotSeen => "NotSeen",
+        LinkFaultKind::OtherSchema => "OtherSchema",
+        LinkFaultKind::NoInstance => "NoInstance",
     }
 }

@@ -5,12 +5,13 @@ ghost use Rattle.serde_json.specs.Data.{number as data_number, unsigned, string}
 ghost use Rattle.rp_wire.specs.Replies.{only, reply_data, reply_text, line_of_reply};
 ghost use Rattle.rp_wire.specs.Tokens.{tokens_of};
 
-use crate::lists::{write_items_at, write_named_types, write_texts, write_warnings};
+use crate::lists::{write_items_at, write_links, write_named_types, write_texts, write_warnings};
 use crate::refusals::write_refusal;
 use crate::writing::{close, number_at, open, place_of_kind, string_at};
 use ex_check::SchemaFault;
 use json::Writer;
 use plain_data::Text;
+use rp_content::Link;
 use rp_plain::lists::{Item, NamedType};
 use rp_plain::messages::{Refusal, Reply};
 use std::alloc::{AllocError, Global};
@@ -48,6 +49,7 @@ fn write_reply(out: &mut Writer, reply: &Reply) -> Result<(), AllocError>
         Reply::Done => write_done(out),
         Reply::Stored(count) => write_stored(out, *count),
         Reply::File(text) => write_text_at(out, "file", text),
+        Reply::Linked { file, links } => write_linked(out, file, links.as_slice()),
         Reply::Names(names) => write_names(out, names.as_slice()),
         Reply::Line(text) => write_text_at(out, "text", text),
         Reply::Added(name) => write_number_at(out, "name", *name),
@@ -91,6 +93,17 @@ fn write_text_at(out: &mut Writer, key: &str, text: &Text) -> Result<(), AllocEr
 {
     open(out, "ok")?;
     string_at(out, key, text.as_str())?;
+    close(out)
+}
+
+fn write_linked(out: &mut Writer, file: &Text, links: &[Link]) -> Result<(), AllocError>
+    ensures ok { OnOk result (out.new.tokens ≡ out.old.tokens ++ tokens_of (reply_data (Reply.Linked file.now links.now))) }
+    ensures before { out.new.before ≡ out.old.before }
+{
+    open(out, "ok")?;
+    string_at(out, "file", file.as_str())?;
+    out.key("links")?;
+    write_links(out, links)?;
     close(out)
 }
 

@@ -1,3 +1,3 @@
-mod Passes
-mod Reading
-mod Shallow
+pub mod Passes
+pub mod Reading
+pub mod Shallow

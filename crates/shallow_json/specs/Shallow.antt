@@ -1,9 +1,5 @@
--- The members of an object, without what stands within their lists and objects.
-use Rattle.std.specs.Prelude.{ℕ, List, Option, None, option_map, option_and_then, if◌then◌else◌}
-use Rattle.std.specs.Str.{is_utf8}
+-- Values and the members of an object, without what stands within their lists and objects.
 use Rattle.serde_json.specs.Data.{Data, null, boolean, number, string, array, object, Members, no_members, member}
-use Rattle.serde_json.specs.Find.{as_object}
-use Rattle.serde_json.specs.Read.{read}
 
 -- the value, or null for a list and for an object
 abbrev pub plain : Data → Data
@@ -18,6 +14,11 @@ abbrev pub shallow : Members → Members
 shallow no_members = no_members
 shallow (member k d ms) = member k (plain d) (shallow ms)
 
--- the object that a text is, if it is JSON in UTF-8 and an object
-abbrev pub shallow_object : List ℕ → Option Members
-shallow_object text = if is_utf8 text then option_map shallow (option_and_then as_object (read text)) else None
+-- the value, or null for a list, without what stands within the lists and objects of an object
+abbrev pub flat : Data → Data
+flat null = null
+flat (boolean b) = boolean b
+flat (number n) = number n
+flat (string s) = string s
+flat (array ds) = null
+flat (object ms) = object (shallow ms)

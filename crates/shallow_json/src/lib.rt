@@ -1,9 +1,10 @@
-//! The members of an object of JSON, but for what stands within their lists and objects: that is read, so that a text
-//! means no more than it should, and takes no memory.
+//! Reading JSON without what stands within lists and objects: that is read, so that a text means no more than it
+//! should, and takes no memory.
 #![tactic(auto)]
 
 mod members;
 mod numbers;
 mod skip;
 
-pub use members::{Unread, members_of};
+pub use members::{Unread, read_flat, read_member, read_members, read_scalar, take_begin_object};
+pub use skip::skip_members;

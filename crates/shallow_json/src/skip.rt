@@ -51,7 +51,7 @@ pub(crate) fn skip_items(reader: &mut Reader<'_>, depth: usize) -> Result<(), In
 
 /// Passes over what follows the brace that opens an object.
 #[cycle(skip)]
-pub(crate) fn skip_members(reader: &mut Reader<'_>, depth: usize) -> Result<(), Invalid>
+pub fn skip_members(reader: &mut Reader<'_>, depth: usize) -> Result<(), Invalid>
     ensures value { MatchResult result (λ _. after_members depth reader.old ≡ Some reader.new)
         (λ _. after_members depth reader.old ≡ None) }
     ensures shorter { OnOk result (length reader.new < length reader.old) }

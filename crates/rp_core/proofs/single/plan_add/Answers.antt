@@ -5,4 +5,6 @@ pub overflow_add-name : goal.overflow_add-name
 overflow_add-name c = omega (arith, (c.requires c.args.key c.in-Some-content.model.now (sym c.in-Some-content.ensures)).greatest)
 
 pub said_by-requires : goal.said_by-requires
-said_by-requires c = (c.requires c.args.key c.in-Some-content.model.now (sym c.in-Some-content.ensures)).order
+said_by-requires c =
+    let named = c.requires c.args.key c.in-Some-content.model.now (sym c.in-Some-content.ensures) in
+    record { instances = named.order; links = named.links }

@@ -1,4 +1,4 @@
-use Rattle.std.proofs.Common.{◌≡◌, ◌<◌, List, option_map, [], ◌∷◌, length, Some, sym, ap, ◌∙◌, arith, rules}
+use Rattle.std.proofs.Common.{◌≡◌, ◌<◌, List, option_map, [], ◌∷◌, length, Some, refl, sym, ap, ◌∙◌, arith, rules}
 use Rattle.std.proofs.lemmas.Result.{IfOk-weaker}
 use Rattle.json.specs.Token as spec
 use Rattle.json.specs.Json.{parse_map, value}
@@ -9,32 +9,32 @@ use Rattle.serde_json.specs.Read.{of_json, converted}
 use Rattle.serde_json.specs.View.{view}
 use Rattle.serde_json.specs.declared.value.Value.{Null, the_lemmas}
 use Rattle.shallow_json.specs.Shallow.{plain}
-use Rattle.shallow_json.proofs.Passes.{value-scalar, after_list, after_object, plain_scalar, plain_list, plain_object}
+use Rattle.shallow_json.proofs.Passes.{value-scalar, after_list, after_object, plain_scalar, list_seen, object_seen}
 use Rattle.shallow_json.proofs.members.read_member.Goals as goal
 
 pub returns-in_err-token-clause-bad : goal.returns-in_err-token-clause-bad
 returns-in_err-token-clause-bad c never =
     let empty : c.args.reader.now ≡ [] = grind arith in
-    ap (converted of_json) (ap (value 126) empty ∙ value_is 126 [])
+    ap (converted of_json) (ap (value c.args.depth) empty ∙ value_is c.args.depth [])
 
 pub returns-in_err-skip_items-in-BeginArray-clause-bad : goal.returns-in_err-skip_items-in-BeginArray-clause-bad
 returns-in_err-skip_items-in-BeginArray-clause-bad c never =
     let first : c.args.reader.now ≡ token_of c.in_ok-token.token ∷ c.next.new.self = grind arith in
     let opened : c.args.reader.now ≡ spec.begin_array ∷ c.next.new.self = first ∙ ap (λ k. token_of k ∷ c.next.new.self) c.in-BeginArray.is in
-    ap (λ ts. converted of_json (value 126 ts)) opened ∙ left_none _ (after_list 126 c.next.new.self (omega arith) ∙ c.in_err-skip_items-in-BeginArray.ensures.value)
+    ap (λ ts. converted of_json (value c.args.depth ts)) opened ∙ left_none _ (after_list c.args.depth c.next.new.self (omega arith) ∙ c.in_err-skip_items-in-BeginArray.ensures.value)
 
 pub returns-in_err-skip_members-in-BeginObject-clause-bad : goal.returns-in_err-skip_members-in-BeginObject-clause-bad
 returns-in_err-skip_members-in-BeginObject-clause-bad c never =
     let first : c.args.reader.now ≡ token_of c.in_ok-token.token ∷ c.next.new.self = grind arith in
     let opened : c.args.reader.now ≡ spec.begin_object ∷ c.next.new.self = first ∙ ap (λ k. token_of k ∷ c.next.new.self) c.in-BeginObject.is in
-    ap (λ ts. converted of_json (value 126 ts)) opened ∙ left_none _ (after_object 126 c.next.new.self (omega arith) ∙ c.in_err-skip_members-in-BeginObject.ensures.value)
+    ap (λ ts. converted of_json (value c.args.depth ts)) opened ∙ left_none _ (after_object c.args.depth c.next.new.self (omega arith) ∙ c.in_err-skip_members-in-BeginObject.ensures.value)
 
 pub returns-in_ok-skip_items-in-BeginArray-clause-ok : goal.returns-in_ok-skip_items-in-BeginArray-clause-ok
 returns-in_ok-skip_items-in-BeginArray-clause-ok c =
     let first : c.args.reader.now ≡ token_of c.in_ok-token.token ∷ c.next.new.self = grind arith in
     let opened : c.args.reader.now ≡ spec.begin_array ∷ c.next.new.self = first ∙ ap (λ k. token_of k ∷ c.next.new.self) c.in-BeginArray.is in
     let seen : view Null ≡ null = search (rules, the_lemmas) in
-    ap (λ ts. parse_map plain (converted of_json (value 126 ts))) opened ∙ plain_list 126 c.next.new.self c.skip_items.new.reader (omega arith) c.in_ok-skip_items-in-BeginArray.ensures.value
+    ap (λ ts. parse_map plain (converted of_json (value c.args.depth ts))) opened ∙ list_seen plain null c.args.depth c.next.new.self c.skip_items.new.reader (λ ds. refl) (omega arith) c.in_ok-skip_items-in-BeginArray.ensures.value
     ∙ ap (λ d. Some (d, c.skip_items.new.reader)) (sym seen)
 
 pub returns-in_ok-skip_members-in-BeginObject-clause-ok : goal.returns-in_ok-skip_members-in-BeginObject-clause-ok
@@ -42,13 +42,13 @@ returns-in_ok-skip_members-in-BeginObject-clause-ok c =
     let first : c.args.reader.now ≡ token_of c.in_ok-token.token ∷ c.next.new.self = grind arith in
     let opened : c.args.reader.now ≡ spec.begin_object ∷ c.next.new.self = first ∙ ap (λ k. token_of k ∷ c.next.new.self) c.in-BeginObject.is in
     let seen : view Null ≡ null = search (rules, the_lemmas) in
-    ap (λ ts. parse_map plain (converted of_json (value 126 ts))) opened ∙ plain_object 126 c.next.new.self c.skip_members.new.reader (omega arith) c.in_ok-skip_members-in-BeginObject.ensures.value
+    ap (λ ts. parse_map plain (converted of_json (value c.args.depth ts))) opened ∙ object_seen plain null c.args.depth c.next.new.self c.skip_members.new.reader (λ ms. refl) (omega arith) c.in_ok-skip_members-in-BeginObject.ensures.value
     ∙ ap (λ d. Some (d, c.skip_members.new.reader)) (sym seen)
 
 pub returns-in_default : goal.returns-in_default
 returns-in_default c =
     let first : c.args.reader.now ≡ token_of c.in_ok-token.token ∷ c.next.new.self = grind arith in
-    let read = ap (λ ts. converted of_json (value 126 ts)) first ∙ value-scalar 126 c.in_ok-token.token c.next.new.self c.in_default.not-BeginObject c.in_default.not-BeginArray in
+    let read = ap (λ ts. converted of_json (value c.args.depth ts)) first ∙ value-scalar c.args.depth c.in_ok-token.token c.next.new.self c.in_default.not-BeginObject c.in_default.not-BeginArray in
     let kept = ap (parse_map plain) read ∙ plain_scalar (token_of c.in_ok-token.token) c.next.new.self in
     let less : length c.next.new.self < length c.args.reader.now = rw first (omega arith) in
     record {

@@ -11,12 +11,12 @@ use Rattle.shallow_json.proofs.Shallow.{shallow-put, mapped_some}
 use Rattle.shallow_json.proofs.members.read_members.Goals as goal
 
 pub members-init : goal.members-init
-members-init c = (length c.args.reader.now, no_members, omega arith, ap members_view (sym c.new-found.ensures.empty), refl)
+members-init c = (length c.args.reader.now, no_members, omega arith, ap members_view (sym c.new-found.ensures.empty), refl, omega arith)
 
 pub returns-in_err-name-clause-bad : goal.returns-in_err-name-clause-bad
 returns-in_err-name-clause-bad c never =
     let l = c.members in
-    l.invariant.4 ∙ key_refused (value 126) l.invariant.1 l.invariant.0 l.reader c.in_err-name.ensures.value
+    l.invariant.4 ∙ key_refused (value c.args.depth) l.invariant.1 l.invariant.0 l.reader c.in_err-name.ensures.value
 
 pub returns-in_err-member-clause-bad : goal.returns-in_err-member-clause-bad
 returns-in_err-member-clause-bad c refused =
@@ -24,11 +24,11 @@ returns-in_err-member-clause-bad c refused =
     let k = c.in-Some.name.now in
     let s = c.next_key.new.self in
     let named : read_key l.reader ≡ Some (Some k, s) = grind arith in
-    l.invariant.4 ∙ member_refused (value 126) l.invariant.1 l.invariant.0 k l.reader s named (c.read_member.ensures.bad (grind arith))
+    l.invariant.4 ∙ member_refused (value c.args.depth) l.invariant.1 l.invariant.0 k l.reader s named (c.read_member.ensures.bad (grind arith))
 
 pub members-preserved : goal.members-preserved
 members-preserved c =
-    let p = value 126 in
+    let p = value c.args.depth in
     let l = c.members in
     let n = l.invariant.0 in
     let old = l.invariant.1 in
@@ -49,10 +49,11 @@ members-preserved c =
       omega (arith, l.invariant.2),
       shallow-put k d.0 old ∙ ap₂ (put k) d.2 l.invariant.3 ∙ sym inserted,
       l.invariant.4 ∙ member_read p old n k l.reader s r d.0 (omega (arith, l.invariant.2)) named d.1,
+      omega (arith, l.invariant.5),
     )
 
 pub returns-clause-ok : goal.returns-clause-ok
 returns-clause-ok c =
     let l = c.members in
     let r = c.next_key.new.self in
-    ap (parse_map shallow) (l.invariant.4 ∙ members_over (value 126) l.invariant.1 l.invariant.0 l.reader r l.invariant.2 (grind arith)) ∙ ap (λ ms. Some (ms, r)) l.invariant.3
+    ap (parse_map shallow) (l.invariant.4 ∙ members_over (value c.args.depth) l.invariant.1 l.invariant.0 l.reader r l.invariant.2 (grind arith)) ∙ ap (λ ms. Some (ms, r)) l.invariant.3

@@ -9,7 +9,8 @@ use Rattle.shallow_json.proofs.members.read_members.Given as goal
 abbrev pub invariant-members : goal.invariant-members
 invariant-members l =
     (n : ℕ) × (found : Members) × (length l.reader ≤ n) × (shallow found ≡ members_view l.found.entries)
-    × (converted (λ ms. of_members ms no_members) (members (value 126) (length l.initial.reader) l.initial.reader) ≡ converted (λ ms. of_members ms found) (members (value 126) n l.reader))
+    × (converted (λ ms. of_members ms no_members) (members (value l.depth) (length l.initial.reader) l.initial.reader) ≡ converted (λ ms. of_members ms found) (members (value l.depth) n l.reader))
+    × (length l.reader ≤ length l.initial.reader)
 
 abbrev pub decreases-members : goal.decreases-members
 decreases-members l = length l.reader

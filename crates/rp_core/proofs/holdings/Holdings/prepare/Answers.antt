@@ -28,7 +28,9 @@ pub returns-in-Err-clause-prepared : goal.returns-in-Err-clause-prepared
 unfolding told
 returns-in-Err-clause-prepared c =
     let read : Plain = record { schemas = c.deref.result.now; partners = c.deref-2.result.now; models = c.self.inside.models.rows; groups = c.self.inside.groups.rows } in
-    let same : read ≡ c.args.self.now.content = cc in
+    let kept : Plain = record { schemas = c.self.inside.schemas.items; partners = c.self.inside.partners.items; models = c.self.inside.models.rows; groups = c.self.inside.groups.rows } in
+    let seen : read ≡ kept = λ i. record { schemas = c.deref.ensures.value i; partners = c.deref-2.ensures.value i; models = c.self.inside.models.rows; groups = c.self.inside.groups.rows } in
+    let same : read ≡ c.args.self.now.content = seen ∙ ap (λ h. h.content) c.self.view_is in
     let partners : c.self.inside.partners.items ≡ c.args.self.now.content.partners = ap (λ h. h.content.partners) c.self.view_is in
     let within : c.args.place < length c.self.inside.partners.items = rw partners c.requires.partner in
     let at = get_or_read c.self.inside.partners.items c.args.place c.index.result.now within c.index.ensures [] in
@@ -39,7 +41,9 @@ pub returns-after-of_plan-clause-prepared : goal.returns-after-of_plan-clause-pr
 unfolding told
 returns-after-of_plan-clause-prepared c =
     let read : Plain = record { schemas = c.deref.result.now; partners = c.deref-2.result.now; models = c.self.inside.models.rows; groups = c.self.inside.groups.rows } in
-    let same : read ≡ c.args.self.now.content = cc in
+    let kept : Plain = record { schemas = c.self.inside.schemas.items; partners = c.self.inside.partners.items; models = c.self.inside.models.rows; groups = c.self.inside.groups.rows } in
+    let seen : read ≡ kept = λ i. record { schemas = c.deref.ensures.value i; partners = c.deref-2.ensures.value i; models = c.self.inside.models.rows; groups = c.self.inside.groups.rows } in
+    let same : read ≡ c.args.self.now.content = seen ∙ ap (λ h. h.content) c.self.view_is in
     let partners : c.self.inside.partners.items ≡ c.args.self.now.content.partners = ap (λ h. h.content.partners) c.self.view_is in
     let within : c.args.place < length c.self.inside.partners.items = rw partners c.requires.partner in
     let at = get_or_read c.self.inside.partners.items c.args.place c.index.result.now within c.index.ensures [] in

@@ -4,13 +4,13 @@ use Rattle.json.specs.Token.{begin_object}
 use Rattle.json.specs.Reads.{token_of}
 use Rattle.json.specs.Json.{value}
 use Rattle.serde_json.specs.Find.{as_object}
-use Rattle.shallow_json.specs.Shallow.{shallow}
 use Rattle.shallow_json.proofs.Reading.{whole}
 use Rattle.shallow_json.proofs.Shallow.{mapped_some, members_read, members_and_more, members_refused, no_object}
-use Rattle.shallow_json.proofs.members.read_object.Goals as goal
+use Rattle.rp_wire.specs.Kept.{kept}
+use Rattle.rp_wire.proofs.lines.read_object.Goals as goal
 
-pub returns-in_err-members-clause-bad : goal.returns-in_err-members-clause-bad
-returns-in_err-members-clause-bad c refused =
+pub returns-in_err-read-clause-bad : goal.returns-in_err-read-clause-bad
+returns-in_err-read-clause-bad c refused =
     let r = c.take_begin_object.new.reader in
     let opened : tokens c.args.text.now ≡ begin_object ∷ r = grind arith in
     ap (λ ts. option_and_then as_object (whole (value 127 ts))) opened ∙ members_refused r (c.read_members.ensures.bad (grind arith))
@@ -23,7 +23,7 @@ returns-clause-bad c never =
     let r = c.take_begin_object.new.reader in
     let opened : tokens c.args.text.now ≡ begin_object ∷ r = grind arith in
     let rest : c.read_members.new.reader ≡ token_of c.in-Some.field-0 ∷ c.next.new.self = grind arith in
-    let read = mapped_some shallow _ _ _ c.in_ok-members.ensures.ok in
+    let read = mapped_some kept _ _ _ c.in_ok-read.ensures.ok in
     ap (λ ts. option_and_then as_object (whole (value 127 ts))) opened ∙ members_and_more r c.next.new.self (token_of c.in-Some.field-0) read.0 (read.1 ∙ ap (λ ts. Some (read.0, ts)) rest)
 
 pub returns-in-None-clause-ok : goal.returns-in-None-clause-ok
@@ -31,5 +31,5 @@ returns-in-None-clause-ok c =
     let r = c.take_begin_object.new.reader in
     let opened : tokens c.args.text.now ≡ begin_object ∷ r = grind arith in
     let none : c.read_members.new.reader ≡ [] = grind arith in
-    let read = mapped_some shallow _ _ _ c.in_ok-members.ensures.ok in
-    ap (λ ts. option_map shallow (option_and_then as_object (whole (value 127 ts)))) opened ∙ ap (option_map shallow) (members_read r read.0 (read.1 ∙ ap (λ ts. Some (read.0, ts)) none)) ∙ ap Some read.2
+    let read = mapped_some kept _ _ _ c.in_ok-read.ensures.ok in
+    ap (λ ts. option_map kept (option_and_then as_object (whole (value 127 ts)))) opened ∙ ap (option_map kept) (members_read r read.0 (read.1 ∙ ap (λ ts. Some (read.0, ts)) none)) ∙ ap Some read.2

@@ -1,0 +1,88 @@
+//! From a line to its members and links.
+
+ghost use Rattle.std.specs.Prelude.{◌≡◌, ◌<◌, length, None, Some, option_map, option_and_then, IfOk, IsErrOf, OnOk};
+ghost use Rattle.json.specs.Json.{value, members, parse_map};
+ghost use Rattle.serde_json.specs.Data.{no_members};
+ghost use Rattle.serde_json.specs.Find.{as_object};
+ghost use Rattle.serde_json.specs.Read.{of_json, of_members, converted, read as read_json};
+ghost use Rattle.serde_json.specs.View.{view, members_view};
+ghost use Rattle.rp_wire.specs.Asks.{asked_with, asked_of};
+ghost use Rattle.rp_wire.specs.Kept.{kept_at, kept};
+
+use crate::links::{Links, read_links};
+use crate::members::Members;
+use json::{Reader, Scratch};
+use plain_data::Rows;
+use serde_json::{Map, Value};
+use shallow_json::{Unread, read_member, take_begin_object};
+use std::alloc::Global;
+
+/// How deep lists and objects may nest in a member.
+const DEPTH: usize = 126;
+
+/// The members of the object that a line is, with null for each list and each object among them, and
+/// its links. Of equal keys the last one stands.
+pub(crate) fn read_line(alloc: Global, line: &[u8]) -> Result<(Members, Links), Unread>
+    ensures ok { IfOk result (λ read. asked_of line.now ≡ asked_with read.1 (members_view read.0.entries)) }
+    ensures bad { IsErrOf result Unread.Invalid → asked_of line.now ≡ None }
+{
+    match simdutf8::compat::from_utf8(line) {
+        Ok(text) => read_object(alloc, text),
+        Err(_) => Err(Unread::Invalid),
+    }
+}
+
+fn read_object(alloc: Global, text: &str) -> Result<(Members, Links), Unread>
+    ensures ok { IfOk result (λ read. option_map kept (option_and_then as_object (read_json text.now))
+        ≡ Some (members_view read.0.entries, read.1)) }
+    ensures bad { IsErrOf result Unread.Invalid → option_and_then as_object (read_json text.now) ≡ None }
+{
+    let mut scratch = Scratch::new(alloc);
+    let mut reader = Reader::new(text, &mut scratch)?;
+    if !take_begin_object(&mut reader) {
+        return Err(Unread::Invalid);
+    }
+    let read = read_members(alloc, &mut reader)?;
+    match reader.next() {
+        None => Ok(read),
+        Some(_) => Err(Unread::Invalid),
+    }
+}
+
+/// The members that follow the brace that opens the object, and the links among them.
+fn read_members(alloc: Global, reader: &mut Reader<'_>) -> Result<(Members, Links), Unread>
+    ensures ok { IfOk result (λ read. parse_map kept (converted (λ ms. of_members ms no_members)
+        (members (value 126) (length reader.old) reader.old))
+        ≡ Some ((members_view read.0.entries, read.1), reader.new)) }
+    ensures bad { IsErrOf result Unread.Invalid → converted (λ ms. of_members ms no_members)
+        (members (value 126) (length reader.old) reader.old) ≡ None }
+{
+    let mut found = Map::new(alloc);
+    let mut links = Some(Rows::new(alloc));
+    'members: while let Some(name) = reader.next_key()? {
+        let key = String::from_str(alloc, name)?;
+        let member = read_at(alloc, reader, name, &mut links)?;
+        drop(found.insert(key, member)?);
+    }
+    Ok((found, links))
+}
+
+/// The member of this name. The links are those of the last one at `links`.
+fn read_at(
+    alloc: Global,
+    reader: &mut Reader<'_>,
+    name: &str,
+    links: &mut Links,
+) -> Result<Value, Unread>
+    ensures ok { IfOk result (λ v. parse_map (kept_at name.now links.old) (converted of_json (value 126 reader.old))
+        ≡ Some ((view v, links.new), reader.new)) }
+    ensures shorter { OnOk result (length reader.new < length reader.old) }
+    ensures bad { IsErrOf result Unread.Invalid → converted of_json (value 126 reader.old) ≡ None }
+{
+    if name == "links" {
+        let (member, read) = read_links(alloc, reader)?;
+        *links = read;
+        return Ok(member);
+    }
+    read_member(alloc, reader, DEPTH)
+}
