@@ -1,5 +1,5 @@
 #!/usr/bin/env python3
-"""Runs the examples of README.md and of docs/EXCHANGE-FILES.md, and compares what they print byte for byte.
+"""Runs the examples of README.md and of the documents, and compares what they print byte for byte.
 
     .ci/check_readme.py [PROGRAM]
 
@@ -9,18 +9,19 @@ Fenced blocks of a page whose first line has one of these forms make up its exam
     ```sh example                the block is a command, run there by bash; rp_server is in its PATH
     ```text output               the block is exactly what the command before it prints
 
-`crates/rp_server/out/rp_server` is the program in that folder too. A command prints nothing on standard
-error and ends with status 0. There has to be at least one command.
+`crates/rp_server/out/rp_server` is the program in that folder too, and `example/` and `tools/ask.py` are those of the
+repository. A command prints nothing on standard error and ends with status 0. There has to be at least one command.
 """
 import os
 import re
+import shutil
 import subprocess
 import sys
 import tempfile
 
 TOP = os.path.dirname(os.path.dirname(os.path.abspath(__file__)))
 PROGRAM = os.path.join(TOP, "crates/rp_server/out/rp_server")
-PAGES = ("README.md", "docs/EXCHANGE-FILES.md")
+PAGES = ("README.md", "docs/REQUESTS.md", "docs/EXCHANGE-FILES.md")
 
 
 def blocks_of(text):
@@ -62,6 +63,9 @@ def run_examples(program, page):
         bin_folder = os.path.join(folder, "crates/rp_server/out")
         os.makedirs(bin_folder)
         os.symlink(program, os.path.join(bin_folder, "rp_server"))
+        shutil.copytree(os.path.join(TOP, "example"), os.path.join(folder, "example"))
+        os.mkdir(os.path.join(folder, "tools"))
+        shutil.copy(os.path.join(TOP, "tools/ask.py"), os.path.join(folder, "tools"))
         for name, body in files.items():
             with open(os.path.join(folder, name), "w", encoding="utf-8") as it:
                 it.write(body)

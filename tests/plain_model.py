@@ -1,6 +1,6 @@
 """The plain repository in Python: what each line is answered, byte for byte, and what it changes.
 
-It is written from README.md and docs/DECISIONS.md, and never from the program. A model is a row of a list, and every
+It is written from docs/REQUESTS.md, docs/REFUSALS.md and docs/DECISIONS.md, and never from the program. A model is a row of a list, and every
 question is asked of all rows. What an exchange file and a schema's text spell isn't found out here: who makes the texts
 knows it. What a file says by its schema is found in plain_binding.py.
 

@@ -335,7 +335,7 @@ def commands(it):
 ROWS = [
     ("a procedure", "SCHEMA A; ENTITY e; a : REAL; END_ENTITY; PROCEDURE p; END_PROCEDURE; END_SCHEMA;",
      1, b"OutOfProfile line 1 column 43\n"),
-    ("the example of the README", """SCHEMA T;
+    ("the example of docs/REQUESTS.md", """SCHEMA T;
 ENTITY p; x : REAL; n : OPTIONAL STRING;
 INVERSE u : SET [0:?] OF q FOR a;
 WHERE w1 : SIZEOF(u) <= 2; END_ENTITY;
