@@ -8,9 +8,12 @@ Fenced blocks of a page whose first line has one of these forms make up its exam
     ```json file=config.json     the block is the file config.json of the folder that examples run in
     ```sh example                the block is a command, run there by bash; rp_server is in its PATH
     ```text output               the block is exactly what the command before it prints
+    ```json request              each line is a request; all those of a page are asked in one run, by its config.json
+    ```json reply                the replies to the requests of the block before it, a line each
 
 `crates/rp_server/out/rp_server` is the program in that folder too, and `example/` and `tools/ask.py` are those of the
-repository. A command prints nothing on standard error and ends with status 0. There has to be at least one command.
+repository. The examples of a page that lies in `example/` run in a copy of its folder. A command prints nothing on
+standard error and ends with status 0. There has to be at least one example.
 """
 import os
 import re
@@ -18,10 +21,20 @@ import shutil
 import subprocess
 import sys
 import tempfile
+from typing import NamedTuple
 
 TOP = os.path.dirname(os.path.dirname(os.path.abspath(__file__)))
 PROGRAM = os.path.join(TOP, "crates/rp_server/out/rp_server")
-PAGES = ("README.md", "docs/REQUESTS.md", "docs/EXCHANGE-FILES.md")
+PAGES = ("README.md", "docs/REQUESTS.md", "docs/REFUSALS.md", "docs/EXCHANGE-FILES.md")
+BATCH = "rp_server batch --config config.json"
+
+
+class Example(NamedTuple):
+    """A command, what stands on its standard input, and what it has to print."""
+
+    command: str
+    given: str
+    output: str
 
 
 def blocks_of(text):
@@ -29,64 +42,95 @@ def blocks_of(text):
     return re.findall(r"^```([^\n`]*)\n(.*?)^```[ ]*$", text, re.MULTILINE | re.DOTALL)
 
 
-def examples_of(text):
-    """The files, and each command with what it prints."""
-    files, commands = {}, []
-    for head, body in blocks_of(text):
-        words = head.split()
-        if len(words) != 2:
-            continue
-        if words[1].startswith("file="):
+def pairs_of(blocks, first, second):
+    """Each block of the first word with the block of the second that has to come next of the two."""
+    pairs = []
+    for words, body in blocks:
+        if words[1:] == [first]:
+            pairs.append([body, None])
+        elif words[1:] == [second]:
+            if not pairs or pairs[-1][1] is not None:
+                sys.exit(f"check_readme: '{second}' with no '{first}' before it")
+            pairs[-1][1] = body
+    missing = [asked for asked, told in pairs if told is None]
+    if missing:
+        sys.exit(f"check_readme: no '{second}' stands after {missing[0]!r}")
+    return pairs
+
+
+def files_of(blocks):
+    """The files of a page, by their names."""
+    files = {}
+    for words, body in blocks:
+        if len(words) == 2 and words[1].startswith("file="):
             name = words[1].removeprefix("file=")
             if not re.fullmatch(r"[\w-][\w.-]*", name) or name in files:
                 sys.exit(f"check_readme: {name!r} can't be the name of an example's file, or stands twice")
             files[name] = body
-        elif words[1] == "example":
-            commands.append([body, None])
-        elif words[1] == "output":
-            if not commands or commands[-1][1] is not None:
-                sys.exit("check_readme: an output with no command before it")
-            commands[-1][1] = body
-    return files, commands
+    return files
+
+
+def examples_of(blocks):
+    """The commands of a page, and the requests and replies of all its blocks as one command more."""
+    examples = [Example(command, "", output) for command, output in pairs_of(blocks, "example", "output")]
+    asked = pairs_of(blocks, "request", "reply")
+    for lines, replies in asked:
+        if lines.count("\n") != replies.count("\n"):
+            sys.exit(f"check_readme: not as many replies as requests: {lines!r}")
+    if asked:
+        examples.append(Example(BATCH, "".join(it for it, _ in asked), "".join(it for _, it in asked)))
+    return examples
+
+
+def fill(folder, program, page, files):
+    """Makes the folder that a page's examples run in, and gives it with the program's folder."""
+    bin_folder = os.path.join(folder, "crates/rp_server/out")
+    os.makedirs(bin_folder)
+    os.symlink(program, os.path.join(bin_folder, "rp_server"))
+    shutil.copytree(os.path.join(TOP, "example"), os.path.join(folder, "example"))
+    os.mkdir(os.path.join(folder, "tools"))
+    shutil.copy(os.path.join(TOP, "tools/ask.py"), os.path.join(folder, "tools"))
+    where = os.path.join(folder, os.path.dirname(page) if page.startswith("example/") else "")
+    for name, body in files.items():
+        with open(os.path.join(where, name), "w", encoding="utf-8") as it:
+            it.write(body)
+    return where, bin_folder
+
+
+def first_difference(seen, wanted):
+    """The first line of an output that is another one than wanted."""
+    pairs = zip([*seen.splitlines(), "(the end)"], [*wanted.splitlines(), "(the end)"])
+    return next((f"{it!r}\nin place of\n{other!r}" for it, other in pairs if it != other), "other line ends")
 
 
 def run_examples(program, page):
     """Runs the examples of a page in a folder of their own, and gives their number."""
     try:
         with open(os.path.join(TOP, page), encoding="utf-8") as it:
-            files, commands = examples_of(it.read())
+            blocks = [(head.split(), body) for head, body in blocks_of(it.read())]
     except OSError as fault:
         sys.exit(f"check_readme: {fault}")
-    if not commands:
+    examples = examples_of(blocks)
+    if not examples:
         sys.exit(f"check_readme: {page} has no example")
     with tempfile.TemporaryDirectory() as folder:
-        bin_folder = os.path.join(folder, "crates/rp_server/out")
-        os.makedirs(bin_folder)
-        os.symlink(program, os.path.join(bin_folder, "rp_server"))
-        shutil.copytree(os.path.join(TOP, "example"), os.path.join(folder, "example"))
-        os.mkdir(os.path.join(folder, "tools"))
-        shutil.copy(os.path.join(TOP, "tools/ask.py"), os.path.join(folder, "tools"))
-        for name, body in files.items():
-            with open(os.path.join(folder, name), "w", encoding="utf-8") as it:
-                it.write(body)
-        for command, output in commands:
-            if output is None:
-                sys.exit(f"check_readme: no output stands after {command!r}")
-            path = {**os.environ, "PATH": f"{bin_folder}:{os.environ['PATH']}"}
-            done = subprocess.run(["bash", "-euo", "pipefail", "-c", command], cwd=folder, env=path,
-                                  stdin=subprocess.DEVNULL, capture_output=True, timeout=120, check=False)
-            if done.returncode != 0 or done.stderr or done.stdout != output.encode():
-                sys.exit(f"check_readme: {command!r} gave status {done.returncode} and\n"
-                         f"{done.stdout.decode(errors='replace')}{done.stderr.decode(errors='replace')}"
-                         f"in place of\n{output}")
-    return len(commands)
+        where, bin_folder = fill(folder, program, page, files_of(blocks))
+        path = {**os.environ, "PATH": f"{bin_folder}:{os.environ['PATH']}"}
+        for example in examples:
+            done = subprocess.run(["bash", "-euo", "pipefail", "-c", example.command], cwd=where, env=path,
+                                  input=example.given.encode(), capture_output=True, timeout=120, check=False)
+            seen, errors = done.stdout.decode(errors="replace"), done.stderr.decode(errors="replace")
+            if done.returncode != 0 or errors or seen != example.output:
+                sys.exit(f"check_readme: {page}: {example.command!r} gave status {done.returncode} and\n{errors}"
+                         f"{first_difference(seen, example.output)}")
+    return len(examples)
 
 
 def main(words):
     program = os.path.abspath(words[0] if words else PROGRAM)
     if not os.access(program, os.X_OK):
         sys.exit(f"check_readme: there is no program {program}: run rt ci first, or name it")
-    print(f"check_readme: {sum(run_examples(program, page) for page in PAGES)} examples")
+    print(f"check_readme: {sum(run_examples(program, page) for page in PAGES)} examples in {len(PAGES)} pages")
 
 
 if __name__ == "__main__":

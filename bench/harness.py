@@ -168,12 +168,17 @@ class Session:
 class Table:
     """Columns, each with its title and the form of its values, as '12,' or '8.3f'. Its head is printed at once."""
 
+    # each row of all tables that were printed, by the titles of its columns
+    rows = []
+
     def __init__(self, columns):
+        self.titles = list(columns)
         self.forms = list(columns.values())
         widths = [re.match(r"\d+", form)[0] for form in self.forms]
         print(" ".join(f"{title:>{width}}" for title, width in zip(columns, widths)))
 
     def row(self, *values):
+        Table.rows.append(dict(zip(self.titles, values)))
         print(" ".join(f"{value:>{form}}" for value, form in zip(values, self.forms, strict=True)), flush=True)
 
 
