@@ -25,7 +25,7 @@ from typing import NamedTuple
 
 TOP = os.path.dirname(os.path.dirname(os.path.abspath(__file__)))
 PROGRAM = os.path.join(TOP, "crates/rp_server/out/rp_server")
-PAGES = ("README.md", "docs/REQUESTS.md", "docs/REFUSALS.md", "docs/EXCHANGE-FILES.md")
+PAGES = ("README.md", "docs/REQUESTS.md", "docs/REFUSALS.md", "docs/EXCHANGE-FILES.md", "example/session/README.md")
 BATCH = "rp_server batch --config config.json"
 
 

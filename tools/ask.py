@@ -31,7 +31,7 @@ from typing import NamedTuple
 TOP = os.path.dirname(os.path.dirname(os.path.abspath(__file__)))
 PROGRAM = os.path.join(TOP, "crates/rp_server/out/rp_server")
 ANN = {"name": "ann", "token": "a secret of ann's"}
-COLUMN = 50
+COLUMN = 46
 
 
 class Request(NamedTuple):
@@ -170,11 +170,16 @@ def in_rows(requests, replies):
 
 
 def cell(reply):
-    """The lines of a reply in its column, broken behind commas and line feeds."""
-    if reply is None:
-        return ["."]
-    text = reply.replace("\\n", "\\n ").replace(",", ", ")
-    return [line.strip() for line in textwrap.wrap(text, COLUMN, break_long_words=True, break_on_hyphens=False)]
+    """The lines of a reply in its column: together they are the reply."""
+    lines = [""]
+    for piece in re.findall(r'.+?(?:\\n|,(?=["{])|\Z)', reply or "."):
+        if len(lines[-1]) + len(piece) > COLUMN or lines[-1].endswith("\\n"):
+            lines.append("")
+        while len(piece) > COLUMN:
+            lines[-1:] = [piece[:COLUMN], ""]
+            piece = piece[COLUMN:]
+        lines[-1] += piece
+    return [it for it in lines if it]
 
 
 def show_columns(partners, requests, replies):
