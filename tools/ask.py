@@ -144,6 +144,16 @@ def is_text(reply):
     return "file" in json.loads(reply).get("ok", {})
 
 
+def show_place(request, reply):
+    """The line of the text in which the byte of a refusal lies, with a caret below it."""
+    refused = json.loads(reply).get("refused", {})
+    text = request.keys.get("file", request.keys.get("text"))
+    if "at" in refused and isinstance(text, str):
+        before, behind = text.encode()[:refused["at"]].decode(errors="ignore"), text.encode()[refused["at"]:].decode(errors="ignore")
+        line = before.rpartition("\n")[2]
+        print(f"    line {before.count(chr(10)) + 1} of it:\n    | {line}{behind.partition(chr(10))[0]}\n    | {' ' * len(line)}^")
+
+
 def show(requests, replies):
     """Each request with its reply below it. The file of an export is shown as its lines."""
     for request, reply in zip(requests, replies):
@@ -155,6 +165,7 @@ def show(requests, replies):
             print(textwrap.indent(text, "    | "), end="")
         else:
             print("    " + reply)
+            show_place(request, reply)
 
 
 # ---- columns
