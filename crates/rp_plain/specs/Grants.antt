@@ -2,11 +2,12 @@
 use Rattle.std.specs.Prelude.{List, [], ◌∷◌, Some, None, if◌then◌else◌}
 use Rattle.std.specs.Str.{bytes_eq}
 use Rattle.rp_rows.specs.declared.rows.Level.{Level}
+use Rattle.rp_rows.specs.declared.rows.Level.TheVariants.{Read}
 use Rattle.rp_rows.specs.Rows.{Text}
 use Rattle.rp_rows.specs.Alterations.{Grants}
 use Rattle.rp_plain.specs.declared.messages.Reply.TheVariants.{Done}
 use Rattle.rp_plain.specs.Asked.{Asked}
-use Rattle.rp_plain.specs.Edits.{Edit, EditModel}
+use Rattle.rp_plain.specs.Edits.{Edit, EditModel, EditGroup}
 use Rattle.rp_plain.specs.Meaning.{Meaning, names_fault, is_no_partner, unseen}
 
 -- a grant to the owner changes nothing
@@ -26,4 +27,19 @@ revoke_model a c name to = record {
   tests = names_fault name to ∷ is_no_partner a to ∷ unseen (a.model_right (c, name)) ∷ [];
   reply = Done;
   edits = EditModel (c, name) (Grants to None) ∷ [];
+}
+
+-- a group is granted to be read
+abbrev pub grant_group : Asked → Text → Text → Text → Meaning
+grant_group a c name to = record {
+  tests = names_fault name to ∷ is_no_partner a to ∷ unseen (a.group_right (c, name)) ∷ [];
+  reply = Done;
+  edits = unless_own c to (EditGroup (c, name) (Grants to (Some Read)));
+}
+
+abbrev pub revoke_group : Asked → Text → Text → Text → Meaning
+revoke_group a c name to = record {
+  tests = names_fault name to ∷ is_no_partner a to ∷ unseen (a.group_right (c, name)) ∷ [];
+  reply = Done;
+  edits = EditGroup (c, name) (Grants to None) ∷ [];
 }

@@ -4,9 +4,11 @@ pub mod Asked
 pub mod Meaning
 pub mod Models
 pub mod Grants
+pub mod Groups
 pub mod Links
 pub mod Files
 pub mod Lists
+pub mod Populations
 pub mod Instances
 pub mod Checks
 pub mod Step

@@ -2,7 +2,7 @@
 use Rattle.std.specs.Prelude.{List, [], Option, Some, None}
 use Rattle.rp_rows.specs.Rows.{Text}
 use Rattle.rp_plain.specs.declared.messages.Request.{Request}
-use Rattle.rp_plain.specs.declared.messages.Request.TheVariants.{CreateModel, DeleteModel, Put, Export, Names, Get, Add, Set, DropInstance, ListItems, GrantModel, RevokeModel, Schemas, CheckSchema}
+use Rattle.rp_plain.specs.declared.messages.Request.TheVariants.{CreateModel, DeleteModel, Put, Export, Names, Get, Add, Set, DropInstance, ListItems, GrantModel, RevokeModel, CreateGroup, DeleteGroup, GrantGroup, RevokeGroup, Include, Exclude, Members, Extent, Users, Schemas, CheckSchema}
 use Rattle.rp_plain.specs.declared.messages.Refusal.{Refusal}
 use Rattle.rp_plain.specs.declared.messages.Reply.{Reply}
 use Rattle.rp_plain.specs.declared.messages.Reply.TheVariants.{Refused}
@@ -11,7 +11,9 @@ use Rattle.rp_plain.specs.Edits.{Edit, changed}
 use Rattle.rp_plain.specs.Asked.{Asked, asked}
 use Rattle.rp_plain.specs.Meaning.{Meaning, first_some}
 use Rattle.rp_plain.specs.Models.{create_model, delete_model}
-use Rattle.rp_plain.specs.Grants.{grant_model, revoke_model}
+use Rattle.rp_plain.specs.Grants.{grant_model, revoke_model, grant_group, revoke_group}
+use Rattle.rp_plain.specs.Groups.{create_group, delete_group, include, exclude}
+use Rattle.rp_plain.specs.Populations.{members, extent, users}
 use Rattle.rp_plain.specs.Files.{put, export}
 use Rattle.rp_plain.specs.Lists.{names, list_items, schemas}
 use Rattle.rp_plain.specs.Instances.{get, add, set, drop_instance}
@@ -31,6 +33,15 @@ meaning a c (DropInstance model instance) = drop_instance a model instance
 meaning a c ListItems = list_items a
 meaning a c (GrantModel name to level) = grant_model a c name to level
 meaning a c (RevokeModel name to) = revoke_model a c name to
+meaning a c (CreateGroup name schema) = create_group a c name schema
+meaning a c (DeleteGroup name) = delete_group a c name
+meaning a c (GrantGroup name to) = grant_group a c name to
+meaning a c (RevokeGroup name to) = revoke_group a c name to
+meaning a c (Include group model) = include a c group model
+meaning a c (Exclude group model) = exclude a c group model
+meaning a c (Members group) = members a group
+meaning a c (Extent group entity) = extent a group entity
+meaning a c (Users group place role) = users a group place role
 meaning a c Schemas = schemas a
 meaning a c (CheckSchema text) = check_schema text
 

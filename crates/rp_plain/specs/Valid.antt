@@ -29,6 +29,7 @@ use Rattle.rp_plain.specs.Plain.{Plain}
 use Rattle.rp_plain.specs.Opening.{new_fault}
 use Rattle.rp_plain.specs.Meaning.{has_text, has_schema, schema_named}
 use Rattle.rp_plain.specs.Models.{max_models}
+use Rattle.rp_plain.specs.Groups.{max_groups, max_members, itself}
 use Rattle.rp_plain.specs.Links.{max_links, target_model}
 use Rattle.rp_plain.specs.Instances.{is_defined}
 
@@ -120,15 +121,8 @@ pub record IsValidMember (partners : List (List ℕ)) (k : Key) : Type 0 where
   pub owner : has_text partners k.0 ≡ true
   pub name : is_name k.1 ≡ true
 
--- the members of a group
-abbrev pub max_members : ℕ
-max_members = 50
-
 abbrev pub IsRead : Grant → Type 0
 IsRead g = g.level ≡ Read
-
-abbrev pub itself : Key → Key
-itself k = k
 
 pub record IsValidGroup (schemas : List Checked) (partners : List (List ℕ)) (g : GroupRow) : Type 0 where
   pub row : IsValidRow partners g
@@ -145,10 +139,6 @@ pub record IsValidGroup (schemas : List Checked) (partners : List (List ℕ)) (g
 pub record IsOrdered (r : Plain) : Type 0 where
   pub models : IsAscending key_cmp row_key r.models
   pub groups : IsAscending key_cmp row_key r.groups
-
--- the groups of one owner
-abbrev pub max_groups : ℕ
-max_groups = 100
 
 pub record IsValid (r : Plain) : Type 0 where
   -- names of schemas and of partners stand once, partners have names, and neither are too many

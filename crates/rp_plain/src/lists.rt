@@ -1,7 +1,7 @@
 //! What lists have in them.
 
 use plain_data::Text;
-use rp_rows::rows::Right;
+use rp_rows::rows::{Key, Right};
 
 /// A model or a group in a list.
 #[derive(Drop)]
@@ -17,4 +17,12 @@ pub struct Item {
 pub struct NamedType {
     pub name: u64,
     pub type_name: Text,
+}
+
+/// A model that a group lists.
+#[derive(Drop)]
+pub struct Member {
+    pub model: Key,
+    /// Its instances belong to the group's population.
+    pub counts: bool,
 }

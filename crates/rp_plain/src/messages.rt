@@ -1,10 +1,11 @@
 //! Requests and their replies.
 
-use crate::lists::{Item, NamedType};
+use crate::lists::{Item, Member, NamedType};
 use ex_check::SchemaFault;
 use p21_tree::{FileFault, InstanceFault};
 use plain_data::{Rows, Text};
 use rp_content::Link;
+use rp_population::Place;
 use rp_rows::rows::{Key, Level};
 use std::alloc::{AllocError, AllocFailed};
 
@@ -73,6 +74,53 @@ pub enum Request {
         name: Text,
         to: Text,
     },
+    /// A group of the caller's, without members.
+    CreateGroup {
+        name: Text,
+        /// In either case.
+        schema: Text,
+    },
+    /// Without a group of the caller's.
+    DeleteGroup {
+        name: Text,
+    },
+    /// A partner may read a group of the caller's.
+    GrantGroup {
+        name: Text,
+        to: Text,
+    },
+    /// A partner may not read a group of the caller's.
+    RevokeGroup {
+        name: Text,
+        to: Text,
+    },
+    /// A group of the caller's lists a model.
+    Include {
+        group: Text,
+        model: Key,
+    },
+    /// A group of the caller's doesn't list a model.
+    Exclude {
+        group: Text,
+        model: Key,
+    },
+    /// The models that a group lists, and which of them count.
+    Members {
+        group: Key,
+    },
+    /// The instances of an entity in a group's population.
+    Extent {
+        group: Key,
+        /// The entity's name, in either case.
+        entity: Text,
+    },
+    /// The instances of a group's population that use one of them.
+    Users {
+        group: Key,
+        of: Place,
+        /// `SCHEMA.ENTITY.ATTRIBUTE`, or nothing for all.
+        role: Text,
+    },
     /// The names of the schemas.
     Schemas,
     /// What there is to tell of an EXPRESS text.
@@ -115,6 +163,8 @@ pub enum Refusal {
     NoSuchItem,
     NoRight,
     WrongSchema,
+    /// The group lists the model already, or doesn't list the one that it shall not list.
+    Membership,
     FileFault(FileFault),
     InstanceFault(InstanceFault),
     LinkFault(LinkFault),
@@ -172,6 +222,12 @@ pub enum Reply {
         groups: Rows<Item>,
         models: Rows<Item>,
     },
+    /// The models that a group lists, in the order of owner and name.
+    Members(Rows<Member>),
+    /// The instances of an entity, in the order of their places.
+    Extent(Rows<Place>),
+    /// The users of an instance, in the order of their places, each as often as it uses it.
+    Users(Rows<Place>),
     /// The names of the schemas, in byte order.
     Schemas(Rows<Text>),
     /// The text is this schema, with warnings at these bytes.
@@ -204,6 +260,9 @@ impl Drop for Reply {
                 drop(groups);
                 drop(models);
             }
+            Reply::Members(members) => drop(members),
+            Reply::Extent(places) => drop(places),
+            Reply::Users(places) => drop(places),
             Reply::Schemas(names) => drop(names),
             Reply::Checked { schema, warnings } => {
                 drop(schema);

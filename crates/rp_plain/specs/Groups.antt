@@ -1,0 +1,94 @@
+-- The requests that create and delete groups, and that change which models they list.
+use Rattle.std.specs.Prelude.{ℕ, Bool, not, ◌&&◌, nat_le, List, [], ◌∷◌, length, Option, Some, None}
+use Rattle.std.specs.List.{list_any}
+use Rattle.std.specs.Str.{bytes_eq, str_to_ascii_uppercase}
+use Rattle.sorted_tables.specs.Table.{with_row}
+use Rattle.rp_rows.specs.declared.rows.Listing.{Listing}
+use Rattle.rp_rows.specs.declared.rows.ModelContent.{ModelContent}
+use Rattle.rp_rows.specs.declared.rows.Right.TheVariants.{Reads, Groups}
+use Rattle.rp_rows.specs.Names.{is_name}
+use Rattle.rp_rows.specs.Rows.{Text, Key, key_cmp, same_key}
+use Rattle.rp_rows.specs.Sight.{at_least}
+use Rattle.rp_rows.specs.Alterations.{Holds}
+use Rattle.rp_plain.specs.declared.messages.Refusal.{Refusal}
+use Rattle.rp_plain.specs.declared.messages.Refusal.TheVariants.{BadName, Exists, WrongSchema, Membership, TooMany}
+use Rattle.rp_plain.specs.declared.messages.Reply.TheVariants.{Done}
+use Rattle.rp_plain.specs.Asked.{Asked}
+use Rattle.rp_plain.specs.Edits.{Edit, EditGroup}
+use Rattle.rp_plain.specs.Meaning.{Meaning, when, name_fault, is_no_partner, is_no_schema, unseen, lacks}
+
+-- the groups of one owner
+abbrev pub max_groups : ℕ
+max_groups = 100
+
+-- the members of a group
+abbrev pub max_members : ℕ
+max_members = 50
+
+-- a group as it is created
+abbrev pub new_listing : Text → Listing
+new_listing schema = record { schema = str_to_ascii_uppercase schema; members = [] }
+
+abbrev pub create_group : Asked → Text → Text → Text → Meaning
+create_group a c name schema = record {
+  tests = name_fault name ∷ is_no_schema a schema ∷ when (at_least Reads (a.group_right (c, name))) Exists ∷ when (nat_le max_groups a.group_count) TooMany ∷ [];
+  reply = Done;
+  edits = EditGroup (c, name) (Holds (Some (new_listing schema))) ∷ [];
+}
+
+abbrev pub delete_group : Asked → Text → Text → Meaning
+delete_group a c name = record {
+  tests = name_fault name ∷ unseen (a.group_right (c, name)) ∷ [];
+  reply = Done;
+  edits = EditGroup (c, name) (Holds None) ∷ [];
+}
+
+-- ---- members
+
+abbrev pub itself : Key → Key
+itself k = k
+
+-- the list has the model from now on
+abbrev pub with_member : Key → Listing → Listing
+with_member k g = record g { members = with_row key_cmp itself k (Some k) g.members }
+
+-- it has it no longer
+abbrev pub without_member : Key → Listing → Listing
+without_member k g = record g { members = with_row key_cmp itself k None g.members }
+
+abbrev pub members_of : Option Listing → List Key
+members_of None = []
+members_of (Some g) = g.members
+
+abbrev pub is_member : Key → Option Listing → Bool
+is_member k g = list_any (same_key k) (members_of g)
+
+-- the name of a group, and a model's
+abbrev pub member_fault : Text → Key → Option Refusal
+member_fault group k = when (not (is_name group && is_name k.0 && is_name k.1)) BadName
+
+-- the model is of another schema than the group
+abbrev pub is_of_other : Option ModelContent → Option Listing → Option Refusal
+is_of_other (Some h) (Some g) = when (not (bytes_eq h.schema g.schema)) WrongSchema
+is_of_other _ _ = None
+
+abbrev pub relisted : Key → (Listing → Listing) → Option Listing → List Edit
+relisted k change None = []
+relisted k change (Some g) = EditGroup k (Holds (Some (change g))) ∷ []
+
+-- the group is the caller's own; of the model he needs the level Group
+abbrev pub include : Asked → Text → Text → Key → Meaning
+include a c group k = let g = a.listing (c, group) in record {
+  tests = member_fault group k ∷ is_no_partner a k.0 ∷ unseen (a.group_right (c, group)) ∷ lacks Groups (a.model_right k) ∷ is_of_other (a.content k) g
+      ∷ when (is_member k g) Membership ∷ when (nat_le max_members (length (members_of g))) TooMany ∷ [];
+  reply = Done;
+  edits = relisted (c, group) (with_member k) g;
+}
+
+-- the model isn't looked at
+abbrev pub exclude : Asked → Text → Text → Key → Meaning
+exclude a c group k = let g = a.listing (c, group) in record {
+  tests = member_fault group k ∷ is_no_partner a k.0 ∷ unseen (a.group_right (c, group)) ∷ when (not (is_member k g)) Membership ∷ [];
+  reply = Done;
+  edits = relisted (c, group) (without_member k) g;
+}

@@ -1,0 +1,3 @@
+pub mod Populations
+pub mod Entities
+pub mod Uses

@@ -1,0 +1,69 @@
+-- Who uses an instance of a population, and in which role (ISO 10303-11:1994, 15.26).
+use Rattle.std.specs.Prelude.{ℕ, Bool, ◌&&◌, ◌==◌, List, [], ◌∷◌, map, filter, Option, Some, None, option_map, if◌then◌else◌}
+use Rattle.std.specs.List.{flat_map, zip, slice_split}
+use Rattle.std.specs.Str.{bytes_eq}
+use Rattle.ex_slots.specs.Slots.{Slot, slots}
+use Rattle.ex_types.specs.Checked.{Checked}
+use Rattle.lineage.specs.Lineage.{is_among}
+use Rattle.rp_content.specs.declared.instance.Instance.{Instance}
+use Rattle.rp_value.specs.declared.value.Value.{Value}
+use Rattle.rp_rows.specs.Contents.{references}
+use Rattle.rp_population.specs.declared.place.Place.{Place}
+use Rattle.rp_population.specs.Populations.{Placed, stands_for}
+use Rattle.rp_population.specs.Entities.{line_of, entities_of, is_of, entity_named}
+
+-- the attributes of instances in which uses are looked for
+pub data Role : Type 0 where
+  -- all
+  Every : Role
+  -- those of this name that an entity declares or inherits, in the instances of this entity
+  Of : ℕ → List ℕ → Role
+
+abbrev pub is_full_stop : ℕ → Bool
+is_full_stop byte = byte == 46
+
+module _ (schema : Checked) where
+  -- ---- the names of roles
+
+  -- the schema's own name, the name of one of its entities, and the name of an attribute, which are in upper case
+  abbrev pub role_of_parts : List (List ℕ) → Option Role
+  role_of_parts (name ∷ entity ∷ attribute ∷ []) =
+      if bytes_eq name schema.named.schema.name.text then option_map (λ number. Of number attribute) (entity_named schema entity) else None
+  role_of_parts _ = None
+
+  -- `SCHEMA.ENTITY.ATTRIBUTE`, or nothing for all; what is of another form is no role
+  abbrev pub role_of : List ℕ → Option Role
+  role_of [] = Some Every
+  role_of (byte ∷ bytes) = role_of_parts (slice_split is_full_stop (byte ∷ bytes))
+
+  -- ---- uses
+
+  -- the explicit attributes of an instance, each with its value; one that is derived has the indeterminate value, which refers to nothing
+  abbrev pub valued : Instance → List (Slot × Value)
+  valued i = zip (slots schema.named.schema.entities (entities_of schema i.types)) i.values
+
+  -- whether an attribute is one of this name that the entity declares or inherits
+  abbrev pub is_attribute : ℕ → List ℕ → Slot × Value → Bool
+  is_attribute entity name a = is_among (line_of schema entity) a.0.place.entity && bytes_eq a.0.name.text name
+
+  -- the values that an instance has in a role, in the order of its attributes
+  abbrev pub values_in : Role → Instance → List Value
+  values_in Every i = i.values
+  values_in (Of entity name) i = if is_of schema entity i then map (λ a. a.1) (filter (is_attribute entity name) (valued i)) else []
+
+  -- the names that they refer to at any depth, from the left, each as often as it stands there
+  abbrev pub references_in : Role → Instance → List ℕ
+  references_in role i = flat_map references (values_in role i)
+
+  -- an instance, once for each time that it uses what stands at the place
+  abbrev pub as_user : Role → Place → Placed → List Placed
+  as_user role p x = map (λ name. x) (filter (stands_for p x) (references_in role x.instance))
+
+  abbrev pub users_in : Option Role → Place → List Placed → List Placed
+  users_in None p xs = []
+  users_in (Some role) p xs = flat_map (as_user role p) xs
+
+  -- The users of the instance at a place of the population, in a role of this name: in the order of the population, and each as often
+  -- as it uses the instance.
+  abbrev pub users : List ℕ → Place → List Placed → List Placed
+  users role p xs = users_in (role_of role) p xs
