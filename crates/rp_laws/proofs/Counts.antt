@@ -1,5 +1,5 @@
 -- How many rows pass a test after a row is put in or taken out.
-use Rattle.std.proofs.Common.{◌≡◌, ◌≤◌, ◌+◌, ℕ, Bool, true, false, List, [], ◌∷◌, ◌++◌, length, length-append, Some, None, refl, ◌∙◌, ap, arith}
+use Rattle.std.proofs.Common.{◌≡◌, ◌≤◌, ◌+◌, ℕ, suc, Bool, true, false, List, [], ◌∷◌, ◌++◌, length, length-append, Some, None, refl, ◌∙◌, ap, arith}
 use Rattle.std.specs.Prelude.{filter, if◌then◌else◌}
 use Rattle.std.specs.List.{find}
 use Rattle.std.specs.declared.cmp.Ordering.{Ordering}
@@ -7,6 +7,14 @@ use Rattle.std.specs.declared.cmp.Ordering.TheVariants.{Less, Equal, Greater}
 use Rattle.std.specs.Ordering.{is_lt, is_eq, is_gt}
 use Rattle.std.proofs.lemmas.List.Elements.{filter-append}
 use Rattle.sorted_tables.specs.Table.{is_at, is_before, is_after, with_row}
+
+-- all rows are counted by a test that each passes
+abbrev pub every : {X : Type 0} → X → Bool
+every x = true
+
+pub count_every : {X : Type 0} (xs : List X) → length (filter every xs) ≡ length xs
+count_every [] = refl
+count_every (x ∷ xs) = ap suc (count_every xs)
 
 module _ {K X : Type 0} (cmp : K → K → Ordering) (key : X → K) (p : X → Bool) where
   abbrev count : List X → ℕ

@@ -1,7 +1,7 @@
 -- The edits of each request are fit, and so a step keeps the repository valid.
-use Rattle.std.proofs.Common.{◌≡◌, ℕ, Bool, true, false, ◌&&◌, ◌||◌, nat_le, nat_lt, inl, inr, List, [], ◌∷◌, length, Option, Some, None, Result, Ok, Err, refl, sym, ◌∙◌, ap, subst, arith}
+use Rattle.std.proofs.Common.{◌≡◌, ℕ, Bool, true, false, ◌||◌, nat_le, nat_lt, inl, inr, List, [], ◌∷◌, length, Option, Some, None, Result, Ok, Err, refl, sym, ◌∙◌, ap, subst, arith}
 use Rattle.std.specs.Prelude.{filter, if◌then◌else◌}
-use Rattle.std.specs.List.{find, list_any, AllByRecursion}
+use Rattle.std.specs.List.{find, list_any}
 use Rattle.std.specs.Str.{bytes_eq, str_to_ascii_uppercase}
 use Rattle.std.proofs.lemmas.Bool.{both_ways, false_from_ne_true, or_parts}
 use Rattle.std.proofs.lemmas.Bool.Decides.{nat_tests}
@@ -15,7 +15,7 @@ use Rattle.p21_read.specs.Schemas.{is_of_schema}
 use Rattle.p21_bind.specs.Files.{content, bound_file}
 use Rattle.rp_content.specs.declared.content.Content.{Content}
 use Rattle.rp_content.specs.declared.link.Link.{Link}
-use Rattle.rp_rows.specs.declared.rows.Level.{Level}
+use Rattle.rp_rows.specs.declared.rows.Level.TheVariants.{Read}
 use Rattle.rp_rows.specs.declared.rows.ModelContent.{ModelContent}
 use Rattle.rp_rows.specs.Names.{is_name}
 use Rattle.rp_rows.specs.Rows.{Text, Key, is_row, Model}
@@ -24,11 +24,11 @@ use Rattle.rp_rows.specs.Instances.{max_instances, max_name, with_instance, with
 use Rattle.rp_rows.specs.Sight.{owns, sees}
 use Rattle.rp_rows.specs.Alterations.{Grants}
 use Rattle.rp_plain.specs.declared.messages.Request.{Request}
-use Rattle.rp_plain.specs.declared.messages.Request.TheVariants.{CreateModel, DeleteModel, Put, Add, Set, DropInstance, GrantModel, RevokeModel}
+use Rattle.rp_plain.specs.declared.messages.Request.TheVariants.{CreateModel, DeleteModel, Put, Add, Set, DropInstance, GrantModel, RevokeModel, CreateGroup, DeleteGroup, GrantGroup, RevokeGroup, Include, Exclude}
 use Rattle.rp_plain.specs.declared.messages.Refusal.{Refusal}
 use Rattle.rp_plain.specs.declared.messages.Refusal.TheVariants as refusal
 use Rattle.rp_plain.specs.Plain.{Plain, model_at}
-use Rattle.rp_plain.specs.Edits.{EditModel}
+use Rattle.rp_plain.specs.Edits.{Edit, EditModel, EditGroup}
 use Rattle.rp_plain.specs.Asked.{asked, held}
 use Rattle.rp_plain.specs.Meaning.{first_some, has_text, schema_name, has_schema, schema_named}
 use Rattle.rp_plain.specs.Models.{max_models, new_content}
@@ -43,17 +43,12 @@ use Rattle.rp_laws.proofs.ByName.{once-in_order, ordered, within, greatest_from}
 use Rattle.rp_laws.proofs.BoundFiles.{bound_names, bound_refer, bound_once, defined_by, of_file}
 use Rattle.rp_laws.proofs.FileNames.{file_named}
 use Rattle.rp_laws.proofs.FileInstances.{all_spelled, all_sound, in_order_most}
-use Rattle.rp_laws.proofs.Links.{passed, is_so, no_more, seen_valid, AreTaken, links_taken}
+use Rattle.rp_laws.proofs.Links.{seen_valid, AreTaken, links_taken}
+use Rattle.rp_laws.proofs.Passed.{all_pass, passed, is_so, no_more}
 use Rattle.rp_laws.proofs.Single.{added_valid, set_valid, left_valid}
-use Rattle.rp_laws.proofs.ValidTables.{all_each, MayHold}
-use Rattle.rp_laws.proofs.ValidEdits.{Anything, AreFit, changed_valid}
-
--- ---- what a request that is not refused has passed
-
-all_pass : {A : Type 0} (ts : List (Option A)) → first_some ts ≡ None → AllByRecursion (λ t. t ≡ None) ts
-all_pass [] h = tt
-all_pass (None ∷ ts) h = (refl, all_pass ts h)
-all_pass (Some x ∷ ts) h = cc
+use Rattle.rp_laws.proofs.GroupsValid.{group_created, include_fit, exclude_fit}
+use Rattle.rp_laws.proofs.ValidTables.{all_each, found_there, MayHold}
+use Rattle.rp_laws.proofs.ValidEdits.{Anything, IsFitEdit, AreFit, changed_valid}
 
 -- ---- creation
 
@@ -94,15 +89,6 @@ created r c name schema partner passes =
 
 -- ---- what is put where a model is seen
 
--- what is found among those that are seen is there
-there : (p q : Model → Bool) (ms : List Model) (m : Model) → find (λ x. p x && q x) ms ≡ Some m → find p ms ≡ None → ⊥
-there p q [] m found none = cc
-there p q (x ∷ xs) m found none = by (there p q xs m) (p x) found none
-  where
-    by : (find (λ y. p y && q y) xs ≡ Some m → find p xs ≡ None → ⊥) → (t : Bool) → (if t && q x then Some x else find (λ y. p y && q y) xs) ≡ Some m → (if t then Some x else find p xs) ≡ None → ⊥
-    by rest true f n = cc
-    by rest false f n = rest f n
-
 -- a model that is seen may hold what is as valid as what it holds
 held_there : (r : Plain) (c : Text) (k : Key) (h : ModelContent) (m : Model) → model_at r c k ≡ Some m → (IsValidContent r.schemas r.partners k m.holds → IsValidContent r.schemas r.partners k h) → IsValid r
     → MayHold r.partners (IsValidContent r.schemas r.partners) Anything max_models r.models k h
@@ -112,7 +98,7 @@ held_there r c k h m seen content valid =
       owner = subst (λ (j : Key). has_text r.partners j.0 ≡ true) old.1 old.0.row.owner;
       name = subst (λ (j : Key). is_name j.1 ≡ true) old.1 old.0.row.name;
       valid = content (subst (λ (j : Key). IsValidContent r.schemas r.partners j m.holds) old.1 old.0.content);
-      room = λ none. absurd (there (is_row k) (sees r.groups c) r.models m seen none);
+      room = λ none. absurd (found_there (is_row k) (sees r.groups c) r.models m seen none);
     }
 
 -- ---- a file is put
@@ -211,12 +197,13 @@ dropped_fit r c k name (Some m) seen unused valid = (held_there r c k (without_i
 turned : (c to : Text) → bytes_eq to c ≡ false → bytes_eq c to ≡ false
 turned c to other = false_from_ne_true (bytes_eq c to) (λ same. both_ways (bytes_eq to c) other ((bytes_eq-Decides to c).1 (sym ((bytes_eq-Decides c to).0 same))))
 
-granted_fit : (r : Plain) (c name to : Text) (l : Level) → has_text r.partners to ≡ true → AreFit r (unless_own c to (EditModel (c, name) (Grants to (Some l))))
-granted_fit r c name to l known = by (bytes_eq to c) refl
+-- a grant to another is fit
+granted_fit : (r : Plain) (c to : Text) (e : Edit) → (bytes_eq c to ≡ false → IsFitEdit r e) → AreFit r (unless_own c to e)
+granted_fit r c to e fit = by (bytes_eq to c) refl
   where
-    by : (t : Bool) → bytes_eq to c ≡ t → AreFit r (if t then [] else EditModel (c, name) (Grants to (Some l)) ∷ [])
-    by true e = tt
-    by false e = (record { valid = record { partner = known; other = turned c to e }; level = tt }, tt)
+    by : (t : Bool) → bytes_eq to c ≡ t → AreFit r (if t then [] else e ∷ [])
+    by true own = tt
+    by false other = (fit (turned c to other), tt)
 
 -- ---- the step
 
@@ -237,8 +224,18 @@ edits_fit r c (DropInstance k name) partner passes valid =
     dropped_fit r c k name (model_at r c k) refl each.1.1.1.1.0 valid
 edits_fit r c (GrantModel name to l) partner passes valid =
     let each = all_pass (meaning (asked r c) c (GrantModel name to l)).tests passes in
-    granted_fit r c name to l (is_so (has_text r.partners to) refusal.UnknownPartner each.1.0)
+    let known = is_so (has_text r.partners to) refusal.UnknownPartner each.1.0 in
+    granted_fit r c to (EditModel (c, name) (Grants to (Some l))) (λ other. record { valid = record { partner = known; other = other }; level = tt })
 edits_fit r c (RevokeModel name to) partner passes valid = (tt, tt)
+edits_fit r c (CreateGroup name schema) partner passes valid = (group_created r c name schema partner passes, tt)
+edits_fit r c (DeleteGroup name) partner passes valid = (tt, tt)
+edits_fit r c (GrantGroup name to) partner passes valid =
+    let each = all_pass (meaning (asked r c) c (GrantGroup name to)).tests passes in
+    let known = is_so (has_text r.partners to) refusal.UnknownPartner each.1.0 in
+    granted_fit r c to (EditGroup (c, name) (Grants to (Some Read))) (λ other. record { valid = record { partner = known; other = other }; level = refl })
+edits_fit r c (RevokeGroup name to) partner passes valid = (tt, tt)
+edits_fit r c (Include group k) partner passes valid = include_fit r c group k passes valid
+edits_fit r c (Exclude group k) partner passes valid = exclude_fit r c group k valid
 edits_fit r c _ partner passes valid = tt
 
 outcome_fit : (r : Plain) (c : Text) (q : Request) (refusal : Option Refusal) → has_text r.partners c ≡ true → first_some (meaning (asked r c) c q).tests ≡ refusal → IsValid r → AreFit r (outcome (meaning (asked r c) c q) refusal).edits

@@ -10,6 +10,7 @@ pub mod FileNames
 pub mod BoundValues
 pub mod BoundInstances
 pub mod Counts
+pub mod Passed
 pub mod ValidTables
 pub mod ValidEdits
 pub mod ByName
@@ -18,5 +19,6 @@ pub mod FileInstances
 pub mod Links
 pub mod SingleEdits
 pub mod Single
+pub mod GroupsValid
 pub mod KeptValid
 pub mod TextAgain

@@ -1,9 +1,9 @@
 -- Links that a put is not refused for are such as a valid model has.
-use Rattle.std.proofs.Common.{◌≡◌, ◌≤◌, ℕ, Bool, true, false, not, ◌&&◌, ◌||◌, nat_le, nat_lt, List, [], ◌∷◌, length, Option, Some, None, is_some, refl, sym, ap, subst, arith}
+use Rattle.std.proofs.Common.{◌≡◌, ◌≤◌, ℕ, Bool, true, false, ◌&&◌, ◌||◌, nat_le, nat_lt, List, [], ◌∷◌, length, Option, Some, None, is_some, refl, sym, ap, subst, arith}
 use Rattle.std.specs.Prelude.{if◌then◌else◌}
 use Rattle.std.specs.List.{list_all, AllByRecursion}
 use Rattle.std.specs.Ordering.{nat_cmp}
-use Rattle.std.proofs.lemmas.Bool.{and_parts, not-false}
+use Rattle.std.proofs.lemmas.Bool.{and_parts}
 use Rattle.std.proofs.lemmas.Bool.Decides.{nat_tests}
 use Rattle.p21_instances.specs.Instances.{is_among}
 use Rattle.rp_content.specs.declared.content.Content.{Content}
@@ -19,33 +19,20 @@ use Rattle.rp_rows.proofs.Keys.{key_at, found_at}
 use Rattle.rp_plain.specs.declared.messages.LinkFault.{LinkFault}
 use Rattle.rp_plain.specs.declared.messages.LinkFaultKind.{LinkFaultKind}
 use Rattle.rp_plain.specs.declared.messages.LinkFaultKind.TheVariants.{Defined, Own}
-use Rattle.rp_plain.specs.declared.messages.Refusal.{Refusal}
 use Rattle.rp_plain.specs.declared.messages.Refusal.TheVariants as refusal
 use Rattle.rp_plain.specs.Plain.{Plain, model_at}
 use Rattle.rp_plain.specs.Asked.{Asked, asked, held}
-use Rattle.rp_plain.specs.Meaning.{when, has_text}
+use Rattle.rp_plain.specs.Meaning.{has_text}
 use Rattle.rp_plain.specs.Links.{max_links, target_model, links_in_order, linking, has_names, no_request, target_fault, fault_of, told_first, first_fault, told, link_refusal}
 use Rattle.rp_plain.specs.Valid.{IsValidModel, IsValidLink, IsValid}
 use Rattle.rp_laws.proofs.ByName.{AreOnce, AreWithin, all-in_order, length-in_order, ordered}
+use Rattle.rp_laws.proofs.Passed.{is_so, no_more}
 use Rattle.rp_laws.proofs.ValidTables.{all_each, all_found}
 
--- ---- tests that are passed
-
-pub passed : (b : Bool) (refusal : Refusal) → when b refusal ≡ None → b ≡ false
-passed true refusal h = cc
-passed false refusal h = refl
-
--- a test that something isn't
-pub is_so : (b : Bool) (refusal : Refusal) → when (not b) refusal ≡ None → b ≡ true
-is_so b refusal h = not-false b (passed (not b) refusal h)
-
-pub no_more : (most n : ℕ) → nat_lt most n ≡ false → n ≤ most
-no_more most n e = grind (arith, nat_tests)
+-- ---- numbers
 
 small : (n most : ℕ) → nat_le n most ≡ true → n ≤ most
 small n most e = grind (arith, nat_tests)
-
--- ---- numbers
 
 abbrev IsNumbered : Link → Type 0
 IsNumbered l = (l.name ≤ max_name) × (l.target ≤ max_name)

@@ -5,18 +5,21 @@ use Rattle.std.specs.Str.{bytes_eq}
 use Rattle.std.proofs.lemmas.Slice.Eq.{bytes_eq-Decides}
 use Rattle.p21_read.specs.File.{file_of}
 use Rattle.rp_content.specs.declared.link.Link.{Link}
+use Rattle.rp_rows.specs.declared.rows.Level.TheVariants.{Read}
+use Rattle.rp_rows.specs.declared.rows.Listing.{Listing}
 use Rattle.rp_rows.specs.Rows.{Text, Key, Model}
 use Rattle.rp_rows.specs.Contents.{link_names}
 use Rattle.rp_rows.specs.Alterations.{Grants}
 use Rattle.rp_plain.specs.declared.messages.Request.{Request}
-use Rattle.rp_plain.specs.declared.messages.Request.TheVariants.{CreateModel, DeleteModel, Put, Add, Set, DropInstance, GrantModel, RevokeModel}
+use Rattle.rp_plain.specs.declared.messages.Request.TheVariants.{CreateModel, DeleteModel, Put, Add, Set, DropInstance, GrantModel, RevokeModel, CreateGroup, DeleteGroup, GrantGroup, RevokeGroup, Include, Exclude}
 use Rattle.rp_plain.specs.declared.messages.Refusal.{Refusal}
-use Rattle.rp_plain.specs.Plain.{Plain, part, model_at}
-use Rattle.rp_plain.specs.Edits.{Edit, EditModel, changed}
+use Rattle.rp_plain.specs.Plain.{Plain, part, model_at, group_at}
+use Rattle.rp_plain.specs.Edits.{Edit, EditModel, EditGroup, changed}
 use Rattle.rp_plain.specs.Asked.{asked, held}
 use Rattle.rp_plain.specs.Meaning.{first_some}
 use Rattle.rp_plain.specs.Files.{Reading, read_content, filled}
 use Rattle.rp_plain.specs.Grants.{unless_own}
+use Rattle.rp_plain.specs.Groups.{with_member, without_member, relisted}
 use Rattle.rp_plain.specs.Instances.{Saying, said, next_in, placing, dropping}
 use Rattle.rp_plain.specs.Step.{meaning, outcome, answer, next}
 use Rattle.rp_plain.specs.Valid.{IsOrdered}
@@ -46,6 +49,10 @@ dropping_may : (r : Plain) (c : Text) (k : Key) (name : ℕ) (o : Option Model) 
 dropping_may r c k name None e = tt
 dropping_may r c k name (Some m) e = (inr (tt, ap is_some e), tt)
 
+relisted_may : (r : Plain) (c group : Text) (change : Listing → Listing) (o : Option Listing) → MayAll r c (relisted (c, group) change o)
+relisted_may r c group change None = tt
+relisted_may r c group change (Some g) = (itself c, tt)
+
 unless_own_may : (r : Plain) (c to : Text) (e : Edit) → MayEdit r c e → MayAll r c (unless_own c to e)
 unless_own_may r c to e may = elim (bytes_eq to c) as (λ t. MayAll r c (if t then [] else e ∷ [])) [ true ↦ tt | false ↦ (may, tt) ]
 
@@ -59,6 +66,12 @@ edits_may r c (Set k name text) = placing_may r c k (said r.schemas (held (model
 edits_may r c (DropInstance k name) = dropping_may r c k name (model_at r c k) refl
 edits_may r c (GrantModel name to l) = unless_own_may r c to (EditModel (c, name) (Grants to (Some l))) (inl (itself c))
 edits_may r c (RevokeModel name to) = (inl (itself c), tt)
+edits_may r c (CreateGroup name schema) = (itself c, tt)
+edits_may r c (DeleteGroup name) = (itself c, tt)
+edits_may r c (GrantGroup name to) = unless_own_may r c to (EditGroup (c, name) (Grants to (Some Read))) (itself c)
+edits_may r c (RevokeGroup name to) = (itself c, tt)
+edits_may r c (Include group k) = relisted_may r c group (with_member k) (held (group_at r c (c, group)))
+edits_may r c (Exclude group k) = relisted_may r c group (without_member k) (held (group_at r c (c, group)))
 edits_may r c _ = tt
 
 -- ---- own turns

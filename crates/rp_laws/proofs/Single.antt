@@ -24,7 +24,7 @@ use Rattle.rp_plain.specs.Meaning.{schema_named}
 use Rattle.rp_plain.specs.Instances.{told, bound_by, is_defined, said_by, said, is_absent, is_full, is_needed}
 use Rattle.rp_plain.specs.Valid.{IsInstanceOfText, IsSpelled, IsSound, IsValidLink, IsValidContent}
 use Rattle.rp_laws.proofs.BoundInstances.{IsBound, instance_bound}
-use Rattle.rp_laws.proofs.Links.{passed}
+use Rattle.rp_laws.proofs.Passed.{passed}
 use Rattle.rp_laws.proofs.SingleEdits.{placed_valid, dropped_valid, name_within, in_use_parts}
 use Rattle.rp_laws.proofs.ValidTables.{all_each}
 

@@ -1,5 +1,5 @@
 -- What a model holds stays valid where one of its instances is put, replaced or dropped.
-use Rattle.std.proofs.Common.{◌≡◌, ◌≤◌, ◌<◌, ℕ, suc, Bool, true, false, not, ◌&&◌, ◌||◌, ◌==◌, List, [], ◌∷◌, ◌++◌, length, Option, Some, None, refl, sym, ◌∙◌, ap, subst, arith, le_trans}
+use Rattle.std.proofs.Common.{◌≡◌, ◌≤◌, ◌<◌, ℕ, Bool, true, false, not, ◌&&◌, ◌||◌, ◌==◌, List, [], ◌∷◌, ◌++◌, length, Option, Some, None, refl, sym, ◌∙◌, ap, subst, arith, le_trans}
 use Rattle.std.specs.Prelude.{filter, max, option_to_list, if◌then◌else◌}
 use Rattle.std.specs.List.{list_all, list_any, AllByRecursion}
 use Rattle.std.specs.Ordering.{nat_cmp}
@@ -23,7 +23,7 @@ use Rattle.rp_rows.specs.Instances.{max_instances, max_name, is_instance, instan
 use Rattle.rp_plain.specs.Valid.{IsSpelled, IsSound, IsValidLink, IsValidContent}
 use Rattle.rp_rows.proofs.Keys.{found_at}
 use Rattle.rp_laws.proofs.ValidTables.{all_each, all_found, all-with_row}
-use Rattle.rp_laws.proofs.Counts.{count-with_row, count-without, count-replaced}
+use Rattle.rp_laws.proofs.Counts.{every, count_every, count-with_row, count-without, count-replaced}
 use Rattle.rp_laws.proofs.ByName.{AreWithin, within, all_within}
 
 -- ---- names
@@ -153,13 +153,6 @@ all_dropped_sound k x unused all =
     (left_sound k x (is_after nat_cmp instance_name k) (after_other k) x.instances unused all)
 
 -- ---- how many there are
-
-abbrev every : Instance → Bool
-every i = true
-
-count_every : (xs : List Instance) → length (filter every xs) ≡ length xs
-count_every [] = refl
-count_every (x ∷ xs) = ap suc (count_every xs)
 
 -- there is room for one more, or the instance takes the place of another
 few_placed : (most : ℕ) (i : Instance) (xs : List Instance) → length xs ≤ most → (instance_of i.name xs ≡ None → length xs < most) → length (placed i xs) ≤ most

@@ -10,8 +10,9 @@ use Rattle.rp_plain.specs.Plain.{Plain}
 use Rattle.rp_plain.specs.Edits.{Edit, EditModel, EditGroup, edited_by, changed}
 use Rattle.rp_plain.specs.Meaning.{has_schema}
 use Rattle.rp_plain.specs.Models.{max_models}
+use Rattle.rp_plain.specs.Groups.{max_groups, max_members, itself}
 use Rattle.rp_plain.specs.Opening.{new_fault}
-use Rattle.rp_plain.specs.Valid.{IsValidContent, IsValidModel, IsValidMember, IsValidGroup, IsRead, max_members, itself, max_groups, IsValid}
+use Rattle.rp_plain.specs.Valid.{IsValidContent, IsValidModel, IsValidMember, IsValidGroup, IsRead, IsValid}
 use Rattle.rp_laws.proofs.ValidTables.{all_each, IsGood, IsGoodTable, IsFit, altered_good}
 
 -- ---- a valid repository is two good tables
@@ -69,7 +70,7 @@ both_valid r opens models groups = record {
 
 -- ---- edits that keep it valid
 
-abbrev IsFitEdit : Plain → Edit → Type 0
+abbrev pub IsFitEdit : Plain → Edit → Type 0
 IsFitEdit r (EditModel k a) = IsFit r.partners (IsValidContent r.schemas r.partners) Anything max_models r.models k a
 IsFitEdit r (EditGroup k a) = IsFit r.partners (ListingAt r.schemas r.partners) IsRead max_groups r.groups k a
 

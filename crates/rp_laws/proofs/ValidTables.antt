@@ -1,5 +1,5 @@
 -- Valid rows stay valid under alterations, of models and of groups.
-use Rattle.std.proofs.Common.{◌≡◌, ◌≤◌, ◌<◌, ◌+◌, ℕ, Bool, true, false, List, [], ◌∷◌, ◌++◌, length, Option, Some, None, refl, sym, ◌∙◌, ap, subst, arith}
+use Rattle.std.proofs.Common.{◌≡◌, ◌≤◌, ◌<◌, ◌+◌, ℕ, Bool, true, false, ◌&&◌, List, [], ◌∷◌, ◌++◌, length, Option, Some, None, refl, sym, ◌∙◌, ap, subst, arith}
 use Rattle.std.specs.Prelude.{filter, option_to_list, if◌then◌else◌}
 use Rattle.std.specs.List.{find, AllByRecursion}
 use Rattle.std.specs.Str.{bytes_eq}
@@ -33,6 +33,15 @@ all_found P q (y ∷ ys) x found all = by (λ f. all_found P q ys x f all.1) (q 
     by : (find q ys ≡ Some x → P x) → (t : Bool) → (if t then Some y else find q ys) ≡ Some x → P x
     by rest true f = let same : y ≡ x = cc in subst P same all.0
     by rest false f = rest f
+
+-- what is found among the rows that pass a test is there
+pub found_there : {X : Type 0} (p q : X → Bool) (xs : List X) (x : X) → find (λ y. p y && q y) xs ≡ Some x → find p xs ≡ None → ⊥
+found_there p q [] x found none = cc
+found_there p q (y ∷ ys) x found none = by (found_there p q ys x) (p y) found none
+  where
+    by : (find (λ z. p z && q z) ys ≡ Some x → find p ys ≡ None → ⊥) → (t : Bool) → (if t && q y then Some y else find (λ z. p z && q z) ys) ≡ Some x → (if t then Some y else find p ys) ≡ None → ⊥
+    by rest true f n = cc
+    by rest false f n = rest f n
 
 all_listed : {X : Type 0} (P : X → Type 0) (o : Option X) → ((x : X) → o ≡ Some x → P x) → AllByRecursion P (option_to_list o)
 all_listed P None each = tt
