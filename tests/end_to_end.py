@@ -874,7 +874,7 @@ def test_command_line_faults():
         [*given, "--config", "config.json"], [*given, "more"], [*given, "--load", "x"], [*given, "--save", "x"],
         [*given, "--listen", "127.0.0.1:0"], ["check"], ["check", "t.exp", "t.exp"], ["serve", *given[1:]],
         ["serve", *given[1:], "--listen", "127.0.0.1:0", "--connections", "1"], ["batch", "-c", "config.json"],
-        ["batch", "--conf", "config.json"], ["--version"], ["batch", "--config", "config.json", "--", "x"],
+        ["batch", "--conf", "config.json"], ["batch", "--config", "config.json", "--", "x"],
         ["two", "batch", "--config", "config.json"],
     ]
     with Repository() as folder:
@@ -928,6 +928,49 @@ def test_wrong_configurations():
         expect_fault(folder.run("batch", "--config", "absent.json"), "absent.json")
         expect_fault(folder.run("batch", "--config", "."))
         expect_fault(folder.run("batch", "--config", ""))
+
+
+def test_what_is_told_of_a_configuration():
+    """The line, the column and the key of what is wrong first in it."""
+    rows = [
+        ("", 'line 1 column 1: no JSON'),
+        ("[]", 'line 1 column 1: the configuration has to be an object'),
+        ('\n {"partners":[],"schema":[]}', 'line 2 column 17: "schema" is no key here'),
+        ('{"partners":[]}', 'line 1 column 15: the key "schemas" is missing before'),
+        ('{"schemas":[]\n}', 'line 2 column 1: the key "partners" is missing before'),
+        ('{"partners": {},"schemas":[]}', 'line 1 column 14: "partners" has to be a list'),
+        ('{"partners":[],\n"schemas":\t"t.exp"}', 'line 2 column 12: "schemas" has to be a list'),
+        ('{"partners":[],"schemas":["t.exp", 1]}', 'line 1 column 36: a text is wanted for "schemas"'),
+        ('{"partners":["ann"],"schemas":[]}', 'line 1 column 14: a partner has to be an object'),
+        ('{"partners":[{"name":"ann","tokn":"ta"}],"schemas":[]}', 'line 1 column 28: "tokn" is no key here'),
+        ('{"partners":[{"name":"ann"}],"schemas":[]}', 'line 1 column 27: the key "token" is missing before'),
+        ('{"partners":[{"token":"ta"\n, "name": null}],"schemas":[]}', 'line 2 column 11: a text is wanted for "name"'),
+        ('{"partners":[{"name":"ann","token":"ta"},{"token":"tb"}],"schemas":[]}', 'line 1 column 55: the key "name" is missing before'),
+        ('{"partners":[],"schemas":["t.exp"]', 'line 1 column 35: no JSON'),
+        ('{"partners":[],"schemas":["t.exp",]}', 'line 1 column 35: no JSON'),
+        ('{"partners":[],"schemas":["t.exp"]} x', 'line 1 column 37: no JSON'),
+        (b'{"partners":[],"schemas":["\xff.exp"]}', 'line 1 column 28: no UTF-8'),
+        ("{'partners':[]}", 'line 1 column 2: no JSON'),
+    ]
+    with Repository() as folder:
+        for text, words in rows:
+            folder.write("config.json", text)
+            try:
+                expect_told(folder.batch(b""), f'"config.json" is no configuration: {words} (rp_server batch --help shows one)')
+            except Wrong as fault:
+                raise Wrong(f"{text!r}: {fault}") from fault
+
+
+def test_the_version():
+    """One line on standard output, and CHANGES.md has it."""
+    with Repository() as folder:
+        for words in (["--version"], ["-V"]):
+            status, output, errors = folder.run(*words)
+            if (status, errors) != (0, b"") or not re.fullmatch(rb"rp_server \d+\.\d+\n", output):
+                raise Wrong(f"{words}: status {status}, {output!r}, {errors!r}")
+    with open(os.path.join(TOP, "CHANGES.md"), encoding="utf-8") as it:
+        if f"\n## {output.decode().split()[1]}" not in it.read():
+            raise Wrong(f"CHANGES.md doesn't have {output!r}")
 
 
 def test_files_of_schemas():

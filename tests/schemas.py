@@ -356,5 +356,44 @@ def rows(it):
         it.expect(name, it.check(text.encode()), (status, out, b""))
 
 
+# What `check --explain` writes of a text: the caret stands behind as many characters as stand before the byte, tabs kept.
+EXPLAINED = [
+    ("no fault and no warning", b"SCHEMA A; END_SCHEMA;", 0, b"A: ok\n"),
+    ("the first byte", b"ENTITY e;", 1, b"Syntax line 1 column 1\nENTITY e;\n^\n"),
+    ("a line among others", b"SCHEMA A;\nENTITY e; a : ;\nEND_ENTITY; END_SCHEMA;\n", 1,
+     b"Syntax line 2 column 15\nENTITY e; a : ;\n              ^\n"),
+    ("tabs", b"SCHEMA A;\n\tENTITY e;\ta : ;\nEND_ENTITY; END_SCHEMA;", 1,
+     b"Syntax line 2 column 16\n\tENTITY e;\ta : ;\n\t         \t    ^\n"),
+    ("characters of two, three and four bytes", "SCHEMA A; (* é€😀 *) é END_SCHEMA;".encode(), 1,
+     "Token line 1 column 27\nSCHEMA A; (* é€😀 *) é END_SCHEMA;\n                    ^\n".encode()),
+    ("the end of a text with a line feed", b"SCHEMA A;\n", 1, b"Syntax line 2 column 1\n\n^\n"),
+    ("the end of a text without one", b"SCHEMA A;", 1, b"Syntax line 1 column 10\nSCHEMA A;\n         ^\n"),
+    ("no text", b"", 1, b"Syntax line 1 column 1\n\n^\n"),
+    ("a carriage return", b"SCHEMA A;\r\n\rEND;\r\nEND_SCHEMA;", 1, b"Syntax line 2 column 2\n\rEND;\r\n ^\n"),
+    ("bytes that are no UTF-8", b"SCHEMA A; -- \xff\xc3\n (* \xe9\x80 *) END;", 1, b"Syntax line 2 column 11\n (* \xe9\x80 *) END;\n         ^\n"),
+    ("a name", b"SCHEMA A; ENTITY e; x : y; END_ENTITY;\nEND_SCHEMA;", 1,
+     b"Undeclared line 1 column 25\nSCHEMA A; ENTITY e; x : y; END_ENTITY;\n                        ^\n"),
+    ("two warnings in one line and one in the next",
+     b"SCHEMA A; ENTITY e; END_ENTITY; TYPE s = SELECT (e); END_TYPE;\nCONSTANT_".replace(b"CONSTANT_", b"")
+     + b"RULE r FOR (e); WHERE 'A.S' = 'A.S';\n\tx : 'A.S' = ''; END_RULE; END_SCHEMA;", 0,
+     b"A: ok\nwarning SelectInTypeof line 2 column 23\nRULE r FOR (e); WHERE 'A.S' = 'A.S';\n                      ^\n"
+     b"warning SelectInTypeof line 2 column 31\nRULE r FOR (e); WHERE 'A.S' = 'A.S';\n                              ^\n"
+     b"warning SelectInTypeof line 3 column 6\n\tx : 'A.S' = ''; END_RULE; END_SCHEMA;\n\t    ^\n"),
+]
+
+
+def explained(it):
+    for name, text, status, out in EXPLAINED:
+        it.folder.write("it.exp", text)
+        it.expect(f"{name}, explained", it.folder.run("check", "--explain", "it.exp"), (status, out, b""))
+        it.expect(f"{name}, behind the file", it.folder.run("check", "it.exp", "--explain"), (status, out, b""))
+        plain = b"".join(line + b"\n" for line in out.split(b"\n") if b" line " in line and b" column " in line or line == b"A: ok")
+        it.expect(f"{name}, without", it.folder.run("check", "it.exp"), (status, plain, b""))
+    for name, words in (("twice", ["check", "--explain", "--explain", "it.exp"]), ("alone", ["check", "--explain"]),
+                        ("of a batch", ["batch", "--explain", "--config", "it.exp"]), ("with a value", ["check", "--explain=1", "it.exp"])):
+        status, out, err = it.folder.run(*words)
+        it.expect(f"--explain {name}", (status, out, err.count(b"\n")), (2, b"", 1))
+
+
 if __name__ == "__main__":
-    run_parts("schemas", (productions, tokens, nesting, sizes, rows, commands), sys.argv[1:])
+    run_parts("schemas", (productions, tokens, nesting, sizes, rows, commands, explained), sys.argv[1:])

@@ -72,6 +72,17 @@ CHECKS = {
     "token.exp": (SCHEMA + "!\n", 1, b"Token line 13 column 1\n"),
 }
 
+# Other runs over a file that is written: the words, which end with its name, its text, and the status, the output and the errors.
+ENTITY = "SCHEMA c; ENTITY e; END_ENTITY; TYPE s = SELECT (e); END_TYPE;\n"
+RUNS = [
+    *((("check", name), text, status, line, b"") for name, (text, status, line) in CHECKS.items()),
+    (("check", "--explain", "explained.exp"), ENTITY + "RULE r FOR (e); WHERE 'C.S' = ''; END_RULE; END_SCHEMA;\n", 0,
+     b"C: ok\nwarning SelectInTypeof line 2 column 23\nRULE r FOR (e); WHERE 'C.S' = ''; END_RULE; END_SCHEMA;\n" + b" " * 22 + b"^\n", b""),
+    (("check", "--explain", "unexplained.exp"), ENTITY + "END;\n", 1, b"Syntax line 2 column 1\nEND;\n^\n", b""),
+    (("batch", "--config", "wrong.json"), '{"partners":[],"schema":[]}', 2, b"",
+     b'rp_server: "wrong.json" is no configuration: line 1 column 16: "schema" is no key here (rp_server batch --help shows one)\n'),
+]
+
 # Texts that the lines ask to check, with what is told of them.
 TEXTS = {
     SCHEMA + "END_SCHEMA;\n": {"schema": "C", "warnings": [{"at": WARNING, "kind": "SelectInTypeof"}]},
@@ -204,19 +215,17 @@ def refuse_each(program, folder, lines):
     return whole, seen
 
 
-def refuse_check(program, folder, name):
-    """Refuses each allocation of a check in turn. Answers how often each outcome was seen."""
-    _, status, line = CHECKS[name]
-    command = ("check", name)
+def refuse_check(program, folder, command, *wanted):
+    """Refuses each allocation of a run that reads no line in turn. Answers how often each outcome was seen."""
     whole = run(program, folder, [], command)
-    if (whole.status, whole.output, whole.errors) != (status, line, b""):
+    if (whole.status, whole.output, whole.errors) != wanted:
         raise Failure(f"with no refusal: status {whole.status}, {whole.output!r} and {whole.errors!r}")
 
     def one(key, place):
         result = run(program, folder, [], command, **{key: str(place)})
         if result.refusals == 0:
             raise Failure(f"{key}={place} of {whole.allocations}: nothing was refused")
-        if (result.status, result.output, result.errors) == (status, line, b""):
+        if (result.status, result.output, result.errors) == wanted:
             return "the same line"
         if result.status == 2 and not result.output and result.errors.count(b"\n") == 1:
             return "status 2"
@@ -260,11 +269,12 @@ def main(words):
                 failed += 1
                 continue
             tell(os.path.basename(file), whole, seen)
-        for name, (text, _, _) in CHECKS.items():
+        for command, text, *wanted in RUNS:
+            name = command[-1]
             with open(os.path.join(folder, name), "w", encoding="ascii") as it:
                 it.write(text)
             try:
-                tell(name, *refuse_check(program, folder, name))
+                tell(name, *refuse_check(program, folder, command, *wanted))
             except Failure as fault:
                 print(f"each_refusal: {name}: FAILED: {fault}")
                 failed += 1

@@ -1,5 +1,5 @@
 -- The warnings of a schema stand in the order of its text.
-use Rattle.std.proofs.Common.{◌≡◌, ℕ, zero, suc, ◌+◌, ◌<◌, ◌≤◌, Bool, true, false, List, [], ◌∷◌, map, filter, length, slice_index, Option, Some, None, option_map, Result, Ok, Err, refl, sym, ap, subst, ◌∙◌, arith}
+use Rattle.std.proofs.Common.{◌≡◌, ℕ, zero, suc, ◌+◌, ◌<◌, ◌≤◌, Bool, true, false, List, [], ◌∷◌, map, filter, slice_index, Option, Some, None, Result, Ok, Err, refl, ap, subst, arith}
 use Rattle.std.specs.List.{filter_map}
 use Rattle.std.specs.List.Sorted.{IsStrictlyIncreasing}
 use Rattle.ex_lex.specs.Lexeme.{Lexeme, Lexed}
@@ -10,13 +10,11 @@ use Rattle.ex_forms.specs.Input.{stream}
 use Rattle.ex_tree.specs.declared.declaration.Schema.{Schema}
 use Rattle.ex_tree.specs.declared.declaration.StringToken.{StringToken}
 use Rattle.ex_tree.specs.declared.fault.ParseFault.{ParseFault}
-use Rattle.ex_named.specs.declared.declaration.NamedSchema.{NamedSchema}
 use Rattle.ex_named.specs.Outcomes.{Outcome, given}
 use Rattle.ex_resolve.specs.Schemas.{Resolved, resolved, named_schema, make_schema, schema_parts, SchemaParts}
 use Rattle.ex_warnings.specs.Warnings.{warnings, names_select}
 use Rattle.ex_types.specs.Checked.{Checked, checked, checked_by}
 use Rattle.ex_typing_statements.specs.Statements.{Told}
-use Rattle.ex_kinds.specs.declared.fault.TypeFault.{TypeFault}
 use Rattle.ex_subtypes.specs.declared.build.SubtypeFault.{SubtypeFault}
 use Rattle.ex_subtypes.specs.Faults.{built, built_by}
 

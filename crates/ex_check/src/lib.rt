@@ -2,11 +2,14 @@
 //! columns.
 #![tactic(auto)]
 
+mod explain;
 mod fault;
 mod place;
 mod report;
 mod schema;
+mod shown;
 
+pub use explain::explain_text;
 pub use fault::SchemaFault;
 pub use report::{CheckFault, Verdict, check_text, words_of_fault};
 pub use schema::compile_schema;

@@ -57,7 +57,7 @@ pub fn words_of_fault(alloc: Global, text: &[u8], fault: SchemaFault) -> Result<
     words_at(alloc, fault.name(), position.line, position.column)
 }
 
-fn refused(alloc: Global, text: &[u8], fault: SchemaFault) -> Result<String, AllocError>
+pub(crate) fn refused(alloc: Global, text: &[u8], fault: SchemaFault) -> Result<String, AllocError>
     ensures { IfOk result (λ told. string_bytes told ≡ spec.told_of_fault text.now fault) }
 {
     let mut told = words_of_fault(alloc, text, fault)?;
@@ -65,7 +65,7 @@ fn refused(alloc: Global, text: &[u8], fault: SchemaFault) -> Result<String, All
     Ok(told)
 }
 
-fn warned(alloc: Global, line: u64, column: u64) -> Result<String, AllocError>
+pub(crate) fn warned(alloc: Global, line: u64, column: u64) -> Result<String, AllocError>
     ensures { IfOk result (λ told. string_bytes told ≡ spec.told_of_warning line column) }
 {
     let mut told = words_at(alloc, "warning SelectInTypeof", line, column)?;

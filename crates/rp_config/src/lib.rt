@@ -5,7 +5,9 @@ mod config;
 mod fault;
 mod files;
 mod loading;
+mod wrong;
 
 pub use fault::LoadFault;
 pub use files::{FILE_LIMIT, Folder, FromFiles, file_bytes};
 pub use loading::{Loaded, load_all};
+pub use wrong::wrong_place;

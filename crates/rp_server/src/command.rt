@@ -13,7 +13,12 @@ pub enum Asked<'a> {
     Batch(&'a str),
     /// To tell whether the file of this path is a schema.
     Check(&'a str),
+    /// The same, with the lines of the text.
+    Explain(&'a str),
 }
+
+/// The version of the program, which CHANGES.md tells more of.
+const VERSION: &str = "0.1";
 
 const ABOUT: &str = "A repository of STEP product models that several partners share.";
 
@@ -42,6 +47,10 @@ A request names its partner in \"as\" and what to do in \"do\":
   {\"as\":\"bob\",\"do\":\"list\"}
   {\"as\":\"ann\",\"do\":\"delete_model\",\"name\":\"m\"}
 
+A line has at most 16 MiB, a file or a text in it, the configuration and each schema 8 MiB. A model has at most
+200,000 instances and 10,000 links, an owner 100 models. A put of 8 MiB takes some 60 MB and half a second, a
+schema of 8 MiB some 160 MB and two seconds. All that is put stays in memory, and is gone at the end.
+
 The status is 0 at the end of the input. It is 2, with one line on standard error, where the command
 line or a file is wrong or where the input or the output fails.";
 
@@ -57,13 +66,18 @@ and the status is 0; or one line, the kind of the first fault with its line and 
 
   Syntax line 3 column 14
 
-and the status is 1. The kinds are
+and the status is 1. With --explain the line of the text stands below each line with a place, and a caret below the byte.
+The kinds are
 
   Token, OpenString, OpenRemark, BadEncoded, TooBig   of a token that is none
   Syntax                                              of a token that cannot stand where it does
   OutOfProfile                                        of EXPRESS that this program leaves out
   TooDeep                                             of more than 64 levels of nesting
+  Undeclared, DeclaredTwice, CyclicSubtype, CyclicType, NotAnAttribute     of names
+  RealArithmetic, EntityComparison, Operand, Arguments, Assign, Qualifier, Ambiguous     of what values may be
+  NamedTwice, NotDirectSubtype                        of a supertype expression
 
+A schema of 1 MiB takes some 22 MB and a fifth of a second, one of 8 MiB some 160 MB and two seconds.
 The status is 2, with one line on standard error, where the file can't be read or is over 8 MiB.";
 
 /// `batch`, with its arguments.
@@ -87,9 +101,14 @@ fn check_command<'a>(alloc: Global) -> Result<Command<'a>, AllocError> {
         .help("The schema's file")
         .required(true)
         .action(ArgAction::Set);
+    let explain = Arg::new(alloc, "explain")
+        .long("explain")
+        .help("Shows the lines of the text")
+        .action(ArgAction::SetTrue);
     Command::new(alloc, "check")
         .about(CHECK_ABOUT)
         .after_help(CHECK_AFTER)
+        .arg(explain)?
         .arg(file)
 }
 
@@ -98,6 +117,7 @@ fn with_batch<'a>(alloc: Global) -> Result<Command<'a>, AllocError> {
     let batch = batch_command(alloc)?;
     Command::new(alloc, "rp_server")
         .about(ABOUT)
+        .version(VERSION)
         .after_help("Type rp_server batch --help for the configuration and the requests.")
         .subcommand_required(true)
         .subcommand(batch)
@@ -121,6 +141,7 @@ pub fn asked_of<'a>(alloc: Global, words: &'a [String]) -> Result<Asked<'a>, Fau
 fn asked_in<'a>(matches: &ArgMatches<'a>) -> Option<Asked<'a>> {
     match matches.subcommand()? {
         ("batch", found) => found.get_str("config").map(Asked::Batch),
+        ("check", found) if found.get_flag("explain") => found.get_str("file").map(Asked::Explain),
         ("check", found) => found.get_str("file").map(Asked::Check),
         _ => None,
     }

@@ -17,6 +17,8 @@ pub enum Fault {
     Words,
     /// A file gives nothing.
     Load(LoadFault),
+    /// The file of this path is no configuration: the place and the key of what is wrong in it.
+    Config(Text, String),
     /// There is no repository of these schemas and partners.
     New(NewFault),
     /// Memory is wanting before the first line is read.
@@ -36,6 +38,7 @@ impl fmt::Display for Fault {
             }
             Fault::Words => f.write_str("the command line isn't UTF-8"),
             Fault::Load(fault) => write_of_file(f, fault),
+            Fault::Config(path, words) => write_of_config(f, path, words.as_str()),
             Fault::New(fault) => f.write_str(why_none(*fault)),
             Fault::NoMemory => f.write_str("out of memory"),
             Fault::Read => f.write_str("standard input can't be read"),
@@ -63,6 +66,19 @@ fn write_of_file<W: fmt::Write>(f: &mut fmt::Formatter<W>, fault: &LoadFault) ->
             write!(f, "{:?} is no schema: {}", path.as_str(), words.as_str())
         }
     }
+}
+
+/// Writes what is wrong with a configuration, and where.
+fn write_of_config<W: fmt::Write>(
+    f: &mut fmt::Formatter<W>,
+    path: &Text,
+    words: &str,
+) -> fmt::Result {
+    write!(
+        f,
+        "{:?} is no configuration: {words} (rp_server batch --help shows one)",
+        path.as_str()
+    )
 }
 
 /// Writes the path of a file, and then what is wrong with it.

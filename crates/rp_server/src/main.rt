@@ -5,13 +5,15 @@ mod command;
 mod fault;
 
 use command::{Asked, asked_of};
-use ex_check::{CheckFault, Verdict, check_text};
+use ex_check::{CheckFault, Verdict, check_text, explain_text};
 use fault::Fault;
-use rp_config::{FromFiles, Loaded, file_bytes, load_all};
+use plain_data::Text;
+use rp_config::{FromFiles, LoadFault, Loaded, file_bytes, load_all, wrong_place};
 use rp_repo::{FromReader, Repository, RunFault, ToWriter, run_lines};
 use std::process::ExitCode;
 use std::rt::{Env, Files};
 use std::{env, io};
+use text_forms::Failure;
 
 fn main(rt: HostRuntime) -> ExitCode {
     match run(&rt) {
@@ -37,6 +39,7 @@ fn run<R: AllocGlobal + Files + Env + Print + Eprint + Input>(rt: &R) -> Result<
         },
         Asked::Batch(path) => batch(rt, path),
         Asked::Check(path) => check(rt, path),
+        Asked::Explain(path) => explain(rt, path),
     }
 }
 
@@ -45,7 +48,20 @@ fn check<R: AllocGlobal + Files + Print>(rt: &R, path: &str) -> Result<ExitCode,
     let alloc = rt.alloc();
     let text = file_bytes(alloc, &FromFiles::new(rt), path)?;
     let mut writer = ToWriter::new(io::writer(rt));
-    match check_text(alloc, &text, &mut writer) {
+    status_of(check_text(alloc, &text, &mut writer))
+}
+
+/// The same, with the lines of the text.
+fn explain<R: AllocGlobal + Files + Print>(rt: &R, path: &str) -> Result<ExitCode, Fault> {
+    let alloc = rt.alloc();
+    let text = file_bytes(alloc, &FromFiles::new(rt), path)?;
+    let mut writer = ToWriter::new(io::writer(rt));
+    status_of(explain_text(alloc, &text, &mut writer))
+}
+
+/// The status of a check.
+fn status_of(done: Result<Verdict, CheckFault>) -> Result<ExitCode, Fault> {
+    match done {
         Ok(Verdict::Accepted) => Ok(ExitCode::SUCCESS),
         Ok(Verdict::Refused) => Ok(ExitCode::FAILURE),
         Err(CheckFault::NoMemory) => Err(Fault::NoMemory),
@@ -68,6 +84,22 @@ fn batch<R: AllocGlobal + Files + Print + Input>(rt: &R, path: &str) -> Result<E
 /// The repository that the configuration in the file of this path tells.
 fn opened<R: AllocGlobal + Files>(rt: &R, path: &str) -> Result<Repository, Fault> {
     let alloc = rt.alloc();
-    let Loaded { partners, schemas } = load_all(alloc, &FromFiles::new(rt), path)?;
-    Ok(Repository::new(alloc, schemas.into_vec(), partners.into_vec())?)
+    match load_all(alloc, &FromFiles::new(rt), path) {
+        Ok(Loaded { partners, schemas }) => {
+            Ok(Repository::new(alloc, schemas.into_vec(), partners.into_vec())?)
+        }
+        Err(Failure::Fault(LoadFault::Config(path))) => Err(config_fault(rt, path)?),
+        Err(failure) => Err(Fault::from(failure)),
+    }
+}
+
+/// What is wrong with the file of this path, which is no configuration. It is read once more, so that what is loaded is
+/// decided without it.
+fn config_fault<R: AllocGlobal + Files>(rt: &R, path: Text) -> Result<Fault, Fault> {
+    let alloc = rt.alloc();
+    let bytes = file_bytes(alloc, &FromFiles::new(rt), path.as_str())?;
+    match wrong_place(alloc, &bytes)? {
+        Some(words) => Ok(Fault::Config(path, words)),
+        None => Ok(Fault::Load(LoadFault::Config(path))),
+    }
 }
