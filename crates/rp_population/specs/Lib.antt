@@ -1,3 +1,6 @@
 pub mod Populations
 pub mod Entities
 pub mod Uses
+pub mod Sought
+pub mod Found
+pub mod Kept

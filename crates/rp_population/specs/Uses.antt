@@ -9,15 +9,10 @@ use Rattle.rp_content.specs.declared.instance.Instance.{Instance}
 use Rattle.rp_value.specs.declared.value.Value.{Value}
 use Rattle.rp_rows.specs.Contents.{references}
 use Rattle.rp_population.specs.declared.place.Place.{Place}
+use Rattle.rp_population.specs.declared.roles.Role.{Role}
+use Rattle.rp_population.specs.declared.roles.Role.TheVariants.{Every, Of}
 use Rattle.rp_population.specs.Populations.{Placed, stands_for}
 use Rattle.rp_population.specs.Entities.{line_of, entities_of, is_of, entity_named}
-
--- the attributes of instances in which uses are looked for
-pub data Role : Type 0 where
-  -- all
-  Every : Role
-  -- those of this name that an entity declares or inherits, in the instances of this entity
-  Of : ℕ → List ℕ → Role
 
 abbrev pub is_full_stop : ℕ → Bool
 is_full_stop byte = byte == 46
@@ -25,10 +20,12 @@ is_full_stop byte = byte == 46
 module _ (schema : Checked) where
   -- ---- the names of roles
 
+  abbrev pub role_of_attribute : List ℕ → List ℕ → Option Role
+  role_of_attribute entity attribute = option_map (λ number. Of number attribute) (entity_named schema entity)
+
   -- the schema's own name, the name of one of its entities, and the name of an attribute, which are in upper case
   abbrev pub role_of_parts : List (List ℕ) → Option Role
-  role_of_parts (name ∷ entity ∷ attribute ∷ []) =
-      if bytes_eq name schema.named.schema.name.text then option_map (λ number. Of number attribute) (entity_named schema entity) else None
+  role_of_parts (name ∷ entity ∷ attribute ∷ []) = if bytes_eq name schema.named.schema.name.text then role_of_attribute entity attribute else None
   role_of_parts _ = None
 
   -- `SCHEMA.ENTITY.ATTRIBUTE`, or nothing for all; what is of another form is no role

@@ -1,0 +1,105 @@
+//! Uses of what some names stand for, in the values of an instance.
+
+ghost use Rattle.std.specs.Prelude.{◌≡◌, ◌++◌, OnOk};
+ghost use Rattle.std.specs.List.{flat_map};
+ghost use Rattle.rp_rows.specs.Contents.{references};
+ghost use Rattle.rp_population.specs.Found as spec;
+
+use crate::names::has_name;
+use crate::place::{Place, push_place};
+use rp_rows::rows::Key;
+use rp_value::Value;
+use std::alloc::{AllocError, Global};
+use std::collections::BTreeSet;
+use std::marker::Model;
+
+/// An instance of a model in which uses of what some names stand for are looked for.
+#[derive(Drop)]
+pub struct User<'a> {
+    pub names: &'a BTreeSet<u64>,
+    pub model: &'a Key,
+    pub instance: u64,
+}
+
+impl<'a> Model for User<'a> {
+    ghost use Rattle.rp_population.specs.Found as spec;
+
+    ghost Value = { spec.User };
+
+    ghost view = { λ u. record { names = u.names.now.keys; place = record { model = u.model.now; instance = u.instance } } };
+}
+
+/// Tells the instance, if the name is one of those.
+fn push_use(
+    alloc: Global,
+    found: &mut Vec<Place>,
+    user: &User<'_>,
+    name: u64,
+) -> Result<(), AllocError>
+    ensures { OnOk result (found.new.items ≡ found.old.items ++ spec.told_at user.now name) }
+{
+    if has_name(user.names, name) {
+        push_place(alloc, found, user.model, user.instance)?;
+    }
+    Ok(())
+}
+
+/// Tells the instance once for each of the names that the value refers to, at any depth.
+#[cycle(uses)]
+fn push_value(
+    alloc: Global,
+    found: &mut Vec<Place>,
+    user: &User<'_>,
+    value: &Value,
+) -> Result<(), AllocError>
+    ensures { OnOk result (found.new.items ≡ found.old.items ++ flat_map (spec.told_at user.now) (references value.now)) }
+{
+    match value {
+        Value::Inst(name) => push_use(alloc, found, user, *name),
+        Value::Agg { kind: _, elements } => push_values(alloc, found, user, elements.as_slice()),
+        Value::Named {
+            defined_type: _,
+            value,
+        } => push_value(alloc, found, user, value.get()),
+        _ => Ok(()),
+    }
+}
+
+/// Tells the instance once for each of the names that one of the values refers to.
+#[cycle(uses)]
+pub fn push_values(
+    alloc: Global,
+    found: &mut Vec<Place>,
+    user: &User<'_>,
+    values: &[Value],
+) -> Result<(), AllocError>
+    ensures { OnOk result (found.new.items ≡ found.old.items ++ flat_map (spec.told_at user.now) (flat_map references values.now)) }
+{
+    for value in values {
+        push_value(alloc, found, user, value)?;
+    }
+    Ok(())
+}
+
+/// Tells the instance once for each of the names that one of the marked values refers to.
+pub fn push_marked(
+    alloc: Global,
+    found: &mut Vec<Place>,
+    user: &User<'_>,
+    marks: &[bool],
+    values: &[Value],
+) -> Result<(), AllocError>
+    ensures { OnOk result (found.new.items ≡ found.old.items ++ flat_map (spec.told_at user.now) (flat_map references (spec.marked marks.now values.now))) }
+{
+    let mut left = values;
+    for mark in marks {
+        let [value, others @ ..] = left else {
+            return Ok(());
+        };
+        if *mark {
+            push_value(alloc, found, user, value)?;
+        }
+        left = others;
+    }
+    Ok(())
+}
