@@ -332,13 +332,9 @@ def test_lines_that_are_no_request():
 
 def test_requests_that_come_later():
     """What a later version of the program brings is no request yet."""
-    group = {"owner": "ann", "group": "g"}
     lines = [
-        line("ann", "create_group", name="g", schema="T"), line("ann", "delete_group", name="g"),
-        line("ann", "members", **group), line("ann", "extent", **group, type="P"), line("ann", "validate", **group),
-        line("ann", "grant", kind="model", name="m", to="bob", level="group"),
-        line("ann", "grant", kind="group", name="g", to="bob", level="read"),
-        line("ann", "revoke", kind="group", name="g", to="bob"),
+        line("ann", "validate", owner="ann", group="g"),
+        line("ann", "put_sections", file=file_of(""), models=[{"model": "m", "owner": "ann", "section": ""}]),
     ]
     expect([*FIRST, *[(it, BAD_REQUEST) for it in lines]])
 
@@ -392,8 +388,8 @@ def test_lines_of_bytes_that_are_no_request():
         b'{"as":"ann","do":"schemas","text":""}',
         b'{"as":"ann","do":"check_schema"}',
         b'{"as":"ann","do":"check_schema","text":"","name":""}',
-        b'{"as":"ann","do":"grant","kind":"model","name":"m","to":"bob","level":"group"}',
-        b'{"as":"ann","do":"grant","kind":"group","name":"m","to":"bob","level":"read"}',
+        b'{"as":"ann","do":"grant","kind":"model","name":"m","to":"bob","level":"Group"}',
+        b'{"as":"ann","do":"grant","kind":"group","name":"m","to":"bob","level":"group"}',
         b'{"as":"ann","do":"list","owner":"ann"}',
         b"{",
         b"",

@@ -150,13 +150,13 @@ def test_refusals_in_their_order():
 
 
 def test_what_is_no_request():
-    """A level or a kind that isn't there yet, a key too many or too few, and a word in another case."""
+    """A level or a kind that isn't there, a key too many or too few, and a word in another case."""
     given = {"kind": "model", "name": "m", "to": "bob"}
     lines = [
-        line("ann", "grant", **given, level="group"), line("ann", "grant", **given, level="owner"),
+        line("ann", "grant", **given, level="Group"), line("ann", "grant", **given, level="owner"),
         line("ann", "grant", **given, level="Read"), line("ann", "grant", **given, level=None),
         line("ann", "grant", **given), line("ann", "grant", **given, level="read", owner="ann"),
-        line("ann", "grant", **{**given, "kind": "group"}, level="read"),
+        line("ann", "grant", **{**given, "kind": "group"}, level="write"),
         line("ann", "grant", **{**given, "kind": "Model"}, level="read"),
         line("ann", "revoke", **given, level="read"), line("ann", "revoke", kind="model", name="m"),
         line("ann", "delete_model", name="m", owner="ann"), line("ann", "delete_model"),

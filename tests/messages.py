@@ -105,6 +105,42 @@ def revoke(who, name, to):
     return line(who, "revoke", kind="model", name=name, to=to)
 
 
+def grant_group(who, name, to, level="read"):
+    return line(who, "grant", kind="group", name=name, to=to, level=level)
+
+
+def revoke_group(who, name, to):
+    return line(who, "revoke", kind="group", name=name, to=to)
+
+
+def create_group(who, name, schema="T"):
+    return line(who, "create_group", name=name, schema=schema)
+
+
+def delete_group(who, name):
+    return line(who, "delete_group", name=name)
+
+
+def include(who, group, owner, model):
+    return line(who, "include", group=group, owner=owner, model=model)
+
+
+def exclude(who, group, owner, model):
+    return line(who, "exclude", group=group, owner=owner, model=model)
+
+
+def members(who, owner, group):
+    return line(who, "members", owner=owner, group=group)
+
+
+def extent(who, owner, group, entity):
+    return line(who, "extent", owner=owner, group=group, type=entity)
+
+
+def users(who, owner, group, of, role):
+    return line(who, "users", owner=owner, group=group, of=of, role=role)
+
+
 def schemas(who):
     return line(who, "schemas")
 
@@ -149,10 +185,34 @@ def got(text):
     return b'{"ok":{"text":%s}}' % json.dumps(text, ensure_ascii=False).encode()
 
 
-def listed(*rows):
-    """The models that a partner sees: level, name and owner, and the schema where it isn't T."""
-    models = b",".join(b'{"level":"%s","name":"%s","owner":"%s","schema":"%s"}' % (*row[:3], *(row[3:] or [b"T"])) for row in rows)
-    return b'{"ok":{"groups":[],"models":[%s]}}' % models
+def items_listed(rows):
+    return b",".join(b'{"level":"%s","name":"%s","owner":"%s","schema":"%s"}' % (*row[:3], *(row[3:] or [b"T"])) for row in rows)
+
+
+def listed(*rows, groups=()):
+    """The models that a partner sees, and the groups: level, name and owner, and the schema where it isn't T."""
+    return b'{"ok":{"groups":[%s],"models":[%s]}}' % (items_listed(groups), items_listed(rows))
+
+
+def members_are(*rows):
+    """The reply to `members` of a group that lists these models: owner and name, and whether it counts."""
+    shown = ",".join('{"counts":%s,"model":"%s","owner":"%s"}' % ("true" if counts else "false", model, owner) for owner, model, counts in rows)
+    return b'{"ok":{"members":[%s]}}' % shown.encode()
+
+
+def places_at(key, places):
+    shown = ",".join('["%s","%s",%d]' % tuple(it) for it in places)
+    return b'{"ok":{"%s":[%s]}}' % (key, shown.encode())
+
+
+def extent_is(*places):
+    """The reply to `extent` of an entity with the instances at these places."""
+    return places_at(b"extent", places)
+
+
+def users_are(*places):
+    """The reply to `users` of what the instances at these places use."""
+    return places_at(b"users", places)
 
 
 def loaded(*names_of_schemas):
@@ -196,6 +256,7 @@ EXISTS = refused(6, "Exists")
 NO_SUCH_ITEM = refused(7, "NoSuchItem")
 NO_RIGHT = refused(8, "NoRight")
 WRONG_SCHEMA = refused(9, "WrongSchema")
+MEMBERSHIP = refused(10, "Membership")
 NO_SUCH_INSTANCE = refused(14, "NoSuchInstance")
 IN_USE = refused(15, "InUse")
 TOO_MANY = refused(16, "TooMany")

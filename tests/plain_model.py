@@ -1,7 +1,7 @@
 """The plain repository in Python: what each line is answered, byte for byte, and what it changes.
 
-It is written from docs/REQUESTS.md, docs/REFUSALS.md and docs/DECISIONS.md, and never from the program. A model is a row of a list, and every
-question is asked of all rows. What an exchange file and a schema's text spell isn't found out here: who makes the texts
+It is written from docs/REQUESTS.md, docs/REFUSALS.md and docs/DECISIONS.md, and never from the program. Models and groups are
+rows of two lists, and every question is asked of all rows. What an exchange file and a schema's text spell isn't found out here: who makes the texts
 knows it. What a file says by its schema is found in plain_binding.py.
 
 A request is a method of Repository that is marked by `request`. Its name is the request's `do`, and its parameters behind
@@ -23,18 +23,20 @@ MIB = 1024 * 1024
 TEXT_LIMIT = 8 * MIB
 LINE_LIMIT = 16 * MIB
 MODELS_OF_ONE_OWNER = 100
+GROUPS_OF_ONE_OWNER = 100
+MEMBERS_OF_ONE_GROUP = 50
 INSTANCES_OF_ONE_MODEL = 200_000
 LINKS_OF_ONE_MODEL = 10_000
 NESTING = 127
 
 CODES = {
     "BadRequest": 1, "TooLarge": 2, "BadName": 3, "UnknownPartner": 4, "UnknownSchema": 5, "Exists": 6, "NoSuchItem": 7,
-    "NoRight": 8, "WrongSchema": 9, "FileFault": 11, "InstanceFault": 12, "LinkFault": 13, "NoSuchInstance": 14,
+    "NoRight": 8, "WrongSchema": 9, "Membership": 10, "FileFault": 11, "InstanceFault": 12, "LinkFault": 13, "NoSuchInstance": 14,
     "InUse": 15, "TooMany": 16, "HasLinks": 17, "NoMemory": 18,
 }
 
 # keys whose values are words; those of the others are any strings, but for what is annotated
-WORDS = {"kind": ["model"], "level": ["read", "write"]}
+WORDS = {"kind": ["model", "group"], "level": ["read", "group", "write"]}
 GREATEST_NUMBER = 999_999_999_999_999_999
 
 
@@ -73,6 +75,14 @@ class Link(NamedTuple):
 
 
 Links = list[Link]
+
+
+class Place(NamedTuple):
+    """An instance of a model. Its fields are the items of its list in a request and in a reply."""
+
+    owner: str
+    model: str
+    instance: int
 
 
 def upper(text):
@@ -161,8 +171,15 @@ def is_links(value):
         and isinstance(it["owner"], str) and isinstance(it["model"], str) for it in value)
 
 
+def is_place(value):
+    """Whether a value is a list of an owner, the name of a model, and that of an instance."""
+    return (isinstance(value, list) and len(value) == 3 and isinstance(value[0], str) and isinstance(value[1], str)
+            and is_number(value[2]))
+
+
 # what a value may be, by the annotation of its key
-FITS = {int: is_number, bool: lambda it: isinstance(it, bool), Links: is_links, inspect.Parameter.empty: lambda it: isinstance(it, str)}
+FITS = {int: is_number, bool: lambda it: isinstance(it, bool), Links: is_links, Place: is_place,
+        inspect.Parameter.empty: lambda it: isinstance(it, str)}
 
 
 def fits(key, value):
@@ -185,7 +202,9 @@ def are_keys_of(do, given):
     """Whether these are the keys of a request, each with a value that it may have."""
     keys = REQUESTS[do][1]
     due = {name for name, it in keys.items() if it.default is it.empty}
-    return due <= set(given) <= set(keys) and all(fits(keys[name], value) for name, value in given.items())
+    # a group is granted to be read alone
+    is_level = do != "grant" or given.get("kind") != "group" or given.get("level") == "read"
+    return is_level and due <= set(given) <= set(keys) and all(fits(keys[name], value) for name, value in given.items())
 
 
 def request_of(line):
@@ -200,6 +219,33 @@ def request_of(line):
     if not isinstance(who, str) or not isinstance(do, str) or do not in REQUESTS:
         return None
     return (who, do, value) if are_keys_of(do, value) else None
+
+
+# ---- populations
+
+def named_entity(schema, name):
+    """The entity of this name in upper case, or None."""
+    return next((it for it in schema.entities if upper(it) == name), None)
+
+
+def references_in(schema, role, instance):
+    """The names that an instance refers to in a role, each as often as it stands in the values of the role's attributes."""
+    if not role:
+        return [it.name for it in plain_binding.references_of(instance)]
+    parts = role.split(".")
+    if len(parts) != 3 or parts[0] != upper(schema.name):
+        return []
+    entity = named_entity(schema, parts[1])
+    if entity not in instance.types:
+        return []
+    line = plain_binding.line_of(schema, entity)
+    values = [value for (declaring, attribute), value in instance.values.items() if declaring in line and upper(attribute) == parts[2]]
+    return [it.name for value in values for it in plain_binding.within(value) if isinstance(it, Reference)]
+
+
+def targets(model, name):
+    """The places that a name of a model stands for."""
+    return [Place(model.owner, model.name, name), *(Place(it.owner, it.model, it.instance) for it in model.links if it.name == name)]
 
 
 # ---- the repository
@@ -249,8 +295,28 @@ class Model:
                 and all((it.owner, it.model) != (self.owner, self.name) for it in self.links))
 
 
+@dataclass
+class Group:
+    """A group. Its grants are levels by partner, and its members are owners and names of models, in their order."""
+
+    owner: str
+    name: str
+    schema: str
+    grants: dict = field(default_factory=dict)
+    members: list = field(default_factory=list)
+
+    def is_valid(self):
+        """What holds of each group: a member stands once, there aren't too many, and it is granted to be read alone."""
+        return (self.members == sorted(set(self.members)) and len(self.members) <= MEMBERS_OF_ONE_GROUP
+                and set(self.grants.values()) <= {"read"})
+
+
+# who may read a model, put it into a group of his, and write it
+READING, GROUPING, WRITING = ["owner", "write", "group", "read"], ["owner", "write", "group"], ["owner", "write"]
+
+
 class Repository:
-    """Partners, schemas as plain_binding.Schema, and models. `file_of` tells the File or the FileFault of a text that is
+    """Partners, schemas as plain_binding.Schema, models and groups. `file_of` tells the File or the FileFault of a text that is
     put, `mapping_of` the Mapping or the FileFault of a text of one instance, and `told_of` the content of the reply to
     `check_schema`."""
 
@@ -258,6 +324,7 @@ class Repository:
         self.partners = list(partners)
         self.schemas_by_name = {upper(it.name): it for it in schemas}
         self.models = []
+        self.groups = []
         self.file_of = file_of
         self.mapping_of = mapping_of
         self.told_of = told_of
@@ -284,30 +351,49 @@ class Repository:
         """What is tested first, of each request that has these keys."""
         if any(len(keys[it].encode()) > TEXT_LIMIT for it in ("file", "text") if it in keys):
             raise Refused("TooLarge")
-        if not all(re.fullmatch("[A-Za-z0-9_.-]{1,64}", keys[it]) for it in ("name", "owner", "model", "to") if it in keys):
+        if not all(re.fullmatch("[A-Za-z0-9_.-]{1,64}", keys[it]) for it in ("name", "owner", "model", "group", "to") if it in keys):
             raise Refused("BadName")
         if not all(keys[it] in self.partners for it in ("owner", "to") if it in keys):
             raise Refused("UnknownPartner")
 
-    def level(self, who, model):
-        """A partner's level on a model, or None where he doesn't see it."""
-        return "owner" if model.owner == who else model.grants.get(who)
+    def granted(self, who, item):
+        """What a partner may do with a model or a group as its owner, or by its grants, or None."""
+        return "owner" if item.owner == who else item.grants.get(who)
 
-    def visible(self, who, owner, name):
-        """The model of this name, or None where the partner doesn't see one."""
-        for model in self.models:
-            if (model.owner, model.name) == (owner, name) and self.level(who, model):
-                return model
+    def counts(self, model, group):
+        """Whether a model counts in a group."""
+        return ((model.owner, model.name) in group.members and model.schema == group.schema
+                and self.granted(group.owner, model) in GROUPING)
+
+    def counted(self, group):
+        """The models that count in a group, in their order."""
+        return sorted((it for it in self.models if self.counts(it, group)), key=lambda it: (it.owner, it.name))
+
+    def level(self, who, item):
+        """A partner's level on a model or a group, or None where he doesn't see it. He reads what counts in a group that he sees."""
+        level = self.granted(who, item)
+        if level or isinstance(item, Group):
+            return level
+        return "read" if any(self.counts(item, it) for it in self.groups if self.granted(who, it)) else None
+
+    def visible(self, who, owner, name, items=None):
+        """The model, or the one of these items, of this name, or None where the partner doesn't see one."""
+        for item in self.models if items is None else items:
+            if (item.owner, item.name) == (owner, name) and self.level(who, item):
+                return item
         return None
 
-    def seen(self, who, owner, name, levels):
-        """The model of this name, which the partner has to see, and on which he has to have one of the levels."""
-        model = self.visible(who, owner, name)
-        if not model:
+    def seen(self, who, owner, name, levels, items=None):
+        """The model, or the one of these items, of this name: the partner has to see it, and to have one of the levels on it."""
+        item = self.visible(who, owner, name, items)
+        if not item:
             raise Refused("NoSuchItem")
-        if self.level(who, model) not in levels:
+        if self.level(who, item) not in levels:
             raise Refused("NoRight")
-        return model
+        return item
+
+    def seen_group(self, who, owner, name):
+        return self.seen(who, owner, name, READING, self.groups)
 
     def link_fault(self, who, holder, link):
         """What is wrong with a link of a model whose name stands nowhere else, or None."""
@@ -346,7 +432,7 @@ class Repository:
 
     @request
     def put(self, who, owner, model, file, links: Links = ()):
-        target = self.seen(who, owner, model, ["owner", "write"])
+        target = self.seen(who, owner, model, WRITING)
         linked = sorted((Link(**it) for it in links), key=lambda it: it.name)
         found = self.file_of(file)
         if isinstance(found, FileFault):
@@ -365,7 +451,7 @@ class Repository:
 
     @request
     def export(self, who, owner, model, links: bool = False):
-        found = self.seen(who, owner, model, ["owner", "write", "read"])
+        found = self.seen(who, owner, model, READING)
         if found.links and not links:
             raise Refused("HasLinks")
         file = plain_binding.canonical_text(self.schemas_by_name[found.schema], found.header, found.instances)
@@ -373,13 +459,13 @@ class Repository:
 
     @request
     def names(self, who, owner, model):
-        found = self.seen(who, owner, model, ["owner", "write", "read"])
+        found = self.seen(who, owner, model, READING)
         schema = self.schemas_by_name[found.schema]
         return {"names": [{"name": it.name, "type": plain_binding.type_text(schema, it.types)} for it in found.instances]}, None
 
     @request
     def get(self, who, owner, model, instance: int):
-        found = self.seen(who, owner, model, ["owner", "write", "read"])
+        found = self.seen(who, owner, model, READING)
         return {"text": plain_binding.instance_text(self.schemas_by_name[found.schema], found.instance(instance))}, None
 
     def said(self, model, name, text):
@@ -395,7 +481,7 @@ class Repository:
 
     @request
     def add(self, who, owner, model, text):
-        target = self.seen(who, owner, model, ["owner", "write"])
+        target = self.seen(who, owner, model, WRITING)
         new = self.said(target, target.greatest + 1, text)
         if target.greatest >= GREATEST_NUMBER or len(target.instances) >= INSTANCES_OF_ONE_MODEL:
             raise Refused("TooMany")
@@ -403,35 +489,104 @@ class Repository:
 
     @request
     def set(self, who, owner, model, instance: int, text):
-        target = self.seen(who, owner, model, ["owner", "write"])
+        target = self.seen(who, owner, model, WRITING)
         new = self.said(target, instance, text)
         target.instance(instance)
         return {}, lambda: target.place(new)
 
     @request
     def drop(self, who, owner, model, instance: int):
-        target = self.seen(who, owner, model, ["owner", "write"])
+        target = self.seen(who, owner, model, WRITING)
         dropped = target.instance(instance)
         others = [it for it in target.instances if it is not dropped]
         if any(Reference(instance) in plain_binding.references_of(it) for it in others):
             raise Refused("InUse")
         return {}, lambda: setattr(target, "instances", others)
 
+    def rows(self, who, items):
+        return [{"level": self.level(who, it), "name": it.name, "owner": it.owner, "schema": it.schema}
+                for it in sorted(items, key=lambda it: (it.owner, it.name)) if self.level(who, it)]
+
     @request
     def list(self, who):
-        rows = [{"level": self.level(who, it), "name": it.name, "owner": it.owner, "schema": it.schema}
-                for it in sorted(self.models, key=lambda it: (it.owner, it.name)) if self.level(who, it)]
-        return {"groups": [], "models": rows}, None
+        return {"groups": self.rows(who, self.groups), "models": self.rows(who, self.models)}, None
+
+    def own(self, who, kind, name):
+        """A partner's own model or group of this name."""
+        return self.seen(who, who, name, ["owner"], {"model": self.models, "group": self.groups}[kind])
 
     @request
     def grant(self, who, kind, name, to, level):
-        model = self.seen(who, who, name, ["owner"])
-        return {}, (lambda: model.grants.update({to: level})) if to != who else None
+        item = self.own(who, kind, name)
+        return {}, (lambda: item.grants.update({to: level})) if to != who else None
 
     @request
     def revoke(self, who, kind, name, to):
-        model = self.seen(who, who, name, ["owner"])
-        return {}, lambda: model.grants.pop(to, None)
+        item = self.own(who, kind, name)
+        return {}, lambda: item.grants.pop(to, None)
+
+    @request
+    def create_group(self, who, name, schema):
+        own = [group for group in self.groups if group.owner == who]
+        if upper(schema) not in self.schemas_by_name:
+            raise Refused("UnknownSchema")
+        if any(group.name == name for group in own):
+            raise Refused("Exists")
+        if len(own) >= GROUPS_OF_ONE_OWNER:
+            raise Refused("TooMany")
+        return {}, lambda: self.groups.append(Group(who, name, upper(schema)))
+
+    @request
+    def delete_group(self, who, name):
+        group = self.own(who, "group", name)
+        return {}, lambda: self.groups.remove(group)
+
+    @request
+    def include(self, who, group, owner, model):
+        target = self.visible(who, who, group, self.groups)
+        if not target:
+            raise Refused("NoSuchItem")
+        found = self.seen(who, owner, model, GROUPING)
+        if found.schema != target.schema:
+            raise Refused("WrongSchema")
+        if (owner, model) in target.members:
+            raise Refused("Membership")
+        if len(target.members) >= MEMBERS_OF_ONE_GROUP:
+            raise Refused("TooMany")
+        return {}, lambda: setattr(target, "members", sorted([*target.members, (owner, model)]))
+
+    @request
+    def exclude(self, who, group, owner, model):
+        target = self.own(who, "group", group)
+        if (owner, model) not in target.members:
+            raise Refused("Membership")
+        return {}, lambda: target.members.remove((owner, model))
+
+    @request
+    def members(self, who, owner, group):
+        found = self.seen_group(who, owner, group)
+        counted = {(it.owner, it.name) for it in self.counted(found)}
+        return {"members": [{"counts": it in counted, "model": it[1], "owner": it[0]} for it in found.members]}, None
+
+    def population(self, group):
+        """The instances of a group's population, each with its place and its model, in the order of places."""
+        return [(Place(model.owner, model.name, it.name), model, it) for model in self.counted(group) for it in model.instances]
+
+    @request
+    def extent(self, who, owner, group, type):
+        found = self.seen_group(who, owner, group)
+        entity = named_entity(self.schemas_by_name[found.schema], upper(type))
+        return {"extent": [place for place, _, it in self.population(found) if entity in it.types]}, None
+
+    @request
+    def users(self, who, owner, group, of: Place, role):
+        found = self.seen_group(who, owner, group)
+        population = self.population(found)
+        if not any(place == Place(*of) for place, _, _ in population):
+            raise Refused("NoSuchInstance")
+        schema = self.schemas_by_name[found.schema]
+        return {"users": [place for place, model, it in population for name in references_in(schema, role, it)
+                          if Place(*of) in targets(model, name)]}, None
 
     @request
     def schemas(self, who):

@@ -21,9 +21,9 @@ import sys
 
 from harness import end, shortened, take_program
 from messages import Repository as RepositoryFolder
-from plain_binding import Entity, InstanceFault, Schema, bound, express
+from plain_binding import Entity, InstanceFault, Schema, bound, express, references_of
 from plain_model import (
-    CODES, LINE_LIMIT, LINKS_OF_ONE_MODEL, REQUESTS, TEXT_LIMIT, File, FileFault, Link, Repository, request_of,
+    CODES, GROUPING, LINE_LIMIT, LINKS_OF_ONE_MODEL, READING, REQUESTS, TEXT_LIMIT, WRITING, File, FileFault, Link, Repository, request_of, targets,
 )
 from random_files import POOL, UNDEFINED, T, exchange_file, instance_text, long_file, schema_text
 
@@ -42,6 +42,12 @@ CROWD = [f"c{place}" for place in range(103)]
 LINKED = [*range(20, 32), 102, 103, 999_999_999_999_999_997]
 NUMBERS = POOL + [12, 20, 102, 10**18, 2**63, 2**64 - 1, 2**64, 10**308, -1, -2**63, -2**64, 1.0, -0.0, 0.5, 1e300]
 
+# entities of T, words that are none, and roles through them
+ENTITIES = ["P", "p", "Q", "q", "R", "Point", "UNIT", "METRE", "SI_UNIT", "B2", "V", "W", "A_1", "E"]
+NO_ENTITIES = ["", "T", "T.P", "LEN", "p ", "ſ", "X"]
+ROLES = ["", "", "T.Q.A", "T.Q.A", "T.R.MANY", "T.POINT.TOWARD", "T.UNIT.SAID", "T.METRE.SAID", "T.SI_UNIT.SAID", "T.V.B", "T.B2.B", "T.W.X"]
+NO_ROLES = ["t.q.a", "T.Q.a", "T.Q", "T.Q.A.", "T..A", ".", "Q.A", "T.P.A", "L.Q.A", "T.T.T", "T.Q.A ", "é"]
+
 NAMED_SCHEMAS = ["T"] * 30 + ["t", "T {1 0 10303}", "t{", "T\r\n", "\nT\t", "L", "l x", "S", "ſ", "", " T", "TT"]
 
 # from how many lines on each sort of reply has to be due
@@ -52,6 +58,7 @@ DUE = {
     *(f"InstanceFault {kind}" for kind in ("Twice", "UnknownEntity", "IllegalCombination", "WrongCount", "NotDerived", "WrongKind",
                                            "Undefined")),
     *(f"LinkFault {kind}" for kind in ("Defined", "Own", "NotSeen", "OtherSchema", "NoInstance")), "put with links", "export with links",
+    "grant model", "grant group", "revoke model", "revoke group", *(f"{do} with rows" for do in ("members", "extent", "users")),
 }
 
 
@@ -107,9 +114,25 @@ class Maker:
         """The models on which a partner has one of these levels."""
         return [it for it in self.repository.models if self.repository.level(who, it) in levels]
 
+    def group(self, who):
+        """The owner and the name of a group, mostly of one that the partner sees, and its population."""
+        seen = [it for it in self.repository.groups if self.repository.level(who, it)]
+        if seen and self.happens(0.85):
+            found = self.choice([it for it in seen if self.repository.population(it)] or seen)
+            return found.owner, found.name, self.repository.population(found)
+        return self.owner(who), self.name(), []
+
+    def own_group(self, who):
+        """The name of a group, mostly of one of the partner's, and its members."""
+        own = [it for it in self.repository.groups if it.owner == who]
+        if own and self.happens(0.9):
+            found = self.choice(own)
+            return found.name, found.members
+        return self.name(), []
+
     def model(self, who):
         """The owner and the name of a model, mostly of one that the partner may write, and the names of its instances and links."""
-        may_write = self.models(who, "owner", "write")
+        may_write = self.models(who, *WRITING)
         if may_write and self.happens(0.8):
             found = self.choice([it for it in may_write if it.names()] or may_write)
             return found.owner, found.name, found.names()
@@ -119,7 +142,7 @@ class Maker:
         """An instance that a link of the model of this name may lead to, or at times of the model itself, of any or of one of
         another schema, or one that isn't there."""
         holder = self.repository.visible(who, owner, name)
-        others = [it for it in self.models(who, "owner", "write", "read") if it is not holder]
+        others = [it for it in self.models(who, *READING) if it is not holder]
         fitting = [it for it in others if it.instances and (not holder or it.schema == holder.schema)]
         kind = self.random.random()
         if kind < 0.04:
@@ -209,11 +232,52 @@ def list_models(_it, _who):
 
 
 def grant(it, _):
-    return {"kind": "model", "name": it.name(), "to": it.partner(), "level": it.choice(["read", "write"])}
+    kind = it.choice(["model", "model", "group"])
+    return {"kind": kind, "name": it.name(), "to": it.partner(), "level": "read" if kind == "group" else it.choice(["read", "group", "group", "write"])}
 
 
 def revoke(it, _):
-    return {"kind": "model", "name": it.name(), "to": it.partner()}
+    return {"kind": it.choice(["model", "model", "group"]), "name": it.name(), "to": it.partner()}
+
+
+def include(it, who):
+    """Mostly of a model that the partner may put into a group."""
+    may_group = it.models(who, *GROUPING)
+    if may_group and it.happens(0.8):
+        found = it.choice(may_group)
+        return {"group": it.own_group(who)[0], "owner": found.owner, "model": found.name}
+    return {"group": it.own_group(who)[0], "owner": it.owner(who), "model": it.name()}
+
+
+def exclude(it, who):
+    """Mostly of a member."""
+    group, there = it.own_group(who)
+    owner, name = it.choice(there) if there and it.happens(0.7) else (it.owner(who), it.name())
+    return {"group": group, "owner": owner, "model": name}
+
+
+def members(it, who):
+    owner, name, _ = it.group(who)
+    return {"owner": owner, "group": name}
+
+
+def extent(it, who):
+    """Mostly of an entity that is there."""
+    owner, name, population = it.group(who)
+    if population and it.happens(0.5):
+        _, _, instance = it.choice(population)
+        return {"owner": owner, "group": name, "type": it.choice(sorted(instance.types))}
+    return {"owner": owner, "group": name, "type": it.choice(NO_ENTITIES if it.happens(0.1) else ENTITIES)}
+
+
+def users(it, who):
+    """Mostly of an instance that is there, and that others use."""
+    owner, name, population = it.group(who)
+    places = [place for place, _, _ in population]
+    used = [place for _, model, instance in population for to in references_of(instance) for place in targets(model, to.name)]
+    here = [place for place in used if place in places]
+    of = it.choice(here if here and it.happens(0.8) else places) if places and it.happens(0.9) else (it.partner(), it.name(), it.choice(POOL, LINKED))
+    return {"owner": owner, "group": name, "of": list(of), "role": it.choice(NO_ROLES if it.happens(0.15) else ROLES)}
 
 
 def schemas(_it, _who):
@@ -226,10 +290,12 @@ def check_schema(it, _):
 
 # what makes the keys of each request of a partner's, and how often it is made
 MAKERS = {
-    "create_model": (create_model, 12), "delete_model": (delete_model, 2), "put": (put, 55), "export": (export, 18), "names": (names, 12),
+    "create_model": (create_model, 12), "delete_model": (delete_model, 2), "put": (put, 65), "export": (export, 18), "names": (names, 12),
     "get": (get, 12), "add": (add, 20), "set": (set_instance, 15), "drop": (get, 15),
     "list": (list_models, 8), "grant": (grant, 14), "revoke": (revoke, 4), "schemas": (schemas, 2),
     "check_schema": (check_schema, 5),
+    "create_group": (create_model, 6), "delete_group": (delete_model, 1), "include": (include, 14), "exclude": (exclude, 4),
+    "members": (members, 6), "extent": (extent, 10), "users": (users, 20),
 }
 
 
@@ -251,9 +317,9 @@ NO_JSON = ["1e999", "01", "1.", "-", "NaN", "-Infinity", "1" * 310, '"\\ud800"',
 
 # words that a request doesn't have, also such as may come
 NO_WORDS = {
-    "do": ["Names", "names ", "name", "", "create_group", "Get", "Add", "drop_instance", "validate", "include"],
-    "kind": ["group", "group", "Model", ""],
-    "level": ["group", "group", "group", "owner", "Read", ""],
+    "do": ["Names", "names ", "name", "", "groups", "Get", "Add", "drop_instance", "validate", "Include"],
+    "kind": ["Group", "groups", "Model", ""],
+    "level": ["group", "write", "Group", "owner", "Read", ""],
 }
 
 
@@ -285,10 +351,16 @@ def written_links(it, links):
     return f"[{blank(it)}{','.join(objects)}]"
 
 
+def written_place(it, place):
+    return f"[{','.join(blank(it) + written(it, item) + blank(it) for item in place)}]"
+
+
 def written(it, value):
     if isinstance(value, str):
         return string(it, value)
-    return written_links(it, value) if isinstance(value, list) else json.dumps(value)
+    if isinstance(value, list):
+        return (written_place if value and not isinstance(value[0], dict) else written_links)(it, value)
+    return json.dumps(value)
 
 
 def members_of(it, pairs):
@@ -324,7 +396,7 @@ def one_key_less(it):
 
 def one_key_more(it):
     members = members_of(it, request(it))
-    key = it.choice(["x", "links", "owner", "name", "As", "kind", "group", "schema", ""])
+    key = it.choice(["x", "links", "owner", "name", "As", "kind", "group", "of", "schema", ""])
     value = '"m"' if it.happens(0.5) else it.choice(REPLACED, NO_JSON)
     members.insert(it.random.randrange(len(members) + 1), (key, value))
     return members
@@ -367,6 +439,26 @@ def another_link(it):
     return members_of(it, pairs.items()) + [("links", text)]
 
 
+def another_place(it):
+    """Users of what is mostly no place: it has an item less or more, or another one, or is no list."""
+    pairs = dict(request(it, "users"))
+    items = [written(it, item) for item in pairs.pop("of")]
+    place = it.random.randrange(len(items))
+    way = it.choice(["less", "more", "number", "value", "list"])
+    if way == "less":
+        del items[place]
+    elif way == "more":
+        items.insert(place, it.choice(REPLACED, NO_JSON))
+    elif way == "number":
+        items[2] = json.dumps(it.choice(NUMBERS))
+    elif way == "value":
+        items[place] = it.choice(REPLACED, NO_JSON)
+    text = f"[{','.join(items)}]"
+    if way == "list":
+        text = it.choice(REPLACED, NO_JSON, [text[1:-1], f"[{text}]", text.replace(",", ",,", 1)])
+    return members_of(it, pairs.items()) + [("of", text)]
+
+
 def near(it, line):
     """Bytes that are like a line."""
     cut = it.random.randrange(len(line) + 1)
@@ -377,7 +469,7 @@ def near(it, line):
     ])
 
 
-NO_REQUESTS = [replaced_no_json, one_key_less, one_key_more, another_value, another_word, another_link]
+NO_REQUESTS = [replaced_no_json, one_key_less, one_key_more, another_value, another_word, another_link, another_place]
 
 
 def no_request(it):
@@ -392,13 +484,20 @@ def padded(text, size):
     return text + " " * (size - len(text.encode()))
 
 
-def crowd(it):
-    """The lines of a partner who makes more models than he may have, and then those that delete them."""
+def crowd(it, kind):
+    """The lines of a partner who makes more models, or groups, than he may have, and then those that delete them. Of his models he
+    puts more into one group than it may list."""
     who = it.choice(PARTNERS)
     for name in CROWD:
-        yield line_of(it, [("as", who), ("do", "create_model"), ("name", name), ("schema", "T")])
+        yield line_of(it, [("as", who), ("do", f"create_{kind}"), ("name", name), ("schema", "T")])
+    if kind == "model":
+        yield line_of(it, [("as", who), ("do", "create_group"), ("name", "crowd"), ("schema", "T")])
+        for name in CROWD[:55]:
+            yield line_of(it, [("as", who), ("do", "include"), ("group", "crowd"), ("owner", who), ("model", name)])
+        yield line_of(it, [("as", who), ("do", "members"), ("group", "crowd"), ("owner", who)])
+        yield line_of(it, [("as", who), ("do", "delete_group"), ("name", "crowd")])
     for name in CROWD:
-        yield line_of(it, [("as", who), ("do", "delete_model"), ("name", name)])
+        yield line_of(it, [("as", who), ("do", f"delete_{kind}"), ("name", name)])
 
 
 def greatly_linked(it, who):
@@ -432,13 +531,13 @@ def great(it):
 
 
 def lines_of(it, count):
-    """So many lines, with the great ones once and a crowd of models now and then among them."""
+    """So many lines, with the great ones once and a crowd of models or groups now and then among them."""
     among = iter(())
     for place in range(count):
         if place == 100:
             among = great(it)
-        if place % 2000 == 300:
-            among = crowd(it)
+        if place % 2000 in (300, 1200):
+            among = crowd(it, "model" if place % 2000 == 300 else "group")
         line = next(among, None) if it.happens(0.5) else None
         if line is None:
             line = no_request(it) if it.happens(0.12) else line_of(it, request(it))
@@ -452,7 +551,9 @@ def sort_of(line, reply):
     told = json.loads(reply)
     if "ok" in told:
         _, do, keys = request_of(line)
-        return [do, f"{do} with links"] if keys.get("links") else [do]
+        rows = told["ok"].get(do)
+        return [do, *([f"{do} with links"] if keys.get("links") else []), *([f"{do} {keys['kind']}"] if "kind" in keys else []),
+                *([f"{do} with rows"] if rows else [])]
     name, kind = told["refused"]["name"], told["refused"].get("kind")
     return [name, f"{name} {kind}"] if kind else [name]
 
@@ -468,8 +569,8 @@ def turns_of(seed, count):
             change()
         turns.append((line, reply))
         due.update(sort_of(line, reply))
-    if not all(model.is_valid() for model in repository.models):
-        raise AssertionError(f"seed {seed}: plain_model.py has come to a model that isn't valid")
+    if not all(it.is_valid() for it in repository.models + repository.groups):
+        raise AssertionError(f"seed {seed}: plain_model.py has come to a model or a group that isn't valid")
     return turns, due
 
 

@@ -1,4 +1,6 @@
+mod KeptLemmas
 mod LinkLemmas
 mod ListLemmas
 mod MemberLemmas
+mod PlaceLemmas
 mod ShallowMembers

@@ -1,6 +1,6 @@
 -- The bytes of a reply.
 use Rattle.std.specs.Prelude.{ℕ, List, [], ◌∷◌, ◌++◌, map, codes}
-use Rattle.serde_json.specs.Data.{Data, number, unsigned, string, array, object, Members, no_members, member}
+use Rattle.serde_json.specs.Data.{Data, boolean, number, unsigned, string, array, no_items, item, object, Members, no_members, member}
 use Rattle.serde_json.specs.View.{items_of}
 use Rattle.serde_json.specs.Written.{compact_text}
 use Rattle.p21_tree.specs.declared.fault.FaultKind.{FaultKind}
@@ -10,14 +10,16 @@ use Rattle.p21_tree.specs.declared.fault.InstanceFaultKind.TheVariants.{Twice, U
 use Rattle.rp_content.specs.declared.link.Link.{Link}
 use Rattle.rp_rows.specs.declared.rows.Right.{Right}
 use Rattle.rp_rows.specs.declared.rows.Right.TheVariants.{Unseen, Reads, Groups, Writes, Owns}
+use Rattle.rp_population.specs.declared.place.Place.{Place}
 use Rattle.rp_plain.specs.declared.lists.Item.{Item}
+use Rattle.rp_plain.specs.declared.lists.Member.{Member}
 use Rattle.rp_plain.specs.declared.lists.NamedType.{NamedType}
 use Rattle.rp_plain.specs.declared.messages.LinkFaultKind.{LinkFaultKind}
 use Rattle.rp_plain.specs.declared.messages.LinkFaultKind.TheVariants.{Defined, Own, NotSeen, OtherSchema, NoInstance}
 use Rattle.rp_plain.specs.declared.messages.Refusal.{Refusal}
-use Rattle.rp_plain.specs.declared.messages.Refusal.TheVariants.{BadRequest, TooLarge, BadName, UnknownPartner, UnknownSchema, Exists, NoSuchItem, NoRight, WrongSchema, FileFault, InstanceFault, LinkFault, NoSuchInstance, InUse, TooMany, HasLinks, NoMemory}
+use Rattle.rp_plain.specs.declared.messages.Refusal.TheVariants.{BadRequest, TooLarge, BadName, UnknownPartner, UnknownSchema, Exists, NoSuchItem, NoRight, WrongSchema, Membership, FileFault, InstanceFault, LinkFault, NoSuchInstance, InUse, TooMany, HasLinks, NoMemory}
 use Rattle.rp_plain.specs.declared.messages.Reply.{Reply}
-use Rattle.rp_plain.specs.declared.messages.Reply.TheVariants.{Done, Stored, File, Linked, Names, Line, Added, Listed, Schemas, Checked, Faulty, Refused}
+use Rattle.rp_plain.specs.declared.messages.Reply.TheVariants.{Done, Stored, File, Linked, Names, Line, Added, Listed, Members as ListedMembers, Extent, Users, Schemas, Checked, Faulty, Refused}
 use Rattle.ex_check.specs.declared.fault.SchemaFault.{SchemaFault}
 use Rattle.ex_check.specs.Check.{name as fault_name, place as fault_place}
 
@@ -81,6 +83,7 @@ refusal_members Exists = coded 6 (codes "Exists")
 refusal_members NoSuchItem = coded 7 (codes "NoSuchItem")
 refusal_members NoRight = coded 8 (codes "NoRight")
 refusal_members WrongSchema = coded 9 (codes "WrongSchema")
+refusal_members Membership = coded 10 (codes "Membership")
 refusal_members (FileFault fault) = with_number (codes "at") fault.at (with_number (codes "code") 11 (with_string (codes "kind") (file_kind fault.kind) (with_string (codes "name") (codes "FileFault") no_members)))
 refusal_members (InstanceFault fault) = with_number (codes "code") 12 (with_number (codes "instance") fault.instance (with_string (codes "kind") (instance_kind fault.kind) (with_string (codes "name") (codes "InstanceFault") no_members)))
 refusal_members (LinkFault fault) = with_number (codes "code") 13 (with_string (codes "kind") (link_kind fault.kind) (with_number (codes "link") fault.link (with_string (codes "name") (codes "LinkFault") no_members)))
@@ -109,6 +112,14 @@ item_data i = object (with_string (codes "level") (level_word i.right) (with_str
 abbrev pub link_data : Link → Data
 link_data l = object (with_number (codes "instance") l.target (with_string (codes "model") l.model (with_number (codes "name") l.name (with_string (codes "owner") l.owner no_members))))
 
+-- whether it counts, and the model
+abbrev pub member_data : Member → Data
+member_data m = object (member (codes "counts") (boolean m.counts) (with_string (codes "model") m.model.1 (with_string (codes "owner") m.model.0 no_members)))
+
+-- an owner, the name of a model, and that of an instance
+abbrev pub instance_data : Place → Data
+instance_data p = array (item (string p.model.0) (item (string p.model.1) (item (number (unsigned p.instance)) no_items)))
+
 -- a place in a text, and of which kind it is
 abbrev pub place_data : ℕ → List ℕ → Data
 place_data at kind = object (with_number (codes "at") at (with_string (codes "kind") kind no_members))
@@ -131,6 +142,9 @@ reply_data (Names names) = only (codes "ok") (only (codes "names") (list_of name
 reply_data (Line text) = only (codes "ok") (only (codes "text") (string text))
 reply_data (Added name) = only (codes "ok") (only (codes "name") (number (unsigned name)))
 reply_data (Listed groups models) = only (codes "ok") (object (member (codes "groups") (list_of item_data groups) (member (codes "models") (list_of item_data models) no_members)))
+reply_data (ListedMembers members) = only (codes "ok") (only (codes "members") (list_of member_data members))
+reply_data (Extent places) = only (codes "ok") (only (codes "extent") (list_of instance_data places))
+reply_data (Users places) = only (codes "ok") (only (codes "users") (list_of instance_data places))
 reply_data (Schemas names) = only (codes "ok") (only (codes "schemas") (list_of string names))
 reply_data (Checked schema warnings) = only (codes "ok") (object (with_string (codes "schema") schema (member (codes "warnings") (list_of warning_data warnings) no_members)))
 reply_data (Faulty fault) = only (codes "ok") (only (codes "fault") (fault_data fault))

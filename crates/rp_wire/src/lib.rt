@@ -2,12 +2,16 @@
 #![tactic(auto)]
 
 mod asks;
+mod grants;
+mod groups;
 mod lines;
 mod links;
 mod lists;
 mod members;
+mod places;
 mod refusals;
 mod replies;
+mod values;
 mod writing;
 
 pub use asks::{Asked, Unread, request_of};

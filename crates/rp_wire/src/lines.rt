@@ -1,4 +1,4 @@
-//! From a line to its members and links.
+//! From a line to its members and lists.
 
 ghost use Rattle.std.specs.Prelude.{◌≡◌, ◌<◌, length, None, Some, option_map, option_and_then, IfOk, IsErrOf, OnOk};
 ghost use Rattle.json.specs.Json.{value, members, parse_map};
@@ -11,8 +11,10 @@ ghost use Rattle.rp_wire.specs.Kept.{kept_at, kept};
 
 use crate::links::{Links, read_links};
 use crate::members::Members;
+use crate::places::read_place;
 use json::{Reader, Scratch};
 use plain_data::Rows;
+use rp_population::Place;
 use serde_json::{Map, Value};
 use shallow_json::{Unread, read_member, take_begin_object};
 use std::alloc::Global;
@@ -20,9 +22,18 @@ use std::alloc::Global;
 /// How deep lists and objects may nest in a member.
 const DEPTH: usize = 126;
 
+/// What the lists of a line hold.
+#[derive(Drop)]
+pub(crate) struct Lists {
+    /// Those at `links`.
+    pub links: Links,
+    /// The one at `of`: nothing where it is no place.
+    pub place: Option<Place>,
+}
+
 /// The members of the object that a line is, with null for each list and each object among them, and
-/// its links. Of equal keys the last one stands.
-pub(crate) fn read_line(alloc: Global, line: &[u8]) -> Result<(Members, Links), Unread>
+/// its lists. Of equal keys the last one stands.
+pub(crate) fn read_line(alloc: Global, line: &[u8]) -> Result<(Members, Lists), Unread>
     ensures ok { IfOk result (λ read. asked_of line.now ≡ asked_with read.1 (members_view read.0.entries)) }
     ensures bad { IsErrOf result Unread.Invalid → asked_of line.now ≡ None }
 {
@@ -32,7 +43,7 @@ pub(crate) fn read_line(alloc: Global, line: &[u8]) -> Result<(Members, Links), 
     }
 }
 
-fn read_object(alloc: Global, text: &str) -> Result<(Members, Links), Unread>
+fn read_object(alloc: Global, text: &str) -> Result<(Members, Lists), Unread>
     ensures ok { IfOk result (λ read. option_map kept (option_and_then as_object (read_json text.now))
         ≡ Some (members_view read.0.entries, read.1)) }
     ensures bad { IsErrOf result Unread.Invalid → option_and_then as_object (read_json text.now) ≡ None }
@@ -49,8 +60,8 @@ fn read_object(alloc: Global, text: &str) -> Result<(Members, Links), Unread>
     }
 }
 
-/// The members that follow the brace that opens the object, and the links among them.
-fn read_members(alloc: Global, reader: &mut Reader<'_>) -> Result<(Members, Links), Unread>
+/// The members that follow the brace that opens the object, and the lists among them.
+fn read_members(alloc: Global, reader: &mut Reader<'_>) -> Result<(Members, Lists), Unread>
     ensures ok { IfOk result (λ read. parse_map kept (converted (λ ms. of_members ms no_members)
         (members (value 126) (length reader.old) reader.old))
         ≡ Some ((members_view read.0.entries, read.1), reader.new)) }
@@ -58,31 +69,41 @@ fn read_members(alloc: Global, reader: &mut Reader<'_>) -> Result<(Members, Link
         (members (value 126) (length reader.old) reader.old) ≡ None }
 {
     let mut found = Map::new(alloc);
-    let mut links = Some(Rows::new(alloc));
+    let mut lists = Lists {
+        links: Some(Rows::new(alloc)),
+        place: None,
+    };
     'members: while let Some(name) = reader.next_key()? {
         let key = String::from_str(alloc, name)?;
-        let member = read_at(alloc, reader, name, &mut links)?;
+        let member = read_at(alloc, reader, name, &mut lists)?;
         drop(found.insert(key, member)?);
     }
-    Ok((found, links))
+    Ok((found, lists))
 }
 
-/// The member of this name. The links are those of the last one at `links`.
+/// The member of this name. The lists are those of the last ones at their names.
 fn read_at(
     alloc: Global,
     reader: &mut Reader<'_>,
     name: &str,
-    links: &mut Links,
+    lists: &mut Lists,
 ) -> Result<Value, Unread>
-    ensures ok { IfOk result (λ v. parse_map (kept_at name.now links.old) (converted of_json (value 126 reader.old))
-        ≡ Some ((view v, links.new), reader.new)) }
+    ensures ok { IfOk result (λ v. parse_map (kept_at name.now lists.old) (converted of_json (value 126 reader.old))
+        ≡ Some ((view v, lists.new), reader.new)) }
     ensures shorter { OnOk result (length reader.new < length reader.old) }
     ensures bad { IsErrOf result Unread.Invalid → converted of_json (value 126 reader.old) ≡ None }
 {
-    if name == "links" {
-        let (member, read) = read_links(alloc, reader)?;
-        *links = read;
-        return Ok(member);
+    match name {
+        "links" => {
+            let (member, links) = read_links(alloc, reader)?;
+            lists.links = links;
+            Ok(member)
+        }
+        "of" => {
+            let (member, place) = read_place(alloc, reader)?;
+            lists.place = place;
+            Ok(member)
+        }
+        _ => read_member(alloc, reader, DEPTH),
     }
-    read_member(alloc, reader, DEPTH)
 }

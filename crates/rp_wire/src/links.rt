@@ -1,58 +1,46 @@
 //! Links.
 
 ghost use Rattle.std.specs.Prelude.{◌≡◌, ◌<◌, ◌∷◌, [], ◌++◌, length, None, Some, option_map, option_and_then, IfOk, IsErrOf, OnOk};
-ghost use Rattle.json.specs.Json.{value, items, parse_map};
-ghost use Rattle.serde_json.specs.Read.{of_json, of_items, converted};
+ghost use Rattle.json.specs.Json.{value, parse_map};
+ghost use Rattle.serde_json.specs.Read.{of_json, converted};
 ghost use Rattle.serde_json.specs.View.{view, members_view};
 ghost use Rattle.rp_wire.specs.Asks.{link_in, link_of, links_of};
-ghost use Rattle.rp_wire.specs.Kept.{with_links};
+ghost use Rattle.rp_wire.specs.Kept.{with_list, items_read};
 
 use crate::members::{Members, has_only_keys, take_model, take_number};
-use json::{Invalid, Reader, Token};
+use crate::values::{ITEM_DEPTH, read_unless_list};
+use json::Reader;
 use plain_data::Rows;
 use rp_content::Link;
 use serde_json::Value;
-use shallow_json::{Unread, read_flat, read_scalar, skip_members};
+use shallow_json::{Unread, read_flat};
 use std::alloc::{AllocError, Global};
 
 /// The links of a member: nothing where it is no list of links.
 pub(crate) type Links = Option<Rows<Link>>;
 
-/// How deep lists and objects may nest in a member's items.
-const DEPTH: usize = 125;
-
 /// The next value, or null for a list and for an object, and its links.
 pub(crate) fn read_links(alloc: Global, reader: &mut Reader<'_>) -> Result<(Value, Links), Unread>
-    ensures ok { IfOk result (λ read. parse_map with_links (converted of_json (value 126 reader.old))
+    ensures ok { IfOk result (λ read. parse_map (with_list links_of) (converted of_json (value 126 reader.old))
         ≡ Some ((view read.0, read.1), reader.new)) }
     ensures shorter { OnOk result (length reader.new < length reader.old) }
     ensures bad { IsErrOf result Unread.Invalid → converted of_json (value 126 reader.old) ≡ None }
 {
-    let token = reader.next().ok_or(Invalid)?;
-    match token {
-        Token::BeginArray => {
-            let links = read_items(alloc, reader)?;
-            Ok((Value::Null, links))
-        }
-        Token::BeginObject => {
-            skip_members(reader, DEPTH)?;
-            Ok((Value::Null, None))
-        }
-        _ => Ok((read_scalar(alloc, &token)?, None)),
+    match read_unless_list(alloc, reader)? {
+        Some(value) => Ok((value, None)),
+        None => Ok((Value::Null, read_items(alloc, reader)?)),
     }
 }
 
 /// The links that follow the bracket that opens a list. Each item is given back before the next.
 fn read_items(alloc: Global, reader: &mut Reader<'_>) -> Result<Links, Unread>
-    ensures ok { IfOk result (λ links. parse_map links_of (converted of_items (items (value 125) (length reader.old) reader.old))
-        ≡ Some (links, reader.new)) }
+    ensures ok { IfOk result (λ links. parse_map links_of (items_read reader.old) ≡ Some (links, reader.new)) }
     ensures shorter { OnOk result (length reader.new < length reader.old) }
-    ensures bad { IsErrOf result Unread.Invalid
-        → converted of_items (items (value 125) (length reader.old) reader.old) ≡ None }
+    ensures bad { IsErrOf result Unread.Invalid → items_read reader.old ≡ None }
 {
     let mut links = Some(Rows::new(alloc));
     'items: while !reader.take_end_array() {
-        let link = link_of(read_flat(alloc, reader, DEPTH)?);
+        let link = link_of(read_flat(alloc, reader, ITEM_DEPTH)?);
         links = with_link(links, link)?;
     }
     Ok(links)

@@ -2,15 +2,16 @@
 
 ghost use Rattle.std.specs.Prelude.{◌≡◌, ◌∷◌, ◌++◌, OnOk};
 ghost use Rattle.json.specs.Token.{key as key_token};
-ghost use Rattle.rp_wire.specs.Replies.{named_type_data, level_word, item_data, link_data, warning_data, list_of};
+ghost use Rattle.rp_wire.specs.Replies.{named_type_data, level_word, item_data, member_data, instance_data, link_data, warning_data, list_of};
 ghost use Rattle.rp_wire.specs.Tokens.{tokens_of};
 ghost use Rattle.serde_json.specs.Data.{string};
 
-use crate::writing::{number_at, place_of_kind, string_at};
+use crate::writing::{boolean_at, number_at, place_of_kind, string_at};
 use json::Writer;
 use plain_data::Text;
 use rp_content::Link;
-use rp_plain::lists::{Item, NamedType};
+use rp_plain::lists::{Item, Member, NamedType};
+use rp_population::Place;
 use rp_rows::rows::Right;
 use std::alloc::AllocError;
 
@@ -76,6 +77,53 @@ fn word_of(right: Right) -> &'static str
         Right::Writes => "write",
         Right::Owns => "owner",
     }
+}
+
+pub(crate) fn write_members(out: &mut Writer, members: &[Member]) -> Result<(), AllocError>
+    ensures ok { OnOk result (out.new.tokens ≡ out.old.tokens ++ tokens_of (list_of member_data members.now)) }
+    ensures before { out.new.before ≡ out.old.before }
+{
+    out.begin_array()?;
+    for member in members {
+        write_member(out, member)?;
+    }
+    out.end_array()
+}
+
+fn write_member(out: &mut Writer, member: &Member) -> Result<(), AllocError>
+    ensures ok { OnOk result (out.new.tokens ≡ out.old.tokens ++ tokens_of (member_data member.now)) }
+    ensures before { out.new.before ≡ out.old.before }
+{
+    let (owner, name) = &member.model;
+    out.begin_object()?;
+    boolean_at(out, "counts", member.counts)?;
+    string_at(out, "model", name.as_str())?;
+    string_at(out, "owner", owner.as_str())?;
+    out.end_object()
+}
+
+/// The places of instances.
+pub(crate) fn write_places(out: &mut Writer, places: &[Place]) -> Result<(), AllocError>
+    ensures ok { OnOk result (out.new.tokens ≡ out.old.tokens ++ tokens_of (list_of instance_data places.now)) }
+    ensures before { out.new.before ≡ out.old.before }
+{
+    out.begin_array()?;
+    for place in places {
+        write_place(out, place)?;
+    }
+    out.end_array()
+}
+
+fn write_place(out: &mut Writer, place: &Place) -> Result<(), AllocError>
+    ensures ok { OnOk result (out.new.tokens ≡ out.old.tokens ++ tokens_of (instance_data place.now)) }
+    ensures before { out.new.before ≡ out.old.before }
+{
+    let (owner, name) = &place.model;
+    out.begin_array()?;
+    out.string(owner.as_str())?;
+    out.string(name.as_str())?;
+    out.u64(place.instance)?;
+    out.end_array()
 }
 
 pub(crate) fn write_links(out: &mut Writer, links: &[Link]) -> Result<(), AllocError>

@@ -6,7 +6,7 @@ ghost use Rattle.std.specs.Str.{bytes_eq};
 ghost use Rattle.std.specs.BTreeMap.{keys as map_keys};
 ghost use Rattle.serde_json.specs.View.{view, members_view};
 ghost use Rattle.serde_json.specs.Find.{get_member, as_str};
-ghost use Rattle.rp_wire.specs.Asks.{has_only, without, text_in, text_if_any, flag_if_any, number_in, number_of, unless_greater, model_in};
+ghost use Rattle.rp_wire.specs.Asks.{has_only, without, text_in, text_if_any, flag_if_any, number_in, number_of, unless_greater, model_in, group_in};
 
 use plain_data::Text;
 use rp_rows::rows::Key;
@@ -48,7 +48,7 @@ fn text_if_any(member: Option<Value>) -> Option<Option<Text>>
     }
 }
 
-fn text_of(value: Value) -> Option<Text>
+pub(crate) fn text_of(value: Value) -> Option<Text>
     ensures { result ≡ as_str (view value) }
 {
     match value {
@@ -67,6 +67,18 @@ pub(crate) fn take_model(members: &mut Members) -> Option<Key>
     let owner = take_text(members, "owner")?;
     let name = take_text(members, "model")?;
     Some((owner, name))
+}
+
+/// Takes out the owner and the name of a group.
+pub(crate) fn take_group(members: &mut Members) -> Option<Key>
+    ensures group { result ≡ group_in (members_view members.old.entries) }
+    ensures others { (other : List ℕ) → bytes_eq (codes "owner") other ≡ false → bytes_eq (codes "group") other ≡ false
+        → text_in other (members_view members.new.entries)
+        ≡ text_in other (members_view members.old.entries) }
+{
+    let owner = take_text(members, "owner")?;
+    let group = take_text(members, "group")?;
+    Some((owner, group))
 }
 
 /// Takes out the truth value at this key: false where the key is missing. Another member goes too,
@@ -104,7 +116,7 @@ pub(crate) fn take_number(members: &mut Members, key: &str) -> Option<u64>
 }
 
 /// A whole number that isn't too great.
-fn number_of(value: Value) -> Option<u64>
+pub(crate) fn number_of(value: Value) -> Option<u64>
     ensures { result ≡ number_of (view value) }
 {
     match value {

@@ -25,6 +25,7 @@ pub(crate) fn write_refusal(out: &mut Writer, refusal: Refusal) -> Result<(), Al
         Refusal::NoSuchItem => write_coded(out, 7, "NoSuchItem"),
         Refusal::NoRight => write_coded(out, 8, "NoRight"),
         Refusal::WrongSchema => write_coded(out, 9, "WrongSchema"),
+        Refusal::Membership => write_coded(out, 10, "Membership"),
         Refusal::FileFault(fault) => write_file_fault(out, fault),
         Refusal::InstanceFault(fault) => write_instance_fault(out, fault),
         Refusal::LinkFault(fault) => write_link_fault(out, fault),

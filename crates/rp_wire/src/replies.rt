@@ -2,18 +2,22 @@
 
 ghost use Rattle.std.specs.Prelude.{◌≡◌, ◌++◌, codes, IfOk, OnOk};
 ghost use Rattle.serde_json.specs.Data.{number as data_number, unsigned, string};
-ghost use Rattle.rp_wire.specs.Replies.{only, reply_data, reply_text, line_of_reply};
+ghost use Rattle.rp_wire.specs.Replies.{only, list_of, instance_data, reply_data, reply_text, line_of_reply};
 ghost use Rattle.rp_wire.specs.Tokens.{tokens_of};
 
-use crate::lists::{write_items_at, write_links, write_named_types, write_texts, write_warnings};
+use crate::lists::{
+    write_items_at, write_links, write_members, write_named_types, write_places, write_texts,
+    write_warnings,
+};
 use crate::refusals::write_refusal;
 use crate::writing::{close, number_at, open, place_of_kind, string_at};
 use ex_check::SchemaFault;
 use json::Writer;
 use plain_data::Text;
 use rp_content::Link;
-use rp_plain::lists::{Item, NamedType};
+use rp_plain::lists::{Item, Member, NamedType};
 use rp_plain::messages::{Refusal, Reply};
+use rp_population::Place;
 use std::alloc::{AllocError, Global};
 
 /// The bytes of a reply: JSON without blanks, its keys in byte order.
@@ -54,6 +58,9 @@ fn write_reply(out: &mut Writer, reply: &Reply) -> Result<(), AllocError>
         Reply::Line(text) => write_text_at(out, "text", text),
         Reply::Added(name) => write_number_at(out, "name", *name),
         Reply::Listed { groups, models } => write_listed(out, groups.as_slice(), models.as_slice()),
+        Reply::Members(members) => write_listed_members(out, members.as_slice()),
+        Reply::Extent(places) => write_places_at(out, "extent", places.as_slice()),
+        Reply::Users(places) => write_places_at(out, "users", places.as_slice()),
         Reply::Schemas(names) => write_schemas(out, names.as_slice()),
         Reply::Checked { schema, warnings } => write_checked(out, schema, warnings.as_slice()),
         Reply::Faulty(fault) => write_faulty(out, *fault),
@@ -124,6 +131,27 @@ fn write_listed(out: &mut Writer, groups: &[Item], models: &[Item]) -> Result<()
     open(out, "ok")?;
     write_items_at(out, "groups", groups)?;
     write_items_at(out, "models", models)?;
+    close(out)
+}
+
+fn write_listed_members(out: &mut Writer, members: &[Member]) -> Result<(), AllocError>
+    ensures ok { OnOk result (out.new.tokens ≡ out.old.tokens ++ tokens_of (reply_data (Reply.Members members.now))) }
+    ensures before { out.new.before ≡ out.old.before }
+{
+    open(out, "ok")?;
+    out.key("members")?;
+    write_members(out, members)?;
+    close(out)
+}
+
+/// What is done, with places at a key.
+fn write_places_at(out: &mut Writer, key: &str, places: &[Place]) -> Result<(), AllocError>
+    ensures ok { OnOk result (out.new.tokens ≡ out.old.tokens ++ tokens_of (only (codes "ok") (only key.now (list_of instance_data places.now)))) }
+    ensures before { out.new.before ≡ out.old.before }
+{
+    open(out, "ok")?;
+    out.key(key)?;
+    write_places(out, places)?;
     close(out)
 }
 

@@ -1,7 +1,7 @@
 //! Members of JSON objects, written one after another.
 
 ghost use Rattle.std.specs.Prelude.{◌≡◌, [], ◌∷◌, ◌++◌, OnOk, decimal};
-ghost use Rattle.json.specs.Token.{begin_object, end_object, key as key_token, number as number_token, string as string_token};
+ghost use Rattle.json.specs.Token.{begin_object, end_object, boolean as boolean_token, key as key_token, number as number_token, string as string_token};
 ghost use Rattle.rp_wire.specs.Replies.{place_data};
 ghost use Rattle.rp_wire.specs.Tokens.{tokens_of};
 
@@ -25,6 +25,14 @@ pub(crate) fn close(out: &mut Writer) -> Result<(), AllocError>
 {
     out.end_object()?;
     out.end_object()
+}
+
+pub(crate) fn boolean_at(out: &mut Writer, key: &str, truth: bool) -> Result<(), AllocError>
+    ensures ok { OnOk result (out.new.tokens ≡ out.old.tokens ++ key_token key.now ∷ boolean_token truth ∷ []) }
+    ensures before { out.new.before ≡ out.old.before }
+{
+    out.key(key)?;
+    out.boolean(truth)
 }
 
 pub(crate) fn number_at(out: &mut Writer, key: &str, n: u64) -> Result<(), AllocError>

@@ -7,4 +7,4 @@ mod numbers;
 mod skip;
 
 pub use members::{Unread, read_flat, read_member, read_members, read_scalar, take_begin_object};
-pub use skip::skip_members;
+pub use skip::{skip_items, skip_members};

@@ -38,7 +38,7 @@ pub(crate) fn skip_value(reader: &mut Reader<'_>, depth: usize) -> Result<(), In
 
 /// Passes over what follows the bracket that opens a list.
 #[cycle(skip)]
-pub(crate) fn skip_items(reader: &mut Reader<'_>, depth: usize) -> Result<(), Invalid>
+pub fn skip_items(reader: &mut Reader<'_>, depth: usize) -> Result<(), Invalid>
     ensures value { MatchResult result (λ _. after_items depth reader.old ≡ Some reader.new)
         (λ _. after_items depth reader.old ≡ None) }
     ensures shorter { OnOk result (length reader.new < length reader.old) }

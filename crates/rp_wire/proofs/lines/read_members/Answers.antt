@@ -8,7 +8,7 @@ use Rattle.serde_json.proofs.Views.{members_view-insert_entry}
 use Rattle.shallow_json.proofs.Reading.{member_read, member_refused, key_refused, members_over}
 use Rattle.shallow_json.proofs.Shallow.{shallow-put, mapped_some}
 use Rattle.rp_wire.specs.Kept.{kept_at, kept}
-use Rattle.rp_wire.proofs.LinkLemmas.{links_in-put}
+use Rattle.rp_wire.proofs.KeptLemmas.{lists_in-put}
 use Rattle.rp_wire.proofs.lines.read_members.Goals as goal
 
 pub members-init : goal.members-init
@@ -41,7 +41,7 @@ members-preserved c =
     let r = c.read_at.new.reader in
     let less = read_key-shorter l.reader (Some k) s named in
     let lesser = done.shorter in
-    let d = mapped_some (kept_at k l.links) (converted of_json (p s)) (view v, c.read_at.new.links) r done.ok in
+    let d = mapped_some (kept_at k l.lists) (converted of_json (p s)) (view v, c.read_at.new.lists) r done.ok in
     let copied : string_bytes c.in_ok-key.key ≡ k = search rules in
     let inserted : members_view c.insert.new.self.entries ≡ put k (view v) (members_view l.found.entries) =
     ap members_view c.in_ok-insert.ensures.entries ∙ members_view-insert_entry l.found.entries c.in_ok-key.key v ∙ ap (λ name. put name (view v) (members_view l.found.entries)) copied in
@@ -51,7 +51,7 @@ members-preserved c =
       put k d.0 old,
       omega (arith, l.invariant.2),
       shallow-put k d.0 old ∙ ap₂ (put k) seen l.invariant.3 ∙ sym inserted,
-      rw l.invariant.4 at (links_in-put k d.0 old) ∙ linked,
+      rw l.invariant.4 at (lists_in-put k d.0 old) ∙ linked,
       l.invariant.5 ∙ member_read p old n k l.reader s r d.0 (omega (arith, l.invariant.2)) named d.1,
     )
 
@@ -60,4 +60,4 @@ returns-clause-ok c =
     let l = c.members in
     let r = c.next_key.new.self in
     ap (parse_map kept) (l.invariant.5 ∙ members_over (value 126) l.invariant.1 l.invariant.0 l.reader r l.invariant.2 (grind arith))
-    ∙ ap₂ (λ ms links. Some ((ms, links), r)) l.invariant.3 l.invariant.4
+    ∙ ap₂ (λ ms lists. Some ((ms, lists), r)) l.invariant.3 l.invariant.4

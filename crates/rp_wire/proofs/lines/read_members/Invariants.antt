@@ -4,12 +4,12 @@ use Rattle.serde_json.specs.Data.{Members, no_members}
 use Rattle.serde_json.specs.Read.{of_members, converted}
 use Rattle.serde_json.specs.View.{members_view}
 use Rattle.shallow_json.specs.Shallow.{shallow}
-use Rattle.rp_wire.specs.Asks.{links_in}
+use Rattle.rp_wire.specs.Asks.{lists_in}
 use Rattle.rp_wire.proofs.lines.read_members.Given as goal
 
 abbrev pub invariant-members : goal.invariant-members
 invariant-members l =
-    (n : ℕ) × (found : Members) × (length l.reader ≤ n) × (shallow found ≡ members_view l.found.entries) × (links_in found ≡ l.links)
+    (n : ℕ) × (found : Members) × (length l.reader ≤ n) × (shallow found ≡ members_view l.found.entries) × (lists_in found ≡ l.lists)
     × (converted (λ ms. of_members ms no_members) (members (value 126) (length l.initial.reader) l.initial.reader) ≡ converted (λ ms. of_members ms found) (members (value 126) n l.reader))
 
 abbrev pub decreases-members : goal.decreases-members

@@ -6,7 +6,8 @@ use Rattle.shallow_json.specs.Shallow.{flat}
 use Rattle.shallow_json.proofs.Reading.{item_read, item_refused, items_over}
 use Rattle.shallow_json.proofs.Shallow.{mapped_some}
 use Rattle.rp_wire.specs.Asks.{link_of, links_of}
-use Rattle.rp_wire.proofs.LinkLemmas.{behind, one_more, item_linked, first_linked, behind_all, mapped_none}
+use Rattle.rp_wire.proofs.KeptLemmas.{mapped_none}
+use Rattle.rp_wire.proofs.LinkLemmas.{behind, one_more, item_linked, first_linked, behind_all}
 use Rattle.rp_wire.proofs.ShallowMembers.{link_of-flat}
 use Rattle.rp_wire.proofs.links.read_items.Goals as goal
 
