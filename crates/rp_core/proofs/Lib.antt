@@ -3,6 +3,8 @@ pub mod Counting
 pub mod Joining
 pub mod Looking
 pub mod Firsts
+pub mod Counts
+pub mod Walking
 pub mod SchemaNames
 pub mod Names
 pub mod LinkOrder

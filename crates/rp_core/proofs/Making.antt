@@ -22,7 +22,7 @@ use Rattle.rp_core.specs.declared.edits.Edits.{Edits}
 use Rattle.rp_core.specs.declared.edits.Edits.TheVariants as edits
 use Rattle.rp_core.specs.Plans.{alteration_of, edits_of, IsSeen}
 use Rattle.rp_core.specs.Stored.{rewritten, reheld}
-use Rattle.rp_core.specs.Held.{stepped, step_of, made_by}
+use Rattle.rp_core.specs.Held.{stepped, step_of, models_by, groups_by}
 use Rattle.rp_core.proofs.Looking.{seen_found}
 
 -- a row with the grants that it has, but one partner's
@@ -71,8 +71,9 @@ module _ (r : Plain) (c : Text) (k : Key) (order : IsAscending key_cmp row_key r
   drop_changed n None seen some = cc
   drop_changed n (Some m) seen some = ap with_models (reheld_altered (without_instance n) m seen)
 
-pub made_changed : (r : Plain) (c : Text) (e : Edits) → IsAscending key_cmp row_key r.models → IsSeen (asked r c) e → record r { models = made_by e r.models } ≡ changed (edits_of (asked r c) e) r
+pub made_changed : (r : Plain) (c : Text) (e : Edits) → IsAscending key_cmp row_key r.models → IsSeen (asked r c) e → record r { models = models_by e r.models; groups = groups_by e r.groups } ≡ changed (edits_of (asked r c) e) r
 made_changed r c edits.Nothing order seen = refl
 made_changed r c (edits.OfModel k change) order seen = ap (λ ms. record r { models = ms }) (stepped_altered k change r.models)
+made_changed r c (edits.OfGroup k change) order seen = ap (λ gs. record r { groups = gs }) (stepped_altered k change r.groups)
 made_changed r c (edits.Place k i) order seen = place_changed r c k order i (model_at r c k) refl seen
 made_changed r c (edits.DropInstance k n) order seen = drop_changed r c k order n (model_at r c k) refl seen

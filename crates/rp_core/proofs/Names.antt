@@ -9,14 +9,15 @@ use Rattle.std.proofs.lemmas.Option.{slice_get_read}
 use Rattle.sorted_tables.specs.Table.{is_at, is_before, IsAscending}
 use Rattle.sorted_tables.proofs.Searching.{at_place, chosen}
 use Rattle.rp_content.specs.declared.instance.Instance.{Instance}
-use Rattle.rp_rows.specs.Rows.{Text, is_row, Model}
+use Rattle.rp_rows.specs.Rows.{Text, is_row, Model, GroupRow}
 use Rattle.p21_instances.specs.Instances.{is_among}
 use Rattle.rp_rows.specs.Contents.{instance_name, names}
 use Rattle.rp_rows.specs.Instances.{instance_of}
-use Rattle.rp_rows.specs.Sight.{sees}
-use Rattle.rp_plain.specs.Plain.{Plain, model_at}
+use Rattle.rp_rows.specs.Sight.{sees, sees_group}
+use Rattle.rp_plain.specs.Plain.{Plain, model_at, group_at}
 use Rattle.rp_plain.specs.Asked.{asked, held}
 use Rattle.rp_core.specs.Named.{IsNamed, HoldsNamed, AreNamed, TellsNamed}
+use Rattle.rp_core.specs.Listed.{IsListed, HoldsListed, AreListed, TellsListed}
 
 -- what is read at a place stands there
 pub got : {X : Type 0} (xs : List X) (i : ℕ) (x : X) → i < length xs → x ≡ get_or xs i x → Some x ≡ slice_get xs i
@@ -45,6 +46,15 @@ told_named r c all k h = by (model_at r c k) refl
     by (Some m) seen e =
         let same : m.holds ≡ h = cc in
         subst IsNamed same (all_found HoldsNamed (λ m. is_row k m && sees r.groups c m) r.models m seen all)
+
+pub told_listed : (r : Plain) (c : Text) → AreListed r → TellsListed (asked r c)
+told_listed r c all k h = by (group_at r c k) refl
+  where
+    by : (o : Option GroupRow) → group_at r c k ≡ o → held o ≡ Some h → IsListed h
+    by None seen e = cc
+    by (Some g) seen e =
+        let same : g.holds ≡ h = cc in
+        subst IsListed same (all_found HoldsListed (λ g. is_row k g && sees_group c g) r.groups g seen all)
 
 pub same_test : (m k : ℕ) → is_eq (nat_cmp m k) ≡ (m == k)
 same_test m k = grind (arith, nat_tests)

@@ -10,7 +10,7 @@ use Rattle.rp_content.specs.declared.link.Link.{Link}
 use Rattle.rp_rows.specs.Rows.{Text, key_cmp, row_key}
 use Rattle.rp_rows.specs.Contents.{link_names}
 use Rattle.rp_plain.specs.declared.messages.Request.{Request}
-use Rattle.rp_plain.specs.declared.messages.Request.TheVariants.{CreateModel, DeleteModel, Put, Export, Names, Get, Add, Set, DropInstance, ListItems, GrantModel, RevokeModel, Schemas, CheckSchema}
+use Rattle.rp_plain.specs.declared.messages.Request.TheVariants.{CreateModel, DeleteModel, Put, Export, Names, Get, Add, Set, DropInstance, ListItems, GrantModel, RevokeModel, CreateGroup, DeleteGroup, GrantGroup, RevokeGroup, Include, Exclude, Members, Extent, Users, Schemas, CheckSchema}
 use Rattle.rp_plain.specs.declared.messages.Refusal.{Refusal}
 use Rattle.rp_plain.specs.declared.messages.Refusal.TheVariants.{NoMemory}
 use Rattle.rp_plain.specs.declared.messages.Reply.{Reply}
@@ -29,7 +29,7 @@ use Rattle.rp_core.specs.declared.steps.Pending.{Pending}
 use Rattle.rp_core.specs.declared.steps.Steps.{Steps}
 use Rattle.rp_core.specs.declared.steps.Steps.TheVariants.{Nothing}
 use Rattle.rp_core.specs.Plans.{IsAnswer, IsRefusal}
-use Rattle.rp_core.specs.Held.{made_models, made_by, IsPrepared}
+use Rattle.rp_core.specs.Held.{made_models, made_groups, models_by, groups_by, IsPrepared}
 use Rattle.rp_core.proofs.Making.{made_changed}
 
 stored_told : (read : Reading) → is_no_memory (stored read) ≡ false
@@ -58,12 +58,21 @@ told a c (DropInstance k name) = refl
 told a c ListItems = refl
 told a c (GrantModel name to l) = refl
 told a c (RevokeModel name to) = refl
+told a c (CreateGroup name schema) = refl
+told a c (DeleteGroup name) = refl
+told a c (GrantGroup name to) = refl
+told a c (RevokeGroup name to) = refl
+told a c (Include group k) = refl
+told a c (Exclude group k) = refl
+told a c (Members group) = refl
+told a c (Extent group entity) = refl
+told a c (Users group place role) = refl
 told a c Schemas = refl
 told a c (CheckSchema text) = check_told (schema_of text)
 
-prepared_answer : (r : Plain) (c : Text) (q : Request) (plan : Plan) (steps : Steps) → IsAscending key_cmp row_key r.models → IsAnswer (asked r c) c q plan → made_models steps r.models ≡ made_by plan.edits r.models
+prepared_answer : (r : Plain) (c : Text) (q : Request) (plan : Plan) (steps : Steps) → IsAscending key_cmp row_key r.models → IsAnswer (asked r c) c q plan → made_models steps r.models ≡ models_by plan.edits r.models → made_groups steps r.groups ≡ groups_by plan.edits r.groups
     → IsPrepared r (record { caller = c; request = q }) (record { reply = plan.reply; steps = steps })
-prepared_answer r c q plan steps order is are =
+prepared_answer r c q plan steps order is models groups =
     let a = asked r c in
     let no : is_no_memory plan.reply ≡ false = ap is_no_memory is.replies ∙ told a c q in
     let is_answer = sym (ap (outcome (meaning a c q)) is.passes) in
@@ -71,7 +80,7 @@ prepared_answer r c q plan steps order is are =
       replies = λ _. is.replies ∙ ap (λ o. o.reply) is_answer;
       changes =
           rw no
-          (ap (λ ms. record r { models = ms }) are
+          ((λ i. record r { models = models i; groups = groups i })
           ∙ made_changed r c plan.edits order is.seen
           ∙ ap (λ es. changed es r) is.edits
           ∙ ap (λ o. changed o.edits r) is_answer);
@@ -95,11 +104,11 @@ prepared_refusal r c q refusal refused = by (is_no_memory (Refused refusal)) ref
 
 -- the same, where content and partner were read
 pub prepared_from : (r : Plain) (c : Text) (s : Plain) (d : Text) (q : Request) (plan : Plan) (pending : Pending) → s ≡ r → d ≡ c → IsAscending key_cmp row_key s.models → IsAnswer (asked s d) d q plan → pending.reply ≡ plan.reply
-    → made_models pending.steps s.models ≡ made_by plan.edits s.models → IsPrepared r (record { caller = c; request = q }) pending
-prepared_from r c s d q plan pending same who order is reply are =
+    → made_models pending.steps s.models ≡ models_by plan.edits s.models → made_groups pending.steps s.groups ≡ groups_by plan.edits s.groups → IsPrepared r (record { caller = c; request = q }) pending
+prepared_from r c s d q plan pending same who order is reply models groups =
     subst (λ (p : Plain). IsPrepared p (record { caller = c; request = q }) pending) same
     (subst (λ (e : Text). IsPrepared s (record { caller = e; request = q }) pending) who
-    (subst (λ (told : Reply). IsPrepared s (record { caller = d; request = q }) (record { reply = told; steps = pending.steps })) (sym reply) (prepared_answer s d q plan pending.steps order is are)))
+    (subst (λ (told : Reply). IsPrepared s (record { caller = d; request = q }) (record { reply = told; steps = pending.steps })) (sym reply) (prepared_answer s d q plan pending.steps order is models groups)))
 
 pub refused_from : (r : Plain) (c : Text) (s : Plain) (d : Text) (q : Request) (refusal : Refusal) (pending : Pending) → s ≡ r → d ≡ c → IsRefusal (asked s d) d q refusal → pending ≡ record { reply = Refused refusal; steps = Nothing } → IsPrepared r (record { caller = c; request = q }) pending
 refused_from r c s d q refusal pending same who refused are =

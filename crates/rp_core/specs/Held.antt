@@ -5,7 +5,7 @@ use Rattle.std.specs.Vec.{vec_capacity}
 use Rattle.sorted_tables.specs.Table.{with_row}
 use Rattle.rp_rows.specs.declared.rows.ModelContent.{ModelContent}
 use Rattle.rp_rows.specs.declared.rows.Listing.{Listing}
-use Rattle.rp_rows.specs.Rows.{Text, text_cmp, grant_key, Key, Row, is_row, Model}
+use Rattle.rp_rows.specs.Rows.{Text, text_cmp, grant_key, Key, Row, is_row, Model, GroupRow}
 use Rattle.rp_rows.specs.Instances.{with_instance, without_instance}
 use Rattle.rp_rows.specs.Alterations.{Holds, altered, grant_for, grants_of}
 use Rattle.rp_plain.specs.declared.messages.Request.{Request}
@@ -15,11 +15,11 @@ use Rattle.rp_plain.specs.Turns.{Turn, effect, after}
 use Rattle.rp_core.specs.declared.edits.Change.{Change}
 use Rattle.rp_core.specs.declared.edits.Change.TheVariants.{Hold, Remove as Gone, Grants}
 use Rattle.rp_core.specs.declared.edits.Edits.{Edits}
-use Rattle.rp_core.specs.declared.edits.Edits.TheVariants.{Nothing as NoEdit, OfModel as EditModel, Place as PlaceEdit, DropInstance as DropEdit}
+use Rattle.rp_core.specs.declared.edits.Edits.TheVariants.{Nothing as NoEdit, OfModel as EditModel, OfGroup as EditGroup, Place as PlaceEdit, DropInstance as DropEdit}
 use Rattle.rp_core.specs.declared.steps.Step.{Step}
 use Rattle.rp_core.specs.declared.steps.Step.TheVariants.{Put, Remove, Regrant}
 use Rattle.rp_core.specs.declared.steps.Steps.{Steps}
-use Rattle.rp_core.specs.declared.steps.Steps.TheVariants.{Nothing, OfModel, Place, DropInstance}
+use Rattle.rp_core.specs.declared.steps.Steps.TheVariants.{Nothing, OfModel, OfGroup, Place, DropInstance}
 use Rattle.rp_core.specs.declared.steps.Pending.{Pending}
 use Rattle.rp_core.specs.Named.{IsNamed, HasRoomIn}
 use Rattle.rp_core.specs.Stored.{Stored, rewritten, reheld, HasRowAt, HasRoom}
@@ -40,11 +40,16 @@ stepped k (Regrant grants) rows = rewritten k (λ x. record x { grants = grants 
 abbrev pub made_models : Steps → List Model → List Model
 made_models Nothing ms = ms
 made_models (OfModel k step) ms = stepped k step ms
+made_models (OfGroup k step) ms = ms
 made_models (Place k i spare) ms = rewritten k (reheld (with_instance i)) ms
 made_models (DropInstance k n) ms = rewritten k (reheld (without_instance n)) ms
 
+abbrev pub made_groups : Steps → List GroupRow → List GroupRow
+made_groups (OfGroup k step) gs = stepped k step gs
+made_groups _ gs = gs
+
 abbrev pub made : Steps → Plain → Plain
-made steps r = record r { models = made_models steps r.models }
+made steps r = record r { models = made_models steps r.models; groups = made_groups steps r.groups }
 
 -- the step that a change comes to where this is found
 abbrev pub step_of : {A : Type 0} → Key → Option (Row A) → Change A → Step A
@@ -52,12 +57,21 @@ step_of k found (Hold a) = Put k a
 step_of k found Gone = Remove
 step_of k found (Grants to l) = Regrant (with_row text_cmp grant_key to (grant_for to l) (grants_of found))
 
--- what edits make of the models
-abbrev pub made_by : Edits → List Model → List Model
-made_by NoEdit ms = ms
-made_by (EditModel k change) ms = stepped k (step_of k (find (is_row k) ms) change) ms
-made_by (PlaceEdit k i) ms = rewritten k (reheld (with_instance i)) ms
-made_by (DropEdit k n) ms = rewritten k (reheld (without_instance n)) ms
+-- what a change makes of a table
+abbrev pub changed_by : {A : Type 0} → Key → Change A → List (Row A) → List (Row A)
+changed_by k change rows = stepped k (step_of k (find (is_row k) rows) change) rows
+
+-- what edits make of the models, and of the groups
+abbrev pub models_by : Edits → List Model → List Model
+models_by NoEdit ms = ms
+models_by (EditModel k change) ms = changed_by k change ms
+models_by (EditGroup k change) ms = ms
+models_by (PlaceEdit k i) ms = rewritten k (reheld (with_instance i)) ms
+models_by (DropEdit k n) ms = rewritten k (reheld (without_instance n)) ms
+
+abbrev pub groups_by : Edits → List GroupRow → List GroupRow
+groups_by (EditGroup k change) gs = changed_by k change gs
+groups_by _ gs = gs
 
 -- ---- what steps ask
 
@@ -66,15 +80,16 @@ StepFits k (Put again a) table = (again ≡ k) × HasRoom table
 StepFits k Remove table = Unit {0}
 StepFits k (Regrant grants) table = Unit {0}
 
-abbrev pub StepsFit : Stored ModelContent → Steps → Type 0
-StepsFit models Nothing = Unit {0}
-StepsFit models (OfModel k step) = StepFits k step models
-StepsFit models (Place k i spare) = (spare.items ≡ []) × HasRowAt IsNamed k models.rows × HasRowAt (HasRoomIn (vec_capacity spare)) k models.rows
-StepsFit models (DropInstance k n) = HasRowAt IsNamed k models.rows
+abbrev pub StepsFit : Stored ModelContent → Stored Listing → Steps → Type 0
+StepsFit models groups Nothing = Unit {0}
+StepsFit models groups (OfModel k step) = StepFits k step models
+StepsFit models groups (OfGroup k step) = StepFits k step groups
+StepsFit models groups (Place k i spare) = (spare.items ≡ []) × HasRowAt IsNamed k models.rows × HasRowAt (HasRoomIn (vec_capacity spare)) k models.rows
+StepsFit models groups (DropInstance k n) = HasRowAt IsNamed k models.rows
 
 -- what is pending was prepared for what is held: its steps take no memory
 unfoldable pub Fits : Kept → Pending → Type 0
-Fits kept pending = StepsFit kept.models pending.steps
+Fits kept pending = StepsFit kept.models kept.groups pending.steps
 
 -- ---- prepared requests
 

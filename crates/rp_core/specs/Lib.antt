@@ -1,6 +1,7 @@
 pub mod Entries
 pub mod Stored
 pub mod Named
+pub mod Listed
 pub mod Told
 pub mod Plans
 pub mod Files

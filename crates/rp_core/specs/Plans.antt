@@ -5,7 +5,7 @@ use Rattle.rp_rows.specs.Alterations.{Alteration, Holds, Grants as GrantAltered}
 use Rattle.rp_plain.specs.declared.messages.Request.{Request}
 use Rattle.rp_plain.specs.declared.messages.Refusal.{Refusal}
 use Rattle.rp_plain.specs.declared.messages.Refusal.TheVariants.{NoMemory}
-use Rattle.rp_plain.specs.Edits.{Edit, EditModel}
+use Rattle.rp_plain.specs.Edits.{Edit, EditModel, EditGroup}
 use Rattle.rp_plain.specs.Asked.{Asked}
 use Rattle.rp_plain.specs.Meaning.{first_some}
 use Rattle.rp_plain.specs.Instances.{placing, dropping}
@@ -13,7 +13,7 @@ use Rattle.rp_plain.specs.Step.{meaning}
 use Rattle.rp_core.specs.declared.edits.Change.{Change}
 use Rattle.rp_core.specs.declared.edits.Change.TheVariants.{Hold, Remove, Grants}
 use Rattle.rp_core.specs.declared.edits.Edits.{Edits}
-use Rattle.rp_core.specs.declared.edits.Edits.TheVariants.{Nothing, OfModel, Place, DropInstance}
+use Rattle.rp_core.specs.declared.edits.Edits.TheVariants.{Nothing, OfModel, OfGroup, Place, DropInstance}
 use Rattle.rp_core.specs.declared.edits.Plan.{Plan}
 
 abbrev pub alteration_of : {A : Type 0} → Change A → Alteration A
@@ -25,6 +25,7 @@ alteration_of (Grants to l) = GrantAltered to l
 abbrev pub edits_of : Asked → Edits → List Edit
 edits_of a Nothing = []
 edits_of a (OfModel k change) = EditModel k (alteration_of change) ∷ []
+edits_of a (OfGroup k change) = EditGroup k (alteration_of change) ∷ []
 edits_of a (Place k i) = placing k (a.content k) (Ok i)
 edits_of a (DropInstance k n) = dropping k n (a.content k)
 
@@ -32,6 +33,7 @@ edits_of a (DropInstance k n) = dropping k n (a.content k)
 abbrev pub IsSeen : Asked → Edits → Type 0
 IsSeen a Nothing = Unit {0}
 IsSeen a (OfModel k change) = Unit {0}
+IsSeen a (OfGroup k change) = Unit {0}
 IsSeen a (Place k i) = is_some (a.content k) ≡ true
 IsSeen a (DropInstance k n) = is_some (a.content k) ≡ true
 

@@ -3,7 +3,7 @@
 use plain_data::Text;
 use rp_content::Instance;
 use rp_plain::messages::Reply;
-use rp_rows::rows::{Key, Level, ModelContent};
+use rp_rows::rows::{Key, Level, Listing, ModelContent};
 
 /// What is done to what stands under a key.
 #[derive(Drop)]
@@ -19,6 +19,7 @@ pub enum Change<A> {
 pub enum Edits {
     Nothing,
     OfModel(Key, Change<ModelContent>),
+    OfGroup(Key, Change<Listing>),
     /// The instance stands in the model under its name.
     Place(Key, Instance),
     /// No instance stands in the model under the name.

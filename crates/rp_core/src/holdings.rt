@@ -47,6 +47,7 @@ impl Holdings {
     ghost use Rattle.rp_plain.specs.Valid.{IsOrdered};
     ghost use Rattle.rp_core.specs.Held.{partner_at, turn, made, Fits, IsPrepared};
     ghost use Rattle.rp_core.specs.Named.{AreNamed};
+    ghost use Rattle.rp_core.specs.Listed.{AreListed};
 
     /// Nothing but these schemas and partners.
     ///
@@ -82,6 +83,7 @@ impl Holdings {
         requires partner { place < length self.old.content.partners }
         requires order { IsOrdered self.old.content }
         requires named { AreNamed self.old.content }
+        requires listed { AreListed self.old.content }
         ensures content { self.new.content ≡ self.old.content }
         ensures prepared { IsPrepared self.old.content (turn self.old.content place request) result }
         ensures fits { Fits self.new result }
@@ -95,7 +97,7 @@ impl Holdings {
         };
         match plan(alloc, &asked, request) {
             Err(refusal) => Pending::refused(refusal),
-            Ok(plan) => match Pending::of_plan(alloc, &mut self.models, plan) {
+            Ok(plan) => match Pending::of_plan(alloc, &mut self.models, &mut self.groups, plan) {
                 Ok(pending) => pending,
                 Err(error) => Pending::refused(error.into()),
             },
@@ -109,7 +111,7 @@ impl Holdings {
         ensures content { self.new.content ≡ made pending.steps self.old.content }
     {
         let Pending { reply, steps } = pending;
-        make_steps(&mut self.models, steps);
+        make_steps(&mut self.models, &mut self.groups, steps);
         reply
     }
 }

@@ -7,22 +7,27 @@
 
 mod asked;
 mod checks;
+mod counted;
 mod edited;
 mod edits;
 mod faults;
 mod files;
 mod grants;
+mod groups;
 mod holdings;
 mod instances;
 mod items;
 mod keyed;
 mod limits;
 mod links;
+mod listings;
 mod lists;
+mod members;
 mod model_names;
 mod models;
 mod opening;
 mod plans;
+mod populations;
 mod regranted;
 mod schemas;
 mod sight;

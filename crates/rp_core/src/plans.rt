@@ -2,6 +2,7 @@
 
 ghost use Rattle.rp_core.specs.Told.{told};
 ghost use Rattle.rp_core.specs.Named.{TellsNamed};
+ghost use Rattle.rp_core.specs.Listed.{TellsListed};
 ghost use Rattle.rp_core.specs.Plans.{Plans};
 
 use crate::asked::Asking;
@@ -9,16 +10,20 @@ use crate::checks::plan_check;
 use crate::edits::Plan;
 use crate::files::{plan_export, plan_put};
 use crate::grants::{plan_grant, plan_revoke};
+use crate::groups::{plan_create_group, plan_delete_group, plan_grant_group, plan_revoke_group};
 use crate::instances::plan_get;
 use crate::lists::{plan_list, plan_names, plan_schemas};
+use crate::members::{plan_exclude, plan_include, plan_members};
 use crate::models::{plan_create, plan_delete};
+use crate::populations::{plan_extent, plan_users};
 use crate::single::{plan_add, plan_drop, plan_set};
 use rp_plain::messages::{Refusal, Request};
 use std::alloc::Global;
 
 /// The request's plan, or its refusal.
 pub fn plan(alloc: Global, asked: &Asking<'_>, request: Request) -> Result<Plan, Refusal>
-    requires { TellsNamed (told asked.now) }
+    requires named { TellsNamed (told asked.now) }
+    requires listed { TellsListed (told asked.now) }
     ensures { Plans (told asked.now) asked.now.caller.now request result }
 {
     match request {
@@ -38,6 +43,15 @@ pub fn plan(alloc: Global, asked: &Asking<'_>, request: Request) -> Result<Plan,
         Request::ListItems => plan_list(alloc, asked),
         Request::GrantModel { name, to, level } => plan_grant(alloc, asked, name, to, level),
         Request::RevokeModel { name, to } => plan_revoke(alloc, asked, name, to),
+        Request::CreateGroup { name, schema } => plan_create_group(alloc, asked, name, schema),
+        Request::DeleteGroup { name } => plan_delete_group(alloc, asked, name),
+        Request::GrantGroup { name, to } => plan_grant_group(alloc, asked, name, to),
+        Request::RevokeGroup { name, to } => plan_revoke_group(alloc, asked, name, to),
+        Request::Include { group, model } => plan_include(alloc, asked, group, model),
+        Request::Exclude { group, model } => plan_exclude(alloc, asked, group, &model),
+        Request::Members { group } => plan_members(alloc, asked, &group),
+        Request::Extent { group, entity } => plan_extent(alloc, asked, &group, &entity),
+        Request::Users { group, of, role } => plan_users(alloc, asked, &group, &of, &role),
         Request::Schemas => plan_schemas(alloc, asked),
         Request::CheckSchema { text } => plan_check(alloc, asked, &text),
     }

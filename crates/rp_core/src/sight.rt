@@ -3,12 +3,13 @@
 ghost use Rattle.std.specs.Prelude.{◌≡◌, option_copied};
 ghost use Rattle.std.specs.List.{list_any, find};
 ghost use Rattle.rp_rows.specs.Sight as sight;
-ghost use Rattle.rp_rows.specs.Rows.{same_key};
+ghost use Rattle.rp_rows.specs.Rows.{key_cmp, same_key};
 ghost use Rattle.rp_core.specs.Stored.{row_of};
 
 use crate::table::{RowRef, Table};
 use plain_data::Text;
 use rp_rows::rows::{Grant, Key, Level, Listing, ModelContent, Right};
+use std::cmp::Ordering;
 
 fn owns<A>(caller: &Text, row: &RowRef<'_, A>) -> bool
     ensures { result ≡ sight.owns caller.now (row_of row.now) }
@@ -46,13 +47,19 @@ pub fn group_right(caller: &Text, group: &RowRef<'_, Listing>) -> Right
     }
 }
 
+pub fn key_order(key: &Key, other: &Key) -> Ordering
+    ensures { result ≡ key_cmp key.now other.now }
+{
+    key.0.order(&other.0).then(key.1.order(&other.1))
+}
+
 pub fn is_same_key(key: &Key, other: &Key) -> bool
     ensures { result ≡ same_key key.now other.now }
 {
     other.0.is(&key.0) && other.1.is(&key.1)
 }
 
-fn has_key(key: &Key, keys: &[Key]) -> bool
+pub fn has_key(key: &Key, keys: &[Key]) -> bool
     ensures { result ≡ list_any (same_key key.now) keys.now }
 {
     keys.iter().any(|other| is_same_key(key, other))
@@ -79,7 +86,8 @@ fn may_group(partner: &Text, model: &RowRef<'_, ModelContent>) -> bool
     owns(partner, model) || is_granted_group(partner, model.grants)
 }
 
-fn counts(model: &RowRef<'_, ModelContent>, group: &RowRef<'_, Listing>) -> bool
+/// Whether the model counts in the group.
+pub fn counts(model: &RowRef<'_, ModelContent>, group: &RowRef<'_, Listing>) -> bool
     ensures { result ≡ sight.counts (row_of model.now) (row_of group.now) }
 {
     has_key(model.key, group.holds.members.as_slice())

@@ -5,7 +5,7 @@ ghost use Rattle.std.specs.List.{find, AllByRecursion};
 ghost use Rattle.std.specs.Vec.{vec_capacity};
 ghost use Rattle.rp_rows.specs.Rows.{is_row};
 ghost use Rattle.rp_rows.specs.Instances.{max_instances};
-ghost use Rattle.rp_core.specs.Held.{step_of, stepped, made_models, made_by, StepFits, StepsFit};
+ghost use Rattle.rp_core.specs.Held.{step_of, stepped, made_models, made_groups, models_by, groups_by, StepFits, StepsFit};
 ghost use Rattle.rp_core.specs.Named.{IsNamed, HoldsNamed, HasRoomIn};
 ghost use Rattle.rp_core.specs.Stored.{HasRowAt};
 
@@ -15,7 +15,7 @@ use crate::table::Table;
 use plain_data::Rows;
 use rp_content::Instance;
 use rp_plain::messages::{Refusal, Reply};
-use rp_rows::rows::{Grant, Key, ModelContent};
+use rp_rows::rows::{Grant, Key, Listing, ModelContent};
 use std::alloc::{AllocError, Global};
 
 /// A change of what stands under a key, with all the memory that it needs.
@@ -33,6 +33,7 @@ pub enum Step<A> {
 pub enum Steps {
     Nothing,
     OfModel(Key, Step<ModelContent>),
+    OfGroup(Key, Step<Listing>),
     /// The instance stands in the model, whose instances are moved into the spare room where theirs is full.
     Place(Key, Instance, Vec<Instance>),
     DropInstance(Key, u64),
@@ -45,7 +46,8 @@ pub struct Pending {
     pub(crate) steps: Steps,
 }
 
-fn copy_key(alloc: Global, key: &Key) -> Result<Key, AllocError>
+/// The same key.
+pub fn copy_key(alloc: Global, key: &Key) -> Result<Key, AllocError>
     ensures { IfOk result (λ copy. copy ≡ key.now) }
 {
     let owner = key.0.copy(alloc)?;
@@ -106,18 +108,25 @@ fn spare_for(
 fn steps_for(
     alloc: Global,
     models: &mut Table<ModelContent>,
+    groups: &mut Table<Listing>,
     edits: Edits,
 ) -> Result<Steps, AllocError>
     requires { AllByRecursion HoldsNamed models.old.rows }
     ensures models { models.new.rows ≡ models.old.rows }
-    ensures fits { IfOk result (λ steps. StepsFit models.new steps) }
-    ensures steps { IfOk result (λ steps. made_models steps models.old.rows ≡ made_by edits models.old.rows) }
+    ensures groups { groups.new.rows ≡ groups.old.rows }
+    ensures fits { IfOk result (λ steps. StepsFit models.new groups.new steps) }
+    ensures model_steps { IfOk result (λ steps. made_models steps models.old.rows ≡ models_by edits models.old.rows) }
+    ensures group_steps { IfOk result (λ steps. made_groups steps groups.old.rows ≡ groups_by edits groups.old.rows) }
 {
     match edits {
         Edits::Nothing => Ok(Steps::Nothing),
         Edits::OfModel(key, change) => {
             let step = step_for(alloc, models, &key, change)?;
             Ok(Steps::OfModel(key, step))
+        }
+        Edits::OfGroup(key, change) => {
+            let step = step_for(alloc, groups, &key, change)?;
+            Ok(Steps::OfGroup(key, step))
         }
         Edits::Place(key, instance) => {
             let spare = spare_for(alloc, models, &key)?;
@@ -139,13 +148,15 @@ fn make_step<A: Drop>(table: &mut Table<A>, key: Key, step: Step<A>)
 }
 
 /// Makes the steps. It takes no memory.
-pub fn make_steps(models: &mut Table<ModelContent>, steps: Steps)
-    requires { StepsFit models.old steps }
-    ensures { models.new.rows ≡ made_models steps models.old.rows }
+pub fn make_steps(models: &mut Table<ModelContent>, groups: &mut Table<Listing>, steps: Steps)
+    requires { StepsFit models.old groups.old steps }
+    ensures models { models.new.rows ≡ made_models steps models.old.rows }
+    ensures groups { groups.new.rows ≡ made_groups steps groups.old.rows }
 {
     match steps {
         Steps::Nothing => {}
         Steps::OfModel(key, step) => make_step(models, key, step),
+        Steps::OfGroup(key, step) => make_step(groups, key, step),
         Steps::Place(key, instance, spare) => models.place_instance(&key, instance, spare),
         Steps::DropInstance(key, name) => models.drop_instance(&key, name),
     }
@@ -166,16 +177,19 @@ impl Pending {
     pub(crate) fn of_plan(
         alloc: Global,
         models: &mut Table<ModelContent>,
+        groups: &mut Table<Listing>,
         plan: Plan,
     ) -> Result<Pending, AllocError>
         requires { AllByRecursion HoldsNamed models.old.rows }
         ensures models { models.new.rows ≡ models.old.rows }
-        ensures fits { IfOk result (λ pending. StepsFit models.new pending.steps) }
+        ensures groups { groups.new.rows ≡ groups.old.rows }
+        ensures fits { IfOk result (λ pending. StepsFit models.new groups.new pending.steps) }
         ensures reply { IfOk result (λ pending. pending.reply ≡ plan.reply) }
-        ensures steps { IfOk result (λ pending. made_models pending.steps models.old.rows ≡ made_by plan.edits models.old.rows) }
+        ensures model_steps { IfOk result (λ pending. made_models pending.steps models.old.rows ≡ models_by plan.edits models.old.rows) }
+        ensures group_steps { IfOk result (λ pending. made_groups pending.steps groups.old.rows ≡ groups_by plan.edits groups.old.rows) }
     {
         let Plan { reply, edits } = plan;
-        let steps = steps_for(alloc, models, edits)?;
+        let steps = steps_for(alloc, models, groups, edits)?;
         Ok(Pending { reply, steps })
     }
 

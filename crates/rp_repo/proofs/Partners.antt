@@ -4,7 +4,7 @@ use Rattle.std.specs.Prelude.{if◌then◌else◌, slice_index_or}
 use Rattle.std.specs.List.{list_any, AllByRecursion}
 use Rattle.std.specs.Str.{bytes_eq}
 use Rattle.std.proofs.lemmas.Slice.Eq.{bytes_eq-Decides}
-use Rattle.rp_rows.specs.Rows.{Text, Model}
+use Rattle.rp_rows.specs.Rows.{Text, Model, GroupRow}
 use Rattle.rp_plain.specs.declared.messages.Request.{Request}
 use Rattle.rp_plain.specs.declared.messages.Reply.{Reply}
 use Rattle.rp_plain.specs.Plain.{Plain}
@@ -14,9 +14,10 @@ use Rattle.rp_plain.specs.Meaning.{has_text}
 use Rattle.rp_plain.specs.Step.{answer, next}
 use Rattle.rp_plain.specs.Runs.{Effect, is_no_memory, left_by}
 use Rattle.rp_plain.specs.Turns.{after}
-use Rattle.rp_plain.specs.Valid.{IsValidModel, IsValid}
+use Rattle.rp_plain.specs.Valid.{IsValidModel, IsValidGroup, IsValid}
 use Rattle.rp_laws.specs.Laws.{KeepsValid}
 use Rattle.rp_core.specs.Named.{HoldsNamed, AreNamed}
+use Rattle.rp_core.specs.Listed.{HoldsListed, AreListed}
 use Rattle.rp_core.specs.Held.{Kept, partner_at, turn, made, Fits, IsPrepared}
 use Rattle.rp_core.specs.declared.steps.Pending.{Pending}
 use Rattle.rp_repo.specs.Ready.{IsReady}
@@ -62,3 +63,11 @@ all_named r (m ∷ ms) all = (record { order = all.0.content.instances; few = al
 -- in a valid repository the instances and links of each model can be found by their names
 pub valid_named : (r : Plain) → IsValid r → AreNamed r
 valid_named r valid = all_named r r.models valid.models
+
+all_listed : (r : Plain) (gs : List GroupRow) → AllByRecursion (IsValidGroup r.schemas r.partners) gs → AllByRecursion HoldsListed gs
+all_listed r [] all = tt
+all_listed r (g ∷ gs) all = (all.0.order, all_listed r gs all.1)
+
+-- in a valid repository the members of each group stand in order
+pub valid_listed : (r : Plain) → IsValid r → AreListed r
+valid_listed r valid = all_listed r r.groups valid.groups

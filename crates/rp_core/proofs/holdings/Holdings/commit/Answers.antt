@@ -1,9 +1,7 @@
-use Rattle.std.proofs.Common.{sym, ap, subst}
-use Rattle.rp_rows.specs.declared.rows.ModelContent.{ModelContent}
-use Rattle.rp_core.specs.Held.{Fits, StepsFit}
-use Rattle.rp_core.specs.Stored.{Stored}
+use Rattle.std.proofs.Common.{sym, subst}
+use Rattle.rp_core.specs.Held.{Kept, Fits, StepsFit}
 use Rattle.rp_core.proofs.holdings.Holdings.commit.Goals as goal
 
 pub make_steps-requires : goal.make_steps-requires
 unfolding Fits
-make_steps-requires c = subst (λ (m : Stored ModelContent). StepsFit m c.args.pending.steps) (sym (ap (λ h. h.models) c.self.view_is)) c.requires
+make_steps-requires c = subst (λ (k : Kept). StepsFit k.models k.groups c.args.pending.steps) (sym c.self.view_is) c.requires

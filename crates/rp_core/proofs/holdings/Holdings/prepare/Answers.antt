@@ -2,22 +2,30 @@ use Rattle.std.proofs.Common.{◌≡◌, ◌<◌, List, [], length, get_or, sym,
 use Rattle.std.proofs.lemmas.List.{get_or_read}
 use Rattle.std.specs.List.{AllByRecursion}
 use Rattle.sorted_tables.specs.Table.{IsAscending}
-use Rattle.rp_rows.specs.Rows.{key_cmp, row_key, Model}
+use Rattle.rp_rows.specs.Rows.{key_cmp, row_key, Model, GroupRow}
 use Rattle.rp_plain.specs.Plain.{Plain}
-use Rattle.rp_core.specs.Held.{partner_at, turn, made_models}
+use Rattle.rp_core.specs.Held.{partner_at, turn, made_models, made_groups}
 use Rattle.rp_core.specs.Named.{HoldsNamed}
+use Rattle.rp_core.specs.Listed.{HoldsListed}
 use Rattle.rp_core.specs.Told.{told}
 use Rattle.rp_core.proofs.Preparing.{prepared_from, refused_from, wanting}
-use Rattle.rp_core.proofs.Names.{told_named}
+use Rattle.rp_core.proofs.Names.{told_named, told_listed}
 use Rattle.rp_core.proofs.holdings.Holdings.prepare.Goals as goal
 use Rattle.rp_core.proofs.holdings.Holdings.prepare.Goals.{in-Ok-of_plan, in-Err-of_plan}
 
-pub plan-requires : goal.plan-requires
+pub plan-requires-clause-named : goal.plan-requires-clause-named
 unfolding told
-plan-requires c =
+plan-requires-clause-named c =
     let read : Plain = record { schemas = c.deref.result.now; partners = c.deref-2.result.now; models = c.self.inside.models.rows; groups = c.self.inside.groups.rows } in
     let models : c.self.inside.models.rows ≡ c.args.self.now.content.models = ap (λ h. h.content.models) c.self.view_is in
     told_named read c.index.result.now (subst (λ (ms : List Model). AllByRecursion HoldsNamed ms) (sym models) c.requires.named)
+
+pub plan-requires-clause-listed : goal.plan-requires-clause-listed
+unfolding told
+plan-requires-clause-listed c =
+    let read : Plain = record { schemas = c.deref.result.now; partners = c.deref-2.result.now; models = c.self.inside.models.rows; groups = c.self.inside.groups.rows } in
+    let groups : c.self.inside.groups.rows ≡ c.args.self.now.content.groups = ap (λ h. h.content.groups) c.self.view_is in
+    told_listed read c.index.result.now (subst (λ (gs : List GroupRow). AllByRecursion HoldsListed gs) (sym groups) c.requires.listed)
 
 pub of_plan-requires : goal.of_plan-requires
 of_plan-requires c =
@@ -51,6 +59,6 @@ returns-after-of_plan-clause-prepared c =
     let order : IsAscending key_cmp row_key read.models = subst (λ (ms : List Model). IsAscending key_cmp row_key ms) (sym (ap (λ h. h.content.models) c.self.view_is)) c.requires.order.models in
     elim c.match-of_plan.branch [
       | in-Ok-of_plan w ↦ prepared_from c.args.self.now.content (partner_at c.args.self.now.content c.args.place) read c.index.result.now c.args.request c.in-Ok.plan c.match-of_plan.result same who order c.in-Ok.ensures
-          (ap (λ p. p.reply) w.result-is ∙ w.in-Ok-of_plan.ensures.reply) (ap (λ p. made_models p.steps read.models) w.result-is ∙ w.in-Ok-of_plan.ensures.steps)
+          (ap (λ p. p.reply) w.result-is ∙ w.in-Ok-of_plan.ensures.reply) (ap (λ p. made_models p.steps read.models) w.result-is ∙ w.in-Ok-of_plan.ensures.model_steps) (ap (λ p. made_groups p.steps read.groups) w.result-is ∙ w.in-Ok-of_plan.ensures.group_steps)
       | in-Err-of_plan w ↦ wanting c.args.self.now.content (turn c.args.self.now.content c.args.place c.args.request) w.into.result c.match-of_plan.result w.into.ensures (w.result-is ∙ w.refused-in-Err-of_plan.ensures)
     ]

@@ -1,6 +1,6 @@
 use Rattle.std.proofs.Common.{◌<◌, length, sym, subst}
 use Rattle.rp_plain.specs.Valid.{IsValid}
-use Rattle.rp_repo.proofs.Partners.{ready, valid_named}
+use Rattle.rp_repo.proofs.Partners.{ready, valid_named, valid_listed}
 use Rattle.rp_repo.proofs.repository.Repository.prepare.Goals as goal
 
 pub prepare-requires-clause-order : goal.prepare-requires-clause-order
@@ -8,6 +8,9 @@ prepare-requires-clause-order c = c.self.invariant.order
 
 pub prepare-requires-clause-named : goal.prepare-requires-clause-named
 prepare-requires-clause-named c = valid_named c.self.inside.holdings.content c.self.invariant
+
+pub prepare-requires-clause-listed : goal.prepare-requires-clause-listed
+prepare-requires-clause-listed c = valid_listed c.self.inside.holdings.content c.self.invariant
 
 pub invariant_of-self : goal.invariant_of-self
 invariant_of-self c = subst IsValid (sym c.prepare.ensures.content) c.self.invariant

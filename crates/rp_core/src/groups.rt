@@ -1,0 +1,115 @@
+//! Groups that are created, deleted and granted.
+
+ghost use Rattle.rp_core.specs.Told.{told};
+ghost use Rattle.rp_core.specs.Plans.{Plans};
+
+use crate::asked::Asking;
+use crate::edits::{Change, Edits, Plan};
+use crate::faults::{first, is_no_partner, name_fault, names_fault, unseen, when};
+use crate::models::own;
+use crate::sight::at_least;
+use plain_data::{Rows, Text};
+use rp_plain::messages::{Refusal, Reply, Request};
+use rp_rows::rows::{Level, Listing, Right};
+use std::alloc::Global;
+
+/// The most groups of one owner.
+const MAX_GROUPS: usize = 100;
+
+/// A group of the caller's, without members.
+pub fn plan_create_group(
+    alloc: Global,
+    asked: &Asking<'_>,
+    name: Text,
+    mut schema: Text,
+) -> Result<Plan, Refusal>
+    ensures { Plans (told asked.now) asked.now.caller.now (Request.CreateGroup name schema) result }
+{
+    let key = own(alloc, asked, name)?;
+    schema.make_ascii_uppercase();
+    let tests = [
+        name_fault(&key.1),
+        when(!asked.has_schema(&schema), Refusal::UnknownSchema),
+        when(
+            at_least(Right::Reads, asked.group_right(&key)),
+            Refusal::Exists,
+        ),
+        when(asked.group_count() >= MAX_GROUPS, Refusal::TooMany),
+    ];
+    if let Some(refusal) = first(&tests) {
+        return Err(refusal);
+    }
+    let members = Rows::new(alloc);
+    Ok(Plan {
+        reply: Reply::Done,
+        edits: Edits::OfGroup(key, Change::Hold(Listing { schema, members })),
+    })
+}
+
+/// A group of the caller's is gone, with its grants.
+pub fn plan_delete_group(alloc: Global, asked: &Asking<'_>, name: Text) -> Result<Plan, Refusal>
+    ensures { Plans (told asked.now) asked.now.caller.now (Request.DeleteGroup name) result }
+{
+    let key = own(alloc, asked, name)?;
+    let tests = [name_fault(&key.1), unseen(asked.group_right(&key))];
+    if let Some(refusal) = first(&tests) {
+        return Err(refusal);
+    }
+    Ok(Plan {
+        reply: Reply::Done,
+        edits: Edits::OfGroup(key, Change::Remove),
+    })
+}
+
+/// A partner may read a group of the caller's.
+pub fn plan_grant_group(
+    alloc: Global,
+    asked: &Asking<'_>,
+    name: Text,
+    to: Text,
+) -> Result<Plan, Refusal>
+    ensures { Plans (told asked.now) asked.now.caller.now (Request.GrantGroup name to) result }
+{
+    let key = own(alloc, asked, name)?;
+    let tests = [
+        names_fault(&key.1, &to),
+        is_no_partner(asked, &to),
+        unseen(asked.group_right(&key)),
+    ];
+    if let Some(refusal) = first(&tests) {
+        return Err(refusal);
+    }
+    let edits = if to.is(asked.caller) {
+        Edits::Nothing
+    } else {
+        Edits::OfGroup(key, Change::Grants(to, Some(Level::Read)))
+    };
+    Ok(Plan {
+        reply: Reply::Done,
+        edits,
+    })
+}
+
+/// A partner may not read a group of the caller's.
+pub fn plan_revoke_group(
+    alloc: Global,
+    asked: &Asking<'_>,
+    name: Text,
+    to: Text,
+) -> Result<Plan, Refusal>
+    ensures { Plans (told asked.now) asked.now.caller.now (Request.RevokeGroup name to) result }
+{
+    let key = own(alloc, asked, name)?;
+    let tests = [
+        names_fault(&key.1, &to),
+        is_no_partner(asked, &to),
+        unseen(asked.group_right(&key)),
+    ];
+    if let Some(refusal) = first(&tests) {
+        return Err(refusal);
+    }
+    Ok(Plan {
+        reply: Reply::Done,
+        edits: Edits::OfGroup(key, Change::Grants(to, None)),
+    })
+}

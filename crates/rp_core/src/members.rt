@@ -1,0 +1,224 @@
+//! The members of groups: models are included and excluded, and told with whether they count.
+
+ghost use Rattle.std.specs.Prelude.{◌≡◌, ◌++◌, filter, option_copied, OnOk, IfOk};
+ghost use Rattle.sorted_tables.specs.Table.{is_before, is_after};
+ghost use Rattle.rp_rows.specs.Rows.{key_cmp};
+ghost use Rattle.rp_plain.specs.Meaning.{first_some};
+ghost use Rattle.rp_plain.specs.Groups as of_groups;
+ghost use Rattle.rp_plain.specs.Groups.{itself};
+ghost use Rattle.rp_core.specs.Told.{told};
+ghost use Rattle.rp_core.specs.Plans.{Plans};
+
+use crate::asked::Asking;
+use crate::edits::{Change, Edits, Plan};
+use crate::faults::{first, is_no_partner, key_fault, lacks, unseen, when};
+use crate::models::own;
+use crate::sight::{has_key, key_order};
+use crate::steps::copy_key;
+use plain_data::{Rows, Text};
+use rp_plain::messages::{Refusal, Reply, Request};
+use rp_rows::names::is_valid_name;
+use rp_rows::rows::{Key, Listing, ModelContent, Right};
+use std::alloc::{AllocError, Global};
+
+/// The most members of a group.
+const MAX_MEMBERS: usize = 50;
+
+// ---- tests
+
+/// Of a group's name or a model's that is none.
+fn member_fault(group: &Text, model: &Key) -> Option<Refusal>
+    ensures { result ≡ of_groups.member_fault group.now model.now }
+{
+    let valid = is_valid_name(group) && is_valid_name(&model.0) && is_valid_name(&model.1);
+    when(!valid, Refusal::BadName)
+}
+
+/// What the group lists, if the partner sees it.
+fn members_of<'a>(asked: &Asking<'a>, group: &Key) -> &'a [Key]
+    ensures { result.now ≡ of_groups.members_of ((told asked.now).listing group.now) }
+{
+    match asked.listing(group) {
+        Some(listing) => listing.members.as_slice(),
+        None => &[],
+    }
+}
+
+fn is_member(asked: &Asking<'_>, group: &Key, model: &Key) -> bool
+    ensures { result ≡ of_groups.is_member model.now ((told asked.now).listing group.now) }
+{
+    has_key(model, members_of(asked, group))
+}
+
+/// Of a model of another schema than the group.
+fn is_of_other(model: Option<&ModelContent>, group: Option<&Listing>) -> Option<Refusal>
+    ensures { result ≡ of_groups.is_of_other (option_copied model.entry) (option_copied group.entry) }
+{
+    match (model, group) {
+        (Some(model), Some(group)) => when(!model.schema.is(&group.schema), Refusal::WrongSchema),
+        _ => None,
+    }
+}
+
+/// Why a model isn't included in a group.
+fn include_fault(asked: &Asking<'_>, group: &Key, model: &Key) -> Option<Refusal>
+    ensures { result ≡ first_some (of_groups.include (told asked.now) group.now.0 group.now.1 model.now).tests }
+{
+    first(&[
+        member_fault(&group.1, model),
+        is_no_partner(asked, &model.0),
+        unseen(asked.group_right(group)),
+        lacks(Right::Groups, asked.model_right(model)),
+        is_of_other(asked.content(model), asked.listing(group)),
+        when(is_member(asked, group, model), Refusal::Membership),
+        when(
+            members_of(asked, group).len() >= MAX_MEMBERS,
+            Refusal::TooMany,
+        ),
+    ])
+}
+
+// ---- new lists
+
+/// Adds the members before a model.
+fn push_before(
+    alloc: Global,
+    model: &Key,
+    members: &[Key],
+    out: &mut Vec<Key>,
+) -> Result<(), AllocError>
+    ensures { OnOk result (out.new.items ≡ out.old.items ++ filter (is_before key_cmp itself model.now) members.now) }
+{
+    for member in members {
+        if key_order(member, model).is_lt() {
+            out.push(copy_key(alloc, member)?)?;
+        }
+    }
+    Ok(())
+}
+
+/// Adds the members after a model.
+fn push_after(
+    alloc: Global,
+    model: &Key,
+    members: &[Key],
+    out: &mut Vec<Key>,
+) -> Result<(), AllocError>
+    ensures { OnOk result (out.new.items ≡ out.old.items ++ filter (is_after key_cmp itself model.now) members.now) }
+{
+    for member in members {
+        if key_order(member, model).is_gt() {
+            out.push(copy_key(alloc, member)?)?;
+        }
+    }
+    Ok(())
+}
+
+/// What the group holds once it lists the model.
+fn including(alloc: Global, listing: &Listing, model: Key) -> Result<Listing, AllocError>
+    ensures { IfOk result (λ l. l ≡ of_groups.with_member model listing.now) }
+{
+    let former = listing.members.as_slice();
+    let mut members = Vec::new(alloc);
+    let mut after = Vec::new(alloc);
+    push_before(alloc, &model, former, &mut members)?;
+    push_after(alloc, &model, former, &mut after)?;
+    members.push(model)?;
+    members.append(&mut after)?;
+    Ok(Listing {
+        schema: listing.schema.copy(alloc)?,
+        members: Rows::from_vec(members),
+    })
+}
+
+/// What the group holds once it doesn't list the model.
+fn excluding(alloc: Global, listing: &Listing, model: &Key) -> Result<Listing, AllocError>
+    ensures { IfOk result (λ l. l ≡ of_groups.without_member model.now listing.now) }
+{
+    let former = listing.members.as_slice();
+    let mut members = Vec::new(alloc);
+    push_before(alloc, model, former, &mut members)?;
+    push_after(alloc, model, former, &mut members)?;
+    Ok(Listing {
+        schema: listing.schema.copy(alloc)?,
+        members: Rows::from_vec(members),
+    })
+}
+
+// ---- plans
+
+/// A group of the caller's lists a model.
+pub fn plan_include(
+    alloc: Global,
+    asked: &Asking<'_>,
+    group: Text,
+    model: Key,
+) -> Result<Plan, Refusal>
+    ensures { Plans (told asked.now) asked.now.caller.now (Request.Include group model) result }
+{
+    let group = own(alloc, asked, group)?;
+    if let Some(refusal) = include_fault(asked, &group, &model) {
+        return Err(refusal);
+    }
+    let edits = match asked.listing(&group) {
+        None => Edits::Nothing,
+        Some(listing) => {
+            let listing = including(alloc, listing, model)?;
+            Edits::OfGroup(group, Change::Hold(listing))
+        }
+    };
+    Ok(Plan {
+        reply: Reply::Done,
+        edits,
+    })
+}
+
+/// A group of the caller's doesn't list a model.
+pub fn plan_exclude(
+    alloc: Global,
+    asked: &Asking<'_>,
+    group: Text,
+    model: &Key,
+) -> Result<Plan, Refusal>
+    ensures { Plans (told asked.now) asked.now.caller.now (Request.Exclude group model.now) result }
+{
+    let group = own(alloc, asked, group)?;
+    let tests = [
+        member_fault(&group.1, model),
+        is_no_partner(asked, &model.0),
+        unseen(asked.group_right(&group)),
+        when(!is_member(asked, &group, model), Refusal::Membership),
+    ];
+    if let Some(refusal) = first(&tests) {
+        return Err(refusal);
+    }
+    let edits = match asked.listing(&group) {
+        None => Edits::Nothing,
+        Some(listing) => {
+            let listing = excluding(alloc, listing, model)?;
+            Edits::OfGroup(group, Change::Hold(listing))
+        }
+    };
+    Ok(Plan {
+        reply: Reply::Done,
+        edits,
+    })
+}
+
+/// The models that a group lists, and which of them count.
+pub fn plan_members(alloc: Global, asked: &Asking<'_>, group: &Key) -> Result<Plan, Refusal>
+    ensures { Plans (told asked.now) asked.now.caller.now (Request.Members group.now) result }
+{
+    let tests = [
+        key_fault(group),
+        is_no_partner(asked, &group.0),
+        unseen(asked.group_right(group)),
+    ];
+    if let Some(refusal) = first(&tests) {
+        return Err(refusal);
+    }
+    Ok(Plan {
+        reply: Reply::Members(asked.members(alloc, group)?),
+        edits: Edits::Nothing,
+    })
+}
