@@ -110,12 +110,18 @@ fn stands_in(place: &Place, model: &CountedRef<'_>) -> bool
         && has_instance(place.instance, model.content.instances.as_slice())
 }
 
-/// Whether an instance of some models stands at the place.
-#[tactic(auto, using(crate::proofs::Walking::place_walked))]
+/// Whether an instance of one of the models stands at the place.
+fn is_in_any(place: &Place, counted: &[CountedRef<'_>]) -> bool
+    ensures { result ≡ list_any (λ m. HasPlace (placed_all (counted_of m)) place.now) counted.now }
+{
+    counted.iter().any(|model| stands_in(place, model))
+}
+
+/// Whether an instance of the population of these models stands at the place.
 fn has_place(place: &Place, counted: &[CountedRef<'_>]) -> bool
     ensures { result ≡ HasPlace (population (map counted_of counted.now)) place.now }
 {
-    counted.iter().any(|model| stands_in(place, model))
+    is_in_any(place, counted)
 }
 
 /// The users in some models, one model after another, of what is asked of.

@@ -1,7 +1,6 @@
-use Rattle.std.proofs.Common.{◌≡◌, Some, ◌∙◌, ap, map, subst}
+use Rattle.std.proofs.Common.{◌≡◌, ◌∙◌, ap, map, subst}
 use Rattle.std.specs.Prelude.{IfOk}
 use Rattle.std.specs.List.{flat_map}
-use Rattle.rp_rows.specs.Rows.{Key}
 use Rattle.rp_core.specs.Listed.{counted_at, counted_of}
 use Rattle.rp_core.specs.Stored.{row_of}
 use Rattle.rp_core.proofs.Counts.{counted_walk}

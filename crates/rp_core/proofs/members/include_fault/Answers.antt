@@ -1,8 +1,6 @@
 use Rattle.std.proofs.Common.{◌∷◌, [], ◌∙◌, ap, length}
-use Rattle.std.specs.Prelude.{nat_le, not}
-use Rattle.std.specs.List.{list_any}
+use Rattle.std.specs.Prelude.{nat_le}
 use Rattle.rp_rows.specs.declared.rows.Right.TheVariants.{Groups}
-use Rattle.rp_rows.specs.Rows.{same_key}
 use Rattle.rp_plain.specs.declared.messages.Refusal.TheVariants.{Membership, TooMany}
 use Rattle.rp_plain.specs.Meaning.{first_some, when, unseen, lacks}
 use Rattle.rp_plain.specs.Groups.{is_of_other, max_members}

@@ -23,5 +23,6 @@ returns-else-is_same_key c =
     let m = counted_of c.args.model.now in
     let is : same_key p.model m.model ≡ false = sym c.is_same_key.ensures ∙ c.if-is_same_key.false in
     let named : Instance → Bool = λ i. i.name == p.instance in
-    ap (λ t. t && list_any named m.content.instances) (sym is)
+    c.if-is_same_key.false
+    ∙ ap (λ t. t && list_any named m.content.instances) (sym is)
     ∙ stands p m

@@ -1,4 +1,4 @@
-use Rattle.std.proofs.Common.{◌≡◌, Some, ◌∙◌, ap, map, sym, subst}
+use Rattle.std.proofs.Common.{◌≡◌, ap, map, sym, subst}
 use Rattle.std.specs.Prelude.{IfOk}
 use Rattle.rp_plain.specs.Asked.{held, counted_in}
 use Rattle.rp_core.specs.Listed.{counted_of}

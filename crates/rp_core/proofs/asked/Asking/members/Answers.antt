@@ -1,4 +1,4 @@
-use Rattle.std.proofs.Common.{◌≡◌, ◌∙◌, ap, map, subst}
+use Rattle.std.proofs.Common.{◌≡◌, map, subst}
 use Rattle.std.specs.Prelude.{IfOk}
 use Rattle.rp_plain.specs.Asked.{held, counted_in}
 use Rattle.rp_plain.specs.Groups.{members_of}
