@@ -19,8 +19,8 @@ use Rattle.rp_population.specs.declared.roles.Role.{Role}
 use Rattle.rp_population.specs.declared.roles.Role.TheVariants.{Every, Of}
 use Rattle.rp_population.specs.Populations.{Counted, Placed, placed, places, stands_for}
 use Rattle.rp_population.specs.Entities.{line_of, entities_of}
-use Rattle.rp_population.specs.Uses.{is_attribute, values_in, references_in, as_user, users_in}
-use Rattle.rp_population.specs.Found.{User, AreNames, told_at, told_by, marked, marks_of, is_slot_of, place_in, references_by}
+use Rattle.rp_population.specs.Uses.{is_attribute, references_in, as_user, users_in}
+use Rattle.rp_population.specs.Found.{AreNames, told_at, told_by, marked, is_slot_of, place_in, references_by}
 
 -- what an aggregate refers to
 pub references-elements : (x : Value) (kind : AggregateKind) (elements : Elements Value) → x ≡ v.Agg kind elements → references x ≡ flat_map references elements.items

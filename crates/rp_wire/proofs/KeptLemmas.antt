@@ -1,5 +1,5 @@
 -- What is kept of values and of members.
-use Rattle.std.proofs.Common.{◌≡◌, ◌<◌, ◌-◌, ℕ, List, length, ◌∷◌, Bool, true, false, true≢false, cond, codes, bytes_eq, Option, Some, None, MatchOption, is_some, option_map, option_and_then, refl, ap, ap₂, sym, ◌∙◌, subst}
+use Rattle.std.proofs.Common.{◌≡◌, ◌<◌, ◌-◌, ℕ, List, length, ◌∷◌, Bool, true, false, true≢false, cond, codes, bytes_eq, Option, Some, None, MatchOption, option_map, option_and_then, refl, ap, ap₂, sym, ◌∙◌}
 use Rattle.std.proofs.lemmas.Slice.Eq.{bytes_eq-Decides}
 use Rattle.json.specs.Token as spec
 use Rattle.json.specs.Json.{parse_map, items, value}
@@ -7,6 +7,8 @@ use Rattle.json.proofs.Grammar.{value-begin_array}
 use Rattle.serde_json.specs.Data.{Num, Data, null, number, array, Items, Members, put}
 use Rattle.serde_json.specs.Find.{as_array, get_member}
 use Rattle.serde_json.specs.Read.{number_of, of_json, of_items, converted}
+use Rattle.serde_json.specs.View.{view}
+use Rattle.serde_json.specs.declared.value.Value.{Value}
 use Rattle.serde_json.proofs.Views.{get_member-put, get_member-put_other}
 use Rattle.rp_content.specs.declared.link.Link.{Link}
 use Rattle.rp_population.specs.declared.place.Place.{Place}
@@ -21,19 +23,11 @@ pub mapped_none : {A B : Type 0} (f : A → B) (o : Option (A × List spec.Token
 mapped_none f None e = refl
 mapped_none f (Some p) e = absurd (cc)
 
--- ---- what a match says of an option
-
-pub at_none : {A P : Type 0} {Q : A → Type 0} (o : Option A) → o ≡ None → MatchOption o P Q → P
-at_none None is told = told
-at_none (Some a) is told = absurd (cc)
-
-pub at_some : {A P : Type 0} {Q : A → Type 0} (o : Option A) (a : A) → o ≡ Some a → MatchOption o P Q → Q a
-at_some None a is told = absurd (cc)
-at_some {Q = Q} (Some b) a is told = subst Q (ap (pick b) is) told
-
-pub is_none : {A : Type 0} (o : Option A) → is_some o ≡ false → o ≡ None
-is_none None is = refl
-is_none (Some a) is = absurd (true≢false is)
+-- a list begins here
+pub list_opened : (ts r : List spec.Token) (o : Option Value) → o ≡ None
+    → MatchOption o (ts ≡ spec.begin_array ∷ r) (λ v. parse_map seen (converted of_json (value 126 ts)) ≡ Some ((view v, None), r)) → ts ≡ spec.begin_array ∷ r
+list_opened ts r None is told = told
+list_opened ts r (Some v) is told = absurd (cc)
 
 -- ---- lists
 

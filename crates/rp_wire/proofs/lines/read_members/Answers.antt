@@ -7,7 +7,7 @@ use Rattle.serde_json.specs.View.{view, members_view}
 use Rattle.serde_json.proofs.Views.{members_view-insert_entry}
 use Rattle.shallow_json.proofs.Reading.{member_read, member_refused, key_refused, members_over}
 use Rattle.shallow_json.proofs.Shallow.{shallow-put, mapped_some}
-use Rattle.rp_wire.specs.Kept.{kept_at, kept}
+use Rattle.rp_wire.specs.Kept.{lists_at, kept_at, kept}
 use Rattle.rp_wire.proofs.KeptLemmas.{lists_in-put}
 use Rattle.rp_wire.proofs.lines.read_members.Goals as goal
 
@@ -46,12 +46,12 @@ members-preserved c =
     let inserted : members_view c.insert.new.self.entries ≡ put k (view v) (members_view l.found.entries) =
     ap members_view c.in_ok-insert.ensures.entries ∙ members_view-insert_entry l.found.entries c.in_ok-key.key v ∙ ap (λ name. put name (view v) (members_view l.found.entries)) copied in
     let seen = ap (λ q. q.0) d.2 in
-    let linked = ap (λ q. q.1) d.2 in (
+    let linked : lists_at k d.0 l.lists ≡ c.read_at.new.lists = ap (λ q. q.1) d.2 in (
       n - 1,
       put k d.0 old,
       omega (arith, l.invariant.2),
       shallow-put k d.0 old ∙ ap₂ (put k) seen l.invariant.3 ∙ sym inserted,
-      rw l.invariant.4 at (lists_in-put k d.0 old) ∙ linked,
+      lists_in-put k d.0 old ∙ ap (lists_at k d.0) l.invariant.4 ∙ linked,
       l.invariant.5 ∙ member_read p old n k l.reader s r d.0 (omega (arith, l.invariant.2)) named d.1,
     )
 

@@ -17,3 +17,6 @@ returns-in-NoSuchInstance-clause-ok c = rw c.in-NoSuchInstance.is c.write_coded-
 
 pub returns-in-NoMemory-clause-ok : goal.returns-in-NoMemory-clause-ok
 returns-in-NoMemory-clause-ok c = rw c.in-NoMemory.is c.write_coded-in-NoMemory.ensures.ok
+
+pub returns-in-Membership-clause-ok : goal.returns-in-Membership-clause-ok
+returns-in-Membership-clause-ok c = rw c.in-Membership.is c.write_coded-in-Membership.ensures.ok
