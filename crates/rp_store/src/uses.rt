@@ -1,6 +1,7 @@
 //! What instances refer to.
 
-ghost use Rattle.std.specs.Prelude.{◌≡◌, ◌==◌, length, IfOk};
+ghost use Rattle.std.specs.Prelude.{◌≡◌, ◌==◌, [], length, IfOk};
+ghost use Rattle.std.specs.Bool.{OnFalse};
 ghost use Rattle.std.specs.List.{flat_map, list_any};
 ghost use Rattle.rp_rows.specs.Contents.{references, references_of};
 ghost use Rattle.rp_rows.specs.Instances as spec;
@@ -30,13 +31,32 @@ fn has_reference(name: u64, value: &Value) -> bool
     }
 }
 
+/// Whether the value may refer to something. Most don't, and then it takes no call to tell.
+#[inline(always)]
+fn may_refer(value: &Value) -> bool
+    ensures { OnFalse result (references value.now ≡ []) }
+{
+    match value {
+        Value::Inst(_) => true,
+        Value::Agg {
+            kind: _,
+            elements: _,
+        } => true,
+        Value::Named {
+            defined_type: _,
+            value: _,
+        } => true,
+        _ => false,
+    }
+}
+
 /// Whether one of the values refers to the name.
 #[cycle(references)]
 fn have_reference(name: u64, values: &[Value]) -> bool
     ensures { result ≡ list_any (λ m. m == name) (flat_map references values.now) }
 {
     for value in values {
-        if has_reference(name, value) {
+        if may_refer(value) && has_reference(name, value) {
             return true;
         }
     }
