@@ -1,5 +1,5 @@
--- What was found for some instances of a file, and is kept for those that follow.
-use Rattle.std.specs.Prelude.{◌≡◌, ℕ, zero, List, [], ◌∷◌, Some, IfSome, slice_get}
+-- What was found for some instances, and is kept for those that follow.
+use Rattle.std.specs.Prelude.{◌≡◌, ◌≤◌, ℕ, zero, List, [], ◌∷◌, Some, IfSome, slice_get}
 use Rattle.ex_types.specs.Checked.{Checked}
 use Rattle.p21_bind.specs.declared.plan.Leaf.{Leaf}
 use Rattle.p21_bind.specs.declared.plan.Plan.{Plan}
@@ -11,6 +11,10 @@ use Rattle.p21_bind.specs.Plans.{entity_named, internal, external}
 -- what an instance of a leaf has values of
 abbrev pub leaf_plan : Leaf → Plan
 leaf_plan leaf = record { types = types.Leaf leaf.entity; slots = leaf.slots ∷ []; places = zero ∷ [] }
+
+-- so many keywords, leaves and combinations are within the bounds
+abbrev pub AreFew : ℕ → ℕ → ℕ → Type 0
+AreFew keywords leaves combinations = (keywords ≤ 4096) × (leaves ≤ 4096) × (combinations ≤ 1024)
 
 module _ (schema : Checked) where
   -- each keyword is that of the entity beside it

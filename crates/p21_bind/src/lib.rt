@@ -18,4 +18,5 @@ mod value;
 pub use file::bind;
 pub use loading::load;
 pub use names::{DefinedNames, Names};
+pub use plans::Plans;
 pub use single::bind_instance;

@@ -1,4 +1,4 @@
-//! What was found for some instances of a file, kept for those that follow.
+//! What was found in a schema for some instances, kept for those that follow.
 
 ghost use Rattle.std.specs.Prelude.{◌≡◌, Some, IfOk, IfSome, IsTrue, OnOk};
 ghost use Rattle.p21_bind.specs.Plans as spec;
@@ -22,6 +22,9 @@ pub struct Keyword {
     pub text: Text,
     pub entity: usize,
 }
+
+/// How many leaves are kept at most.
+const LEAVES: usize = 4096;
 
 /// How many plans of external mappings are kept at most.
 const COMBINATIONS: usize = 1024;
@@ -75,10 +78,11 @@ fn hint_of_all(entities: &[usize]) -> usize {
     hash % COMBINATIONS
 }
 
-/// A schema with what was found in it for some instances of a file, for those that follow.
+/// A schema with what was found in it for some instances of a file or of requests, for those that follow: at most 4,096
+/// keywords, 4,096 leaves and 1,024 combinations.
 ///
-/// A keyword is as long as it was in the file, and a leaf or a combination has as many slots as an
-/// instance had values that was made by it. So all of this is at most some times as large as the file.
+/// A keyword is as long as the name of its entity, and a leaf or a combination has as many slots as an
+/// instance had values that was made by it. So what was found for a file is at most some times as large as the file.
 pub struct Plans<'s> {
     reader: Reader<'s>,
     keywords: Vec<Keyword>,
@@ -112,6 +116,7 @@ impl<'s> Drop for Plans<'s> {
 }
 
 impl<'s> Model for Plans<'s> {
+    ghost use Rattle.std.specs.Prelude.{length};
     ghost use Rattle.ex_types.specs.Checked.{Checked};
     ghost use Rattle.p21_bind.specs.Kept as kept;
 
@@ -123,6 +128,7 @@ impl<'s> Model for Plans<'s> {
       keywords : kept.AreNamed p.reader p.keywords.items;
       leaves : kept.AreLeaves p.reader p.leaves.items;
       combinations : kept.AreCombinations p.reader p.combinations.items;
+      few : kept.AreFew (length p.keywords.items) (length p.leaves.items) (length p.combinations.items);
     } };
 
     ghost use Rattle.std.specs.Coded.{codes};
@@ -155,7 +161,14 @@ impl<'s> Plans<'s> {
     }
 
     /// The schema that they are of.
-    pub fn reader(&self) -> &Reader<'s>
+    pub fn schema(&self) -> &'s Compiled
+        ensures { result.now ≡ self.now }
+    {
+        self.reader.schema()
+    }
+
+    /// The same, with what is looked up in it.
+    pub(crate) fn reader(&self) -> &Reader<'s>
         ensures { result.now ≡ self.now }
     {
         &self.reader
@@ -182,16 +195,17 @@ impl<'s> Plans<'s> {
         requires { spec.entity_named self.old keyword.now ≡ Some entity }
         ensures { self.new ≡ self.old }
     {
-        if self.keyword_hints.is_free(hint) {
+        let place = self.keywords.len();
+        if place < KEYWORDS && self.keyword_hints.is_free(hint) {
             let text = Text::from_str(alloc, keyword.as_str())?;
-            self.keyword_hints.put(hint, self.keywords.len());
             self.keywords.push(Keyword { text, entity })?;
+            self.keyword_hints.put(hint, place);
         }
         Ok(())
     }
 
     /// The entity of this name, in either case.
-    pub fn entity_named(
+    pub(crate) fn entity_named(
         &mut self,
         alloc: Global,
         keyword: &Spelled<'_>,
@@ -211,7 +225,7 @@ impl<'s> Plans<'s> {
     }
 
     /// What an instance of an entity and all above it has values of, if one was made before.
-    pub fn leaf(&self, entity: usize) -> Option<&Leaf<'s>>
+    pub(crate) fn leaf(&self, entity: usize) -> Option<&Leaf<'s>>
         ensures { IfSome result (λ leaf. spec.internal self.now entity ≡ Some (kept.leaf_plan leaf.now)) }
     {
         match self.leaves.get(self.leaf_hints.place(entity)) {
@@ -220,19 +234,22 @@ impl<'s> Plans<'s> {
         }
     }
 
-    /// Keeps a leaf, by which an instance was made.
-    pub fn keep_leaf(&mut self, leaf: Leaf<'s>) -> Result<(), AllocError>
+    /// Keeps a leaf, by which an instance was made, unless as many are kept as may be.
+    pub(crate) fn keep_leaf(&mut self, leaf: Leaf<'s>) -> Result<(), AllocError>
         requires { spec.internal self.old leaf.entity ≡ Some (kept.leaf_plan leaf) }
         ensures { self.new ≡ self.old }
     {
-        let Leaf { entity, slots } = leaf;
-        self.leaf_hints.put(entity, self.leaves.len());
-        self.leaves.push(Leaf { entity, slots })?;
+        let place = self.leaves.len();
+        if place < LEAVES {
+            let entity = leaf.entity;
+            self.leaves.push(leaf)?;
+            self.leaf_hints.put(entity, place);
+        }
         Ok(())
     }
 
     /// What an instance of these entities has values of, whose parts stand in this order, if one was made before.
-    pub fn combination(&self, entities: &[usize]) -> Option<&Plan<'s>>
+    pub(crate) fn combination(&self, entities: &[usize]) -> Option<&Plan<'s>>
         ensures { IfSome result (λ plan. spec.external self.now entities.now ≡ Some plan.now) }
     {
         let hint = hint_of_all(entities);
@@ -243,7 +260,7 @@ impl<'s> Plans<'s> {
     }
 
     /// Keeps what an instance was made by, unless another one is kept in its place.
-    pub fn keep_combination(
+    pub(crate) fn keep_combination(
         &mut self,
         entities: Vec<usize>,
         plan: Plan<'s>,
@@ -252,10 +269,11 @@ impl<'s> Plans<'s> {
         ensures { self.new ≡ self.old }
     {
         let hint = hint_of_all(&entities);
-        if self.combination_hints.is_free(hint) {
+        let place = self.combinations.len();
+        if place < COMBINATIONS && self.combination_hints.is_free(hint) {
             let entities = Rows::from_vec(entities);
-            self.combination_hints.put(hint, self.combinations.len());
             self.combinations.push(Combination { entities, plan })?;
+            self.combination_hints.put(hint, place);
         }
         Ok(())
     }

@@ -72,6 +72,13 @@ impl<'s> Reader<'s> {
         Ok(Reader { compiled, types })
     }
 
+    /// The schema.
+    pub fn schema(&self) -> &'s Compiled
+        ensures { result.now ≡ self.now }
+    {
+        self.compiled
+    }
+
     pub fn types(&self) -> &DefinedTypes<'s>
         ensures { result.now ≡ self.now.named.schema.types }
     {

@@ -1,19 +1,19 @@
 //! One instance by itself.
 
+ghost use Rattle.std.specs.Prelude.{◌≡◌};
 ghost use Rattle.text_forms.specs.Gives.{Gives};
 ghost use Rattle.p21_bind.specs.Single as spec;
 
 use crate::file::one;
 use crate::names::DefinedNames;
 use crate::plans::Plans;
-use ex_subtypes::Compiled;
 use p21_tree::{Instance as Spelled, InstanceFault, Mapping};
 use rp_content::Instance;
 use std::alloc::Global;
 use text_forms::Failure;
 
-/// The instance of this name that the mapping is, where a reference may name what is defined: the instances and links of
-/// the model as it was before the request.
+/// The instance of this name that the mapping is by the schema that the plans are of, where a reference may name what is
+/// defined: the instances and links of the model as it was before the request. What was found for it is kept with the plans.
 ///
 /// # Errors
 ///
@@ -21,13 +21,13 @@ use text_forms::Failure;
 #[tactic(auto, unfolding(crate::specs::Single::bound_instance))]
 pub fn bind_instance<N: DefinedNames>(
     alloc: Global,
-    schema: &Compiled,
+    plans: &mut Plans<'_>,
     name: u64,
     mapping: Mapping<'_>,
     names: &N,
 ) -> Result<Instance, Failure<InstanceFault>>
-    ensures { Gives (λ x. x) result (spec.bound_instance schema.now (N.is_defined names.now) name mapping.entry) }
+    ensures plans { plans.new ≡ plans.old }
+    ensures made { Gives (λ x. x) result (spec.bound_instance plans.old (N.is_defined names.now) name mapping.entry) }
 {
-    let mut plans = Plans::of(alloc, schema)?;
-    one(alloc, &mut plans, names, false, &Spelled { name, mapping })
+    one(alloc, plans, names, false, &Spelled { name, mapping })
 }

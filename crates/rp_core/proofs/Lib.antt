@@ -13,3 +13,4 @@ pub mod Making
 pub mod Preparing
 pub mod Loaded
 pub mod Putting
+pub mod KeptPlaces

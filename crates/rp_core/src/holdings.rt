@@ -2,6 +2,7 @@
 #![tactic(auto, unfolding(crate::specs::Held::Fits))]
 
 use crate::asked::{Asking, place_among};
+use crate::kept::KeptPlans;
 use crate::opening::may_open;
 use crate::plans::plan;
 use crate::steps::{Pending, make_steps};
@@ -15,14 +16,16 @@ use std::marker::Model;
 
 /// What a repository holds, in memory.
 #[derive(Drop)]
-pub struct Holdings {
-    schemas: Vec<Compiled>,
+pub struct Holdings<'s> {
+    schemas: &'s [Compiled],
+    plans: KeptPlans<'s>,
     partners: Vec<Text>,
     models: Table<ModelContent>,
     groups: Table<Listing>,
 }
 
-impl Model for Holdings {
+impl<'s> Model for Holdings<'s> {
+    ghost use Rattle.std.specs.Prelude.{◌≡◌};
     ghost use Rattle.rp_core.specs.Held.{Kept};
 
     ghost Value = { Kept };
@@ -34,13 +37,15 @@ impl Model for Holdings {
     ghost coded = { Prim.hlevel (codes, schema_type.the_row.coded, content_type.the_row.coded) };
 
     ghost view = { λ h. record {
-      content = record { schemas = h.schemas.items; partners = h.partners.items; models = h.models.rows; groups = h.groups.rows };
+      content = record { schemas = h.schemas.now; partners = h.partners.items; models = h.models.rows; groups = h.groups.rows };
       models = h.models;
       groups = h.groups;
     } };
+
+    ghost invariant = { λ h. h.plans ≡ h.schemas.now };
 }
 
-impl Holdings {
+impl<'s> Holdings<'s> {
     ghost use Rattle.std.specs.Prelude.{◌≡◌, ◌≢◌, ◌<◌, false, length, Some, None, IfOk, IfErr, MatchOption};
     ghost use Rattle.rp_plain.specs.Meaning.{has_text};
     ghost use Rattle.rp_plain.specs.Opening.{new_fault, opened};
@@ -54,14 +59,19 @@ impl Holdings {
     /// # Errors
     ///
     /// The first that holds of `TwoSchemas`, `TwoPartners`, `BadName` and `TooMany`; or `NoMemory`.
-    pub fn new(alloc: Global, schemas: Vec<Compiled>, partners: Vec<Text>) -> Result<Self, NewFault>
-        ensures ok { IfOk result (λ _. new_fault schemas.items partners.items ≡ None) }
-        ensures content { IfOk result (λ holdings. holdings.content ≡ opened schemas.items partners.items) }
-        ensures err { IfErr result (λ fault. fault ≢ NewFault.NoMemory → new_fault schemas.items partners.items ≡ Some fault) }
+    pub fn new(
+        alloc: Global,
+        schemas: &'s [Compiled],
+        partners: Vec<Text>,
+    ) -> Result<Holdings<'s>, NewFault>
+        ensures ok { IfOk result (λ _. new_fault schemas.now partners.items ≡ None) }
+        ensures content { IfOk result (λ holdings. holdings.content ≡ opened schemas.now partners.items) }
+        ensures err { IfErr result (λ fault. fault ≢ NewFault.NoMemory → new_fault schemas.now partners.items ≡ Some fault) }
     {
-        may_open(alloc, &schemas, &partners)?;
+        may_open(alloc, schemas, &partners)?;
         Ok(Holdings {
             schemas,
+            plans: KeptPlans::of(alloc, schemas)?,
             partners,
             models: Table::new(alloc),
             groups: Table::new(alloc),
@@ -89,13 +99,13 @@ impl Holdings {
         ensures fits { Fits self.new result }
     {
         let asked = Asking {
-            schemas: &self.schemas,
+            schemas: self.schemas,
             partners: &self.partners,
             models: &self.models,
             groups: &self.groups,
             caller: &self.partners[place],
         };
-        match plan(alloc, &asked, request) {
+        match plan(alloc, &asked, &mut self.plans, request) {
             Err(refusal) => Pending::refused(refusal),
             Ok(plan) => match Pending::of_plan(alloc, &mut self.models, &mut self.groups, plan) {
                 Ok(pending) => pending,

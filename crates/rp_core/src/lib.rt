@@ -17,6 +17,7 @@ mod groups;
 mod holdings;
 mod instances;
 mod items;
+mod kept;
 mod keyed;
 mod limits;
 mod links;

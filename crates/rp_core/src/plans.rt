@@ -1,5 +1,6 @@
 //! What a request is to be answered, and what it is to change, before anything is changed.
 
+ghost use Rattle.std.specs.Prelude.{◌≡◌};
 ghost use Rattle.rp_core.specs.Told.{told};
 ghost use Rattle.rp_core.specs.Named.{TellsNamed};
 ghost use Rattle.rp_core.specs.Listed.{TellsListed};
@@ -12,6 +13,7 @@ use crate::files::{plan_export, plan_put};
 use crate::grants::{plan_grant, plan_revoke};
 use crate::groups::{plan_create_group, plan_delete_group, plan_grant_group, plan_revoke_group};
 use crate::instances::plan_get;
+use crate::kept::KeptPlans;
 use crate::lists::{plan_list, plan_names, plan_schemas};
 use crate::members::{plan_exclude, plan_include, plan_members};
 use crate::models::{plan_create, plan_delete};
@@ -20,11 +22,18 @@ use crate::single::{plan_add, plan_drop, plan_set};
 use rp_plain::messages::{Refusal, Request};
 use std::alloc::Global;
 
-/// The request's plan, or its refusal.
-pub fn plan(alloc: Global, asked: &Asking<'_>, request: Request) -> Result<Plan, Refusal>
+/// The request's plan, or its refusal. What was found in the schemas for it is kept with theirs.
+pub fn plan(
+    alloc: Global,
+    asked: &Asking<'_>,
+    plans: &mut KeptPlans<'_>,
+    request: Request,
+) -> Result<Plan, Refusal>
     requires named { TellsNamed (told asked.now) }
     requires listed { TellsListed (told asked.now) }
-    ensures { Plans (told asked.now) asked.now.caller.now request result }
+    requires schemas { plans.old ≡ (told asked.now).schemas }
+    ensures plans { plans.new ≡ plans.old }
+    ensures planned { Plans (told asked.now) asked.now.caller.now request result }
 {
     match request {
         Request::CreateModel { name, schema } => plan_create(alloc, asked, name, schema),
@@ -33,12 +42,12 @@ pub fn plan(alloc: Global, asked: &Asking<'_>, request: Request) -> Result<Plan,
         Request::Export { model, links } => plan_export(alloc, asked, &model, links),
         Request::Names { model } => plan_names(alloc, asked, &model),
         Request::Get { model, instance } => plan_get(alloc, asked, &model, instance),
-        Request::Add { model, text } => plan_add(alloc, asked, model, &text),
+        Request::Add { model, text } => plan_add(alloc, asked, plans, model, &text),
         Request::Set {
             model,
             instance,
             text,
-        } => plan_set(alloc, asked, model, instance, &text),
+        } => plan_set(alloc, asked, plans, model, instance, &text),
         Request::DropInstance { model, instance } => plan_drop(asked, model, instance),
         Request::ListItems => plan_list(alloc, asked),
         Request::GrantModel { name, to, level } => plan_grant(alloc, asked, name, to, level),

@@ -1,6 +1,6 @@
 //! Single instances that are added to models, set and dropped.
 
-ghost use Rattle.std.specs.Prelude.{◌≡◌, Some, option_copied};
+ghost use Rattle.std.specs.Prelude.{◌≡◌, Some};
 ghost use Rattle.p21_read.specs.Single.{mapping_of};
 ghost use Rattle.rp_plain.specs.Instances as of_instances;
 ghost use Rattle.rp_core.specs.Told.{told};
@@ -13,11 +13,10 @@ use crate::edits::{Edits, Plan};
 use crate::faults::{first, is_no_partner, key_fault, lacks, when};
 use crate::files::cheap_fault;
 use crate::instances::{instance_in, instance_named, is_absent};
+use crate::kept::KeptPlans;
 use crate::limits::{MAX_INSTANCES, MAX_NAME};
 use crate::model_names::ModelNames;
-use ex_subtypes::Compiled;
-use p21_bind::bind_instance;
-use p21_read::{Mapping, read_instance};
+use p21_read::read_instance;
 use plain_data::Text;
 use rp_content::Instance;
 use rp_plain::messages::{Refusal, Reply, Request};
@@ -26,36 +25,17 @@ use rp_store::is_used;
 use std::alloc::{AllocError, Global};
 use text_forms::Failure;
 
-/// The instance of this name that the mapping is by the schema, or its first fault.
-fn bound(
-    alloc: Global,
-    schema: Option<&Compiled>,
-    names: &ModelNames<'_>,
-    name: u64,
-    mapping: Mapping<'_>,
-) -> Result<Instance, Refusal>
-    ensures { Says (of_instances.bound_by (option_copied schema.entry) (of_instances.is_defined names.now) name mapping.entry) result }
-{
-    let Some(schema) = schema else {
-        return Err(Refusal::UnknownSchema);
-    };
-    match bind_instance(alloc, schema, name, mapping, names) {
-        Ok(instance) => Ok(instance),
-        Err(Failure::Fault(fault)) => Err(Refusal::InstanceFault(fault)),
-        Err(Failure::NoMemory) => Err(AllocError.into()),
-    }
-}
-
 /// The instance of this name that the text is by the model's schema, or why it is refused.
 fn said_by(
     alloc: Global,
-    asked: &Asking<'_>,
+    plans: &mut KeptPlans<'_>,
     model: &ModelContent,
     name: u64,
     text: &Text,
 ) -> Result<Instance, Refusal>
     requires { IsSearchable model.now.content }
-    ensures { Says (of_instances.said_by (told asked.now).schemas model.now name (mapping_of text.now)) result }
+    ensures plans { plans.new ≡ plans.old }
+    ensures said { Says (of_instances.said_by plans.old model.now name (mapping_of text.now)) result }
 {
     let mapping = match read_instance(alloc, text.as_bytes()) {
         Ok(mapping) => mapping,
@@ -63,13 +43,7 @@ fn said_by(
         Err(Failure::NoMemory) => return Err(AllocError.into()),
     };
     let names = ModelNames::of(&model.content);
-    bound(
-        alloc,
-        asked.schema_named(&model.schema),
-        &names,
-        name,
-        mapping,
-    )
+    plans.bound(alloc, &model.schema, &names, name, mapping)
 }
 
 /// Of a model that has all instances that it may, or whose last name is used.
@@ -83,9 +57,17 @@ fn is_full(model: &ModelContent) -> Option<Refusal>
 }
 
 /// One instance more of a model.
-pub fn plan_add(alloc: Global, asked: &Asking<'_>, key: Key, text: &Text) -> Result<Plan, Refusal>
-    requires { TellsNamed (told asked.now) }
-    ensures { Plans (told asked.now) asked.now.caller.now (Request.Add key text.now) result }
+pub fn plan_add(
+    alloc: Global,
+    asked: &Asking<'_>,
+    plans: &mut KeptPlans<'_>,
+    key: Key,
+    text: &Text,
+) -> Result<Plan, Refusal>
+    requires named { TellsNamed (told asked.now) }
+    requires schemas { plans.old ≡ (told asked.now).schemas }
+    ensures plans { plans.new ≡ plans.old }
+    ensures planned { Plans (told asked.now) asked.now.caller.now (Request.Add key text.now) result }
 {
     if let Some(refusal) = cheap_fault(asked, &key, text) {
         return Err(refusal);
@@ -94,7 +76,7 @@ pub fn plan_add(alloc: Global, asked: &Asking<'_>, key: Key, text: &Text) -> Res
         return Err(Refusal::NoSuchItem);
     };
     let name = model.greatest + 1;
-    let instance = match said_by(alloc, asked, model, name, text) {
+    let instance = match said_by(alloc, plans, model, name, text) {
         Ok(instance) => instance,
         Err(refusal) => return Err(refusal),
     };
@@ -111,12 +93,15 @@ pub fn plan_add(alloc: Global, asked: &Asking<'_>, key: Key, text: &Text) -> Res
 pub fn plan_set(
     alloc: Global,
     asked: &Asking<'_>,
+    plans: &mut KeptPlans<'_>,
     key: Key,
     name: u64,
     text: &Text,
 ) -> Result<Plan, Refusal>
-    requires { TellsNamed (told asked.now) }
-    ensures { Plans (told asked.now) asked.now.caller.now (Request.Set key name text.now) result }
+    requires named { TellsNamed (told asked.now) }
+    requires schemas { plans.old ≡ (told asked.now).schemas }
+    ensures plans { plans.new ≡ plans.old }
+    ensures planned { Plans (told asked.now) asked.now.caller.now (Request.Set key name text.now) result }
 {
     if let Some(refusal) = cheap_fault(asked, &key, text) {
         return Err(refusal);
@@ -124,7 +109,7 @@ pub fn plan_set(
     let Some(model) = asked.content(&key) else {
         return Err(Refusal::NoSuchItem);
     };
-    let instance = match said_by(alloc, asked, model, name, text) {
+    let instance = match said_by(alloc, plans, model, name, text) {
         Ok(instance) => instance,
         Err(refusal) => return Err(refusal),
     };

@@ -25,7 +25,7 @@ const SMALL: usize = 4096;
 /// line is given back before the request is handled.
 pub fn answer(
     alloc: Global,
-    repository: &mut Repository,
+    repository: &mut Repository<'_>,
     room: Room,
     kept: Vec<u8>,
 ) -> Option<Vec<u8>>
@@ -63,7 +63,7 @@ fn request_from(alloc: Global, line: Vec<u8>) -> Result<Asked, Unread>
     asked
 }
 
-fn answer_kept(alloc: Global, repository: &mut Repository, line: Vec<u8>) -> Option<Vec<u8>>
+fn answer_kept(alloc: Global, repository: &mut Repository<'_>, line: Vec<u8>) -> Option<Vec<u8>>
     ensures made { IfSome result (λ bytes.
         let old = repository.old.content in
         Answers old repository.new.content (meant_for old Refusal.BadRequest (turn_for old.partners (asked_of line.items))) bytes.items) }
@@ -76,7 +76,7 @@ fn answer_kept(alloc: Global, repository: &mut Repository, line: Vec<u8>) -> Opt
     }
 }
 
-fn answer_asked(alloc: Global, repository: &mut Repository, asked: Asked) -> Option<Vec<u8>>
+fn answer_asked(alloc: Global, repository: &mut Repository<'_>, asked: Asked) -> Option<Vec<u8>>
     ensures made { IfSome result (λ bytes.
         let old = repository.old.content in
         Answers old repository.new.content (meant_for old Refusal.BadRequest (turn_for old.partners (Some asked))) bytes.items) }
@@ -90,7 +90,7 @@ fn answer_asked(alloc: Global, repository: &mut Repository, asked: Asked) -> Opt
 }
 
 /// The partner whom a line names. A line has to name one.
-fn partner_of(repository: &Repository, name: Option<Text>) -> Option<Caller>
+fn partner_of(repository: &Repository<'_>, name: Option<Text>) -> Option<Caller>
     ensures { let old = repository.now.content in
         MatchOption result (caller_of old.partners name ≡ None)
         (λ place. (place < length old.partners) × (caller_of old.partners name ≡ Some (partner_at old place))) }
@@ -102,7 +102,7 @@ fn partner_of(repository: &Repository, name: Option<Text>) -> Option<Caller>
 /// One turn of a partner.
 fn answer_turn(
     alloc: Global,
-    repository: &mut Repository,
+    repository: &mut Repository<'_>,
     partner: Caller,
     request: Request,
 ) -> Option<Vec<u8>>
@@ -117,7 +117,11 @@ fn answer_turn(
 }
 
 /// Makes the bytes of the reply, and then the change.
-fn answer_prepared(alloc: Global, repository: &mut Repository, pending: Pending) -> Option<Vec<u8>>
+fn answer_prepared(
+    alloc: Global,
+    repository: &mut Repository<'_>,
+    pending: Pending,
+) -> Option<Vec<u8>>
     requires { IsReady repository.old pending }
     ensures made { IfSome result (λ bytes. bytes.items ≡ line_of_reply pending.reply) }
     ensures changed { IfSome result (λ _. repository.new.content ≡ made pending.steps repository.old.content) }

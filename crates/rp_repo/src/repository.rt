@@ -31,13 +31,13 @@ pub struct Call {
     pub request: Request,
 }
 
-/// Schemas, partners, models and groups. What is held is valid at all times.
+/// Schemas, partners, models and groups. What is held is valid at all times. The schemas are lent.
 #[derive(Drop)]
-pub struct Repository {
-    holdings: Holdings,
+pub struct Repository<'s> {
+    holdings: Holdings<'s>,
 }
 
-impl Model for Repository {
+impl<'s> Model for Repository<'s> {
     ghost use Rattle.rp_plain.specs.Valid.{IsValid};
     ghost use Rattle.rp_core.specs.Held.{Kept};
 
@@ -52,7 +52,7 @@ impl Model for Repository {
     ghost invariant = { λ r. IsValid r.holdings.content };
 }
 
-impl Repository {
+impl<'s> Repository<'s> {
     ghost use Rattle.std.specs.Prelude.{◌≡◌, ◌≢◌, ◌<◌, ℕ, List, false, length, Some, None, IfOk, IfErr, OnErr, MatchOption};
     ghost use Rattle.std.specs.List.{AllByRecursion};
     ghost use Rattle.rp_plain.specs.Plain.{part};
@@ -70,11 +70,15 @@ impl Repository {
     /// # Errors
     ///
     /// The first that holds of `TwoSchemas`, `TwoPartners`, `BadName` and `TooMany`; or `NoMemory`.
-    pub fn new(alloc: Global, schemas: Vec<Compiled>, partners: Vec<Text>) -> Result<Self, NewFault>
-        ensures ok { IfOk result (λ _. new_fault schemas.items partners.items ≡ None) }
-        ensures content { IfOk result (λ repository. repository.content ≡ opened schemas.items partners.items) }
+    pub fn new(
+        alloc: Global,
+        schemas: &'s [Compiled],
+        partners: Vec<Text>,
+    ) -> Result<Repository<'s>, NewFault>
+        ensures ok { IfOk result (λ _. new_fault schemas.now partners.items ≡ None) }
+        ensures content { IfOk result (λ repository. repository.content ≡ opened schemas.now partners.items) }
         ensures valid { IfOk result (λ repository. IsValid repository.content) }
-        ensures err { IfErr result (λ fault. fault ≢ NewFault.NoMemory → new_fault schemas.items partners.items ≡ Some fault) }
+        ensures err { IfErr result (λ fault. fault ≢ NewFault.NoMemory → new_fault schemas.now partners.items ≡ Some fault) }
     {
         step_keeps_validity();
         let holdings = Holdings::new(alloc, schemas, partners)?;

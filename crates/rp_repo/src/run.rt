@@ -24,7 +24,7 @@ const READS: u32 = 4_294_967_295;
 /// Answers one line, and writes the reply. The line's memory is given back.
 fn serve<W: Sink>(
     alloc: Global,
-    repository: &mut Repository,
+    repository: &mut Repository<'_>,
     writer: &mut W,
     room: Room,
     kept: Vec<u8>,
@@ -48,7 +48,7 @@ fn serve<W: Sink>(
 /// request.
 pub fn run_lines<R: Source, W: Sink>(
     alloc: Global,
-    repository: &mut Repository,
+    repository: &mut Repository<'_>,
     reader: &mut R,
     writer: &mut W,
 ) -> Result<u64, RunFault>

@@ -69,25 +69,24 @@ fn status_of(done: Result<Verdict, CheckFault>) -> Result<ExitCode, Fault> {
     }
 }
 
-/// Answers the lines of standard input.
+/// Answers the lines of standard input, by the repository that the configuration in the file of this path tells.
 fn batch<R: AllocGlobal + Files + Print + Input>(rt: &R, path: &str) -> Result<ExitCode, Fault> {
-    let mut repository = opened(rt, path)?;
+    let alloc = rt.alloc();
+    let Loaded { partners, schemas } = loaded(rt, path)?;
+    let mut repository = Repository::new(alloc, schemas.as_slice(), partners.into_vec())?;
     let mut reader = FromReader::new(rt.reader());
     let mut writer = ToWriter::new(io::writer(rt));
-    match run_lines(rt.alloc(), &mut repository, &mut reader, &mut writer) {
+    match run_lines(alloc, &mut repository, &mut reader, &mut writer) {
         Ok(_) => Ok(ExitCode::SUCCESS),
         Err(RunFault::ReadFault) => Err(Fault::Read),
         Err(RunFault::WriteFault) => Err(Fault::Write),
     }
 }
 
-/// The repository that the configuration in the file of this path tells.
-fn opened<R: AllocGlobal + Files>(rt: &R, path: &str) -> Result<Repository, Fault> {
-    let alloc = rt.alloc();
-    match load_all(alloc, &FromFiles::new(rt), path) {
-        Ok(Loaded { partners, schemas }) => {
-            Ok(Repository::new(alloc, schemas.into_vec(), partners.into_vec())?)
-        }
+/// What the configuration in the file of this path names.
+fn loaded<R: AllocGlobal + Files>(rt: &R, path: &str) -> Result<Loaded, Fault> {
+    match load_all(rt.alloc(), &FromFiles::new(rt), path) {
+        Ok(loaded) => Ok(loaded),
         Err(Failure::Fault(LoadFault::Config(path))) => Err(config_fault(rt, path)?),
         Err(failure) => Err(Fault::from(failure)),
     }

@@ -68,9 +68,7 @@ impl Sink for Taker {
     }
 }
 
-fn repository(alloc: Global) -> Result<Repository, Fail> {
-    let schema = compile_schema(alloc, SCHEMA).ok().ok_or("a schema")?;
-    let schemas = vec![in alloc; schema]?;
+fn repository(alloc: Global, schemas: &[Compiled]) -> Result<Repository<'_>, Fail> {
     let partners = vec![in alloc;
         Text::from_str(alloc, "ann")?,
         Text::from_str(alloc, "bob")?,
@@ -96,7 +94,9 @@ fn run(alloc: Global, read: u64, write: u64) -> Result<(Result<u64, RunFault>, V
         writes: 0,
         failures: 0,
     };
-    let mut repository = repository(alloc)?;
+    let schema = compile_schema(alloc, SCHEMA).ok().ok_or("a schema")?;
+    let schemas = vec![in alloc; schema]?;
+    let mut repository = repository(alloc, &schemas)?;
     let ended = run_lines(alloc, &mut repository, &mut reader, &mut writer);
     Ok((ended, writer.bytes))
 }

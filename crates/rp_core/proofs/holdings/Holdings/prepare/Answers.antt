@@ -13,19 +13,23 @@ use Rattle.rp_core.proofs.Names.{told_named, told_listed}
 use Rattle.rp_core.proofs.holdings.Holdings.prepare.Goals as goal
 use Rattle.rp_core.proofs.holdings.Holdings.prepare.Goals.{in-Ok-of_plan, in-Err-of_plan}
 
-pub plan-requires-clause-named : goal.plan-requires-clause-named
+pub plan-requires-named : goal.plan-requires-named
 unfolding told
-plan-requires-clause-named c =
-    let read : Plain = record { schemas = c.deref.result.now; partners = c.deref-2.result.now; models = c.self.inside.models.rows; groups = c.self.inside.groups.rows } in
+plan-requires-named c =
+    let read : Plain = record { schemas = c.self.inside.schemas.now; partners = c.deref.result.now; models = c.self.inside.models.rows; groups = c.self.inside.groups.rows } in
     let models : c.self.inside.models.rows ≡ c.args.self.now.content.models = ap (λ h. h.content.models) c.self.view_is in
     told_named read c.index.result.now (subst (λ (ms : List Model). AllByRecursion HoldsNamed ms) (sym models) c.requires.named)
 
-pub plan-requires-clause-listed : goal.plan-requires-clause-listed
+pub plan-requires-listed : goal.plan-requires-listed
 unfolding told
-plan-requires-clause-listed c =
-    let read : Plain = record { schemas = c.deref.result.now; partners = c.deref-2.result.now; models = c.self.inside.models.rows; groups = c.self.inside.groups.rows } in
+plan-requires-listed c =
+    let read : Plain = record { schemas = c.self.inside.schemas.now; partners = c.deref.result.now; models = c.self.inside.models.rows; groups = c.self.inside.groups.rows } in
     let groups : c.self.inside.groups.rows ≡ c.args.self.now.content.groups = ap (λ h. h.content.groups) c.self.view_is in
     told_listed read c.index.result.now (subst (λ (gs : List GroupRow). AllByRecursion HoldsListed gs) (sym groups) c.requires.listed)
+
+pub plan-requires-schemas : goal.plan-requires-schemas
+unfolding told
+plan-requires-schemas c = c.self.invariant
 
 pub of_plan-requires : goal.of_plan-requires
 of_plan-requires c =
@@ -35,22 +39,22 @@ of_plan-requires c =
 pub returns-in-Err-clause-prepared : goal.returns-in-Err-clause-prepared
 unfolding told
 returns-in-Err-clause-prepared c =
-    let read : Plain = record { schemas = c.deref.result.now; partners = c.deref-2.result.now; models = c.self.inside.models.rows; groups = c.self.inside.groups.rows } in
-    let kept : Plain = record { schemas = c.self.inside.schemas.items; partners = c.self.inside.partners.items; models = c.self.inside.models.rows; groups = c.self.inside.groups.rows } in
-    let seen : read ≡ kept = λ i. record { schemas = c.deref.ensures.value i; partners = c.deref-2.ensures.value i; models = c.self.inside.models.rows; groups = c.self.inside.groups.rows } in
+    let read : Plain = record { schemas = c.self.inside.schemas.now; partners = c.deref.result.now; models = c.self.inside.models.rows; groups = c.self.inside.groups.rows } in
+    let kept : Plain = record { schemas = c.self.inside.schemas.now; partners = c.self.inside.partners.items; models = c.self.inside.models.rows; groups = c.self.inside.groups.rows } in
+    let seen : read ≡ kept = λ i. record { schemas = c.self.inside.schemas.now; partners = c.deref.ensures.value i; models = c.self.inside.models.rows; groups = c.self.inside.groups.rows } in
     let same : read ≡ c.args.self.now.content = seen ∙ ap (λ h. h.content) c.self.view_is in
     let partners : c.self.inside.partners.items ≡ c.args.self.now.content.partners = ap (λ h. h.content.partners) c.self.view_is in
     let within : c.args.place < length c.self.inside.partners.items = rw partners c.requires.partner in
     let at = get_or_read c.self.inside.partners.items c.args.place c.index.result.now within c.index.ensures [] in
     let who : c.index.result.now ≡ partner_at c.args.self.now.content c.args.place = at ∙ ap (λ xs. get_or xs c.args.place []) partners in
-    refused_from c.args.self.now.content (partner_at c.args.self.now.content c.args.place) read c.index.result.now c.args.request c.in-Err.refusal c.refused.result same who c.in-Err.ensures c.refused.ensures
+    refused_from c.args.self.now.content (partner_at c.args.self.now.content c.args.place) read c.index.result.now c.args.request c.in-Err.refusal c.refused.result same who c.in-Err.ensures.planned c.refused.ensures
 
 pub returns-after-of_plan-clause-prepared : goal.returns-after-of_plan-clause-prepared
 unfolding told
 returns-after-of_plan-clause-prepared c =
-    let read : Plain = record { schemas = c.deref.result.now; partners = c.deref-2.result.now; models = c.self.inside.models.rows; groups = c.self.inside.groups.rows } in
-    let kept : Plain = record { schemas = c.self.inside.schemas.items; partners = c.self.inside.partners.items; models = c.self.inside.models.rows; groups = c.self.inside.groups.rows } in
-    let seen : read ≡ kept = λ i. record { schemas = c.deref.ensures.value i; partners = c.deref-2.ensures.value i; models = c.self.inside.models.rows; groups = c.self.inside.groups.rows } in
+    let read : Plain = record { schemas = c.self.inside.schemas.now; partners = c.deref.result.now; models = c.self.inside.models.rows; groups = c.self.inside.groups.rows } in
+    let kept : Plain = record { schemas = c.self.inside.schemas.now; partners = c.self.inside.partners.items; models = c.self.inside.models.rows; groups = c.self.inside.groups.rows } in
+    let seen : read ≡ kept = λ i. record { schemas = c.self.inside.schemas.now; partners = c.deref.ensures.value i; models = c.self.inside.models.rows; groups = c.self.inside.groups.rows } in
     let same : read ≡ c.args.self.now.content = seen ∙ ap (λ h. h.content) c.self.view_is in
     let partners : c.self.inside.partners.items ≡ c.args.self.now.content.partners = ap (λ h. h.content.partners) c.self.view_is in
     let within : c.args.place < length c.self.inside.partners.items = rw partners c.requires.partner in
@@ -58,7 +62,7 @@ returns-after-of_plan-clause-prepared c =
     let who : c.index.result.now ≡ partner_at c.args.self.now.content c.args.place = at ∙ ap (λ xs. get_or xs c.args.place []) partners in
     let order : IsAscending key_cmp row_key read.models = subst (λ (ms : List Model). IsAscending key_cmp row_key ms) (sym (ap (λ h. h.content.models) c.self.view_is)) c.requires.order.models in
     elim c.match-of_plan.branch [
-      | in-Ok-of_plan w ↦ prepared_from c.args.self.now.content (partner_at c.args.self.now.content c.args.place) read c.index.result.now c.args.request c.in-Ok.plan c.match-of_plan.result same who order c.in-Ok.ensures
+      | in-Ok-of_plan w ↦ prepared_from c.args.self.now.content (partner_at c.args.self.now.content c.args.place) read c.index.result.now c.args.request c.in-Ok.plan c.match-of_plan.result same who order c.in-Ok.ensures.planned
           (ap (λ p. p.reply) w.result-is ∙ w.in-Ok-of_plan.ensures.reply) (ap (λ p. made_models p.steps read.models) w.result-is ∙ w.in-Ok-of_plan.ensures.model_steps) (ap (λ p. made_groups p.steps read.groups) w.result-is ∙ w.in-Ok-of_plan.ensures.group_steps)
       | in-Err-of_plan w ↦ wanting c.args.self.now.content (turn c.args.self.now.content c.args.place c.args.request) w.into.result c.match-of_plan.result w.into.ensures (w.result-is ∙ w.refused-in-Err-of_plan.ensures)
     ]
