@@ -12,9 +12,12 @@ found_at p xs i d at within = by (nat_lt (position_or_len p xs) (length xs)) at
     by true is = let same : position_or_len p xs ≡ i = cc in find_at p xs ∙ ap (slice_get xs) same ∙ slice_get-get_or xs i d within
     by false is = cc
 
+at_most : (a b : ℕ) → nat_lt a b ≡ false → b ≤ a
+at_most a b e = grind (arith, nat_tests)
+
 pub found_nowhere : {X : Type 0} (p : X → Bool) (xs : List X) → position p xs ≡ None → find p xs ≡ None
 found_nowhere p xs none = by (nat_lt (position_or_len p xs) (length xs)) refl none
   where
     by : (b : Bool) → nat_lt (position_or_len p xs) (length xs) ≡ b → cond b (Some (position_or_len p xs)) None ≡ None → find p xs ≡ None
     by true e is = cc
-    by false e is = let past : length xs ≤ position_or_len p xs = omega (arith, nat_tests) in find_at p xs ∙ slice_get_past xs (position_or_len p xs) past
+    by false e is = find_at p xs ∙ slice_get_past xs (position_or_len p xs) (at_most (position_or_len p xs) (length xs) e)

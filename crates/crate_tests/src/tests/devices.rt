@@ -2,7 +2,7 @@
 ghost use Rattle.std.specs.Prelude.{None};
 
 use ex_check::compile_schema;
-use rp_repo::{DeviceFault, Repository, RunFault, Sink, Source, Text, run_lines};
+use rp_repo::{Compiled, DeviceFault, Repository, RunFault, Sink, Source, Text, run_lines};
 use std::alloc::Global;
 use std::test::*;
 

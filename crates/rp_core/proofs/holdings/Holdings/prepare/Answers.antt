@@ -13,23 +13,23 @@ use Rattle.rp_core.proofs.Names.{told_named, told_listed}
 use Rattle.rp_core.proofs.holdings.Holdings.prepare.Goals as goal
 use Rattle.rp_core.proofs.holdings.Holdings.prepare.Goals.{in-Ok-of_plan, in-Err-of_plan}
 
-pub plan-requires-named : goal.plan-requires-named
+pub plan-requires-clause-named : goal.plan-requires-clause-named
 unfolding told
-plan-requires-named c =
+plan-requires-clause-named c =
     let read : Plain = record { schemas = c.self.inside.schemas.now; partners = c.deref.result.now; models = c.self.inside.models.rows; groups = c.self.inside.groups.rows } in
     let models : c.self.inside.models.rows ≡ c.args.self.now.content.models = ap (λ h. h.content.models) c.self.view_is in
     told_named read c.index.result.now (subst (λ (ms : List Model). AllByRecursion HoldsNamed ms) (sym models) c.requires.named)
 
-pub plan-requires-listed : goal.plan-requires-listed
+pub plan-requires-clause-listed : goal.plan-requires-clause-listed
 unfolding told
-plan-requires-listed c =
+plan-requires-clause-listed c =
     let read : Plain = record { schemas = c.self.inside.schemas.now; partners = c.deref.result.now; models = c.self.inside.models.rows; groups = c.self.inside.groups.rows } in
     let groups : c.self.inside.groups.rows ≡ c.args.self.now.content.groups = ap (λ h. h.content.groups) c.self.view_is in
     told_listed read c.index.result.now (subst (λ (gs : List GroupRow). AllByRecursion HoldsListed gs) (sym groups) c.requires.listed)
 
-pub plan-requires-schemas : goal.plan-requires-schemas
+pub plan-requires-clause-schemas : goal.plan-requires-clause-schemas
 unfolding told
-plan-requires-schemas c = c.self.invariant
+plan-requires-clause-schemas c = c.self.invariant
 
 pub of_plan-requires : goal.of_plan-requires
 of_plan-requires c =
