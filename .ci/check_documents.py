@@ -122,12 +122,11 @@ def command_faults(text):
 
 def requests_of_program():
     """The keys of each request, by what the program reads."""
-    source = read("crates/rp_wire/src/asks.rt")
-    functions = dict(re.findall(r'"(\w+)" => (\w+)\(members\)', source))
-    functions.update((word, word) for word in re.findall(r'if word == "(\w+)"', source))
+    source = "".join(read(f"crates/rp_wire/src/{it}.rt") for it in ("asks", "grants", "groups"))
+    functions = dict(re.findall(r'"(\w+)" => (\w+)\((?:[\w.]+, )?members\)', source))
     found = {}
     for do, function in functions.items():
-        body = source[re.search(rf"^fn {function}\(", source, re.MULTILINE).start():].split("\n}\n")[0]
+        body = source[re.search(rf"^(?:pub\(crate\) )?fn {function}\(", source, re.MULTILINE).start():].split("\n}\n")[0]
         keys = re.search(r"has_only_keys\(\s*&members,\s*&\[(.*?)\]", body, re.DOTALL)
         found[do] = set(re.findall(r'"(\w+)"', keys[1])) if keys else set()
     return found
@@ -136,7 +135,7 @@ def requests_of_program():
 def keys_in(text):
     """The keys that a cell or a line names: words in backticks that stand in no parentheses and are no values."""
     plain = re.sub(r"\([^()]*\)", "", text.replace("](", "] ("))
-    return {it for it in re.findall(r"`(\w+)`", re.sub(r"which is `\w+`|`true` or `false`|`read` or `write`|as of `\w+`", "", plain))}
+    return {it for it in re.findall(r"`(\w+)`", re.sub(r"`true` or `false`|`model` or `group`;|`read`, `group` or `write`, and for a group `read`|as of `\w+`", "", plain))}
 
 
 def request_faults(text):

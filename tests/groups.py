@@ -58,7 +58,8 @@ def test_what_may_be_included():
             (grant("ann", "m", "bob", "group"), OK), (include("bob", "g", "ann", "m"), OK), (include("bob", "g", "ann", "m"), MEMBERSHIP),
             (create("ann", "k", "E"), OK), (create_group("ann", "g"), OK), (include("ann", "g", "ann", "k"), WRONG_SCHEMA),
             (revoke("ann", "m", "bob"), OK), (exclude("bob", "g", "ann", "m"), OK), (exclude("bob", "g", "ann", "m"), MEMBERSHIP),
-            (exclude("bob", "g", "ann", "nowhere"), MEMBERSHIP), (exclude("bob", "g", "bob", "m"), MEMBERSHIP)], e=E)
+            (exclude("bob", "g", "ann", "nowhere"), MEMBERSHIP), (exclude("bob", "g", "bob", "m"), MEMBERSHIP)],
+           {**CONFIG, "schemas": ["t.exp", "e.exp"]}, e=E)
 
 
 def test_members_that_do_not_count():

@@ -43,9 +43,11 @@ impl<'s> Model for Repository<'s> {
 
     ghost Value = { Kept };
 
-    ghost use Rattle.rp_core.specs.contracts.holdings.Holdings as holdings_type;
+    ghost use Rattle.std.specs.Coded.{codes};
+    ghost use Rattle.ex_subtypes.specs.contracts.schema.Compiled as schema_type;
+    ghost use Rattle.rp_rows.specs.contracts.rows.ModelContent as content_type;
 
-    ghost coded = { holdings_type.the_row.coded };
+    ghost coded = { Prim.hlevel (codes, schema_type.the_row.coded, content_type.the_row.coded) };
 
     ghost view = { λ r. r.holdings };
 
