@@ -5,6 +5,7 @@ pub mod Looking
 pub mod Firsts
 pub mod Counts
 pub mod Walking
+pub mod Parts
 pub mod SchemaNames
 pub mod Names
 pub mod LinkOrder

@@ -1,7 +1,7 @@
 //! What a partner is told in lists: the schemas, and the models and groups that he sees.
 #![tactic(auto, unfolding(crate::specs::Told::told))]
 
-ghost use Rattle.std.specs.Prelude.{◌≡◌, ◌++◌, ◌∷◌, [], OnOk, IfOk, if◌then◌else◌};
+ghost use Rattle.std.specs.Prelude.{◌≡◌, ◌++◌, ◌∷◌, [], map, filter, OnOk, IfOk, if◌then◌else◌};
 ghost use Rattle.rp_rows.specs.Sight.{sees, sees_group as SeesGroup};
 ghost use Rattle.rp_plain.specs.Asked.{model_item, group_item};
 ghost use Rattle.rp_plain.specs.Lists.{schema_names};
@@ -10,7 +10,8 @@ ghost use Rattle.rp_core.specs.Told.{told};
 
 use crate::asked::Asking;
 use crate::schemas::sorted_names;
-use crate::sight::{at_least, group_right, level, sees_group};
+use crate::seen::{level_by, seen_groups};
+use crate::sight::{at_least, group_right, sees_group};
 use crate::table::RowRef;
 use plain_data::{Rows, Text};
 use rp_plain::lists::Item;
@@ -31,15 +32,18 @@ fn item(alloc: Global, key: &Key, schema: &Text, right: Right) -> Result<Item, A
     })
 }
 
+/// Adds the model, if the partner sees it, where these are the groups that he sees.
 fn push_model(
     alloc: Global,
     asked: &Asking<'_>,
+    seen: &[RowRef<'_, Listing>],
     model: &RowRef<'_, ModelContent>,
     items: &mut Vec<Item>,
 ) -> Result<(), AllocError>
+    requires { map row_of seen.now ≡ filter (SeesGroup asked.now.caller.now) asked.now.groups.now.rows }
     ensures { OnOk result (items.new.items ≡ items.old.items ++ (if sees asked.now.groups.now.rows asked.now.caller.now (row_of model.now) then model_item asked.now.groups.now.rows asked.now.caller.now (row_of model.now) ∷ [] else [])) }
 {
-    let right = level(asked.groups, asked.caller, model);
+    let right = level_by(seen, asked.caller, model);
     if at_least(Right::Reads, right) {
         items.push(item(alloc, model.key, &model.holds.schema, right)?)?;
     }
@@ -73,9 +77,10 @@ impl<'a> Asking<'a> {
     pub fn model_items(&self, alloc: Global) -> Result<Rows<Item>, AllocError>
         ensures { IfOk result (λ rows. rows ≡ (told self.now).models) }
     {
+        let seen = seen_groups(alloc, self.groups, self.caller)?;
         let mut items = Vec::new(alloc);
         for i in 0..self.models.len() {
-            push_model(alloc, self, &self.models.row(i), &mut items)?;
+            push_model(alloc, self, &seen, &self.models.row(i), &mut items)?;
         }
         Ok(Rows::from_vec(items))
     }

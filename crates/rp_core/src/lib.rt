@@ -31,6 +31,7 @@ mod plans;
 mod populations;
 mod regranted;
 mod schemas;
+mod seen;
 mod sight;
 mod single;
 mod steps;

@@ -11,13 +11,13 @@ use plain_data::Text;
 use rp_rows::rows::{Grant, Key, Level, Listing, ModelContent, Right};
 use std::cmp::Ordering;
 
-fn owns<A>(caller: &Text, row: &RowRef<'_, A>) -> bool
+pub fn owns<A>(caller: &Text, row: &RowRef<'_, A>) -> bool
     ensures { result ≡ sight.owns caller.now (row_of row.now) }
 {
     row.key.0.is(caller)
 }
 
-fn grant_to<'a>(caller: &Text, grants: &'a [Grant]) -> Option<&'a Grant>
+pub fn grant_to<'a>(caller: &Text, grants: &'a [Grant]) -> Option<&'a Grant>
     ensures { option_copied result ≡ find (sight.is_grant_to caller.now) grants.now }
 {
     grants.iter().find(|grant| grant.partner.is(caller))
@@ -107,7 +107,7 @@ fn is_counted(groups: &Table<Listing>, caller: &Text, model: &RowRef<'_, ModelCo
     false
 }
 
-fn right_of(level: Level) -> Right
+pub fn right_of(level: Level) -> Right
     ensures { result ≡ sight.right_of level }
 {
     match level {
