@@ -69,6 +69,7 @@ def measure(folder, program, with_hostile):
     of_names, other = measured(names, folder)
     failed = failed or status or within or other
     failed = run_script("single.py", program) or failed
+    failed = run_script("groups.py", program) or failed
     if os.access(legal.PROGRAM, os.X_OK):
         failed = run_script("legal.py", legal.PROGRAM) or failed
     else:
