@@ -195,6 +195,16 @@ def bare_lists_taken_at_selects(count):
     return file_of(each(least, lambda k: f"#{k + 1}=A({deep});")), put(least), schema_of_select(types, f"s{DEPTH - 2}")
 
 
+@family("values")
+def bare_lists_at_many_selects(count):
+    """Lists in lists at a SELECT of a hundred aggregates of other SELECTs, of which one takes what lies in them."""
+    types = each(100, lambda k: f"TYPE a{k} = LIST OF t{k}; END_TYPE;TYPE t{k} = SELECT (b{k}); END_TYPE;"
+                                f"TYPE b{k} = LIST OF {'REAL' if k else 'STRING'}; END_TYPE;")
+    types += f"TYPE s = SELECT ({each(100, lambda k: f'a{k}', ',')}); END_TYPE;"
+    value = "(('a'))"
+    return file_of(f"#1=A(({value}{(',' + value) * count}));"), put(1), schema_of_select(types, "LIST OF s")
+
+
 SELECTS = 10_000
 RENAMINGS = 100_000
 
@@ -269,6 +279,14 @@ def bare_lists_at_a_wide_select(count):
     types = each(1000, lambda k: f"TYPE t{k} = {'LIST OF INTEGER' if k == 999 else 'INTEGER'}; END_TYPE;")
     types += f"TYPE s = SELECT ({each(1000, lambda k: f't{k}', ',')}); END_TYPE;"
     return file_of(f"#1=A(((1){',(1)' * count}));"), put(1), schema_of_select(types, "LIST OF s")
+
+
+@family("items")
+def items_at_a_wide_select(count):
+    """Items without keywords at a SELECT of many enumerations, of which one has them."""
+    types = each(1000, lambda k: f"TYPE k{k} = ENUMERATION OF (i{k}); END_TYPE;")
+    types += f"TYPE s = SELECT ({each(1000, lambda k: f'k{k}', ',')}); END_TYPE;"
+    return file_of(f"#1=A((.I999.{',.I999.' * count}));"), put(1), schema_of_select(types, "LIST OF s")
 
 
 # Each with a string, so long that less than the most of a model fit into a file.

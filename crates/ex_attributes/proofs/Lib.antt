@@ -1,4 +1,5 @@
 pub mod Above
+pub mod Alike
 pub mod Places
 pub mod Several
 pub mod Updates

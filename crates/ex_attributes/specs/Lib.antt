@@ -1,3 +1,4 @@
 pub mod Attributes
 pub mod Steps
 pub mod Tables
+pub mod Kept

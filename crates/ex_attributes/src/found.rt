@@ -1,11 +1,11 @@
 //! An attribute by its name.
 
-ghost use Rattle.std.specs.Prelude.{◌≡◌};
+ghost use Rattle.std.specs.Prelude.{◌≡◌, IfOk, IsTrue};
 ghost use Rattle.ex_attributes.specs.Attributes as spec;
 
-use ex_kinds::{Kinds, TypeFaultKind, Typed};
+use ex_kinds::{Kinds, TypeFaultKind, Typed, are_same, copied};
 use plain_data::Rows;
-use std::alloc::Global;
+use std::alloc::{AllocError, Global};
 
 /// What was found of an attribute's name among several entities.
 #[derive(Drop)]
@@ -28,8 +28,35 @@ impl Found {
         }
     }
 
+    /// The same once more.
+    pub(crate) fn copied(&self, alloc: Global) -> Result<Found, AllocError>
+        ensures { IfOk result (λ found. found ≡ self.now) }
+    {
+        Ok(Found {
+            is_there: self.is_there,
+            is_ambiguous: self.is_ambiguous,
+            kinds: copied(alloc, self.kinds.as_slice())?,
+        })
+    }
+
+    /// Whether both are the same.
+    pub(crate) fn is_same(&self, other: &Found) -> bool
+        ensures { IsTrue result → self.now ≡ other.now }
+    {
+        self.is_there == other.is_there
+            && self.is_ambiguous == other.is_ambiguous
+            && are_same(self.kinds.as_slice(), other.kinds.as_slice())
+    }
+
+    /// Whether nothing was found.
+    pub(crate) fn is_nothing(&self) -> bool
+        ensures { IsTrue result → self.now ≡ spec.found_nothing }
+    {
+        !self.is_there && !self.is_ambiguous && self.kinds.len() == 0
+    }
+
     /// What is said of it: `dot` is the first byte of the point, `at` that of the name.
-    pub(crate) fn told(self, alloc: Global, dot: usize, at: usize) -> Typed
+    pub fn told(self, alloc: Global, dot: usize, at: usize) -> Typed
         ensures { result ≡ spec.told self dot at }
     {
         if self.is_ambiguous {

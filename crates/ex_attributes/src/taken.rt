@@ -138,8 +138,25 @@ impl Attributes {
         }
     }
 
+    /// What is found of the name, when the entities that an instance of these kinds may be of are looked at too.
+    pub(crate) fn found_from(
+        &self,
+        alloc: Global,
+        before: Found,
+        kinds: &[ValueKind],
+        name: &Text,
+    ) -> Result<Found, AllocError>
+        ensures { IfOk result (λ found. found ≡ spec.found_after self.now name.now before kinds.now) }
+    {
+        let mut found = before;
+        for kind in kinds {
+            self.look_in_kind(alloc, &mut found, *kind, name)?;
+        }
+        Ok(found)
+    }
+
     /// What is found of the name among the entities that an instance of these kinds may be of.
-    fn found_among(
+    pub(crate) fn found_among(
         &self,
         alloc: Global,
         kinds: &[ValueKind],
@@ -147,11 +164,7 @@ impl Attributes {
     ) -> Result<Found, AllocError>
         ensures { IfOk result (λ found. found ≡ spec.found_after self.now name.now spec.found_nothing kinds.now) }
     {
-        let mut found = Found::nothing(alloc);
-        for kind in kinds {
-            self.look_in_kind(alloc, &mut found, *kind, name)?;
-        }
-        Ok(found)
+        self.found_from(alloc, Found::nothing(alloc), kinds, name)
     }
 
     /// The attribute of this name of a value of these plain kinds; `dot` is the first byte of the point.

@@ -1,2 +1,2 @@
 mod Steps
-mod Tests
+pub mod Tests

@@ -20,7 +20,7 @@ fn listed(graph: &[Rows<usize>], member: usize) -> &[usize]
 }
 
 /// Whether a member is marked; none is beyond the end.
-pub(crate) fn is_marked(marks: &[bool], member: usize) -> bool
+pub fn is_marked(marks: &[bool], member: usize) -> bool
     ensures { result ≡ spec.is_marked marks.now member }
 {
     match marks.get(member) {

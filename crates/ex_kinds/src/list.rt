@@ -1,6 +1,6 @@
 //! Kinds as sets.
 
-ghost use Rattle.std.specs.Prelude.{◌≡◌, IfOk, OnOk};
+ghost use Rattle.std.specs.Prelude.{◌≡◌, IfOk, IsTrue, OnOk};
 ghost use Rattle.std.specs.List.{list_any};
 ghost use Rattle.ex_kinds.specs.Kinds as spec;
 
@@ -83,6 +83,30 @@ pub fn apart(alloc: Global, kinds: &[ValueKind]) -> Result<Kinds, AllocError>
         .filter(|kind| is_element(*kind))
         .collect(alloc)?;
     Ok(Rows::from_vec(found))
+}
+
+fn is_kind(kind: ValueKind, other: ValueKind) -> bool
+    ensures { IsTrue result → kind ≡ other }
+{
+    kind == other
+}
+
+/// Whether the two have the same kinds in the same order.
+pub fn are_same(kinds: &[ValueKind], others: &[ValueKind]) -> bool
+    ensures { IsTrue result → kinds.now ≡ others.now }
+{
+    let (mut kinds, mut others) = (kinds, others);
+    while let [kind, more @ ..] = kinds {
+        let [other, more_others @ ..] = others else {
+            return false;
+        };
+        if !is_kind(*kind, *other) {
+            return false;
+        }
+        kinds = more;
+        others = more_others;
+    }
+    matches!(others, [])
 }
 
 /// The same kinds once more.

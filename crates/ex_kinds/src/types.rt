@@ -1,14 +1,15 @@
 //! The defined types of a schema.
 
-ghost use Rattle.std.specs.Prelude.{◌≡◌, ◌++◌, map, IfOk, OnOk};
+ghost use Rattle.std.specs.Prelude.{◌≡◌, ◌++◌, length, map, IfOk, OnOk};
 ghost use Rattle.std.specs.List.{filter_map, flat_map, list_any};
 ghost use Rattle.lineage.specs.Lineage as lineage;
 ghost use Rattle.ex_kinds.specs.Kinds.{of_name};
+ghost use Rattle.ex_kinds.specs.Leading as graphs;
 ghost use Rattle.ex_kinds.specs.Types as spec;
 
 use crate::data_type::{kind_of_name, kinds_of, kinds_of_one};
 use crate::kind::{Kinds, PlainSort, Sort, ValueKind};
-use crate::leading::is_marked;
+use crate::leading::{Turned, is_marked};
 use crate::meeting::{
     all_holding, any_holds_instance, has_elements, holds_instance, is_value, met, place_of,
 };
@@ -168,6 +169,29 @@ impl Types {
         }
     }
 
+    /// How many there are.
+    pub fn len(&self) -> usize
+        ensures { result ≡ length self.now }
+    {
+        self.kinds.len()
+    }
+
+    /// What a type is declared to be that is of no defined type itself.
+    pub fn own(&self, alloc: Global, number: usize) -> Result<Kinds, AllocError>
+        ensures { IfOk result (λ found. found ≡ spec.own (spec.declared self.now number)) }
+    {
+        let mut found = Rows::new(alloc);
+        push_own(&mut found, self.declared(number))?;
+        Ok(found)
+    }
+
+    /// Of each type, whether it is marked or one of those that it is, by renaming or by selection.
+    pub fn leading(&self, alloc: Global, marks: &[bool]) -> Result<Vec<bool>, AllocError>
+        ensures { IfOk result (λ found. found.items ≡ graphs.leading (spec.alternatives self.now) marks.now) }
+    {
+        Turned::of(alloc, &self.alternatives)?.leading(alloc, marks)
+    }
+
     /// Puts what the type stands for behind the others.
     fn push_plain(&self, alloc: Global, found: &mut Kinds, number: usize) -> Result<(), AllocError>
         ensures { OnOk result (found.new ≡ found.old ++ flat_map (λ m. spec.own (spec.declared self.now m)) (lineage.family (spec.alternatives self.now) number)) }
@@ -269,7 +293,7 @@ pub(crate) fn mentioned(kind: ValueKind) -> Option<usize>
 }
 
 /// The type that the value itself is of.
-pub(crate) fn alternative(kind: ValueKind) -> Option<usize>
+pub fn alternative(kind: ValueKind) -> Option<usize>
     ensures { result ≡ spec.alternative kind }
 {
     if kind.depth == 0 {

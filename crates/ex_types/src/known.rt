@@ -4,6 +4,7 @@ ghost use Rattle.std.specs.Prelude.{◌≡◌, IfOk, map};
 ghost use Rattle.ex_kinds.specs.Kinds.{of_type};
 ghost use Rattle.ex_types.specs.Declarations as spec;
 
+use crate::asked::keep_asked;
 use crate::variables::parameters;
 use ex_attributes::Attributes;
 use ex_kinds::{Kinds, Types, kinds_of};
@@ -54,5 +55,7 @@ pub fn known(alloc: Global, schema: &NamedSchema) -> Result<Known, AllocError>
     let attributes = Attributes::of(alloc, schema.entities.as_slice())?;
     let constants = constant_kinds(alloc, schema.constants.as_slice())?;
     let functions = signatures(alloc, schema.functions.as_slice())?;
-    Ok(Known::new(types, attributes, constants, functions))
+    let mut known = Known::new(alloc, types, attributes, constants, functions);
+    keep_asked(alloc, &mut known, schema)?;
+    Ok(known)
 }

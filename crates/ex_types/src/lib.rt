@@ -2,6 +2,7 @@
 #![tactic(auto)]
 
 mod algorithms;
+mod asked;
 mod constants;
 mod declarations;
 mod defined_types;

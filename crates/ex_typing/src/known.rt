@@ -1,10 +1,13 @@
 //! What a schema's declarations say of kinds.
 
-ghost use Rattle.std.specs.Prelude.{◌≡◌, [], slice_get, slice_index_or, option_copied};
+ghost use Rattle.std.specs.Prelude.{◌≡◌, [], slice_get, slice_index_or, option_copied, IfOk, IfSome};
+ghost use Rattle.ex_kinds.specs.Types.{plain};
+ghost use Rattle.ex_attributes.specs.Attributes.{found_after, found_nothing};
 
-use ex_attributes::Attributes;
-use ex_kinds::{Kinds, Types, ValueKind};
-use plain_data::Rows;
+use ex_attributes::{Attributes, Found, Kept, keep};
+use ex_kinds::{Kinds, Types, ValueKind, alternative};
+use plain_data::{Rows, Text};
+use std::alloc::{AllocError, Global};
 use std::marker::Model;
 
 /// What the parameters of a function take, in order, and what it gives.
@@ -21,6 +24,8 @@ pub struct Known {
     attributes: Attributes,
     constants: Rows<Kinds>,
     functions: Rows<Signature>,
+    /// What is found of some names in each type, so that it isn't looked for each time.
+    kept: Vec<Kept>,
 }
 
 impl Drop for Known {
@@ -30,11 +35,13 @@ impl Drop for Known {
             attributes,
             constants,
             functions,
+            kept,
         } = self;
         drop(types);
         drop(attributes);
         drop(constants);
         drop(functions);
+        drop(kept);
     }
 }
 
@@ -44,10 +51,16 @@ impl Model for Known {
     ghost Value = { spec.Known };
 
     ghost view = { λ k. record { types = k.types; attributes = k.attributes; constants = k.constants; functions = k.functions } };
+
+    ghost use Rattle.std.specs.List.{All};
+    ghost use Rattle.ex_attributes.specs.Kept.{IsKept};
+
+    ghost invariant = { λ k. All (λ kept. IsKept k.types k.attributes kept) k.kept.items };
 }
 
 impl Known {
     pub fn new(
+        alloc: Global,
         types: Types,
         attributes: Attributes,
         constants: Rows<Kinds>,
@@ -60,7 +73,41 @@ impl Known {
             attributes,
             constants,
             functions,
+            kept: Vec::new(alloc),
         }
+    }
+
+    /// Keeps what is found of a name in each type, if all types that have it have it alike.
+    pub fn keep(&mut self, alloc: Global, name: &Text) -> Result<(), AllocError>
+        ensures { self.new ≡ self.old }
+    {
+        if let Some(kept) = keep(alloc, &self.types, &self.attributes, name)? {
+            self.kept.push(kept)?;
+        }
+        Ok(())
+    }
+
+    /// What is found of a name among these kinds, if that is kept.
+    pub(crate) fn found(
+        &self,
+        alloc: Global,
+        kinds: &[ValueKind],
+        name: &Text,
+    ) -> Result<Option<Found>, AllocError>
+        ensures { IfOk result (λ told. IfSome told (λ found. found ≡ found_after self.now.attributes name.now found_nothing (plain self.now.types kinds.now))) }
+    {
+        let [kind] = kinds else {
+            return Ok(None);
+        };
+        let Some(number) = alternative(*kind) else {
+            return Ok(None);
+        };
+        for kept in &self.kept {
+            if kept.is_of(name) {
+                return Ok(Some(kept.found_in(alloc, number)?));
+            }
+        }
+        Ok(None)
     }
 
     /// The defined types.

@@ -15,6 +15,7 @@ use ex_tree::Name;
 use std::alloc::{AllocError, Global};
 
 /// The attribute of this name of a value.
+#[tactic(auto, unfolding(ex_attributes::specs::Attributes::taken))]
 pub(crate) fn attribute_taken(
     alloc: Global,
     schema: &Known,
@@ -24,10 +25,16 @@ pub(crate) fn attribute_taken(
 ) -> Result<Typed, AllocError>
     ensures { IfOk result (λ typed. typed ≡ behind_by base.fault (taken_by schema.now.attributes (plain_by schema.now.types base.kinds) at name.now)) }
 {
-    let plain = schema.types().plain(alloc, base.kinds.as_slice())?;
-    let typed = schema
-        .attributes()
-        .taken(alloc, plain.as_slice(), at, name)?;
+    let kinds = base.kinds.as_slice();
+    let typed = match schema.found(alloc, kinds, name.text.as_text())? {
+        Some(found) => found.told(alloc, at, name.at),
+        None => {
+            let plain = schema.types().plain(alloc, kinds)?;
+            schema
+                .attributes()
+                .taken(alloc, plain.as_slice(), at, name)?
+        },
+    };
     Ok(typed.behind(base.fault))
 }
 

@@ -72,7 +72,7 @@ impl<'t> Source<'t> {
         ensures { self.new ≡ self.old }
     {
         'values: while let Some(value) = list.pop() {
-            drop(value);
+            drop(value.into_list());
         }
         self.rooms.push(list)?;
         Ok(())

@@ -1,5 +1,5 @@
 -- What stands for all that a SELECT chooses from.
-use Rattle.std.proofs.Common.{◌≡◌, ◌<◌, ◌≤◌, ◌+◌, ℕ, Bool, true, false, not, ◌&&◌, ◌||◌, ◌==◌, nat_lt, if◌then◌else◌, BTreeSet, List, [], ◌∷◌, ◌++◌, length, filter, slice_get, Option, Some, None, option_map, ◌⊎◌, inl, inr, ⊎_elim, refl, sym, ◌∙◌, ap, arith}
+use Rattle.std.proofs.Common.{◌≡◌, ◌<◌, ◌≤◌, ◌+◌, ℕ, Bool, true, false, not, ◌&&◌, ◌||◌, ◌==◌, nat_lt, if◌then◌else◌, BTreeSet, List, [], ◌∷◌, length, filter, slice_get, Option, Some, None, option_map, ◌⊎◌, inl, inr, ⊎_elim, refl, sym, ◌∙◌, ap, arith}
 use Rattle.std.proofs.lemmas.Bool.{eqb-true}
 use Rattle.std.proofs.lemmas.Bool.Decides.{nat_tests}
 use Rattle.std.proofs.lemmas.Cmp.{nat_cmp_total}
@@ -7,9 +7,9 @@ use Rattle.std.proofs.lemmas.Map.Lookups.{btree_set_from_contains, exact_unsigne
 use Rattle.std.proofs.lemmas.Option.{slice_get_cases}
 use Rattle.std.proofs.lemmas.List.Kept.{IsStrictlySortedBy-filter}
 use Rattle.std.specs.Prelude.{is_some}
-use Rattle.std.specs.List.{filter_map, cons_option, flat_map, list_any}
+use Rattle.std.specs.List.{filter_map, cons_option, list_any}
 use Rattle.std.specs.List.Sorted.{IsStrictlySortedBy}
-use Rattle.std.specs.Option.{option_and_then, option_map_or, option_to_list}
+use Rattle.std.specs.Option.{option_and_then, option_map_or}
 use Rattle.std.specs.Ordering.{nat_cmp}
 use Rattle.ex_tree.specs.declared.data_type.Width.{Width}
 use Rattle.ex_tree.specs.declared.data_type.SimpleType.TheVariants as s
@@ -31,10 +31,10 @@ use Rattle.p21_values.specs.declared.sorts.Class.{Class}
 use Rattle.p21_values.specs.declared.sorts.Class.TheVariants as class
 use Rattle.p21_values.specs.declared.sorts.Sort.{Sort}
 use Rattle.p21_values.specs.declared.sorts.Sort.TheVariants as sort
-use Rattle.p21_values.specs.Ends.{Base, Plain, Instance, Aggregate, Enumeration, Select, Nothing, Target, base_by, base_of, choices, chooses_instances, defined, end, is_entity, members, members_by, selection}
+use Rattle.p21_values.specs.Ends.{Base, Plain, Instance, Aggregate, Enumeration, Select, Nothing, base_by, base_of, choices, chooses_instances, defined, end, is_entity, members, members_by, selection}
 use Rattle.std.specs.Str.{str_to_ascii_uppercase}
 use Rattle.p21_values.specs.Taking.{Meaning, by_choice, layer, meaning, of_binary, of_integer, of_item, of_list, of_real, of_text, only}
-use Rattle.p21_values.specs.Deciding.{alone, alone_by, element, single}
+use Rattle.p21_values.specs.Deciding.{alone, alone_by, asked_choice, element, single}
 use Rattle.p21_values.specs.Sorts.{all_sorts, is_of, of_base, sort_at, sort_of}
 use Rattle.p21_values.specs.Kept.{suffices, IsCovered, StandFor, StandForClass, class_by, class_of, of_class}
 use Rattle.p21_values.proofs.Decided.{mapped, picked}
@@ -458,21 +458,6 @@ module _ (types : List NamedType) where
       ])
       (s.within k))
 
-  pub lists_kept : (ms : List Meaning) (n : ℕ) (kept : List ℕ) → StandForClass types class.Lists n kept
-      → only (filter_map (by_choice types (of_list types ms)) (choices types n)) ≡ only (filter_map (by_choice types (of_list types ms)) kept)
-  lists_kept ms n kept s =
-      let f = by_choice types (of_list types ms) in
-      ap only (all_same class.Lists f (λ k m is. ap (λ b. option_map (v.Named k) (of_list types ms b)) is) (λ k e. ap (option_map (v.Named k)) (no_list ms (base_of types k) e)) n
-      ∙ ap (filter_map f) (exact n kept s))
-
-  flat_at : (o : Option Target) (xs ys : List Target) → xs ≡ ys → option_to_list o ++ xs ≡ cons_option o ys
-  flat_at None xs ys e = e
-  flat_at (Some t) xs ys e = ap (λ ts. t ∷ ts) e
-
-  flat : (E : ℕ → Option Target) (ks : List ℕ) → flat_map (λ k. option_to_list (E k)) ks ≡ filter_map E ks
-  flat E [] = refl
-  flat E (k ∷ ks) = flat_at (E k) (flat_map (λ k. option_to_list (E k)) ks) (filter_map E ks) (flat E ks)
-
   no_element : (b : Base) → is_of class.Lists (of_base b) ≡ false → element types b ≡ None
   no_element (Plain s.Integer) e = refl
   no_element (Plain s.Number) e = refl
@@ -487,12 +472,12 @@ module _ (types : List NamedType) where
   no_element (Select n) e = refl
   no_element Nothing e = refl
 
-  pub elements_kept : (n : ℕ) (kept : List ℕ) → StandForClass types class.Lists n kept
-      → flat_map (λ k. option_to_list (element types (base_of types k))) (choices types n) ≡ flat_map (λ k. option_to_list (element types (base_of types k))) kept
-  elements_kept n kept s =
-      let E : ℕ → Option Target = λ k. element types (base_of types k) in
-      flat E (choices types n) ∙ all_same class.Lists E (λ k m is. ap (element types) is) (λ k e. no_element (base_of types k) e) n
-      ∙ ap (filter_map E) (exact n kept s) ∙ sym (flat E kept)
+  pub asked_kept : (n : ℕ) (kept : List ℕ) → StandForClass types class.Lists n kept
+      → filter_map (asked_choice types) (choices types n) ≡ filter_map (asked_choice types) kept
+  asked_kept n kept s =
+      all_same class.Lists (asked_choice types) (λ k m is. ap (λ b. option_map (λ t. record { number = Some k; target = t }) (element types b)) is)
+      (λ k e. ap (option_map (λ t. record { number = Some k; target = t })) (no_element (base_of types k) e)) n
+      ∙ ap (filter_map (asked_choice types)) (exact n kept s)
 
   -- ---- instances
 

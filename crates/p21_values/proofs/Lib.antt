@@ -2,6 +2,7 @@ pub mod Digits
 pub mod Tables
 pub mod Several
 pub mod Decided
+pub mod Groups
 pub mod Steps
 pub mod Lists
 pub mod Chosen

@@ -1,6 +1,6 @@
 -- Lists that are gone through together.
-use Rattle.std.proofs.Common.{◌≡◌, ℕ, zero, suc, ◌+◌, ◌<◌, Bool, ◌&&◌, if◌then◌else◌, List, [], ◌∷◌, length, drop, get_or, refl, ◌∙◌, ap, arith}
-use Rattle.p21_values.specs.Deciding.{both, at, chosen_from}
+use Rattle.std.proofs.Common.{◌≡◌, ℕ, zero, suc, ◌+◌, ◌<◌, Bool, ◌&&◌, if◌then◌else◌, filter, List, [], ◌∷◌, length, drop, get_or, refl, ◌∙◌, ap, arith}
+use Rattle.p21_values.specs.Deciding.{both, at}
 
 both_next : (xs ys : List Bool) (i : ℕ) → i < length xs → length xs ≡ length ys
     → both (drop i xs) (drop i ys) ≡ (at xs i && at ys i) ∷ both (drop (suc i) xs) (drop (suc i) ys)
@@ -18,15 +18,12 @@ both_turn xs ys i within e =
     let next : suc i ≡ i + 1 = omega arith in
     both_next xs ys i within e ∙ ap (λ j. (at xs i && at ys i) ∷ both (drop j xs) (drop j ys)) next
 
-cut : (ks : List ℕ) (i d : ℕ) → i < length ks → drop i ks ≡ get_or ks i d ∷ drop (suc i) ks
-cut [] i d within = let no : ⊥ = omega arith in absurd no
-cut (x ∷ ks) zero d within = refl
-cut (x ∷ ks) (suc i) d within = let less : i < length ks = omega arith in cut ks i d less
-
-pub chosen_turn : (bs : List Bool) (ks : List ℕ) (i d : ℕ) → i < length ks
-    → chosen_from bs i (drop i ks)
-    ≡ (if at bs i then get_or ks i d ∷ chosen_from bs (i + 1) (drop (i + 1) ks) else chosen_from bs (i + 1) (drop (i + 1) ks))
-chosen_turn bs ks i d within =
-    let next : suc i ≡ i + 1 = omega arith in
-    ap (chosen_from bs i) (cut ks i d within)
-    ∙ ap (λ j. if at bs i then get_or ks i d ∷ chosen_from bs j (drop j ks) else chosen_from bs j (drop j ks)) next
+pub filter_turn : {A : Type 0} (p : A → Bool) (xs : List A) (i : ℕ) (x d : A) → i < length xs → x ≡ get_or xs i d
+    → filter p (drop i xs) ≡ (if p x then x ∷ filter p (drop (i + 1) xs) else filter p (drop (i + 1) xs))
+filter_turn p [] i x d within is = let no : ⊥ = omega arith in absurd no
+filter_turn p (y ∷ xs) zero x d within is = let same : y ≡ x = cc in rw same refl
+filter_turn p (y ∷ xs) (suc i) x d within is =
+    let less : i < length xs = omega arith in
+    let same : x ≡ get_or xs i d = is in
+    let next : suc i + 1 ≡ suc (i + 1) = omega arith in
+    rw next (filter_turn p xs i x d less same)

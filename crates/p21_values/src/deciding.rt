@@ -1,60 +1,36 @@
 //! Whether types take a value, told for several at once.
 //!
 //! A list at a SELECT may be of several aggregates, whose elements may be SELECTs again. Each element is visited once for the
-//! types of the elements of all of them, and each SELECT among these is asked once.
+//! types of the elements of all of them, and each SELECT among these is asked once. What is found is kept in rows, so that the
+//! value is built without asking again.
 
 ghost use Rattle.std.specs.Prelude.{◌≡◌, ◌++◌, ◌∷◌, ◌&&◌, [], List, Bool, Some, None, true, map, length, is_some, slice_get, IfOk, OnOk};
-ghost use Rattle.std.specs.List.{flat_map, filter_map, list_all};
-ghost use Rattle.std.specs.Option.{option_and_then};
+ghost use Rattle.std.specs.List.{flat_map, list_all};
 ghost use Rattle.p21_values.specs.Ends as ends;
 ghost use Rattle.p21_values.specs.Seen.{seen, seen_target};
 ghost use Rattle.p21_values.specs.Taking as taking;
 ghost use Rattle.p21_values.specs.Deciding as spec;
 
-use crate::elements::{asked_by, distinct_of};
-use crate::ends::{Base, Declared, Target, base_of, inside};
-use crate::taking::{bare_token, reference};
+use crate::alone::{bare_token, reference};
+use crate::ends::{Base, Target, inside};
+use crate::levels::{Candidate, Level, at, level_of, levels_of, only_candidate};
 use crate::types::DefinedTypes;
 use p21_tree::Value as Spelled;
+use plain_data::Rows;
 use std::alloc::{AllocError, Global};
 use std::slice;
 
-/// Whether it is true at the place.
-fn at(taken: &[bool], place: usize) -> bool
-    ensures { result ≡ spec.at taken.now place }
-{
-    match taken.get(place) {
-        Some(taken) => *taken,
-        None => false,
-    }
-}
-
-fn just_one(taken: &[bool]) -> bool
-    ensures { result ≡ spec.just_one taken.now }
-{
-    let mut found = false;
-    for is_taken in taken {
-        if *is_taken {
-            if found {
-                return false;
-            }
-            found = true;
-        }
-    }
-    found
-}
-
 /// Of each group whether just one of it is taken.
-#[tactic(auto, using(crate::proofs::Decided::taken_group, crate::proofs::Decided::after_group))]
-fn verdicts(alloc: Global, counts: &[usize], taken: &[bool]) -> Result<Vec<bool>, AllocError>
-    ensures { IfOk result (λ found. found.items ≡ spec.verdicts counts.now taken.now) }
+fn verdicts(
+    alloc: Global,
+    groups: &[Rows<Candidate>],
+    taken: &[bool],
+) -> Result<Vec<bool>, AllocError>
+    ensures { IfOk result (λ found. found.items ≡ map (λ g. is_some (spec.only_candidate g taken.now)) groups.now) }
 {
-    let mut found = Vec::with_capacity(alloc, counts.len())?;
-    let mut rest = taken;
-    for count in counts {
-        let (group, others) = rest.split_at((*count).min(rest.len()));
-        found.push(just_one(group))?;
-        rest = others;
+    let mut found = Vec::with_capacity(alloc, groups.len())?;
+    for group in groups {
+        found.push(only_candidate(group.as_slice(), taken).is_some())?;
     }
     Ok(found)
 }
@@ -71,34 +47,6 @@ fn both(alloc: Global, first: &[bool], second: &[bool]) -> Result<Vec<bool>, All
         found.push(is_both)?;
     }
     Ok(found)
-}
-
-/// What is true at the places.
-fn spread(alloc: Global, places: &[usize], taken: &[bool]) -> Result<Vec<bool>, AllocError>
-    ensures { IfOk result (λ found. found.items ≡ map (spec.at taken.now) places.now) }
-{
-    let mut found = Vec::with_capacity(alloc, places.len())?;
-    for place in places {
-        found.push(at(taken, *place))?;
-    }
-    Ok(found)
-}
-
-/// The number beside the only one that is taken.
-#[tactic(auto, using(crate::proofs::Steps::chosen_turn))]
-fn single(numbers: &[usize], taken: &[bool]) -> Option<usize>
-    ensures { result ≡ spec.single (spec.chosen_from taken.now 0 numbers.now) }
-{
-    let mut found = None;
-    for (place, number) in numbers.iter().enumerate() {
-        if at(taken, place) {
-            if found.is_some() {
-                return None;
-            }
-            found = Some(*number);
-        }
-    }
-    found
 }
 
 /// Whether a type takes a value that holds no others.
@@ -181,6 +129,37 @@ fn each_named<'s>(
     Ok(taken)
 }
 
+/// How deep lists stand in a value. It only says how many levels are found beforehand, so no clause tells it.
+#[cycle(depth)]
+fn depth(value: &Spelled<'_>) -> usize {
+    match value {
+        Spelled::List(values) => depth_of(values.as_slice()).saturating_add(1),
+        _ => 0,
+    }
+}
+
+/// How deep lists stand in the values of a list.
+#[cycle(depth)]
+fn depth_of(values: &[Spelled<'_>]) -> usize {
+    let mut deepest = 0;
+    'values: for value in values {
+        deepest = depth(value).max(deepest);
+    }
+    deepest
+}
+
+/// The levels below one that the values of a list need.
+pub fn levels_below<'s>(
+    alloc: Global,
+    types: &DefinedTypes<'s>,
+    values: &[Spelled<'_>],
+    level: &Level<'s>,
+) -> Result<Vec<Level<'s>>, AllocError>
+    ensures { IfOk result (λ below. spec.AreLevels types.now level.now.targets.items below.items) }
+{
+    levels_of(alloc, types, &level.targets, depth_of(values))
+}
+
 /// Which of the types take the value under a keyword, which is the name of this type.
 #[cycle(deciding)]
 #[tactic(auto, using(crate::proofs::Decided::each_named, crate::proofs::Decided::none_named))]
@@ -214,13 +193,15 @@ fn fits<'s>(
     match value {
         Spelled::Unset => Ok(false),
         _ => {
-            let taken = takes(alloc, types, value, slice::from_ref(target))?;
+            let targets = slice::from_ref(target);
+            let levels = levels_of(alloc, types, targets, depth(value))?;
+            let taken = takes(alloc, types, value, targets, &levels, &mut Vec::new(alloc))?;
             Ok(at(&taken, 0))
         }
     }
 }
 
-/// Which of the types take the value.
+/// Which of the types take the value. Behind the rows stand then those of the value.
 #[cycle(deciding)]
 #[tactic(auto, unfolding(crate::specs::Taking::meaning))]
 fn takes<'s>(
@@ -228,11 +209,15 @@ fn takes<'s>(
     types: &DefinedTypes<'s>,
     value: &Spelled<'_>,
     targets: &[Target<'s>],
+    levels: &[Level<'s>],
+    rows: &mut Vec<bool>,
 ) -> Result<Vec<bool>, AllocError>
-    ensures { IfOk result (λ taken. taken.items ≡ map (λ t. spec.takes (taking.meaning types.now value.now) (seen_target t)) targets.now) }
+    requires { spec.AreLevels types.now targets.now levels.now }
+    ensures taken { IfOk result (λ taken. taken.items ≡ map (λ t. spec.takes (taking.meaning types.now value.now) (seen_target t)) targets.now) }
+    ensures rows { OnOk result (rows.new.items ≡ rows.old.items ++ spec.rows types.now levels.now value.now) }
 {
     match value {
-        Spelled::List(values) => takes_list(alloc, types, values.as_slice(), targets),
+        Spelled::List(values) => takes_list(alloc, types, values.as_slice(), targets, levels, rows),
         Spelled::Typed(keyword, value) => {
             let number = types.number(alloc, keyword.as_bytes())?;
             takes_named(alloc, types, number, value.get(), targets)
@@ -243,21 +228,46 @@ fn takes<'s>(
 
 /// Which of the types take the list.
 #[cycle(deciding)]
-#[tactic(auto, using(crate::proofs::Decided::list_answers))]
 fn takes_list<'s>(
     alloc: Global,
     types: &DefinedTypes<'s>,
     values: &[Spelled<'_>],
     targets: &[Target<'s>],
+    levels: &[Level<'s>],
+    rows: &mut Vec<bool>,
 ) -> Result<Vec<bool>, AllocError>
-    ensures { IfOk result (λ taken. taken.items ≡ map (λ t. is_some (taking.bare_at types.now (taking.of_list types.now (map (taking.meaning types.now) values.now)) (seen t.base))) targets.now) }
+    requires { spec.AreLevels types.now targets.now levels.now }
+    ensures taken { IfOk result (λ taken. taken.items ≡ map (λ t. is_some (taking.bare_at types.now (taking.of_list types.now (map (taking.meaning types.now) values.now)) (seen t.base))) targets.now) }
+    ensures rows { OnOk result (rows.new.items ≡ rows.old.items ++ spec.rows_of_list types.now levels.now values.now) }
 {
-    let asked = asked_by(alloc, types, targets)?;
-    let once = distinct_of(alloc, types.types(), &asked.targets)?;
-    let taken = take_all(alloc, types, values, &once.targets)?;
-    let all = spread(alloc, &once.places, &taken)?;
-    let found = verdicts(alloc, &asked.counts, &all)?;
-    Ok(found)
+    match levels.split_first() {
+        Some((level, below)) => takes_at(alloc, types, values, level, below, rows),
+        None => {
+            let level = level_of(alloc, types, targets)?;
+            takes_at(alloc, types, values, &level, &[], &mut Vec::new(alloc))
+        }
+    }
+}
+
+/// Of each group of a level whether just one of it takes the list.
+#[cycle(deciding)]
+fn takes_at<'s>(
+    alloc: Global,
+    types: &DefinedTypes<'s>,
+    values: &[Spelled<'_>],
+    level: &Level<'s>,
+    below: &[Level<'s>],
+    rows: &mut Vec<bool>,
+) -> Result<Vec<bool>, AllocError>
+    requires { spec.AreLevels types.now level.now.targets.items below.now }
+    ensures taken { IfOk result (λ taken. taken.items ≡ map (λ g. is_some (spec.only_candidate g (spec.row types.now level.now values.now))) level.now.groups.items) }
+    ensures rows { OnOk result (rows.new.items ≡ rows.old.items ++ spec.rows_of_list types.now (level.now ∷ below.now) values.now) }
+{
+    let mut inner = Vec::new(alloc);
+    let taken = take_all(alloc, types, values, &level.targets, below, &mut inner)?;
+    rows.extend_from_slice(&taken)?;
+    rows.extend_from_slice(&inner)?;
+    verdicts(alloc, &level.groups, &taken)
 }
 
 /// Which of the types take each of the values.
@@ -268,48 +278,33 @@ fn take_all<'s>(
     types: &DefinedTypes<'s>,
     values: &[Spelled<'_>],
     targets: &[Target<'s>],
+    below: &[Level<'s>],
+    rows: &mut Vec<bool>,
 ) -> Result<Vec<bool>, AllocError>
-    ensures { IfOk result (λ taken. taken.items ≡ map (λ t. spec.takes_each (map (taking.meaning types.now) values.now) (seen_target t)) targets.now) }
+    requires { spec.AreLevels types.now targets.now below.now }
+    ensures taken { IfOk result (λ taken. taken.items ≡ map (λ t. spec.takes_each (map (taking.meaning types.now) values.now) (seen_target t)) targets.now) }
+    ensures rows { OnOk result (rows.new.items ≡ rows.old.items ++ flat_map (spec.rows types.now below.now) values.now) }
 {
     let mut taken = vec![in alloc; true; targets.len()]?;
     'values: for value in values {
-        let also = takes(alloc, types, value, targets)?;
+        let also = takes(alloc, types, value, targets, below, rows)?;
         taken = both(alloc, &taken, &also)?;
     }
     Ok(taken)
 }
 
-/// Defined types, where they are no SELECTs.
-fn choice_targets<'s>(
-    alloc: Global,
-    types: &Declared<'s>,
-    numbers: &[usize],
-) -> Result<Vec<Target<'s>>, AllocError>
-    ensures { IfOk result (λ targets. map (λ t. seen t.base) targets.items ≡ map (λ k. spec.no_select (ends.base_of types.now k)) numbers.now) }
-{
-    let mut targets = Vec::with_capacity(alloc, numbers.len())?;
-    for number in numbers {
-        let base = match base_of(types, *number) {
-            Base::Select(_) => Base::Nothing,
-            base => base,
-        };
-        targets.push(Target { name: None, base })?;
-    }
-    Ok(targets)
-}
-
-/// The only one of the defined types that takes the list.
-#[tactic(auto, using(crate::proofs::Decided::choice_decided))]
-pub fn only_choice<'s>(
+/// What is found of a list at a level, and of the lists in it below: rows of which types take the values of each.
+pub fn rows_of<'s>(
     alloc: Global,
     types: &DefinedTypes<'s>,
     values: &[Spelled<'_>],
-    numbers: &[usize],
-) -> Result<Option<usize>, AllocError>
-    ensures { IfOk result (λ found. taking.only (filter_map (taking.by_choice types.now (taking.of_list types.now (map (taking.meaning types.now) values.now))) numbers.now) ≡ option_and_then (taking.by_choice types.now (taking.of_list types.now (map (taking.meaning types.now) values.now))) found) }
+    level: &Level<'s>,
+    below: &[Level<'s>],
+) -> Result<Vec<bool>, AllocError>
+    requires { spec.AreLevels types.now level.now.targets.items below.now }
+    ensures { IfOk result (λ rows. rows.items ≡ spec.rows_of_list types.now (level.now ∷ below.now) values.now) }
 {
-    let targets = choice_targets(alloc, types.types(), numbers)?;
-    let taken = takes_list(alloc, types, values, &targets)?;
-    let found = single(numbers, &taken);
-    Ok(found)
+    let mut rows = Vec::new(alloc);
+    takes_at(alloc, types, values, level, below, &mut rows)?;
+    Ok(rows)
 }

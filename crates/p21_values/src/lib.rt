@@ -1,11 +1,13 @@
 //! What a declared type takes of a value as an exchange file spells it (ISO 10303-21:2002, clause 10).
 #![tactic(auto)]
 
+mod alone;
 mod deciding;
-mod elements;
 mod ends;
 mod items;
 mod kept;
+mod levels;
+mod rest;
 mod selects;
 mod sorts;
 mod taking;

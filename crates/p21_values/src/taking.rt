@@ -1,154 +1,26 @@
 //! What a declared type takes of a value as a file spells it.
 
-ghost use Rattle.std.specs.Prelude.{◌≡◌, ◌++◌, ◌∷◌, [], map, Some, None, IfOk, OnOk};
-ghost use Rattle.std.specs.List.{filter_map};
+ghost use Rattle.std.specs.Prelude.{◌≡◌, ◌∷◌, [], List, map, length, take, drop, slice_get, Some, None, IfOk, IfSome, OnOk};
+ghost use Rattle.std.specs.List.{flat_map};
 ghost use Rattle.std.specs.Option.{option_map};
-ghost use Rattle.std.specs.Str.{str_to_ascii_uppercase};
-ghost use Rattle.name_tables.specs.Names.{place_of};
-ghost use Rattle.p21_strings.specs.Decoding.{decoded};
-ghost use Rattle.rp_numbers.specs.Spelling.{parse};
 ghost use Rattle.rp_value.specs.declared.value.Value.TheVariants as v;
 ghost use Rattle.p21_values.specs.Ends as ends;
 ghost use Rattle.p21_values.specs.Seen.{seen, seen_target};
-ghost use Rattle.p21_values.specs.Tokens.{ok};
 ghost use Rattle.p21_values.specs.Deciding as deciding;
-ghost use Rattle.p21_values.specs.Kept as kept;
 ghost use Rattle.p21_values.specs.Taking as spec;
 
-use crate::deciding::only_choice;
+use crate::alone::{Taken, bare_token, reference, under_name};
+use crate::deciding::{levels_below, rows_of};
 use crate::ends::{Base, Target, base_of, inside, target_of};
-use crate::sorts::Class;
-use crate::tokens::{bits, boolean, in_upper_case, integer, logical};
+use crate::levels::{Candidate, Level, level_of, only_candidate};
+use crate::rest::Rest;
 use crate::types::DefinedTypes;
 use ex_named::NamedDataType;
-use ex_tree::SimpleType;
-use p21_strings::decode_string;
 use p21_tree::Value as Spelled;
 use plain_data::Items;
-use rp_value::{AggregateKind, Decimal, Value};
+use rp_value::{AggregateKind, Value};
 use std::alloc::{AllocError, Global};
-use text_forms::Failure;
-
-/// A value that a type takes; nothing where it takes none.
-pub type Taken = Result<Option<Value>, AllocError>;
-
-/// The decimal of a real.
-fn decimal(alloc: Global, token: &[u8]) -> Taken
-    ensures { IfOk result (λ taken. taken ≡ option_map v.Dec (ok (parse token.now))) }
-{
-    match Decimal::parse(token) {
-        Ok(decimal) => Ok(Some(Value::decimal(alloc, decimal)?)),
-        Err(_) => Ok(None),
-    }
-}
-
-/// The decimal of an integer.
-fn decimal_of_integer(alloc: Global, token: &[u8]) -> Taken
-    ensures { IfOk result (λ taken. taken ≡ option_map v.Dec (ok (parse (token.now ++ 46 ∷ [])))) }
-{
-    let mut real = Vec::with_capacity(alloc, token.len() + 1)?;
-    real.extend_from_slice(token)?;
-    real.push(b'.')?;
-    decimal(alloc, &real)
-}
-
-fn of_integer(alloc: Global, token: &[u8], base: &Base<'_>) -> Taken
-    ensures { IfOk result (λ taken. taken ≡ spec.of_integer token.now (seen base.now)) }
-{
-    match base {
-        Base::Plain(SimpleType::Integer | SimpleType::Number) => Ok(integer(token).map(Value::Int)),
-        Base::Plain(SimpleType::Real) => decimal_of_integer(alloc, token),
-        _ => Ok(None),
-    }
-}
-
-fn of_real(alloc: Global, token: &[u8], base: &Base<'_>) -> Taken
-    ensures { IfOk result (λ taken. taken ≡ spec.of_real token.now (seen base.now)) }
-{
-    match base {
-        Base::Plain(SimpleType::Real | SimpleType::Number) => decimal(alloc, token),
-        _ => Ok(None),
-    }
-}
-
-/// The string that the bytes between its apostrophes spell.
-fn text(alloc: Global, token: &[u8]) -> Taken
-    ensures { IfOk result (λ taken. taken ≡ option_map v.Str (ok (decoded token.now))) }
-{
-    match decode_string(alloc, token) {
-        Ok(text) => Ok(Some(Value::text(alloc, text)?)),
-        Err(Failure::Fault(_)) => Ok(None),
-        Err(Failure::NoMemory) => Err(AllocError),
-    }
-}
-
-fn of_text(alloc: Global, token: &[u8], base: &Base<'_>) -> Taken
-    ensures { IfOk result (λ taken. taken ≡ spec.of_text token.now (seen base.now)) }
-{
-    match base {
-        Base::Plain(SimpleType::String(_)) => text(alloc, token),
-        _ => Ok(None),
-    }
-}
-
-fn of_binary(alloc: Global, token: &[u8], base: &Base<'_>) -> Taken
-    ensures { IfOk result (λ taken. taken ≡ spec.of_binary token.now (seen base.now)) }
-{
-    match base {
-        Base::Plain(SimpleType::Binary(_)) => {
-            let bits = bits(alloc, token)?;
-            Ok(Some(Value::binary(alloc, bits)?))
-        }
-        _ => Ok(None),
-    }
-}
-
-/// The item of an enumeration.
-fn item(types: &DefinedTypes<'_>, number: usize, name: &[u8]) -> Option<Value>
-    ensures { result ≡ option_map (v.Item number) (place_of name.now (spec.items types.now number)) }
-{
-    match types.item_place(number, name) {
-        Some(place) => Some(Value::Item {
-            enumeration: number,
-            place,
-        }),
-        None => None,
-    }
-}
-
-/// What an item in upper case is.
-fn of_item(types: &DefinedTypes<'_>, name: &[u8], base: &Base<'_>) -> Option<Value>
-    ensures { result ≡ spec.of_item types.now name.now (seen base.now) }
-{
-    match base {
-        Base::Plain(SimpleType::Boolean) => boolean(name).map(Value::Log),
-        Base::Plain(SimpleType::Logical) => logical(name).map(Value::Log),
-        Base::Enumeration(number) => item(types, *number, name),
-        _ => None,
-    }
-}
-
-/// What a type takes of a reference.
-pub fn reference(alloc: Global, types: &DefinedTypes<'_>, name: u64, base: &Base<'_>) -> Taken
-    ensures { IfOk result (λ taken. taken ≡ spec.reference_at types.now name (seen base.now)) }
-{
-    let takes = match base {
-        Base::Instance => true,
-        Base::Select(number) => types.chooses_instances(alloc, *number)?,
-        _ => false,
-    };
-    Ok(if takes { Some(Value::Inst(name)) } else { None })
-}
-
-/// A value under the name of a defined type.
-fn under_name(alloc: Global, number: usize, taken: Option<Value>) -> Taken
-    ensures { IfOk result (λ under. under ≡ option_map (v.Named number) taken) }
-{
-    match taken {
-        Some(value) => Ok(Some(Value::named(alloc, number, value)?)),
-        None => Ok(None),
-    }
-}
+use std::slice;
 
 fn aggregate(alloc: Global, kind: AggregateKind, low: i64, items: Option<Items<Value>>) -> Taken
     ensures { IfOk result (λ taken. taken ≡ option_map (λ xs. v.Agg kind (record { low = low; items = xs })) items) }
@@ -156,92 +28,6 @@ fn aggregate(alloc: Global, kind: AggregateKind, low: i64, items: Option<Items<V
     match items {
         Some(items) => Ok(Some(Value::aggregate(alloc, kind, low, items)?)),
         None => Ok(None),
-    }
-}
-
-/// What a type that is no SELECT takes of a token.
-#[tactic(auto, unfolding(crate::specs::Taking::meaning))]
-fn token(alloc: Global, types: &DefinedTypes<'_>, value: &Spelled<'_>, base: &Base<'_>) -> Taken
-    ensures { IfOk result (λ taken. taken ≡ deciding.alone types.now value.now (seen base.now)) }
-{
-    match value {
-        Spelled::Integer(token) => of_integer(alloc, token.as_slice(), base),
-        Spelled::Real(token) => of_real(alloc, token.as_slice(), base),
-        Spelled::Text(token) => of_text(alloc, token.as_slice(), base),
-        Spelled::Binary(token) => of_binary(alloc, token.as_slice(), base),
-        Spelled::Item(token) => {
-            let name = in_upper_case(alloc, token.as_slice())?;
-            Ok(of_item(types, &name, base))
-        }
-        Spelled::Unset | Spelled::Derived => Ok(None),
-        Spelled::Reference(_) | Spelled::List(_) | Spelled::Typed(_, _) => Ok(None),
-    }
-}
-
-/// What the only one of the defined types takes that takes the token.
-fn only_token(
-    alloc: Global,
-    types: &DefinedTypes<'_>,
-    value: &Spelled<'_>,
-    numbers: &[usize],
-) -> Taken
-    ensures { IfOk result (λ taken. taken ≡ spec.only (filter_map (spec.by_choice types.now (deciding.alone types.now value.now)) numbers.now)) }
-{
-    let mut found = None;
-    'choices: for number in numbers {
-        let base = base_of(types.types(), *number);
-        let taken = token(alloc, types, value, &base)?;
-        if let Some(value) = under_name(alloc, *number, taken)? {
-            if found.is_some() {
-                return Ok(None);
-            }
-            found = Some(value);
-        }
-    }
-    Ok(found)
-}
-
-/// The class of the types that may take a token.
-fn class_of(value: &Spelled<'_>) -> Class
-    ensures { result ≡ kept.class_of value.now }
-{
-    match value {
-        Spelled::Item(_) => Class::Items,
-        _ => Class::Plain,
-    }
-}
-
-/// What a SELECT takes of a token without a keyword.
-#[tactic(auto, using(crate::proofs::Chosen::tokens_kept))]
-fn select_token(
-    alloc: Global,
-    types: &DefinedTypes<'_>,
-    value: &Spelled<'_>,
-    number: usize,
-) -> Taken
-    ensures { IfOk result (λ taken. taken ≡ spec.only (filter_map (spec.by_choice types.now (deciding.alone types.now value.now)) (ends.choices types.now number))) }
-{
-    match types.kept(class_of(value), number) {
-        Some(numbers) => only_token(alloc, types, value, numbers),
-        None => {
-            let numbers = types.choices(alloc, number)?;
-            only_token(alloc, types, value, &numbers)
-        }
-    }
-}
-
-/// What a type takes of a token without a keyword.
-pub fn bare_token(
-    alloc: Global,
-    types: &DefinedTypes<'_>,
-    value: &Spelled<'_>,
-    base: &Base<'_>,
-) -> Taken
-    ensures { IfOk result (λ taken. taken ≡ spec.bare_at types.now (deciding.alone types.now value.now) (seen base.now)) }
-{
-    match base {
-        Base::Select(number) => select_token(alloc, types, value, *number),
-        _ => token(alloc, types, value, base),
     }
 }
 
@@ -342,32 +128,206 @@ fn select_list(
     values: &[Spelled<'_>],
     number: usize,
 ) -> Taken
-    ensures { IfOk result (λ taken. taken ≡ spec.only (filter_map (spec.by_choice types.now (spec.of_list types.now (map (spec.meaning types.now) values.now))) (ends.choices types.now number))) }
+    ensures { IfOk result (λ taken. taken ≡ spec.bare_at types.now (spec.of_list types.now (map (spec.meaning types.now) values.now)) (ends.Select number)) }
 {
-    match types.kept(Class::Lists, number) {
-        Some(numbers) => only_list(alloc, types, values, numbers),
-        None => {
-            let numbers = types.choices(alloc, number)?;
-            only_list(alloc, types, values, &numbers)
+    let target = Target {
+        name: None,
+        base: Base::Select(number),
+    };
+    let level = level_of(alloc, types, slice::from_ref(&target))?;
+    let below = levels_below(alloc, types, values, &level)?;
+    let rows = rows_of(alloc, types, values, &level, &below)?;
+    let Some(group) = level.groups.first() else {
+        return Ok(None);
+    };
+    let mut rest = Rest::of(&rows);
+    list_at(
+        alloc,
+        types,
+        values,
+        &target.base,
+        group.as_slice(),
+        &level,
+        &below,
+        &mut rest,
+    )
+}
+
+/// What a type takes of a list, which may be of these aggregates, by the rows of which types take its elements.
+#[cycle(taking)]
+fn list_at<'s>(
+    alloc: Global,
+    types: &DefinedTypes<'s>,
+    values: &[Spelled<'_>],
+    base: &Base<'s>,
+    group: &[Candidate],
+    level: &Level<'s>,
+    below: &[Level<'s>],
+    rest: &mut Rest<'_>,
+) -> Taken
+    requires group { deciding.IsGroup level.now.targets.items group.now (deciding.asked types.now (seen base.now)) }
+    requires below { deciding.AreLevels types.now level.now.targets.items below.now }
+    requires rows { deciding.StartsWith (deciding.rows_of_list types.now (level.now ∷ below.now) values.now) rest.old }
+    ensures taken { IfOk result (λ taken. taken ≡ spec.bare_at types.now (spec.of_list types.now (map (spec.meaning types.now) values.now)) (seen base.now)) }
+    ensures rest { IfOk result (λ taken. IfSome taken (λ v. rest.new ≡ drop (length (deciding.rows_of_list types.now (level.now ∷ below.now) values.now)) rest.old)) }
+{
+    let taken = rest.take(level.targets.as_slice().len());
+    let Some(candidate) = only_candidate(group, taken) else {
+        return Ok(None);
+    };
+    match candidate.number {
+        Some(number) => {
+            let base = base_of(types.types(), number);
+            let taken = list_of(
+                alloc,
+                types,
+                values,
+                &base,
+                candidate.place,
+                level,
+                below,
+                rest,
+            )?;
+            under_name(alloc, number, taken)
         }
+        None => list_of(
+            alloc,
+            types,
+            values,
+            base,
+            candidate.place,
+            level,
+            below,
+            rest,
+        ),
     }
 }
 
-/// What the only one of the defined types takes that takes the list.
+/// What an aggregate takes of a list, by the rows; the type of its elements stands at this place.
 #[cycle(taking)]
-fn only_list(
+fn list_of<'s>(
     alloc: Global,
-    types: &DefinedTypes<'_>,
+    types: &DefinedTypes<'s>,
     values: &[Spelled<'_>],
-    numbers: &[usize],
+    base: &Base<'s>,
+    place: usize,
+    level: &Level<'s>,
+    below: &[Level<'s>],
+    rest: &mut Rest<'_>,
 ) -> Taken
-    ensures { IfOk result (λ taken. taken ≡ spec.only (filter_map (spec.by_choice types.now (spec.of_list types.now (map (spec.meaning types.now) values.now))) numbers.now)) }
+    requires element { deciding.element types.now (seen base.now) ≡ slice_get (map seen_target level.now.targets.items) place }
+    requires below { deciding.AreLevels types.now level.now.targets.items below.now }
+    requires rows { deciding.StartsWith (flat_map (deciding.rows types.now below.now) values.now) rest.old }
+    ensures taken { IfOk result (λ taken. taken ≡ spec.of_list types.now (map (spec.meaning types.now) values.now) (seen base.now)) }
+    ensures rest { IfOk result (λ taken. IfSome taken (λ v. rest.new ≡ drop (length (flat_map (deciding.rows types.now below.now) values.now)) rest.old)) }
 {
-    let Some(number) = only_choice(alloc, types, values, numbers)? else {
+    let Base::Aggregate(kind, low, _) = base else {
         return Ok(None);
     };
-    let taken = list(alloc, types, values, &base_of(types.types(), number))?;
-    under_name(alloc, number, taken)
+    let Some(target) = level.targets.get(place) else {
+        return Ok(None);
+    };
+    let items = items_at(alloc, types, values, target, place, level, below, rest)?;
+    aggregate(alloc, *kind, *low, items)
+}
+
+/// The elements, where the type at this place of a level takes each, by the rows.
+#[cycle(taking)]
+fn items_at<'s>(
+    alloc: Global,
+    types: &DefinedTypes<'s>,
+    values: &[Spelled<'_>],
+    target: &Target<'s>,
+    place: usize,
+    level: &Level<'s>,
+    below: &[Level<'s>],
+    rest: &mut Rest<'_>,
+) -> Result<Option<Items<Value>>, AllocError>
+    requires place { slice_get level.now.targets.items place ≡ Some target.now }
+    requires below { deciding.AreLevels types.now level.now.targets.items below.now }
+    requires rows { deciding.StartsWith (flat_map (deciding.rows types.now below.now) values.now) rest.old }
+    ensures taken { IfOk result (λ taken. taken ≡ spec.all_there (map (λ m. spec.place m (seen_target target.now)) (map (spec.meaning types.now) values.now))) }
+    ensures rest { IfOk result (λ taken. IfSome taken (λ xs. rest.new ≡ drop (length (flat_map (deciding.rows types.now below.now) values.now)) rest.old)) }
+{
+    match below.split_first() {
+        Some((next, further)) => {
+            let Some(group) = next.groups.get(place) else {
+                return Ok(None);
+            };
+            elements_at(
+                alloc,
+                types,
+                values,
+                target,
+                group.as_slice(),
+                next,
+                further,
+                rest,
+            )
+        }
+        None => elements(alloc, types, values, target),
+    }
+}
+
+/// The elements, where the type takes each, by the rows.
+#[cycle(taking)]
+fn elements_at<'s>(
+    alloc: Global,
+    types: &DefinedTypes<'s>,
+    values: &[Spelled<'_>],
+    target: &Target<'s>,
+    group: &[Candidate],
+    level: &Level<'s>,
+    below: &[Level<'s>],
+    rest: &mut Rest<'_>,
+) -> Result<Option<Items<Value>>, AllocError>
+    requires group { deciding.IsGroup level.now.targets.items group.now (deciding.asked types.now (seen target.now.base)) }
+    requires below { deciding.AreLevels types.now level.now.targets.items below.now }
+    requires rows { deciding.StartsWith (flat_map (deciding.rows types.now (level.now ∷ below.now)) values.now) rest.old }
+    ensures taken { IfOk result (λ taken. taken ≡ spec.all_there (map (λ m. spec.place m (seen_target target.now)) (map (spec.meaning types.now) values.now))) }
+    ensures rest { IfOk result (λ taken. IfSome taken (λ xs. rest.new ≡ drop (length (flat_map (deciding.rows types.now (level.now ∷ below.now)) values.now)) rest.old)) }
+{
+    let mut items = Vec::with_capacity(alloc, values.len())?;
+    'values: for value in values {
+        match element_at(alloc, types, value, target, group, level, below, rest)? {
+            Some(item) => items.push(item)?,
+            None => return Ok(None),
+        }
+    }
+    Ok(Some(Items::from_vec(items)))
+}
+
+/// What the type of an element takes, by the rows.
+#[cycle(taking)]
+fn element_at<'s>(
+    alloc: Global,
+    types: &DefinedTypes<'s>,
+    value: &Spelled<'_>,
+    target: &Target<'s>,
+    group: &[Candidate],
+    level: &Level<'s>,
+    below: &[Level<'s>],
+    rest: &mut Rest<'_>,
+) -> Taken
+    requires group { deciding.IsGroup level.now.targets.items group.now (deciding.asked types.now (seen target.now.base)) }
+    requires below { deciding.AreLevels types.now level.now.targets.items below.now }
+    requires rows { deciding.StartsWith (deciding.rows types.now (level.now ∷ below.now) value.now) rest.old }
+    ensures taken { IfOk result (λ taken. taken ≡ spec.place (spec.meaning types.now value.now) (seen_target target.now)) }
+    ensures rest { IfOk result (λ taken. IfSome taken (λ v. rest.new ≡ drop (length (deciding.rows types.now (level.now ∷ below.now) value.now)) rest.old)) }
+{
+    match value {
+        Spelled::List(values) => list_at(
+            alloc,
+            types,
+            values.as_slice(),
+            &target.base,
+            group,
+            level,
+            below,
+            rest,
+        ),
+        _ => placed(alloc, types, value, target),
+    }
 }
 
 /// What a type takes of the value under a keyword, which is the name of this type.

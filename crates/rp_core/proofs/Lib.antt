@@ -1,11 +1,7 @@
-pub mod Finding
-pub mod Counting
-pub mod Joining
 pub mod Looking
 pub mod Firsts
 pub mod Counts
 pub mod Walking
-pub mod Parts
 pub mod SchemaNames
 pub mod Names
 pub mod LinkOrder
@@ -15,3 +11,4 @@ pub mod Preparing
 pub mod Loaded
 pub mod Putting
 pub mod KeptPlaces
+pub mod Telling

@@ -16,26 +16,12 @@ use Rattle.rp_plain.specs.Plain.{Plain, model_at}
 use Rattle.rp_plain.specs.Edits.{changed}
 use Rattle.rp_plain.specs.Asked.{asked, held}
 use Rattle.rp_plain.specs.Instances.{placing, dropping}
-use Rattle.rp_core.specs.declared.edits.Change.{Change}
-use Rattle.rp_core.specs.declared.edits.Change.TheVariants as change
 use Rattle.rp_core.specs.declared.edits.Edits.{Edits}
 use Rattle.rp_core.specs.declared.edits.Edits.TheVariants as edits
-use Rattle.rp_core.specs.Plans.{alteration_of, edits_of, IsSeen}
-use Rattle.rp_core.specs.Stored.{rewritten, reheld}
-use Rattle.rp_core.specs.Held.{stepped, step_of, models_by, groups_by}
+use Rattle.rp_core.specs.Plans.{edits_of, IsSeen}
+use Rattle.rp_tables.specs.Stored.{rewritten, reheld}
+use Rattle.rp_core.specs.Held.{models_by, groups_by}
 use Rattle.rp_core.proofs.Looking.{seen_found}
-
--- a row with the grants that it has, but one partner's
-regranted : {A : Type 0} (to : Text) (l : Option Level) (o : Option (Row A)) → option_map (λ (x : Row A). record x { grants = with_row text_cmp grant_key to (grant_for to l) (grants_of o) }) o ≡ option_map (granting to l) o
-regranted to l None = refl
-regranted to l (Some x) = refl
-
--- the step of a change is its alteration
-stepped_altered : {A : Type 0} (k : Key) (c : Change A) (rows : List (Row A)) → stepped k (step_of k (find (is_row k) rows) c) rows ≡ altered k (alteration_of c) rows
-stepped_altered k (change.Hold a) rows = refl
-stepped_altered k change.Remove rows = refl
-stepped_altered k (change.Grants to l) rows =
-    ap (λ o. with_row key_cmp row_key k o rows) (regranted to l (find (is_row k) rows))
 
 -- what is found and chosen is what was found
 chosen_found : (p : Model → Bool) (m : Model) (o : Option Model) → chosen p o ≡ Some m → o ≡ Some m
@@ -73,7 +59,7 @@ module _ (r : Plain) (c : Text) (k : Key) (order : IsAscending key_cmp row_key r
 
 pub made_changed : (r : Plain) (c : Text) (e : Edits) → IsAscending key_cmp row_key r.models → IsSeen (asked r c) e → record r { models = models_by e r.models; groups = groups_by e r.groups } ≡ changed (edits_of (asked r c) e) r
 made_changed r c edits.Nothing order seen = refl
-made_changed r c (edits.OfModel k change) order seen = ap (λ ms. record r { models = ms }) (stepped_altered k change r.models)
-made_changed r c (edits.OfGroup k change) order seen = ap (λ gs. record r { groups = gs }) (stepped_altered k change r.groups)
+made_changed r c (edits.OfModel k change) order seen = refl
+made_changed r c (edits.OfGroup k change) order seen = refl
 made_changed r c (edits.Place k i) order seen = place_changed r c k order i (model_at r c k) refl seen
 made_changed r c (edits.DropInstance k n) order seen = drop_changed r c k order n (model_at r c k) refl seen

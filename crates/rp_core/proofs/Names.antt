@@ -16,8 +16,10 @@ use Rattle.rp_rows.specs.Instances.{instance_of}
 use Rattle.rp_rows.specs.Sight.{sees, sees_group}
 use Rattle.rp_plain.specs.Plain.{Plain, model_at, group_at}
 use Rattle.rp_plain.specs.Asked.{asked, held}
-use Rattle.rp_core.specs.Named.{IsNamed, HoldsNamed, AreNamed, TellsNamed}
-use Rattle.rp_core.specs.Listed.{IsListed, HoldsListed, AreListed, TellsListed}
+use Rattle.rp_tables.specs.Named.{IsNamed, HoldsNamed}
+use Rattle.rp_core.specs.Named.{AreNamed, TellsNamed}
+use Rattle.rp_access.specs.Listed.{IsListed}
+use Rattle.rp_core.specs.Listed.{HoldsListed, AreListed, TellsListed}
 
 -- what is read at a place stands there
 pub got : {X : Type 0} (xs : List X) (i : ℕ) (x : X) → i < length xs → x ≡ get_or xs i x → Some x ≡ slice_get xs i

@@ -14,7 +14,7 @@ use Rattle.rp_plain.specs.Meaning.{first_some}
 use Rattle.rp_plain.specs.Links.{linking, no_request, link_refusal}
 use Rattle.rp_plain.specs.Files.{Reading, read_for, read_content, refused, stored, ill_linked, too_many, refilled, filled}
 use Rattle.rp_plain.specs.Step.{meaning}
-use Rattle.rp_core.specs.declared.edits.Change.TheVariants.{Hold}
+use Rattle.rp_access.specs.declared.steps.Altered.TheVariants.{Hold}
 use Rattle.rp_core.specs.declared.edits.Edits.TheVariants.{OfModel}
 use Rattle.rp_core.specs.Files.{cheap_tests}
 use Rattle.rp_core.specs.Plans.{IsAnswer}

@@ -14,11 +14,12 @@ use Rattle.rp_population.specs.declared.roles.Role.{Role}
 use Rattle.rp_population.specs.Populations.{Counted, Placed, placed, placed_all, population, has_place, is_at, places}
 use Rattle.rp_population.specs.Entities.{is_of, extent_of}
 use Rattle.rp_population.specs.Uses.{as_user, users_in}
-use Rattle.rp_core.specs.declared.counted.CountedRef.{CountedRef}
+use Rattle.rp_rows.specs.declared.rows.ModelContent.{ModelContent}
+use Rattle.rp_tables.specs.declared.table.RowRef.{RowRef}
 use Rattle.rp_core.specs.Listed.{counted_of}
 
 -- what is told of a list in parts is told of a population model by model
-walked : (F : List Placed → List Place) → F [] ≡ [] → ((xs ys : List Placed) → F (xs ++ ys) ≡ F xs ++ F ys) → (ms : List CountedRef) → flat_map (λ m. F (placed_all (counted_of m))) ms ≡ F (population (map counted_of ms))
+walked : (F : List Placed → List Place) → F [] ≡ [] → ((xs ys : List Placed) → F (xs ++ ys) ≡ F xs ++ F ys) → (ms : List (RowRef ModelContent)) → flat_map (λ m. F (placed_all (counted_of m))) ms ≡ F (population (map counted_of ms))
 walked F none parts [] = sym none
 walked F none parts (m ∷ ms) =
     ap (λ ps. F (placed_all (counted_of m)) ++ ps) (walked F none parts ms)
@@ -39,7 +40,7 @@ extent_parts schema (Some entity) xs ys =
     let p : Placed → Bool = λ x. is_of schema entity x.instance in
     ap places (filter-append p xs ys) ∙ map-append (λ (x : Placed). x.place) (filter p xs) (filter p ys)
 
-pub extent_walked : (schema : Checked) (entity : Option ℕ) (ms : List CountedRef) → flat_map (λ m. told_extent schema entity (placed_all (counted_of m))) ms ≡ told_extent schema entity (population (map counted_of ms))
+pub extent_walked : (schema : Checked) (entity : Option ℕ) (ms : List (RowRef ModelContent)) → flat_map (λ m. told_extent schema entity (placed_all (counted_of m))) ms ≡ told_extent schema entity (population (map counted_of ms))
 extent_walked schema entity = walked (told_extent schema entity) (extent_none schema entity) (extent_parts schema entity)
 
 -- ---- users
@@ -57,7 +58,7 @@ users_parts schema (Some role) p xs ys =
     let f : Placed → List Placed = as_user schema role p in
     ap places (flat_map-append f xs ys) ∙ map-append (λ (x : Placed). x.place) (flat_map f xs) (flat_map f ys)
 
-pub users_walked : (schema : Checked) (role : Option Role) (p : Place) (ms : List CountedRef) → flat_map (λ m. told_users schema role p (placed_all (counted_of m))) ms ≡ told_users schema role p (population (map counted_of ms))
+pub users_walked : (schema : Checked) (role : Option Role) (p : Place) (ms : List (RowRef ModelContent)) → flat_map (λ m. told_users schema role p (placed_all (counted_of m))) ms ≡ told_users schema role p (population (map counted_of ms))
 users_walked schema role p = walked (told_users schema role p) (users_none schema role p) (users_parts schema role p)
 
 -- ---- places
@@ -91,7 +92,7 @@ any_parts q (x ∷ xs) ys = by (q x) (any_parts q xs ys)
     by false rest = rest
 
 -- whether one of the models has it
-pub place_walked : (p : Place) (ms : List CountedRef) → list_any (λ m. has_place (placed_all (counted_of m)) p) ms ≡ has_place (population (map counted_of ms)) p
+pub place_walked : (p : Place) (ms : List (RowRef ModelContent)) → list_any (λ m. has_place (placed_all (counted_of m)) p) ms ≡ has_place (population (map counted_of ms)) p
 place_walked p [] = refl
 place_walked p (m ∷ ms) =
     ap (λ t. has_place (placed_all (counted_of m)) p || t) (place_walked p ms)

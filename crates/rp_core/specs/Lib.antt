@@ -1,5 +1,3 @@
-pub mod Entries
-pub mod Stored
 pub mod Named
 pub mod Listed
 pub mod Told

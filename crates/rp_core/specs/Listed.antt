@@ -9,12 +9,12 @@ use Rattle.rp_population.specs.Populations.{Counted}
 use Rattle.rp_plain.specs.Plain.{Plain}
 use Rattle.rp_plain.specs.Groups.{itself}
 use Rattle.rp_plain.specs.Asked.{Asked, as_counted}
-use Rattle.rp_core.specs.declared.counted.CountedRef.{CountedRef}
+use Rattle.rp_rows.specs.declared.rows.ModelContent.{ModelContent}
+use Rattle.rp_tables.specs.declared.table.RowRef.{RowRef}
+use Rattle.rp_tables.specs.Stored.{row_of}
+use Rattle.rp_access.specs.Listed.{IsListed}
 
--- its members stand in the order of owner and name, each once
-abbrev pub IsListed : Listing → Type 0
-IsListed g = IsAscending key_cmp itself g.members
-
+-- the members of the group stand in the order of owner and name, each once
 abbrev pub HoldsListed : GroupRow → Type 0
 HoldsListed g = IsListed g.holds
 
@@ -26,17 +26,6 @@ AreListed r = AllByRecursion HoldsListed r.groups
 abbrev pub TellsListed : Asked → Type 0
 TellsListed a = (k : Key) (g : Listing) → a.listing k ≡ Some g → IsListed g
 
--- ---- the models that count in a group
-
--- a model that was looked up, if it counts
-abbrev pub counting : GroupRow → Option Model → List Counted
-counting g None = []
-counting g (Some m) = if counts m g then as_counted m ∷ [] else []
-
--- the model at a key, if it counts
-abbrev pub counted_at : List Model → GroupRow → Key → List Counted
-counted_at ms g k = counting g (find (is_row k) ms)
-
 -- a model that counts, as it is looked at
-abbrev pub counted_of : CountedRef → Counted
-counted_of m = record { model = m.model.now; content = m.content.now }
+abbrev pub counted_of : RowRef ModelContent → Counted
+counted_of m = as_counted (row_of m)

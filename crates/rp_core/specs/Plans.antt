@@ -1,7 +1,6 @@
 -- What a plan keeps, and what it is to give.
 use Rattle.std.specs.Prelude.{◌≡◌, ◌≢◌, true, List, [], ◌∷◌, Some, None, is_some, Result, Ok, MatchResult}
 use Rattle.rp_rows.specs.Rows.{Text}
-use Rattle.rp_rows.specs.Alterations.{Alteration, Holds, Grants as GrantAltered}
 use Rattle.rp_plain.specs.declared.messages.Request.{Request}
 use Rattle.rp_plain.specs.declared.messages.Refusal.{Refusal}
 use Rattle.rp_plain.specs.declared.messages.Refusal.TheVariants.{NoMemory}
@@ -10,16 +9,10 @@ use Rattle.rp_plain.specs.Asked.{Asked}
 use Rattle.rp_plain.specs.Meaning.{first_some}
 use Rattle.rp_plain.specs.Instances.{placing, dropping}
 use Rattle.rp_plain.specs.Step.{meaning}
-use Rattle.rp_core.specs.declared.edits.Change.{Change}
-use Rattle.rp_core.specs.declared.edits.Change.TheVariants.{Hold, Remove, Grants}
+use Rattle.rp_access.specs.Steps.{alteration_of}
 use Rattle.rp_core.specs.declared.edits.Edits.{Edits}
 use Rattle.rp_core.specs.declared.edits.Edits.TheVariants.{Nothing, OfModel, OfGroup, Place, DropInstance}
 use Rattle.rp_core.specs.declared.edits.Plan.{Plan}
-
-abbrev pub alteration_of : {A : Type 0} → Change A → Alteration A
-alteration_of (Hold a) = Holds (Some a)
-alteration_of Remove = Holds None
-alteration_of (Grants to l) = GrantAltered to l
 
 -- the edits that these are, where a partner is told this
 abbrev pub edits_of : Asked → Edits → List Edit

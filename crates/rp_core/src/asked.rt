@@ -4,14 +4,14 @@
 ghost use Rattle.std.specs.Prelude.{◌≡◌, ◌<◌, [], false, slice_index_or, MatchOption, length, option_map, option_copied};
 ghost use Rattle.rp_plain.specs.Plain.{model_at};
 ghost use Rattle.rp_plain.specs.Meaning.{has_text, has_schema as HasSchema, schema_named as SchemaNamed};
-ghost use Rattle.rp_core.specs.Stored.{row_of};
+ghost use Rattle.rp_tables.specs.Stored.{row_of};
 ghost use Rattle.rp_core.specs.Told.{plain_of, told};
 
-use crate::sight::{at_least, level};
-use crate::table::{RowRef, Table};
 use ex_subtypes::Compiled;
 use plain_data::Text;
-use rp_rows::rows::{Key, Listing, ModelContent, Right};
+use rp_access::{Groups, at_least, level};
+use rp_rows::rows::{Key, ModelContent, Right};
+use rp_tables::{RowRef, Table};
 
 /// What a repository holds, as one partner asks it.
 #[derive(Clone, Copy)]
@@ -19,7 +19,7 @@ pub struct Asking<'a> {
     pub schemas: &'a [Compiled],
     pub partners: &'a [Text],
     pub models: &'a Table<ModelContent>,
-    pub groups: &'a Table<Listing>,
+    pub groups: &'a Groups,
     pub caller: &'a Text,
 }
 

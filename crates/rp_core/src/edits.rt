@@ -1,25 +1,16 @@
 //! What a plan keeps of a change.
 
-use plain_data::Text;
+use rp_access::Altered;
 use rp_content::Instance;
 use rp_plain::messages::Reply;
-use rp_rows::rows::{Key, Level, Listing, ModelContent};
-
-/// What is done to what stands under a key.
-#[derive(Drop)]
-pub enum Change<A> {
-    Hold(A),
-    Remove,
-    /// One partner's grant.
-    Grants(Text, Option<Level>),
-}
+use rp_rows::rows::{Key, Listing, ModelContent};
 
 /// What a request changes.
 #[derive(Drop)]
 pub enum Edits {
     Nothing,
-    OfModel(Key, Change<ModelContent>),
-    OfGroup(Key, Change<Listing>),
+    OfModel(Key, Altered<ModelContent>),
+    OfGroup(Key, Altered<Listing>),
     /// The instance stands in the model under its name.
     Place(Key, Instance),
     /// No instance stands in the model under the name.

@@ -7,8 +7,8 @@ ghost use Rattle.rp_plain.specs.Files as of_files;
 ghost use Rattle.rp_core.specs.Told.{told};
 
 use crate::asked::Asking;
-use crate::sight::at_least;
 use plain_data::Text;
+use rp_access::at_least;
 use rp_plain::messages::Refusal;
 use rp_rows::names::is_valid_name;
 use rp_rows::rows::{Key, Right};

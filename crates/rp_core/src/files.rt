@@ -11,7 +11,7 @@ ghost use Rattle.rp_core.specs.Files.{cheap_tests, Reads};
 ghost use Rattle.rp_core.specs.Plans.{Plans};
 
 use crate::asked::Asking;
-use crate::edits::{Change, Edits, Plan};
+use crate::edits::{Edits, Plan};
 use crate::faults::{first, is_no_partner, key_fault, lacks, too_large, unseen, when};
 use crate::limits::{MAX_INSTANCES, MAX_LINKS};
 use crate::links::{in_order, link_refusal, names_of, no_request};
@@ -21,6 +21,7 @@ use p21_read::{is_of_schema, read_raw};
 use p21_tree::Raw;
 use p21_write::write;
 use plain_data::{Items, Rows, Text};
+use rp_access::Altered;
 use rp_content::{Content, Instance, Link};
 use rp_plain::messages::{Refusal, Reply, Request};
 use rp_rows::rows::{Key, ModelContent, Right};
@@ -203,7 +204,7 @@ pub fn plan_put(
     let holds = refilled(alloc, model, content, links)?;
     Ok(Plan {
         reply,
-        edits: Edits::OfModel(key, Change::Hold(holds)),
+        edits: Edits::OfModel(key, Altered::Hold(holds)),
     })
 }
 

@@ -4,10 +4,11 @@ ghost use Rattle.rp_core.specs.Told.{told};
 ghost use Rattle.rp_core.specs.Plans.{Plans};
 
 use crate::asked::Asking;
-use crate::edits::{Change, Edits, Plan};
+use crate::edits::{Edits, Plan};
 use crate::faults::{first, is_no_partner, names_fault, unseen};
 use crate::models::own;
 use plain_data::Text;
+use rp_access::Altered;
 use rp_plain::messages::{Refusal, Reply, Request};
 use rp_rows::rows::Level;
 use std::alloc::Global;
@@ -34,7 +35,7 @@ pub fn plan_grant(
     let edits = if to.is(asked.caller) {
         Edits::Nothing
     } else {
-        Edits::OfModel(key, Change::Grants(to, Some(level)))
+        Edits::OfModel(key, Altered::Grants(to, Some(level)))
     };
     Ok(Plan {
         reply: Reply::Done,
@@ -57,6 +58,6 @@ pub fn plan_revoke(alloc: Global, asked: &Asking<'_>, name: Text, to: Text) -> R
     }
     Ok(Plan {
         reply: Reply::Done,
-        edits: Edits::OfModel(key, Change::Grants(to, None)),
+        edits: Edits::OfModel(key, Altered::Grants(to, None)),
     })
 }

@@ -4,11 +4,11 @@ ghost use Rattle.rp_core.specs.Told.{told};
 ghost use Rattle.rp_core.specs.Plans.{Plans};
 
 use crate::asked::Asking;
-use crate::edits::{Change, Edits, Plan};
+use crate::edits::{Edits, Plan};
 use crate::faults::{first, is_no_partner, name_fault, names_fault, unseen, when};
 use crate::models::own;
-use crate::sight::at_least;
 use plain_data::{Rows, Text};
+use rp_access::{Altered, at_least};
 use rp_plain::messages::{Refusal, Reply, Request};
 use rp_rows::rows::{Level, Listing, Right};
 use std::alloc::Global;
@@ -42,7 +42,7 @@ pub fn plan_create_group(
     let members = Rows::new(alloc);
     Ok(Plan {
         reply: Reply::Done,
-        edits: Edits::OfGroup(key, Change::Hold(Listing { schema, members })),
+        edits: Edits::OfGroup(key, Altered::Hold(Listing { schema, members })),
     })
 }
 
@@ -57,7 +57,7 @@ pub fn plan_delete_group(alloc: Global, asked: &Asking<'_>, name: Text) -> Resul
     }
     Ok(Plan {
         reply: Reply::Done,
-        edits: Edits::OfGroup(key, Change::Remove),
+        edits: Edits::OfGroup(key, Altered::Remove),
     })
 }
 
@@ -82,7 +82,7 @@ pub fn plan_grant_group(
     let edits = if to.is(asked.caller) {
         Edits::Nothing
     } else {
-        Edits::OfGroup(key, Change::Grants(to, Some(Level::Read)))
+        Edits::OfGroup(key, Altered::Grants(to, Some(Level::Read)))
     };
     Ok(Plan {
         reply: Reply::Done,
@@ -110,6 +110,6 @@ pub fn plan_revoke_group(
     }
     Ok(Plan {
         reply: Reply::Done,
-        edits: Edits::OfGroup(key, Change::Grants(to, None)),
+        edits: Edits::OfGroup(key, Altered::Grants(to, None)),
     })
 }

@@ -6,11 +6,10 @@ use crate::kept::KeptPlans;
 use crate::opening::may_open;
 use crate::plans::plan;
 use crate::steps::{Pending, make_steps};
-use crate::table::Table;
 use ex_subtypes::Compiled;
 use plain_data::Text;
+use rp_access::Access;
 use rp_plain::messages::{NewFault, Reply, Request};
-use rp_rows::rows::{Listing, ModelContent};
 use std::alloc::Global;
 use std::marker::Model;
 
@@ -20,8 +19,7 @@ pub struct Holdings<'s> {
     schemas: &'s [Compiled],
     plans: KeptPlans<'s>,
     partners: Vec<Text>,
-    models: Table<ModelContent>,
-    groups: Table<Listing>,
+    access: Access,
 }
 
 impl<'s> Model for Holdings<'s> {
@@ -37,9 +35,8 @@ impl<'s> Model for Holdings<'s> {
     ghost coded = { Prim.hlevel (codes, schema_type.the_row.coded, content_type.the_row.coded) };
 
     ghost view = { λ h. record {
-      content = record { schemas = h.schemas.now; partners = h.partners.items; models = h.models.rows; groups = h.groups.rows };
-      models = h.models;
-      groups = h.groups;
+      content = record { schemas = h.schemas.now; partners = h.partners.items; models = h.access.models.rows; groups = h.access.groups.rows };
+      access = h.access;
     } };
 
     ghost invariant = { λ h. h.plans ≡ h.schemas.now };
@@ -73,8 +70,7 @@ impl<'s> Holdings<'s> {
             schemas,
             plans: KeptPlans::of(alloc, schemas)?,
             partners,
-            models: Table::new(alloc),
-            groups: Table::new(alloc),
+            access: Access::new(alloc),
         })
     }
 
@@ -101,13 +97,13 @@ impl<'s> Holdings<'s> {
         let asked = Asking {
             schemas: self.schemas,
             partners: &self.partners,
-            models: &self.models,
-            groups: &self.groups,
+            models: self.access.models(),
+            groups: self.access.groups(),
             caller: &self.partners[place],
         };
         match plan(alloc, &asked, &mut self.plans, request) {
             Err(refusal) => Pending::refused(refusal),
-            Ok(plan) => match Pending::of_plan(alloc, &mut self.models, &mut self.groups, plan) {
+            Ok(plan) => match Pending::of_plan(alloc, &mut self.access, plan) {
                 Ok(pending) => pending,
                 Err(error) => Pending::refused(error.into()),
             },
@@ -121,7 +117,7 @@ impl<'s> Holdings<'s> {
         ensures content { self.new.content ≡ made pending.steps self.old.content }
     {
         let Pending { reply, steps } = pending;
-        make_steps(&mut self.models, &mut self.groups, steps);
+        make_steps(&mut self.access, steps);
         reply
     }
 }

@@ -1,19 +1,15 @@
 //! What a partner is told in lists: the schemas, and the models and groups that he sees.
 #![tactic(auto, unfolding(crate::specs::Told::told))]
 
-ghost use Rattle.std.specs.Prelude.{◌≡◌, ◌++◌, ◌∷◌, [], map, filter, OnOk, IfOk, if◌then◌else◌};
-ghost use Rattle.rp_rows.specs.Sight.{sees, sees_group as SeesGroup};
-ghost use Rattle.rp_plain.specs.Asked.{model_item, group_item};
+ghost use Rattle.std.specs.Prelude.{◌≡◌, map, IfOk};
 ghost use Rattle.rp_plain.specs.Lists.{schema_names};
-ghost use Rattle.rp_core.specs.Stored.{row_of};
-ghost use Rattle.rp_core.specs.Told.{told};
+ghost use Rattle.rp_access.specs.Prepared.{seen_of};
+ghost use Rattle.rp_core.specs.Told.{told, model_told, group_told};
 
 use crate::asked::Asking;
 use crate::schemas::sorted_names;
-use crate::seen::{level_by, seen_groups};
-use crate::sight::{at_least, group_right, sees_group};
-use crate::table::RowRef;
 use plain_data::{Rows, Text};
+use rp_access::{Seen, visible_groups, visible_models};
 use rp_plain::lists::Item;
 use rp_rows::rows::{Key, Listing, ModelContent, Right};
 use std::alloc::{AllocError, Global};
@@ -32,37 +28,28 @@ fn item(alloc: Global, key: &Key, schema: &Text, right: Right) -> Result<Item, A
     })
 }
 
-/// Adds the model, if the partner sees it, where these are the groups that he sees.
-fn push_model(
-    alloc: Global,
-    asked: &Asking<'_>,
-    seen: &[RowRef<'_, Listing>],
-    model: &RowRef<'_, ModelContent>,
-    items: &mut Vec<Item>,
-) -> Result<(), AllocError>
-    requires { map row_of seen.now ≡ filter (SeesGroup asked.now.caller.now) asked.now.groups.now.rows }
-    ensures { OnOk result (items.new.items ≡ items.old.items ++ (if sees asked.now.groups.now.rows asked.now.caller.now (row_of model.now) then model_item asked.now.groups.now.rows asked.now.caller.now (row_of model.now) ∷ [] else [])) }
+/// The models that a partner sees, as they are told.
+fn model_rows(alloc: Global, seen: &[Seen<'_, ModelContent>]) -> Result<Rows<Item>, AllocError>
+    ensures { IfOk result (λ rows. rows ≡ map (λ s. model_told (seen_of s)) seen.now) }
 {
-    let right = level_by(seen, asked.caller, model);
-    if at_least(Right::Reads, right) {
-        items.push(item(alloc, model.key, &model.holds.schema, right)?)?;
+    let mut rows = Vec::with_capacity(alloc, seen.len())?;
+    for model in seen {
+        let holds = model.row.holds;
+        rows.push(item(alloc, model.row.key, &holds.schema, model.right)?)?;
     }
-    Ok(())
+    Ok(Rows::from_vec(rows))
 }
 
-fn push_group(
-    alloc: Global,
-    asked: &Asking<'_>,
-    group: &RowRef<'_, Listing>,
-    items: &mut Vec<Item>,
-) -> Result<(), AllocError>
-    ensures { OnOk result (items.new.items ≡ items.old.items ++ (if SeesGroup asked.now.caller.now (row_of group.now) then group_item asked.now.caller.now (row_of group.now) ∷ [] else [])) }
+/// The groups that a partner sees, as they are told.
+fn group_rows(alloc: Global, seen: &[Seen<'_, Listing>]) -> Result<Rows<Item>, AllocError>
+    ensures { IfOk result (λ rows. rows ≡ map (λ s. group_told (seen_of s)) seen.now) }
 {
-    if sees_group(asked.caller, group) {
-        let right = group_right(asked.caller, group);
-        items.push(item(alloc, group.key, &group.holds.schema, right)?)?;
+    let mut rows = Vec::with_capacity(alloc, seen.len())?;
+    for group in seen {
+        let holds = group.row.holds;
+        rows.push(item(alloc, group.row.key, &holds.schema, group.right)?)?;
     }
-    Ok(())
+    Ok(Rows::from_vec(rows))
 }
 
 impl<'a> Asking<'a> {
@@ -77,22 +64,15 @@ impl<'a> Asking<'a> {
     pub fn model_items(&self, alloc: Global) -> Result<Rows<Item>, AllocError>
         ensures { IfOk result (λ rows. rows ≡ (told self.now).models) }
     {
-        let seen = seen_groups(alloc, self.groups, self.caller)?;
-        let mut items = Vec::new(alloc);
-        for i in 0..self.models.len() {
-            push_model(alloc, self, &seen, &self.models.row(i), &mut items)?;
-        }
-        Ok(Rows::from_vec(items))
+        let seen = visible_models(alloc, self.models, self.groups, self.caller)?;
+        model_rows(alloc, &seen)
     }
 
     /// The groups that the partner sees.
     pub fn group_items(&self, alloc: Global) -> Result<Rows<Item>, AllocError>
         ensures { IfOk result (λ rows. rows ≡ (told self.now).groups) }
     {
-        let mut items = Vec::new(alloc);
-        for i in 0..self.groups.len() {
-            push_group(alloc, self, &self.groups.row(i), &mut items)?;
-        }
-        Ok(Rows::from_vec(items))
+        let seen = visible_groups(alloc, self.groups, self.caller)?;
+        group_rows(alloc, &seen)
     }
 }

@@ -10,12 +10,11 @@ ghost use Rattle.rp_core.specs.Told.{told};
 ghost use Rattle.rp_core.specs.Plans.{Plans};
 
 use crate::asked::Asking;
-use crate::edits::{Change, Edits, Plan};
+use crate::edits::{Edits, Plan};
 use crate::faults::{first, is_no_partner, key_fault, lacks, unseen, when};
 use crate::models::own;
-use crate::sight::{has_key, key_order};
-use crate::steps::copy_key;
 use plain_data::{Rows, Text};
+use rp_access::{Altered, excluding, has_key, including};
 use rp_plain::messages::{Refusal, Reply, Request};
 use rp_rows::names::is_valid_name;
 use rp_rows::rows::{Key, Listing, ModelContent, Right};
@@ -78,73 +77,6 @@ fn include_fault(asked: &Asking<'_>, group: &Key, model: &Key) -> Option<Refusal
     ])
 }
 
-// ---- new lists
-
-/// Adds the members before a model.
-fn push_before(
-    alloc: Global,
-    model: &Key,
-    members: &[Key],
-    out: &mut Vec<Key>,
-) -> Result<(), AllocError>
-    ensures { OnOk result (out.new.items ≡ out.old.items ++ filter (is_before key_cmp itself model.now) members.now) }
-{
-    for member in members {
-        if key_order(member, model).is_lt() {
-            out.push(copy_key(alloc, member)?)?;
-        }
-    }
-    Ok(())
-}
-
-/// Adds the members after a model.
-fn push_after(
-    alloc: Global,
-    model: &Key,
-    members: &[Key],
-    out: &mut Vec<Key>,
-) -> Result<(), AllocError>
-    ensures { OnOk result (out.new.items ≡ out.old.items ++ filter (is_after key_cmp itself model.now) members.now) }
-{
-    for member in members {
-        if key_order(member, model).is_gt() {
-            out.push(copy_key(alloc, member)?)?;
-        }
-    }
-    Ok(())
-}
-
-/// What the group holds once it lists the model.
-fn including(alloc: Global, listing: &Listing, model: Key) -> Result<Listing, AllocError>
-    ensures { IfOk result (λ l. l ≡ of_groups.with_member model listing.now) }
-{
-    let former = listing.members.as_slice();
-    let mut members = Vec::new(alloc);
-    let mut after = Vec::new(alloc);
-    push_before(alloc, &model, former, &mut members)?;
-    push_after(alloc, &model, former, &mut after)?;
-    members.push(model)?;
-    members.append(&mut after)?;
-    Ok(Listing {
-        schema: listing.schema.copy(alloc)?,
-        members: Rows::from_vec(members),
-    })
-}
-
-/// What the group holds once it doesn't list the model.
-fn excluding(alloc: Global, listing: &Listing, model: &Key) -> Result<Listing, AllocError>
-    ensures { IfOk result (λ l. l ≡ of_groups.without_member model.now listing.now) }
-{
-    let former = listing.members.as_slice();
-    let mut members = Vec::new(alloc);
-    push_before(alloc, model, former, &mut members)?;
-    push_after(alloc, model, former, &mut members)?;
-    Ok(Listing {
-        schema: listing.schema.copy(alloc)?,
-        members: Rows::from_vec(members),
-    })
-}
-
 // ---- plans
 
 /// A group of the caller's lists a model.
@@ -164,7 +96,7 @@ pub fn plan_include(
         None => Edits::Nothing,
         Some(listing) => {
             let listing = including(alloc, listing, model)?;
-            Edits::OfGroup(group, Change::Hold(listing))
+            Edits::OfGroup(group, Altered::Hold(listing))
         }
     };
     Ok(Plan {
@@ -196,7 +128,7 @@ pub fn plan_exclude(
         None => Edits::Nothing,
         Some(listing) => {
             let listing = excluding(alloc, listing, model)?;
-            Edits::OfGroup(group, Change::Hold(listing))
+            Edits::OfGroup(group, Altered::Hold(listing))
         }
     };
     Ok(Plan {

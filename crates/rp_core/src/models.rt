@@ -6,10 +6,10 @@ ghost use Rattle.rp_core.specs.Told.{told};
 ghost use Rattle.rp_core.specs.Plans.{Plans};
 
 use crate::asked::Asking;
-use crate::edits::{Change, Edits, Plan};
+use crate::edits::{Edits, Plan};
 use crate::faults::{first, name_fault, unseen, when};
-use crate::sight::at_least;
 use plain_data::Text;
+use rp_access::{Altered, at_least};
 use rp_content::Content;
 use rp_plain::messages::{Refusal, Reply, Request};
 use rp_rows::rows::{Key, ModelContent, Right};
@@ -64,7 +64,7 @@ pub fn plan_create(
     let content = new_content(alloc, schema)?;
     Ok(Plan {
         reply: Reply::Done,
-        edits: Edits::OfModel(key, Change::Hold(content)),
+        edits: Edits::OfModel(key, Altered::Hold(content)),
     })
 }
 
@@ -79,6 +79,6 @@ pub fn plan_delete(alloc: Global, asked: &Asking<'_>, name: Text) -> Result<Plan
     }
     Ok(Plan {
         reply: Reply::Done,
-        edits: Edits::OfModel(key, Change::Remove),
+        edits: Edits::OfModel(key, Altered::Remove),
     })
 }

@@ -11,16 +11,16 @@ ghost use Rattle.rp_core.specs.Told.{told};
 ghost use Rattle.rp_core.specs.Plans.{Plans};
 
 use crate::asked::Asking;
-use crate::counted::CountedRef;
 use crate::edits::{Edits, Plan};
 use crate::faults::{first, is_no_partner, key_fault, unseen, when};
-use crate::sight::is_same_key;
 use ex_subtypes::Compiled;
 use plain_data::{Rows, Text};
+use rp_access::is_same_key;
 use rp_content::Instance;
 use rp_plain::messages::{Refusal, Reply, Request};
 use rp_population::{Extent, Place, Users};
-use rp_rows::rows::Key;
+use rp_rows::rows::{Key, ModelContent};
+use rp_tables::RowRef;
 use std::alloc::{AllocError, Global};
 
 /// The schema of the group, if the partner sees it.
@@ -40,13 +40,13 @@ fn group_schema<'a>(asked: &Asking<'a>, key: &Key) -> Option<&'a Compiled>
 fn extent_in(
     alloc: Global,
     mut extent: Extent<'_>,
-    counted: &[CountedRef<'_>],
+    counted: &[RowRef<'_, ModelContent>],
 ) -> Result<Rows<Place>, AllocError>
     ensures { IfOk result (λ rows. rows ≡ places (entities.extent_of extent.entry.schema extent.entry.entity (population (map counted_of counted.now)))) }
 {
     let mut found = Vec::new(alloc);
     for model in counted {
-        extent.push(alloc, &mut found, model.model, model.content)?;
+        extent.push(alloc, &mut found, model.key, &model.holds.content)?;
     }
     Ok(Rows::from_vec(found))
 }
@@ -56,7 +56,7 @@ fn extent_by(
     alloc: Global,
     schema: Option<&Compiled>,
     entity: &Text,
-    counted: &[CountedRef<'_>],
+    counted: &[RowRef<'_, ModelContent>],
 ) -> Result<Rows<Place>, AllocError>
     ensures { IfOk result (λ rows. rows ≡ places (of_populations.extent_by (option_copied schema.entry) entity.now (population (map counted_of counted.now)))) }
 {
@@ -103,22 +103,22 @@ fn has_instance(name: u64, instances: &[Instance]) -> bool
 
 /// Whether an instance of the model stands at the place.
 #[tactic(auto, using(crate::proofs::Walking::stands))]
-fn stands_in(place: &Place, model: &CountedRef<'_>) -> bool
+fn stands_in(place: &Place, model: &RowRef<'_, ModelContent>) -> bool
     ensures { result ≡ HasPlace (placed_all (counted_of model.now)) place.now }
 {
-    is_same_key(&place.model, model.model)
-        && has_instance(place.instance, model.content.instances.as_slice())
+    is_same_key(&place.model, model.key)
+        && has_instance(place.instance, model.holds.content.instances.as_slice())
 }
 
 /// Whether an instance of one of the models stands at the place.
-fn is_in_any(place: &Place, counted: &[CountedRef<'_>]) -> bool
+fn is_in_any(place: &Place, counted: &[RowRef<'_, ModelContent>]) -> bool
     ensures { result ≡ list_any (λ m. HasPlace (placed_all (counted_of m)) place.now) counted.now }
 {
     counted.iter().any(|model| stands_in(place, model))
 }
 
 /// Whether an instance of the population of these models stands at the place.
-fn has_place(place: &Place, counted: &[CountedRef<'_>]) -> bool
+fn has_place(place: &Place, counted: &[RowRef<'_, ModelContent>]) -> bool
     ensures { result ≡ HasPlace (population (map counted_of counted.now)) place.now }
 {
     is_in_any(place, counted)
@@ -129,13 +129,13 @@ fn has_place(place: &Place, counted: &[CountedRef<'_>]) -> bool
 fn users_in(
     alloc: Global,
     mut users: Users<'_>,
-    counted: &[CountedRef<'_>],
+    counted: &[RowRef<'_, ModelContent>],
 ) -> Result<Rows<Place>, AllocError>
     ensures { IfOk result (λ rows. rows ≡ places (uses.users_in users.entry.schema users.entry.role users.entry.of (population (map counted_of counted.now)))) }
 {
     let mut found = Vec::new(alloc);
     for model in counted {
-        users.push(alloc, &mut found, model.model, model.content)?;
+        users.push(alloc, &mut found, model.key, &model.holds.content)?;
     }
     Ok(Rows::from_vec(found))
 }
@@ -146,7 +146,7 @@ fn users_by(
     schema: Option<&Compiled>,
     role: &Text,
     place: &Place,
-    counted: &[CountedRef<'_>],
+    counted: &[RowRef<'_, ModelContent>],
 ) -> Result<Rows<Place>, AllocError>
     ensures { IfOk result (λ rows. rows ≡ places (of_populations.users_by (option_copied schema.entry) role.now place.now (population (map counted_of counted.now)))) }
 {

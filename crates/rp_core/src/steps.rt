@@ -1,39 +1,27 @@
 //! What a prepared request is still to do. No step takes memory.
 
 ghost use Rattle.std.specs.Prelude.{◌≡◌, ◌<◌, ◌≤◌, [], IfOk};
-ghost use Rattle.std.specs.List.{find, AllByRecursion};
+ghost use Rattle.std.specs.List.{AllByRecursion};
 ghost use Rattle.std.specs.Vec.{vec_capacity};
-ghost use Rattle.rp_rows.specs.Rows.{is_row};
 ghost use Rattle.rp_rows.specs.Instances.{max_instances};
-ghost use Rattle.rp_core.specs.Held.{step_of, stepped, made_models, made_groups, models_by, groups_by, StepFits, StepsFit};
-ghost use Rattle.rp_core.specs.Named.{IsNamed, HoldsNamed, HasRoomIn};
-ghost use Rattle.rp_core.specs.Stored.{HasRowAt};
+ghost use Rattle.rp_core.specs.Held.{made_models, made_groups, models_by, groups_by, StepsFit};
+ghost use Rattle.rp_tables.specs.Named.{IsNamed, HoldsNamed, HasRoomIn};
+ghost use Rattle.rp_tables.specs.Stored.{HasRowAt};
 
-use crate::edits::{Change, Edits, Plan};
-use crate::regranted::regranted_for;
-use crate::table::Table;
-use plain_data::Rows;
+use crate::edits::{Edits, Plan};
+use rp_access::{Access, GroupStep, ModelStep};
 use rp_content::Instance;
 use rp_plain::messages::{Refusal, Reply};
-use rp_rows::rows::{Grant, Key, Listing, ModelContent};
+use rp_rows::rows::{Key, ModelContent};
+use rp_tables::Table;
 use std::alloc::{AllocError, Global};
-
-/// A change of what stands under a key, with all the memory that it needs.
-#[derive(Drop)]
-pub enum Step<A> {
-    /// The key once more, and what is held there.
-    Put(Key, A),
-    Remove,
-    /// All the grants on it.
-    Regrant(Rows<Grant>),
-}
 
 /// The changes that a request comes to, with all the memory that they need.
 #[derive(Drop)]
 pub enum Steps {
     Nothing,
-    OfModel(Key, Step<ModelContent>),
-    OfGroup(Key, Step<Listing>),
+    OfModel(Key, ModelStep),
+    OfGroup(Key, GroupStep),
     /// The instance stands in the model, whose instances are moved into the spare room where theirs is full.
     Place(Key, Instance, Vec<Instance>),
     DropInstance(Key, u64),
@@ -44,40 +32,6 @@ pub enum Steps {
 pub struct Pending {
     pub(crate) reply: Reply,
     pub(crate) steps: Steps,
-}
-
-/// The same key.
-pub fn copy_key(alloc: Global, key: &Key) -> Result<Key, AllocError>
-    ensures { IfOk result (λ copy. copy ≡ key.now) }
-{
-    let owner = key.0.copy(alloc)?;
-    let name = key.1.copy(alloc)?;
-    Ok((owner, name))
-}
-
-/// The step that a change comes to, with room for it.
-fn step_for<A: Drop>(
-    alloc: Global,
-    table: &mut Table<A>,
-    key: &Key,
-    change: Change<A>,
-) -> Result<Step<A>, AllocError>
-    ensures rows { table.new.rows ≡ table.old.rows }
-    ensures fits { IfOk result (λ step. StepFits key.now step table.new) }
-    ensures step { IfOk result (λ step. step ≡ step_of key.now (find (is_row key.now) table.old.rows) change) }
-{
-    match change {
-        Change::Hold(holds) => {
-            let again = copy_key(alloc, key)?;
-            table.reserve()?;
-            Ok(Step::Put(again, holds))
-        }
-        Change::Remove => Ok(Step::Remove),
-        Change::Grants(to, level) => {
-            let grants = regranted_for(alloc, to, level, table.grants_at(key))?;
-            Ok(Step::Regrant(grants))
-        }
-    }
 }
 
 /// For how many instances the room of a model of so many is made anew.
@@ -105,60 +59,44 @@ fn spare_for(
 }
 
 /// The steps that edits come to, with room for them.
-fn steps_for(
-    alloc: Global,
-    models: &mut Table<ModelContent>,
-    groups: &mut Table<Listing>,
-    edits: Edits,
-) -> Result<Steps, AllocError>
-    requires { AllByRecursion HoldsNamed models.old.rows }
-    ensures models { models.new.rows ≡ models.old.rows }
-    ensures groups { groups.new.rows ≡ groups.old.rows }
-    ensures fits { IfOk result (λ steps. StepsFit models.new groups.new steps) }
-    ensures model_steps { IfOk result (λ steps. made_models steps models.old.rows ≡ models_by edits models.old.rows) }
-    ensures group_steps { IfOk result (λ steps. made_groups steps groups.old.rows ≡ groups_by edits groups.old.rows) }
+fn steps_for(alloc: Global, access: &mut Access, edits: Edits) -> Result<Steps, AllocError>
+    requires { AllByRecursion HoldsNamed access.old.models.rows }
+    ensures models { access.new.models.rows ≡ access.old.models.rows }
+    ensures groups { access.new.groups.rows ≡ access.old.groups.rows }
+    ensures fits { IfOk result (λ steps. StepsFit access.new steps) }
+    ensures model_steps { IfOk result (λ steps. made_models steps access.old.models.rows ≡ models_by edits access.old.models.rows) }
+    ensures group_steps { IfOk result (λ steps. made_groups steps access.old.groups.rows ≡ groups_by edits access.old.groups.rows) }
 {
     match edits {
         Edits::Nothing => Ok(Steps::Nothing),
         Edits::OfModel(key, change) => {
-            let step = step_for(alloc, models, &key, change)?;
+            let step = access.model_step(alloc, &key, change)?;
             Ok(Steps::OfModel(key, step))
         }
         Edits::OfGroup(key, change) => {
-            let step = step_for(alloc, groups, &key, change)?;
+            let step = access.group_step(alloc, &key, change)?;
             Ok(Steps::OfGroup(key, step))
         }
         Edits::Place(key, instance) => {
-            let spare = spare_for(alloc, models, &key)?;
+            let spare = spare_for(alloc, access.models(), &key)?;
             Ok(Steps::Place(key, instance, spare))
         }
         Edits::DropInstance(key, name) => Ok(Steps::DropInstance(key, name)),
     }
 }
 
-fn make_step<A: Drop>(table: &mut Table<A>, key: Key, step: Step<A>)
-    requires { StepFits key step table.old }
-    ensures { table.new.rows ≡ stepped key step table.old.rows }
-{
-    match step {
-        Step::Put(again, holds) => table.put(key, again, holds),
-        Step::Remove => table.remove(&key),
-        Step::Regrant(grants) => table.regrant(&key, grants),
-    }
-}
-
 /// Makes the steps. It takes no memory.
-pub fn make_steps(models: &mut Table<ModelContent>, groups: &mut Table<Listing>, steps: Steps)
-    requires { StepsFit models.old groups.old steps }
-    ensures models { models.new.rows ≡ made_models steps models.old.rows }
-    ensures groups { groups.new.rows ≡ made_groups steps groups.old.rows }
+pub fn make_steps(access: &mut Access, steps: Steps)
+    requires { StepsFit access.old steps }
+    ensures models { access.new.models.rows ≡ made_models steps access.old.models.rows }
+    ensures groups { access.new.groups.rows ≡ made_groups steps access.old.groups.rows }
 {
     match steps {
         Steps::Nothing => {}
-        Steps::OfModel(key, step) => make_step(models, key, step),
-        Steps::OfGroup(key, step) => make_step(groups, key, step),
-        Steps::Place(key, instance, spare) => models.place_instance(&key, instance, spare),
-        Steps::DropInstance(key, name) => models.drop_instance(&key, name),
+        Steps::OfModel(key, step) => access.make_model_step(key, step),
+        Steps::OfGroup(key, step) => access.make_group_step(key, step),
+        Steps::Place(key, instance, spare) => access.place_instance(&key, instance, spare),
+        Steps::DropInstance(key, name) => access.drop_instance(&key, name),
     }
 }
 
@@ -176,20 +114,19 @@ impl Pending {
     /// What is pending of a plan, with room for it.
     pub(crate) fn of_plan(
         alloc: Global,
-        models: &mut Table<ModelContent>,
-        groups: &mut Table<Listing>,
+        access: &mut Access,
         plan: Plan,
     ) -> Result<Pending, AllocError>
-        requires { AllByRecursion HoldsNamed models.old.rows }
-        ensures models { models.new.rows ≡ models.old.rows }
-        ensures groups { groups.new.rows ≡ groups.old.rows }
-        ensures fits { IfOk result (λ pending. StepsFit models.new groups.new pending.steps) }
+        requires { AllByRecursion HoldsNamed access.old.models.rows }
+        ensures models { access.new.models.rows ≡ access.old.models.rows }
+        ensures groups { access.new.groups.rows ≡ access.old.groups.rows }
+        ensures fits { IfOk result (λ pending. StepsFit access.new pending.steps) }
         ensures reply { IfOk result (λ pending. pending.reply ≡ plan.reply) }
-        ensures model_steps { IfOk result (λ pending. made_models pending.steps models.old.rows ≡ models_by plan.edits models.old.rows) }
-        ensures group_steps { IfOk result (λ pending. made_groups pending.steps groups.old.rows ≡ groups_by plan.edits groups.old.rows) }
+        ensures model_steps { IfOk result (λ pending. made_models pending.steps access.old.models.rows ≡ models_by plan.edits access.old.models.rows) }
+        ensures group_steps { IfOk result (λ pending. made_groups pending.steps access.old.groups.rows ≡ groups_by plan.edits access.old.groups.rows) }
     {
         let Plan { reply, edits } = plan;
-        let steps = steps_for(alloc, models, groups, edits)?;
+        let steps = steps_for(alloc, access, edits)?;
         Ok(Pending { reply, steps })
     }
 

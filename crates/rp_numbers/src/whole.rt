@@ -1,14 +1,31 @@
 //! Whole numbers as they are spelled.
 
-ghost use Rattle.std.specs.Prelude.{◌≡◌, ◌≢◌, ◌<◌, ◌≤◌, ◌*◌, ◌%◌, ◌^◌, nat_le, if◌then◌else◌, Some, None};
+ghost use Rattle.std.specs.Prelude.{◌≡◌, ◌≢◌, ◌<◌, ◌≤◌, ◌*◌, ◌%◌, ◌^◌, nat_le, if◌then◌else◌, Some, None, IfSome};
 ghost use Rattle.std.specs.List.{list_all};
 ghost use Rattle.std.specs.Char.{is_ascii_digit};
 ghost use Rattle.rp_numbers.specs.Whole as spec;
 
 const MAX_WHOLE: u128 = 9_223_372_036_854_775_807;
 
-/// The number that `digits` write after those that write `start`, where it is at most `most`.
-pub(crate) fn number_after(start: u128, digits: &[u8], most: u128) -> Option<u128>
+/// The greatest number that 64 bits hold with one digit more, whatever byte stands for it.
+const MAX_SHORT: u64 = 1_844_674_407_370_955_140;
+
+/// The number that `digits` write after those that write `start`, or nothing where 64 bits may be too few for it.
+fn short_after(start: u64, digits: &[u8]) -> Option<u64>
+    ensures { IfSome result (λ n. n ≡ spec.value_after start digits.now) }
+{
+    let mut value = start;
+    'digits: for digit in digits {
+        if value > MAX_SHORT {
+            return None;
+        }
+        value = 10 * value + u64::from(digit.saturating_sub(b'0'));
+    }
+    Some(value)
+}
+
+/// The number that `digits` write after those that write `start`, where it is at most `most`, whatever it takes.
+fn long_after(start: u128, digits: &[u8], most: u128) -> Option<u128>
     ensures { result ≡ (if nat_le (spec.value_after start digits.now) most then Some (spec.value_after start digits.now) else None) }
 {
     let mut value = start;
@@ -22,6 +39,20 @@ pub(crate) fn number_after(start: u128, digits: &[u8], most: u128) -> Option<u12
         value = next;
     }
     if value <= most { Some(value) } else { None }
+}
+
+/// The number that `digits` write after those that write `start`, where it is at most `most`.
+pub(crate) fn number_after(start: u128, digits: &[u8], most: u128) -> Option<u128>
+    ensures { result ≡ (if nat_le (spec.value_after start digits.now) most then Some (spec.value_after start digits.now) else None) }
+{
+    if start > u128::from(MAX_SHORT) {
+        return long_after(start, digits, most);
+    }
+    match short_after(start as u64, digits) {
+        Some(value) if u128::from(value) <= most => Some(u128::from(value)),
+        Some(_) => None,
+        None => long_after(start, digits, most),
+    }
 }
 
 pub(crate) fn are_digits(text: &[u8]) -> bool

@@ -1,23 +1,11 @@
-use Rattle.std.proofs.Common.{◌≡◌, ◌∙◌, ◌+◌, drop, ap, arith}
-use Rattle.std.proofs.lemmas.Bool.Decides.{nat_tests}
+use Rattle.std.proofs.Common.{◌≡◌, ◌∙◌, ◌+◌, drop, ap}
 use Rattle.std.proofs.lemmas.List.{take_rest}
 use Rattle.p21_text.specs.Lexical.{digits_len, exponent_len}
-use Rattle.p21_text.proofs.Reals.{real_len, plain_real}
+use Rattle.p21_text.proofs.Reals.{real_len}
 use Rattle.p21_text.proofs.front.real_with.Goals as goal
 
-pub returns-then-len-le-MAX_PLAIN-clause-value : goal.returns-then-len-le-MAX_PLAIN-clause-value
-returns-then-len-le-MAX_PLAIN-clause-value c =
-    let z = c.args.z.now in
-    let end = c.args.end in
-    let fraction : c.digits_len.result ≡ digits_len (drop (end + 1) z) = c.digits_len.ensures.value ∙ ap digits_len (take_rest z (end + 1)) in
-    let power : c.exponent_len-exponent.result ≡ exponent_len (drop (end + 1 + c.digits_len.result) z) =
-    c.exponent_len-exponent.ensures.value ∙ ap exponent_len (take_rest z (end + 1 + c.digits_len.result)) in
-    let none : c.exponent_len-exponent.result ≡ 0 = grind (arith, nat_tests) in
-    plain_real z end c.digits_len.result c.exponent_len-exponent.result c.requires.some c.requires.end c.requires.point fraction none (grind (arith, nat_tests))
-    ∙ real_len z end c.digits_len.result c.exponent_len-exponent.result fraction power
-
-pub returns-else-exponent-eq0-clause-value : goal.returns-else-exponent-eq0-clause-value
-returns-else-exponent-eq0-clause-value c =
+pub returns-clause-value : goal.returns-clause-value
+returns-clause-value c =
     let z = c.args.z.now in
     let end = c.args.end in
     let fraction : c.digits_len.result ≡ digits_len (drop (end + 1) z) = c.digits_len.ensures.value ∙ ap digits_len (take_rest z (end + 1)) in

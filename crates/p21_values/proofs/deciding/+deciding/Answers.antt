@@ -1,37 +1,76 @@
-use Rattle.std.proofs.Common.{◌≡◌, ◌<◌, map, length, sym, ◌∙◌, subst, IfOk, arith}
+use Rattle.std.proofs.Common.{◌≡◌, ◌<◌, ◌∷◌, [], map, length, sym, ◌∙◌, ap, subst, IfOk, rules, arith}
 use Rattle.std.proofs.lemmas.Grind.{common_steps}
 use Rattle.std.specs.Prelude.{is_some}
+use Rattle.std.specs.List.{flat_map}
 use Rattle.p21_values.specs.Seen.{seen, seen_target}
 use Rattle.p21_values.specs.Taking.{meaning, bare_at, of_list}
-use Rattle.p21_values.specs.Deciding.{takes, both, StandAt}
-use Rattle.p21_values.proofs.Decided.{narrowed, list_answers}
+use Rattle.p21_values.specs.Deciding.{takes, takes_each, both, only_candidate, row, rows, AreLevels}
+use Rattle.p21_values.proofs.Decided.{narrowed}
+use Rattle.p21_values.proofs.Groups.{level_rows, list_answers, no_levels, no_more_rows, on_ok, rows_turn}
 use Rattle.p21_values.proofs.Lists.{list_meaning}
 use Rattle.p21_values.proofs.deciding.+deciding.Goals as goal
 
 pub take_all-values-preserved : goal.take_all-values-preserved
 take_all-values-preserved t c =
+    let types = c.args.types.now in
     let within : c.values.value-index < length c.args.values.now = grind (arith, common_steps) in
     let told : c.in_ok-taken-2.taken.items ≡ both c.values.taken.items c.in_ok-also.also.items = cc (c.in_ok-taken-2.ensures, c.deref.ensures.value, c.deref-in-values.ensures.value) in
-    told
-    ∙ narrowed c.args.types.now c.args.values.now c.values.value-index c.value-item.result c.args.targets.now c.values.taken.items
-    c.in_ok-also.also.items within c.value-item.is c.values.invariant c.in_ok-also.ensures
+    record {
+      taken = told
+          ∙ narrowed types c.args.values.now c.values.value-index c.value-item.result c.args.targets.now c.values.taken.items
+          c.in_ok-also.also.items within c.value-item.is c.values.invariant.taken c.in_ok-also.ensures.taken;
+      rows = rows_turn (rows types c.args.below.now) c.args.values.now c.values.value-index c.value-item.result c.values.rows.items c.takes.new.rows.items within c.value-item.is
+          c.in_ok-also.ensures.rows ∙ c.values.invariant.rows;
+    }
 
-pub takes-returns-in-List : goal.takes-returns-in-List
-takes-returns-in-List t c =
+pub takes-returns-in-List-clause-taken : goal.takes-returns-in-List-clause-taken
+takes-returns-in-List-clause-taken t c =
     let types = c.args.types.now in
     subst (λ m. IfOk c.takes_list.result (λ taken. taken.items ≡ map (λ t. takes m (seen_target t)) c.args.targets.now)) (sym (list_meaning types c.args.value.now c.in-List.values c.in-List.is))
     (subst (λ vs. IfOk c.takes_list.result (λ taken. taken.items ≡ map (λ t. is_some (bare_at types (of_list types (map (meaning types) vs)) (seen t.base))) c.args.targets.now))
-    c.as_slice.ensures c.takes_list.ensures)
+    c.as_slice.ensures c.takes_list.ensures.taken)
 
-pub takes_list-returns : goal.takes_list-returns
-takes_list-returns t c =
+pub takes_list-returns-in-Some-clause-taken : goal.takes_list-returns-in-Some-clause-taken
+takes_list-returns-in-Some-clause-taken t c =
     let types = c.args.types.now in
-    let asked = c.in_ok-asked.asked in
-    let once = c.in_ok-once.once in
-    let stand : StandAt once.targets.items once.places.items (map seen_target asked.targets.items) =
-    subst (λ ts. StandAt once.targets.items once.places.items (map seen_target ts)) c.deref.ensures.value c.in_ok-once.ensures in
-    list_answers types (map (meaning types) c.args.values.now) c.args.targets.now once.targets.items (map seen_target asked.targets.items)
-    asked.counts.items once.places.items c.in_ok-taken.taken.items c.in_ok-all.all.items c.in_ok-found.found.items
-    c.in_ok-asked.ensures.targets c.in_ok-asked.ensures.counts stand (cc (c.in_ok-taken.ensures, c.deref-2.ensures.value))
-    (cc (c.in_ok-all.ensures, c.deref-3.ensures.value, c.deref-4.ensures.value))
-    (cc (c.in_ok-found.ensures, c.deref-5.ensures.value, c.deref-6.ensures.value))
+    let level = c.in-Some.level.now in
+    let whole : c.args.levels.now ≡ level ∷ c.in-Some.below.now = search rules in
+    let are : AreLevels types c.args.targets.now (level ∷ c.in-Some.below.now) = subst (AreLevels types c.args.targets.now) whole c.requires in
+    subst (λ bs. IfOk c.takes_at.result (λ taken. taken.items ≡ bs))
+    (list_answers types (map (meaning types) c.args.values.now) level.targets.items c.args.targets.now level.groups.items are.0) c.takes_at.ensures.taken
+
+pub takes_list-returns-in_ok-level-in-None-clause-taken : goal.takes_list-returns-in_ok-level-in-None-clause-taken
+takes_list-returns-in_ok-level-in-None-clause-taken t c =
+    let types = c.args.types.now in
+    let level = c.in_ok-level-in-None.level in
+    subst (λ bs. IfOk c.takes_at-in-None.result (λ taken. taken.items ≡ bs))
+    (list_answers types (map (meaning types) c.args.values.now) level.targets.items c.args.targets.now level.groups.items c.in_ok-level-in-None.ensures) c.takes_at-in-None.ensures.taken
+
+pub takes_list-returns-in_ok-level-in-None-clause-rows : goal.takes_list-returns-in_ok-level-in-None-clause-rows
+takes_list-returns-in_ok-level-in-None-clause-rows t c =
+    let empty : length c.args.levels.now ≡ 0 = search rules in
+    let none : c.args.levels.now ≡ [] = no_levels c.args.levels.now empty in
+    on_ok c.takes_at-in-None.result _ (no_more_rows c.args.types.now c.args.levels.now c.args.values.now c.args.rows.now.items none)
+
+pub takes_at-returns-clause-taken : goal.takes_at-returns-clause-taken
+takes_at-returns-clause-taken t c =
+    let types = c.args.types.now in
+    let level = c.args.level.now in
+    let ms = map (meaning types) c.args.values.now in
+    let row_is : c.deref-5.result.now ≡ row types level c.args.values.now =
+    c.deref-5.ensures.value ∙ c.in_ok-taken.ensures.taken ∙ ap (map (λ t. takes_each ms (seen_target t))) c.deref.ensures.value in
+    subst (λ bs. IfOk c.verdicts.result (λ found. found.items ≡ map (λ g. is_some (only_candidate g bs)) level.groups.items)) row_is
+    (subst (λ gs. IfOk c.verdicts.result (λ found. found.items ≡ map (λ g. is_some (only_candidate g c.deref-5.result.now)) gs)) c.deref-4.ensures.value c.verdicts.ensures)
+
+pub takes_at-returns-clause-rows : goal.takes_at-returns-clause-rows
+takes_at-returns-clause-rows t c =
+    let types = c.args.types.now in
+    let level = c.args.level.now in
+    let ms = map (meaning types) c.args.values.now in
+    let taken = c.in_ok-taken.taken.items in
+    let inner = c.take_all.new.rows.items in
+    let row_is : taken ≡ row types level c.args.values.now = c.in_ok-taken.ensures.taken ∙ ap (map (λ t. takes_each ms (seen_target t))) c.deref.ensures.value in
+    let inner_is : inner ≡ flat_map (rows types c.args.below.now) c.args.values.now = grind (arith, common_steps, c.in_ok-taken.ensures.rows, c.new-inner.ensures.items) in
+    on_ok c.verdicts.result _
+    (level_rows types level c.args.below.now c.args.values.now c.args.rows.now.items taken inner c.extend_from_slice.new.self.items c.extend_from_slice-2.new.self.items
+    (cc (c.in_ok-extend_from_slice.ensures.items, c.deref-2.ensures.value)) (cc (c.in_ok-extend_from_slice-2.ensures.items, c.deref-3.ensures.value)) row_is inner_is)

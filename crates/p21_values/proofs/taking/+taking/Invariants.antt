@@ -1,4 +1,6 @@
-use Rattle.std.proofs.Common.{◌≡◌, map, drop}
+use Rattle.std.proofs.Common.{◌≡◌, ◌∷◌, map, drop, length}
+use Rattle.std.specs.List.{flat_map}
+use Rattle.p21_values.specs.Deciding as deciding
 use Rattle.p21_values.specs.Seen.{seen_target}
 use Rattle.p21_values.specs.Taking as spec
 use Rattle.p21_values.proofs.Several.{among_rest}
@@ -8,3 +10,12 @@ abbrev pub invariant-elements-values : goal.invariant-elements-values
 invariant-elements-values l =
     among_rest l.items.items (spec.all_there (map (λ m. spec.place m (seen_target l.target)) (map (spec.meaning l.types) (drop l.value-index l.values))))
     ≡ spec.all_there (map (λ m. spec.place m (seen_target l.target)) (map (spec.meaning l.types) l.values))
+
+abbrev pub invariant-elements_at-values : goal.invariant-elements_at-values
+invariant-elements_at-values l = record {
+  taken : among_rest l.items.items (spec.all_there (map (λ m. spec.place m (seen_target l.target)) (map (spec.meaning l.types) (drop l.value-index l.values))))
+      ≡ spec.all_there (map (λ m. spec.place m (seen_target l.target)) (map (spec.meaning l.types) l.values));
+  starts : deciding.StartsWith (flat_map (deciding.rows l.types (l.level ∷ l.below)) (drop l.value-index l.values)) l.rest;
+  rest : drop (length (flat_map (deciding.rows l.types (l.level ∷ l.below)) (drop l.value-index l.values))) l.rest
+      ≡ drop (length (flat_map (deciding.rows l.types (l.level ∷ l.below)) l.values)) l.fn.rest;
+}

@@ -1,5 +1,5 @@
 use Rattle.std.proofs.Common.{sym}
-use Rattle.rp_core.specs.Stored.{row_of}
+use Rattle.rp_tables.specs.Stored.{row_of}
 use Rattle.rp_core.proofs.steps.spare_for.Goals as goal
 
 pub room_for-requires : goal.room_for-requires

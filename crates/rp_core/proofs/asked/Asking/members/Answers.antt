@@ -1,17 +1,20 @@
-use Rattle.std.proofs.Common.{◌≡◌, map, subst}
+use Rattle.std.proofs.Common.{◌≡◌, ◌∙◌, map, ap, subst, Some}
 use Rattle.std.specs.Prelude.{IfOk}
 use Rattle.rp_plain.specs.Asked.{held, counted_in}
 use Rattle.rp_plain.specs.Groups.{members_of}
 use Rattle.rp_plain.specs.Populations.{member}
-use Rattle.rp_core.specs.Told.{told}
-use Rattle.rp_core.specs.Stored.{row_of}
-use Rattle.std.proofs.Common.{Some}
+use Rattle.rp_tables.specs.Stored.{row_of}
+use Rattle.rp_access.specs.Listed.{member_in, member_of}
+use Rattle.rp_core.specs.Told.{told, member_told}
+use Rattle.rp_core.proofs.Telling.{told_by, members_told}
 use Rattle.rp_core.proofs.asked.Asking.members.Goals as goal
 
-pub returns-in-Some : goal.returns-in-Some
+pub returns-in_ok-members-in-Some : goal.returns-in_ok-members-in-Some
 unfolding told
-returns-in-Some c =
+returns-in_ok-members-in-Some c =
     let ms = c.args.self.now.models.now.rows in
     let g = row_of c.in-Some.group in
-    subst (λ o. IfOk c.members_in.result (λ rows. rows ≡ map (member (counted_in ms o)) (members_of (held o)))) c.in-Some.ensures
-    (subst (λ keys. IfOk c.members_in.result (λ rows. rows ≡ map (member (counted_in ms (Some g))) keys)) c.as_slice-keys.ensures c.members_in.ensures)
+    let ks = g.holds.members in
+    let are = told_by member_told member_of (member_in ms g) c.deref.result.now ks (ap (map member_of) c.deref.ensures.value ∙ c.in_ok-members-in-Some.ensures) ∙ members_told ms g ks c.len-count.ensures.ascending in
+    subst (λ o. IfOk c.told_members.result (λ rows. rows ≡ map (member (counted_in ms o)) (members_of (held o)))) c.in-Some.ensures
+    (subst (λ items. IfOk c.told_members.result (λ rows. rows ≡ items)) are c.told_members.ensures)

@@ -1,7 +1,7 @@
 use Rattle.std.proofs.Common.{◌≡◌, true, false, Some, None, ◌∙◌, ap, sym}
 use Rattle.std.specs.Prelude.{option_map}
 use Rattle.rp_rows.specs.Sight.{sees}
-use Rattle.rp_core.specs.Stored.{row_of}
+use Rattle.rp_tables.specs.Stored.{row_of}
 use Rattle.rp_core.proofs.Looking.{seen_found, chosen_seen, chosen_unseen}
 use Rattle.rp_core.proofs.asked.Asking.model.Goals as goal
 

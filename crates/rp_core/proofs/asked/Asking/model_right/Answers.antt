@@ -1,7 +1,7 @@
 use Rattle.std.proofs.Common.{Some, None, ◌∙◌, ap, sym}
 use Rattle.rp_rows.specs.Sight.{sees}
 use Rattle.rp_plain.specs.Asked.{right_at}
-use Rattle.rp_core.specs.Stored.{row_of}
+use Rattle.rp_tables.specs.Stored.{row_of}
 use Rattle.rp_core.specs.Told.{told}
 use Rattle.rp_core.proofs.Looking.{seen_found, right_there}
 use Rattle.rp_core.proofs.asked.Asking.model_right.Goals as goal

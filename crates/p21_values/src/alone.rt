@@ -1,0 +1,234 @@
+//! What a declared type takes of a token or a reference.
+
+ghost use Rattle.std.specs.Prelude.{◌≡◌, ◌++◌, ◌∷◌, [], map, Some, None, IfOk, OnOk};
+ghost use Rattle.std.specs.List.{filter_map};
+ghost use Rattle.std.specs.Option.{option_map};
+ghost use Rattle.std.specs.Str.{str_to_ascii_uppercase};
+ghost use Rattle.name_tables.specs.Names.{place_of};
+ghost use Rattle.p21_strings.specs.Decoding.{decoded};
+ghost use Rattle.rp_numbers.specs.Spelling.{parse};
+ghost use Rattle.rp_value.specs.declared.value.Value.TheVariants as v;
+ghost use Rattle.p21_values.specs.Ends as ends;
+ghost use Rattle.p21_values.specs.Seen.{seen};
+ghost use Rattle.p21_values.specs.Tokens.{ok};
+ghost use Rattle.p21_values.specs.Deciding as deciding;
+ghost use Rattle.p21_values.specs.Kept as kept;
+ghost use Rattle.p21_values.specs.Taking as spec;
+
+use crate::ends::{Base, base_of};
+use crate::sorts::Class;
+use crate::tokens::{bits, boolean, in_upper_case, integer, logical};
+use crate::types::DefinedTypes;
+use ex_tree::SimpleType;
+use p21_strings::decode_string;
+use p21_tree::Value as Spelled;
+use rp_value::{Decimal, Value};
+use std::alloc::{AllocError, Global};
+use text_forms::Failure;
+
+/// A value that a type takes; nothing where it takes none.
+pub type Taken = Result<Option<Value>, AllocError>;
+
+/// The decimal of a real.
+fn decimal(alloc: Global, token: &[u8]) -> Taken
+    ensures { IfOk result (λ taken. taken ≡ option_map v.Dec (ok (parse token.now))) }
+{
+    match Decimal::parse(token) {
+        Ok(decimal) => Ok(Some(Value::decimal(alloc, decimal)?)),
+        Err(_) => Ok(None),
+    }
+}
+
+/// The decimal of an integer.
+fn decimal_of_integer(alloc: Global, token: &[u8]) -> Taken
+    ensures { IfOk result (λ taken. taken ≡ option_map v.Dec (ok (parse (token.now ++ 46 ∷ [])))) }
+{
+    let mut real = Vec::with_capacity(alloc, token.len() + 1)?;
+    real.extend_from_slice(token)?;
+    real.push(b'.')?;
+    decimal(alloc, &real)
+}
+
+fn of_integer(alloc: Global, token: &[u8], base: &Base<'_>) -> Taken
+    ensures { IfOk result (λ taken. taken ≡ spec.of_integer token.now (seen base.now)) }
+{
+    match base {
+        Base::Plain(SimpleType::Integer | SimpleType::Number) => Ok(integer(token).map(Value::Int)),
+        Base::Plain(SimpleType::Real) => decimal_of_integer(alloc, token),
+        _ => Ok(None),
+    }
+}
+
+fn of_real(alloc: Global, token: &[u8], base: &Base<'_>) -> Taken
+    ensures { IfOk result (λ taken. taken ≡ spec.of_real token.now (seen base.now)) }
+{
+    match base {
+        Base::Plain(SimpleType::Real | SimpleType::Number) => decimal(alloc, token),
+        _ => Ok(None),
+    }
+}
+
+/// The string that the bytes between its apostrophes spell.
+fn text(alloc: Global, token: &[u8]) -> Taken
+    ensures { IfOk result (λ taken. taken ≡ option_map v.Str (ok (decoded token.now))) }
+{
+    match decode_string(alloc, token) {
+        Ok(text) => Ok(Some(Value::text(alloc, text)?)),
+        Err(Failure::Fault(_)) => Ok(None),
+        Err(Failure::NoMemory) => Err(AllocError),
+    }
+}
+
+fn of_text(alloc: Global, token: &[u8], base: &Base<'_>) -> Taken
+    ensures { IfOk result (λ taken. taken ≡ spec.of_text token.now (seen base.now)) }
+{
+    match base {
+        Base::Plain(SimpleType::String(_)) => text(alloc, token),
+        _ => Ok(None),
+    }
+}
+
+fn of_binary(alloc: Global, token: &[u8], base: &Base<'_>) -> Taken
+    ensures { IfOk result (λ taken. taken ≡ spec.of_binary token.now (seen base.now)) }
+{
+    match base {
+        Base::Plain(SimpleType::Binary(_)) => {
+            let bits = bits(alloc, token)?;
+            Ok(Some(Value::binary(alloc, bits)?))
+        }
+        _ => Ok(None),
+    }
+}
+
+/// The item of an enumeration.
+fn item(types: &DefinedTypes<'_>, number: usize, name: &[u8]) -> Option<Value>
+    ensures { result ≡ option_map (v.Item number) (place_of name.now (spec.items types.now number)) }
+{
+    match types.item_place(number, name) {
+        Some(place) => Some(Value::Item {
+            enumeration: number,
+            place,
+        }),
+        None => None,
+    }
+}
+
+/// What an item in upper case is.
+fn of_item(types: &DefinedTypes<'_>, name: &[u8], base: &Base<'_>) -> Option<Value>
+    ensures { result ≡ spec.of_item types.now name.now (seen base.now) }
+{
+    match base {
+        Base::Plain(SimpleType::Boolean) => boolean(name).map(Value::Log),
+        Base::Plain(SimpleType::Logical) => logical(name).map(Value::Log),
+        Base::Enumeration(number) => item(types, *number, name),
+        _ => None,
+    }
+}
+
+/// What a type takes of a reference.
+pub fn reference(alloc: Global, types: &DefinedTypes<'_>, name: u64, base: &Base<'_>) -> Taken
+    ensures { IfOk result (λ taken. taken ≡ spec.reference_at types.now name (seen base.now)) }
+{
+    let takes = match base {
+        Base::Instance => true,
+        Base::Select(number) => types.chooses_instances(alloc, *number)?,
+        _ => false,
+    };
+    Ok(if takes { Some(Value::Inst(name)) } else { None })
+}
+
+/// A value under the name of a defined type.
+pub fn under_name(alloc: Global, number: usize, taken: Option<Value>) -> Taken
+    ensures { IfOk result (λ under. under ≡ option_map (v.Named number) taken) }
+{
+    match taken {
+        Some(value) => Ok(Some(Value::named(alloc, number, value)?)),
+        None => Ok(None),
+    }
+}
+
+/// What a type that is no SELECT takes of a token.
+#[tactic(auto, unfolding(crate::specs::Taking::meaning))]
+fn token(alloc: Global, types: &DefinedTypes<'_>, value: &Spelled<'_>, base: &Base<'_>) -> Taken
+    ensures { IfOk result (λ taken. taken ≡ deciding.alone types.now value.now (seen base.now)) }
+{
+    match value {
+        Spelled::Integer(token) => of_integer(alloc, token.as_slice(), base),
+        Spelled::Real(token) => of_real(alloc, token.as_slice(), base),
+        Spelled::Text(token) => of_text(alloc, token.as_slice(), base),
+        Spelled::Binary(token) => of_binary(alloc, token.as_slice(), base),
+        Spelled::Item(token) => {
+            let name = in_upper_case(alloc, token.as_slice())?;
+            Ok(of_item(types, &name, base))
+        }
+        Spelled::Unset | Spelled::Derived => Ok(None),
+        Spelled::Reference(_) | Spelled::List(_) | Spelled::Typed(_, _) => Ok(None),
+    }
+}
+
+/// What the only one of the defined types takes that takes the token.
+fn only_token(
+    alloc: Global,
+    types: &DefinedTypes<'_>,
+    value: &Spelled<'_>,
+    numbers: &[usize],
+) -> Taken
+    ensures { IfOk result (λ taken. taken ≡ spec.only (filter_map (spec.by_choice types.now (deciding.alone types.now value.now)) numbers.now)) }
+{
+    let mut found = None;
+    'choices: for number in numbers {
+        let base = base_of(types.types(), *number);
+        let taken = token(alloc, types, value, &base)?;
+        if let Some(value) = under_name(alloc, *number, taken)? {
+            if found.is_some() {
+                return Ok(None);
+            }
+            found = Some(value);
+        }
+    }
+    Ok(found)
+}
+
+/// The class of the types that may take a token.
+fn class_of(value: &Spelled<'_>) -> Class
+    ensures { result ≡ kept.class_of value.now }
+{
+    match value {
+        Spelled::Item(_) => Class::Items,
+        _ => Class::Plain,
+    }
+}
+
+/// What a SELECT takes of a token without a keyword.
+#[tactic(auto, using(crate::proofs::Chosen::tokens_kept))]
+fn select_token(
+    alloc: Global,
+    types: &DefinedTypes<'_>,
+    value: &Spelled<'_>,
+    number: usize,
+) -> Taken
+    ensures { IfOk result (λ taken. taken ≡ spec.only (filter_map (spec.by_choice types.now (deciding.alone types.now value.now)) (ends.choices types.now number))) }
+{
+    match types.kept(class_of(value), number) {
+        Some(numbers) => only_token(alloc, types, value, numbers),
+        None => {
+            let numbers = types.choices(alloc, number)?;
+            only_token(alloc, types, value, &numbers)
+        }
+    }
+}
+
+/// What a type takes of a token without a keyword.
+pub fn bare_token(
+    alloc: Global,
+    types: &DefinedTypes<'_>,
+    value: &Spelled<'_>,
+    base: &Base<'_>,
+) -> Taken
+    ensures { IfOk result (λ taken. taken ≡ spec.bare_at types.now (deciding.alone types.now value.now) (seen base.now)) }
+{
+    match base {
+        Base::Select(number) => select_token(alloc, types, value, *number),
+        _ => token(alloc, types, value, base),
+    }
+}

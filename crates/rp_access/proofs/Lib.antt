@@ -1,0 +1,4 @@
+pub mod Names
+pub mod Seeing
+pub mod Counted
+pub mod Marking

@@ -1,0 +1,333 @@
+-- The names of groups that partners are granted, as grants and groups change.
+use Rattle.std.proofs.Common.{◌≡◌, Bool, true, false, not, ◌&&◌, ◌||◌, List, [], ◌∷◌, ◌++◌, Option, Some, None, is_some, refl, sym, ◌∙◌, ap, subst}
+use Rattle.std.specs.Prelude.{filter, if◌then◌else◌, option_map, option_to_list}
+use Rattle.std.specs.List.{find, list_any}
+use Rattle.std.specs.Str.{bytes_eq}
+use Rattle.std.specs.declared.cmp.Ordering.{Ordering}
+use Rattle.std.specs.declared.cmp.Ordering.TheVariants.{Less, Equal, Greater}
+use Rattle.std.specs.Ordering.{is_lt, is_eq, is_gt}
+use Rattle.std.proofs.lemmas.Bool.{false≢true, and_parts}
+use Rattle.std.proofs.lemmas.Slice.Eq.{bytes_eq-Decides}
+use Rattle.std.proofs.lemmas.Map.Text.{is_eq-slice_cmp}
+use Rattle.std.specs.Cmp.{tied_then}
+use Rattle.std.proofs.lemmas.Cmp.{nat_list_cmp_total}
+use Rattle.sorted_tables.specs.Table.{is_before, is_after, with_row}
+use Rattle.sorted_tables.proofs.Tables.{list_any-append}
+use Rattle.sorted_tables.proofs.Altered.{any-with_row}
+use Rattle.rp_rows.specs.declared.rows.Grant.{Grant}
+use Rattle.rp_rows.specs.declared.rows.Level.{Level}
+use Rattle.rp_rows.specs.declared.rows.Listing.{Listing}
+use Rattle.rp_rows.specs.Rows.{Text, text_cmp, grant_key, Key, key_cmp, same_key, Row, row_key, is_row, GroupRow}
+use Rattle.rp_rows.specs.Sight.{is_grant_to, is_granted}
+use Rattle.rp_rows.specs.Alterations.{Holds, alter, altered, grants_of, grant_for}
+use Rattle.rp_rows.proofs.Keys.{key_total, key_at, found_at}
+use Rattle.rp_tables.specs.declared.keyed.Entry.{Entry}
+use Rattle.rp_tables.specs.Entries.{entry_key, is_entry, revalued, without_name}
+use Rattle.rp_tables.specs.Stored.{rewritten}
+use Rattle.rp_tables.proofs.Finding.{entry_at}
+use Rattle.rp_tables.proofs.Changed.{find-kept, find_other, find_same}
+use Rattle.rp_access.specs.Granted.{Names, has_name, value_of, names_at, relisted, KeepsGranted, granted_of, tells, TellsGranted}
+
+-- ---- names
+
+has_append : (n : Text) (xs ys : List Text) → has_name n (xs ++ ys) ≡ (has_name n xs || has_name n ys)
+has_append n [] ys = refl
+has_append n (x ∷ xs) ys = by (bytes_eq x n) (has_append n xs ys)
+  where
+    by : (t : Bool) → has_name n (xs ++ ys) ≡ (has_name n xs || has_name n ys) → (t || has_name n (xs ++ ys)) ≡ ((t || has_name n xs) || has_name n ys)
+    by true rest = refl
+    by false rest = rest
+
+-- another name is among them as before
+has_without : (n d : Text) (names : List Text) → bytes_eq d n ≡ false → has_name n (without_name d names) ≡ has_name n names
+has_without n d [] other = refl
+has_without n d (m ∷ names) other = by (has_without n d names other) (bytes_eq m d) refl
+  where
+    same : bytes_eq m d ≡ true → bytes_eq m n ≡ false
+    same e = ap (λ t. bytes_eq t n) ((bytes_eq-Decides m d).0 e) ∙ other
+
+    by : has_name n (without_name d names) ≡ has_name n names → (t : Bool) → bytes_eq m d ≡ t → has_name n (without_name d (m ∷ names)) ≡ has_name n (m ∷ names)
+    by rest true e = rw (e, same e) rest
+    by rest false e = rw e (ap (λ t. bytes_eq m n || t) rest)
+
+itself : (n : Text) → bytes_eq n n ≡ true
+itself n = (bytes_eq-Decides n n).1 refl
+
+or_true : (t : Bool) → (t || true) ≡ true
+or_true true = refl
+or_true false = refl
+
+-- what is among them stays, but for the name that is taken
+relisted_keeps : (n d : Text) (l : Option Level) (names : List Text) → bytes_eq d n ≡ false → has_name n names ≡ true → has_name n (relisted d l names) ≡ true
+relisted_keeps n d None names other has = has_without n d names other ∙ has
+relisted_keeps n d (Some l) names other has = has_append n (without_name d names) (d ∷ []) ∙ (λ i. has_without n d names other i || has_name n (d ∷ [])) ∙ (λ i. has i || has_name n (d ∷ []))
+
+relisted_has : (n : Text) (l : Level) (names : List Text) → has_name n (relisted n (Some l) names) ≡ true
+relisted_has n l names = has_append n (without_name n names) (n ∷ []) ∙ ap (λ t. has_name n (without_name n names) || (t || false)) (itself n) ∙ or_true (has_name n (without_name n names))
+
+-- ---- keys
+
+-- whether two keys are one
+key_is : (j k : Key) (t : Bool) → is_eq (key_cmp j k) ≡ t → t ≡ true → j ≡ k
+key_is j k t e h =
+    let row : Row Listing = record { owner = j.0; name = j.1; holds = record { schema = []; members = [] }; grants = [] } in
+    key_at k row (e ∙ h)
+
+keyed_option : (j : Key) (f : List Text → List Text) (es : List Names) (x : Names) → option_map (revalued f) (find (is_entry j) es) ≡ Some x → entry_key x ≡ j
+keyed_option j f es x is = by (find (is_entry j) es) refl is
+  where
+    by : (o : Option Names) → find (is_entry j) es ≡ o → option_map (revalued f) o ≡ Some x → entry_key x ≡ j
+    by None e h = cc
+    by (Some y) e h =
+        let same : revalued f y ≡ x = cc in
+        ap entry_key (sym same) ∙ entry_at j y (found_at (is_entry j) es y e)
+
+keyed_row : (j : Key) (names : List Text) (x : Names) → Some (record { key = j; value = names }) ≡ Some x → entry_key x ≡ j
+keyed_row j names x is = let e : Names = record { key = j; value = names } in let same : e ≡ x = cc in ap entry_key (sym same)
+
+-- ---- a name that is dropped under one partner and owner
+
+value_mapped : (f : List Text → List Text) (none : f [] ≡ []) (o : Option Names) → value_of (option_map (revalued f) o) ≡ f (value_of o)
+value_mapped f none None = sym none
+value_mapped f none (Some e) = refl
+
+abbrev pub dropped_at : Key → Text → List Names → List Names
+dropped_at j n es = with_row key_cmp entry_key j (option_map (revalued (without_name n)) (find (is_entry j) es)) es
+
+-- the names of another group stay
+pub drop_keeps : (q : Text) (key k : Key) (p : Text) (es : List Names) → same_key key k ≡ false → has_name k.1 (names_at (p, k.0) (dropped_at (q, key.0) key.1 es)) ≡ has_name k.1 (names_at (p, k.0) es)
+drop_keeps q key k p es other = by (is_eq (key_cmp (p, k.0) (q, key.0))) refl
+  where
+    j : Key
+    j = (q, key.0)
+
+    keyed : (x : Names) → option_map (revalued (without_name key.1)) (find (is_entry j) es) ≡ Some x → entry_key x ≡ j
+    keyed x is = keyed_option j (without_name key.1) es x is
+
+    by : (t : Bool) → is_eq (key_cmp (p, k.0) (q, key.0)) ≡ t → has_name k.1 (names_at (p, k.0) (dropped_at (q, key.0) key.1 es)) ≡ has_name k.1 (names_at (p, k.0) es)
+    by false e = ap (λ o. has_name k.1 (value_of o)) (find_other key_cmp entry_key key_total (p, k.0) j (option_map (revalued (without_name key.1)) (find (is_entry j) es)) es keyed e)
+    by true e =
+        let at : (p, k.0) ≡ j = key_is (p, k.0) j true e refl in
+        let owner : k.0 ≡ key.0 = ap (λ (i : Key). i.1) at in
+        let name : bytes_eq key.1 k.1 ≡ false = other_name owner (bytes_eq key.1 k.1) refl in
+        ap (λ (i : Key). has_name k.1 (names_at i (dropped_at j key.1 es))) at
+        ∙ ap (λ o. has_name k.1 (value_of o)) (find_same key_cmp entry_key key_total j (option_map (revalued (without_name key.1)) (find (is_entry j) es)) es keyed)
+        ∙ ap (has_name k.1) (value_mapped (without_name key.1) refl (find (is_entry j) es))
+        ∙ has_without k.1 key.1 (names_at j es) name
+        ∙ ap (λ (i : Key). has_name k.1 (names_at i es)) (sym at)
+      where
+        other_name : k.0 ≡ key.0 → (t : Bool) → bytes_eq key.1 k.1 ≡ t → t ≡ false
+        other_name owner false f = refl
+        other_name owner true f =
+            let names : key.1 ≡ k.1 = (bytes_eq-Decides key.1 k.1).0 f in
+            let one : same_key key k ≡ true = (λ i. bytes_eq (owner i) key.0 && bytes_eq (sym names i) key.1) ∙ (λ i. itself key.0 i && itself key.1 i) in
+            absurd (false≢true (sym other ∙ one))
+
+-- ---- the rows of groups
+
+same_as : (j k : Key) → same_key k j ≡ is_eq (key_cmp j k)
+same_as j k =
+    let owner = sym (is_eq-slice_cmp j.0 k.0) in
+    let name = sym (is_eq-slice_cmp j.1 k.1) in
+    (λ i. owner i && name i) ∙ tied_then (text_cmp j.0 k.0) (text_cmp j.1 k.1)
+
+held_key : (k : Key) (a : Listing) (gs : List Grant) (x : GroupRow) → Some (record { owner = k.0; name = k.1; holds = a; grants = gs }) ≡ Some x → row_key x ≡ k
+held_key k a gs x is = let g : GroupRow = record { owner = k.0; name = k.1; holds = a; grants = gs } in let same : g ≡ x = cc in ap row_key (sym same)
+
+no_row : (k : Key) (x : GroupRow) → None ≡ Some x → row_key x ≡ k
+no_row k x is = cc
+
+-- a group that is put keeps its grants
+pub put_keeps : (k : Key) (a : Listing) (es : List Names) (gs : List GroupRow) → KeepsGranted es gs → KeepsGranted es (altered k (Holds (Some a)) gs)
+put_keeps k a es gs kept p j g found granted = by (is_eq (key_cmp j k)) refl
+  where
+    row : GroupRow
+    row = record { owner = k.0; name = k.1; holds = a; grants = grants_of (find (is_row k) gs) }
+
+    old : (o : Option GroupRow) → find (is_row k) gs ≡ o → list_any (is_grant_to p) (grants_of o) ≡ true → has_name k.1 (names_at (p, k.0) es) ≡ true
+    old None e h = cc
+    old (Some x) e h = kept p k x e h
+
+    by : (t : Bool) → is_eq (key_cmp j k) ≡ t → has_name j.1 (names_at (p, j.0) es) ≡ true
+    by false e = kept p j g (sym (find_other key_cmp row_key key_total j k (Some row) gs (held_key k a (grants_of (find (is_row k) gs))) e) ∙ found) granted
+    by true e =
+        let at : j ≡ k = key_is j k true e refl in
+        let there : Some row ≡ Some g = sym (find_same key_cmp row_key key_total k (Some row) gs (held_key k a (grants_of (find (is_row k) gs)))) ∙ ap (λ i. find (is_row i) (altered k (Holds (Some a)) gs)) (sym at) ∙ found in
+        let same : row ≡ g = cc in
+        ap (λ (i : Key). has_name i.1 (names_at (p, i.0) es)) at ∙ old (find (is_row k) gs) refl (ap (is_granted p) same ∙ granted)
+
+-- of a group that is gone nothing is asked
+pub remove_keeps : (k : Key) (es fs : List Names) (gs : List GroupRow) → KeepsGranted es gs → ((p : Text) (j : Key) → same_key k j ≡ false → has_name j.1 (names_at (p, j.0) fs) ≡ has_name j.1 (names_at (p, j.0) es)) → KeepsGranted fs (altered k (Holds None) gs)
+remove_keeps k es fs gs kept others p j g found granted = by (is_eq (key_cmp j k)) refl
+  where
+    by : (t : Bool) → is_eq (key_cmp j k) ≡ t → has_name j.1 (names_at (p, j.0) fs) ≡ true
+    by false e =
+        others p j (same_as j k ∙ e)
+        ∙ kept p j g (sym (find_other key_cmp row_key key_total j k None gs (no_row k) e) ∙ found) granted
+    by true e =
+        let at : j ≡ k = key_is j k true e refl in
+        let there : None ≡ Some g = sym (find_same key_cmp row_key key_total k None gs (no_row k)) ∙ ap (λ i. find (is_row i) (altered k (Holds None) gs)) (sym at) ∙ found in
+        cc
+
+-- ---- grants
+
+at_partner : (to : Text) (x : Grant) → is_eq (text_cmp (grant_key x) to) ≡ bytes_eq x.partner to
+at_partner to x = is_eq-slice_cmp x.partner to
+
+other_partner : (p to : Text) → bytes_eq to p ≡ false → (x : Grant) → is_eq (text_cmp (grant_key x) to) ≡ true → is_grant_to p x ≡ false
+other_partner p to other x at = ap (λ q. bytes_eq q p) ((bytes_eq-Decides x.partner to).0 (sym (at_partner to x) ∙ at)) ∙ other
+
+new_other : (p to : Text) (l : Option Level) → bytes_eq to p ≡ false → list_any (is_grant_to p) (option_to_list (grant_for to l)) ≡ false
+new_other p to None other = refl
+new_other p to (Some l) other = rw other refl
+
+-- no grant to a partner is left where he gets none
+none_left : (to : Text) (gs : List Grant) (q : Grant → Bool) → ((x : Grant) → q x ≡ true → is_eq (text_cmp (grant_key x) to) ≡ false) → list_any (is_grant_to to) (filter q gs) ≡ false
+none_left to [] q apart = refl
+none_left to (x ∷ gs) q apart = by (none_left to gs q apart) (q x) refl
+  where
+    by : list_any (is_grant_to to) (filter q gs) ≡ false → (t : Bool) → q x ≡ t → list_any (is_grant_to to) (if t then x ∷ filter q gs else filter q gs) ≡ false
+    by rest true e = (λ i. (sym (at_partner to x) ∙ apart x e) i || rest i)
+    by rest false e = rest
+
+is_lt-apart : (t : Ordering) → is_lt t ≡ true → is_eq t ≡ false
+is_lt-apart Less h = refl
+is_lt-apart Equal h = cc
+is_lt-apart Greater h = cc
+
+is_gt-apart : (t : Ordering) → is_gt t ≡ true → is_eq t ≡ false
+is_gt-apart Less h = cc
+is_gt-apart Equal h = cc
+is_gt-apart Greater h = refl
+
+any_append : (q : Grant → Bool) (xs ys : List Grant) → list_any q xs ≡ false → list_any q ys ≡ false → list_any q (xs ++ ys) ≡ false
+any_append q xs ys first last = list_any-append q xs ys first last
+
+revoked : (to : Text) (gs : List Grant) → list_any (is_grant_to to) (with_row text_cmp grant_key to None gs) ≡ false
+revoked to gs =
+    let before = filter (is_before text_cmp grant_key to) gs in
+    let after = filter (is_after text_cmp grant_key to) gs in
+    any_append (is_grant_to to) (before ++ []) after
+    (any_append (is_grant_to to) before [] (none_left to gs (is_before text_cmp grant_key to) (λ x h. is_lt-apart (text_cmp (grant_key x) to) h)) refl)
+    (none_left to gs (is_after text_cmp grant_key to) (λ x h. is_gt-apart (text_cmp (grant_key x) to) h))
+
+regranted_key : (k : Key) (gs : List Grant) (rows : List GroupRow) (x : GroupRow) → option_map (λ (y : GroupRow). record y { grants = gs }) (find (is_row k) rows) ≡ Some x → row_key x ≡ k
+regranted_key k gs rows x is = by (find (is_row k) rows) refl is
+  where
+    by : (o : Option GroupRow) → find (is_row k) rows ≡ o → option_map (λ (y : GroupRow). record y { grants = gs }) o ≡ Some x → row_key x ≡ k
+    by None e h = cc
+    by (Some y) e h =
+        let z : GroupRow = record y { grants = gs } in
+        let same : z ≡ x = cc in
+        ap row_key (sym same) ∙ key_at k y (found_at (is_row k) rows y e)
+
+-- one partner's grant on the group of a key, and the names under him and its owner
+module _ (k : Key) (to : Text) (l : Option Level) (gs : List Grant) (names : List Text) (es : List Names) (rows : List GroupRow)
+    (grants : gs ≡ with_row text_cmp grant_key to (grant_for to l) (grants_of (find (is_row k) rows))) (listed : names ≡ relisted k.1 l (names_at (to, k.0) es)) (kept : KeepsGranted es rows) where
+  abbrev under : Key
+  under = (to, k.0)
+
+  abbrev fs : List Names
+  fs = with_row key_cmp entry_key under (Some (record { key = under; value = names })) es
+
+  under_is : names_at under fs ≡ names
+  under_is = ap value_of (find_same key_cmp entry_key key_total under (Some (record { key = under; value = names })) es (keyed_row under names))
+
+  elsewhere : (i : Key) → is_eq (key_cmp i under) ≡ false → names_at i fs ≡ names_at i es
+  elsewhere i e = ap value_of (find_other key_cmp entry_key key_total i under (Some (record { key = under; value = names })) es (keyed_row under names) e)
+
+  -- a name of another group stays
+  stays : (p : Text) (j : Key) → is_eq (key_cmp j k) ≡ false → has_name j.1 (names_at (p, j.0) es) ≡ true → has_name j.1 (names_at (p, j.0) fs) ≡ true
+  stays p j other has = by (is_eq (key_cmp (p, j.0) under)) refl
+    where
+      by : (t : Bool) → is_eq (key_cmp (p, j.0) under) ≡ t → has_name j.1 (names_at (p, j.0) fs) ≡ true
+      by false e = ap (has_name j.1) (elsewhere (p, j.0) e) ∙ has
+      by true e =
+          let at : (p, j.0) ≡ under = key_is (p, j.0) under true e refl in
+          let owner : j.0 ≡ k.0 = ap (λ (i : Key). i.1) at in
+          ap (λ (i : Key). has_name j.1 (names_at i fs)) at
+          ∙ ap (has_name j.1) (under_is ∙ listed)
+          ∙ relisted_keeps j.1 k.1 l (names_at under es) (apart owner (bytes_eq k.1 j.1) refl) (ap (λ (i : Key). has_name j.1 (names_at i es)) (sym at) ∙ has)
+        where
+          apart : j.0 ≡ k.0 → (t : Bool) → bytes_eq k.1 j.1 ≡ t → t ≡ false
+          apart owner false f = refl
+          apart owner true f =
+              let name : k.1 ≡ j.1 = (bytes_eq-Decides k.1 j.1).0 f in
+              let one : same_key k j ≡ true = (λ i. bytes_eq (owner i) k.0 && bytes_eq (sym name i) k.1) ∙ (λ i. itself k.0 i && itself k.1 i) in
+              absurd (false≢true (sym (same_as j k ∙ other) ∙ one))
+
+  -- who is granted the group finds its name
+  granted_there : (p : Text) (x : GroupRow) → find (is_row k) rows ≡ Some x → list_any (is_grant_to p) gs ≡ true → has_name k.1 (names_at (p, k.0) fs) ≡ true
+  granted_there p x found granted = by (bytes_eq to p) refl
+    where
+      new : (m : Option Level) → l ≡ m → to ≡ p → has_name k.1 (names_at (p, k.0) fs) ≡ true
+      new None e same =
+          let none : list_any (is_grant_to p) gs ≡ false = ap (λ q. list_any (is_grant_to q) gs) (sym same) ∙ ap (list_any (is_grant_to to)) (grants ∙ ap (λ m. with_row text_cmp grant_key to (grant_for to m) (grants_of (find (is_row k) rows))) e) ∙ revoked to (grants_of (find (is_row k) rows)) in
+          absurd (false≢true (sym none ∙ granted))
+      new (Some m) e same =
+          ap (λ q. has_name k.1 (names_at (q, k.0) fs)) (sym same)
+          ∙ ap (has_name k.1) (under_is ∙ listed ∙ ap (λ o. relisted k.1 o (names_at under es)) e)
+          ∙ relisted_has k.1 m (names_at under es)
+
+      by : (t : Bool) → bytes_eq to p ≡ t → has_name k.1 (names_at (p, k.0) fs) ≡ true
+      by true e = new l refl ((bytes_eq-Decides to p).0 e)
+      by false e =
+          let before : list_any (is_grant_to p) x.grants ≡ true =
+          ap (λ o. list_any (is_grant_to p) (grants_of o)) (sym found)
+          ∙ sym (any-with_row text_cmp grant_key nat_list_cmp_total (is_grant_to p) to (other_partner p to e) (grant_for to l) (grants_of (find (is_row k) rows)) (new_other p to l e))
+          ∙ ap (list_any (is_grant_to p)) (sym grants) ∙ granted in
+          ap (has_name k.1) (elsewhere (p, k.0) (apart (is_eq (key_cmp (p, k.0) under)) refl)) ∙ kept p k x found before
+        where
+          apart : (t : Bool) → is_eq (key_cmp (p, k.0) under) ≡ t → t ≡ false
+          apart false f = refl
+          apart true f =
+              let who : p ≡ to = ap (λ (i : Key). i.0) (key_is (p, k.0) under true f refl) in
+              absurd (false≢true (sym e ∙ (bytes_eq-Decides to p).1 (sym who)))
+
+  pub regrant_keeps : KeepsGranted fs (rewritten k (λ x. record x { grants = gs }) rows)
+  regrant_keeps p j g found granted = by (is_eq (key_cmp j k)) refl
+    where
+      changed : Option GroupRow
+      changed = option_map (λ (y : GroupRow). record y { grants = gs }) (find (is_row k) rows)
+
+      there : (o : Option GroupRow) → find (is_row k) rows ≡ o → option_map (λ (y : GroupRow). record y { grants = gs }) o ≡ Some g → has_name k.1 (names_at (p, k.0) fs) ≡ true
+      there None e h = cc
+      there (Some x) e h =
+          let z : GroupRow = record x { grants = gs } in
+          let same : z ≡ g = cc in
+          granted_there p x e (ap (is_granted p) same ∙ granted)
+
+      by : (t : Bool) → is_eq (key_cmp j k) ≡ t → has_name j.1 (names_at (p, j.0) fs) ≡ true
+      by false e = stays p j e (kept p j g (sym (find_other key_cmp row_key key_total j k changed rows (regranted_key k gs rows) e) ∙ found) granted)
+      by true e =
+          let at : j ≡ k = key_is j k true e refl in
+          let is : changed ≡ Some g = sym (find_same key_cmp row_key key_total k changed rows (regranted_key k gs rows)) ∙ ap (λ i. find (is_row i) (rewritten k (λ x. record x { grants = gs }) rows)) (sym at) ∙ found in
+          ap (λ (i : Key). has_name i.1 (names_at (p, i.0) fs)) at ∙ there (find (is_row k) rows) refl is
+
+-- ---- one partner's part
+
+pub any_found : {X : Type 0} (q r : X → Bool) (xs : List X) (x : X) → find q xs ≡ Some x → r x ≡ true → list_any r xs ≡ true
+any_found q r [] x found holds = cc
+any_found {X = X} q r (y ∷ ys) x found holds = by (q y) refl found (any_found q r ys x)
+  where
+    by : (t : Bool) → q y ≡ t → (if t then Some y else find q ys) ≡ Some x → (find q ys ≡ Some x → r x ≡ true → list_any r ys ≡ true) → (r y || list_any r ys) ≡ true
+    by true e f rest = let same : y ≡ x = cc in ap (λ t. t || list_any r ys) (ap r same ∙ holds)
+    by false e f rest = ap (λ t. r y || t) (rest f holds) ∙ or_true (r y)
+
+pub tells_whole : (p : Text) (es : List Names) (gs : List GroupRow) → KeepsGranted es gs → TellsGranted p (granted_of p es) gs
+tells_whole p es gs kept k g found granted = by (find (is_entry (p, k.0)) es) refl
+  where
+    has : has_name k.1 (names_at (p, k.0) es) ≡ true
+    has = kept p k g found granted
+
+    his : (x : Names) → is_entry (p, k.0) x ≡ true → bytes_eq x.key.0 p ≡ true
+    his x at = ap (λ (i : Key). bytes_eq i.0 p) (entry_at (p, k.0) x at) ∙ itself p
+
+    by : (o : Option Names) → find (is_entry (p, k.0)) es ≡ o → list_any (tells k) (granted_of p es) ≡ true
+    by None e = let none : false ≡ true = sym (ap (λ o. has_name k.1 (value_of o)) e) ∙ has in absurd (false≢true none)
+    by (Some x) e =
+        let there = find-kept (is_entry (p, k.0)) (λ y. bytes_eq y.key.0 p) his es ∙ e in
+        let at : entry_key x ≡ (p, k.0) = entry_at (p, k.0) x (found_at (is_entry (p, k.0)) es x e) in
+        let owner : bytes_eq x.key.1 k.0 ≡ true = ap (λ (i : Key). bytes_eq i.1 k.0) at ∙ itself k.0 in
+        let name : has_name k.1 x.value ≡ true = ap (λ o. has_name k.1 (value_of o)) (sym e) ∙ has in
+        any_found (is_entry (p, k.0)) (tells k) (granted_of p es) x there (λ i. owner i && name i)

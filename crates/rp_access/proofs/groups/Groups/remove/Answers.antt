@@ -1,0 +1,9 @@
+use Rattle.std.proofs.Common.{subst, sym}
+use Rattle.rp_access.specs.Granted.{KeepsGranted}
+use Rattle.rp_access.proofs.Names.{remove_keeps}
+use Rattle.rp_access.proofs.groups.Groups.remove.Goals as goal
+
+pub invariant_of-self : goal.invariant_of-self
+invariant_of-self c =
+    let g = c.self.inside in
+    subst (KeepsGranted c.forget.new.granted.entries) (sym c.remove.ensures) (remove_keeps c.args.key.now g.granted.entries c.forget.new.granted.entries g.table.rows c.self.invariant c.forget.ensures)

@@ -1,0 +1,41 @@
+-- The models that count in a group, found by a walk over its members.
+use Rattle.std.specs.Prelude.{Bool, false, List, [], ◌∷◌, map, Option, Some, None, if◌then◌else◌}
+use Rattle.std.specs.List.{find}
+use Rattle.sorted_tables.specs.Table.{IsAscending}
+use Rattle.rp_rows.specs.declared.rows.Listing.{Listing}
+use Rattle.rp_rows.specs.Rows.{Key, key_cmp, is_row, Model, GroupRow}
+use Rattle.rp_rows.specs.Sight.{counts}
+use Rattle.rp_access.specs.declared.members.Member.{Member}
+
+abbrev pub key_itself : Key → Key
+key_itself k = k
+
+-- its members stand in the order of owner and name, each once
+abbrev pub IsListed : Listing → Type 0
+IsListed g = IsAscending key_cmp key_itself g.members
+
+-- a model that was looked up, if it counts
+abbrev pub counting : GroupRow → Option Model → List Model
+counting g None = []
+counting g (Some m) = if counts m g then m ∷ [] else []
+
+-- the model at a key, if it counts
+abbrev pub counted_at : List Model → GroupRow → Key → List Model
+counted_at ms g k = counting g (find (is_row k) ms)
+
+-- ---- members
+
+abbrev pub is_counting : GroupRow → Option Model → Bool
+is_counting g None = false
+is_counting g (Some m) = counts m g
+
+-- a model that a group lists, and whether it counts
+abbrev pub member_in : List Model → GroupRow → Key → Key × Bool
+member_in ms g k = (k, is_counting g (find (is_row k) ms))
+
+abbrev pub members_in : List Model → Option GroupRow → List (Key × Bool)
+members_in ms None = []
+members_in ms (Some g) = map (member_in ms g) g.holds.members
+
+abbrev pub member_of : Member → Key × Bool
+member_of m = (m.model.now, m.counts)

@@ -1,0 +1,73 @@
+//! Why a change of models, groups and rights isn't made.
+
+ghost use Rattle.std.specs.Prelude.{◌≡◌, option_map};
+ghost use Rattle.std.specs.List.{find};
+ghost use Rattle.rp_rows.specs.Rows.{is_row};
+ghost use Rattle.rp_tables.specs.Stored.{row_of};
+ghost use Rattle.rp_access.specs.Changes as changes;
+
+use crate::changes::AccessFault;
+use crate::sight::has_key;
+use rp_rows::rows::{Key, Listing};
+use rp_tables::{RowRef, Table};
+
+/// The most models and the most groups of one owner.
+const MAX_ITEMS: usize = 100;
+
+/// The most members of a group.
+const MAX_MEMBERS: usize = 50;
+
+/// Of an item that is there, or whose owner has as many as he may.
+pub fn is_new<A>(key: &Key, table: &Table<A>) -> Option<AccessFault>
+    ensures { result ≡ changes.is_new key.now table.now.rows }
+{
+    if table.find(key).is_some() {
+        return Some(AccessFault::Exists);
+    }
+    if table.count_of(&key.0) >= MAX_ITEMS {
+        return Some(AccessFault::TooMany);
+    }
+    None
+}
+
+/// Of an item that isn't there.
+pub fn is_there<A>(key: &Key, table: &Table<A>) -> Option<AccessFault>
+    ensures { result ≡ changes.is_there key.now table.now.rows }
+{
+    if table.find(key).is_some() {
+        None
+    } else {
+        Some(AccessFault::Absent)
+    }
+}
+
+/// Of a group that isn't there, or can't list the model more.
+pub fn is_listable(model: &Key, group: Option<RowRef<'_, Listing>>) -> Option<AccessFault>
+    ensures { result ≡ changes.is_listable model.now (option_map row_of group.entry) }
+{
+    let Some(group) = group else {
+        return Some(AccessFault::Absent);
+    };
+    let members = group.holds.members.as_slice();
+    if has_key(model, members) {
+        return Some(AccessFault::Membership);
+    }
+    if members.len() >= MAX_MEMBERS {
+        return Some(AccessFault::TooMany);
+    }
+    None
+}
+
+/// Of a group that isn't there, or doesn't list the model.
+pub fn is_unlistable(model: &Key, group: Option<RowRef<'_, Listing>>) -> Option<AccessFault>
+    ensures { result ≡ changes.is_unlistable model.now (option_map row_of group.entry) }
+{
+    let Some(group) = group else {
+        return Some(AccessFault::Absent);
+    };
+    if has_key(model, group.holds.members.as_slice()) {
+        None
+    } else {
+        Some(AccessFault::Membership)
+    }
+}

@@ -1,0 +1,124 @@
+//! What a partner may do with a row, and what he sees.
+
+ghost use Rattle.std.specs.Prelude.{◌≡◌, option_copied};
+ghost use Rattle.std.specs.List.{list_any, find};
+ghost use Rattle.rp_rows.specs.Sight as sight;
+ghost use Rattle.rp_rows.specs.Rows.{key_cmp, same_key};
+ghost use Rattle.rp_tables.specs.Stored.{row_of};
+
+use plain_data::Text;
+use rp_rows::rows::{Grant, Key, Level, Listing, ModelContent, Right};
+use rp_tables::RowRef;
+use std::cmp::Ordering;
+
+pub fn owns<A>(caller: &Text, row: &RowRef<'_, A>) -> bool
+    ensures { result ≡ sight.owns caller.now (row_of row.now) }
+{
+    row.key.0.is(caller)
+}
+
+pub fn grant_to<'a>(caller: &Text, grants: &'a [Grant]) -> Option<&'a Grant>
+    ensures { option_copied result ≡ find (sight.is_grant_to caller.now) grants.now }
+{
+    grants.iter().find(|grant| grant.partner.is(caller))
+}
+
+pub fn is_granted(caller: &Text, grants: &[Grant]) -> bool
+    ensures { result ≡ list_any (sight.is_grant_to caller.now) grants.now }
+{
+    grants.iter().any(|grant| grant.partner.is(caller))
+}
+
+pub fn sees_group(caller: &Text, group: &RowRef<'_, Listing>) -> bool
+    ensures { result ≡ sight.sees_group caller.now (row_of group.now) }
+{
+    owns(caller, group) || is_granted(caller, group.grants)
+}
+
+pub fn group_right(caller: &Text, group: &RowRef<'_, Listing>) -> Right
+    ensures { result ≡ sight.group_right caller.now (row_of group.now) }
+{
+    if owns(caller, group) {
+        Right::Owns
+    } else if is_granted(caller, group.grants) {
+        Right::Reads
+    } else {
+        Right::Unseen
+    }
+}
+
+pub fn key_order(key: &Key, other: &Key) -> Ordering
+    ensures { result ≡ key_cmp key.now other.now }
+{
+    key.0.order(&other.0).then(key.1.order(&other.1))
+}
+
+pub fn is_same_key(key: &Key, other: &Key) -> bool
+    ensures { result ≡ same_key key.now other.now }
+{
+    other.0.is(&key.0) && other.1.is(&key.1)
+}
+
+pub fn has_key(key: &Key, keys: &[Key]) -> bool
+    ensures { result ≡ list_any (same_key key.now) keys.now }
+{
+    keys.iter().any(|other| is_same_key(key, other))
+}
+
+fn is_group_level(level: Level) -> bool
+    ensures { result ≡ sight.is_group_level level }
+{
+    match level {
+        Level::Read => false,
+        Level::Group | Level::Write => true,
+    }
+}
+
+fn is_granted_group(partner: &Text, grants: &[Grant]) -> bool
+    ensures { result ≡ list_any (sight.is_group_grant partner.now) grants.now }
+{
+    grants.iter().any(|grant| grant.partner.is(partner) && is_group_level(grant.level))
+}
+
+fn may_group(partner: &Text, model: &RowRef<'_, ModelContent>) -> bool
+    ensures { result ≡ sight.may_group partner.now (row_of model.now) }
+{
+    owns(partner, model) || is_granted_group(partner, model.grants)
+}
+
+/// Whether the model counts in the group.
+pub fn counts(model: &RowRef<'_, ModelContent>, group: &RowRef<'_, Listing>) -> bool
+    ensures { result ≡ sight.counts (row_of model.now) (row_of group.now) }
+{
+    has_key(model.key, group.holds.members.as_slice())
+        && model.holds.schema.is(&group.holds.schema)
+        && may_group(&group.key.0, model)
+}
+
+pub fn right_of(level: Level) -> Right
+    ensures { result ≡ sight.right_of level }
+{
+    match level {
+        Level::Read => Right::Reads,
+        Level::Group => Right::Groups,
+        Level::Write => Right::Writes,
+    }
+}
+
+fn rank(right: Right) -> usize
+    ensures { result ≡ sight.rank right }
+{
+    match right {
+        Right::Unseen => 0,
+        Right::Reads => 1,
+        Right::Groups => 2,
+        Right::Writes => 3,
+        Right::Owns => 4,
+    }
+}
+
+pub fn at_least(needed: Right, right: Right) -> bool
+    ensures { result ≡ sight.at_least needed right }
+{
+    rank(needed) <= rank(right)
+}

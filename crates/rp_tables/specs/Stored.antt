@@ -1,0 +1,56 @@
+-- A table of what is held, and beside it one of the grants under the same keys: the rows that the two make.
+use Rattle.std.specs.Prelude.{◌≡◌, ℕ, ◌<◌, true, List, [], ◌∷◌, length, map, filter, Some, is_some, option_map}
+use Rattle.std.specs.List.{find}
+use Rattle.sorted_tables.specs.Table.{is_before, with_row, IsAscending}
+use Rattle.rp_rows.specs.declared.rows.Grant.{Grant}
+use Rattle.rp_rows.specs.Rows.{Key, key_cmp, Row, row_key, is_row}
+use Rattle.rp_tables.specs.declared.keyed.Entry.{Entry}
+use Rattle.rp_tables.specs.declared.table.RowRef.{RowRef}
+use Rattle.rp_tables.specs.Entries.{entry_key}
+
+abbrev pub joined_row : {A : Type 0} → Entry A → Entry (List Grant) → Row A
+joined_row x y = record { owner = x.key.0; name = x.key.1; holds = x.value; grants = y.value }
+
+abbrev pub joined : {A : Type 0} → List (Entry A) → List (Entry (List Grant)) → List (Row A)
+joined [] rights = []
+joined (x ∷ xs) [] = []
+joined (x ∷ xs) (y ∷ rights) = joined_row x y ∷ joined xs rights
+
+-- the rows, and for how many more there is room in each half
+pub record Stored (A : Type 0) : Type 0 where
+  pub rows : List (Row A)
+  pub room : ℕ
+  pub right_room : ℕ
+
+-- both halves have the same keys, in order
+pub record IsTable {A : Type 0} (held : List (Entry A)) (rights : List (Entry (List Grant))) : Type 0 where
+  pub same : map entry_key held ≡ map entry_key rights
+  pub order : IsAscending key_cmp entry_key held
+  pub right_order : IsAscending key_cmp entry_key rights
+
+-- the row at a key, changed so
+abbrev pub rewritten : {A : Type 0} → Key → (Row A → Row A) → List (Row A) → List (Row A)
+rewritten k f rows = with_row key_cmp row_key k (option_map f (find (is_row k) rows)) rows
+
+-- the row with what it holds changed so
+abbrev pub reheld : {A : Type 0} → (A → A) → Row A → Row A
+reheld f x = record x { holds = f x.holds }
+
+-- what is held at a key, if anything is, is such
+abbrev pub HasRowAt : {A : Type 0} → (A → Type 0) → Key → List (Row A) → Type 0
+HasRowAt {A = A} P k rows = (x : Row A) → find (is_row k) rows ≡ Some x → P x.holds
+
+-- there is room for one more row
+abbrev pub HasRoom : {A : Type 0} → Stored A → Type 0
+HasRoom t = (0 < t.room) × (0 < t.right_room)
+
+-- a row as it is looked at
+abbrev pub row_of : {A : Type 0} → RowRef A → Row A
+row_of r = record { owner = r.key.now.0; name = r.key.now.1; holds = r.holds.now; grants = r.grants.now }
+
+-- the row at a key stands at this place
+pub record IsRowThere {A : Type 0} (k : Key) (rows : List (Row A)) (place : ℕ) : Type 0 where
+  pub order : IsAscending key_cmp row_key rows
+  pub is : place ≡ length (filter (is_before key_cmp row_key k) rows)
+  pub within : place < length rows
+  pub found : is_some (find (is_row k) rows) ≡ true
