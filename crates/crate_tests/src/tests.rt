@@ -4,5 +4,6 @@ mod attributes;
 mod decimals;
 mod devices;
 mod legal;
+mod rights;
 mod strings;
 mod values;
