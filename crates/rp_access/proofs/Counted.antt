@@ -14,7 +14,8 @@ use Rattle.sorted_tables.proofs.Ascending.{is_gt-true, follows_all, none_there}
 use Rattle.rp_rows.specs.Rows.{Text, text_cmp, Key, key_cmp, same_key, row_key, is_row, Model, GroupRow}
 use Rattle.rp_rows.specs.Sight.{counts, lists, may_group}
 use Rattle.rp_rows.proofs.Keys.{key_total}
-use Rattle.rp_access.specs.Listed.{key_itself, counted_at}
+use Rattle.rp_rows.specs.Listings.{itself}
+use Rattle.rp_access.specs.Listed.{counted_at}
 
 same_at : (k : Key) (m : Model) → same_key k (row_key m) ≡ is_row k m
 same_at k m =
@@ -59,7 +60,7 @@ not_later k m (j ∷ ks) low all = rw (ap is_eq (less (key_cmp (row_key m) k) re
     less Greater e h = cc
 
 -- one model more is found under its own key alone
-one_more : (g : GroupRow) (m : Model) (ms : List Model) (ks : List Key) → IsAscending key_cmp row_key (m ∷ ms) → IsAscending key_cmp key_itself ks
+one_more : (g : GroupRow) (m : Model) (ms : List Model) (ks : List Key) → IsAscending key_cmp row_key (m ∷ ms) → IsAscending key_cmp itself ks
     → flat_map (counted_at (m ∷ ms) g) ks ≡ (if has_key ks m && counts m g then m ∷ [] else []) ++ flat_map (counted_at ms g) ks
 one_more g m ms [] order listed = refl
 one_more g m ms (k ∷ ks) order listed = by (one_more g m ms ks order listed.1) (key_cmp (row_key m) k) refl
@@ -77,7 +78,7 @@ one_more g m ms (k ∷ ks) order listed = by (one_more g m ms ks order listed.1)
         rw (ap is_eq e, no_more (ap is_lt e)) (ap (λ xs. (if counts m g then m ∷ [] else []) ++ xs) (rw none at rest))
     by rest Greater e = rw (ap is_eq e, no_more (ap is_lt e)) rest
 
-walked : (g : GroupRow) (ms : List Model) (ks : List Key) → IsAscending key_cmp row_key ms → IsAscending key_cmp key_itself ks → flat_map (counted_at ms g) ks ≡ filter (λ m. has_key ks m && counts m g) ms
+walked : (g : GroupRow) (ms : List Model) (ks : List Key) → IsAscending key_cmp row_key ms → IsAscending key_cmp itself ks → flat_map (counted_at ms g) ks ≡ filter (λ m. has_key ks m && counts m g) ms
 walked g [] ks order listed = nothing ks
   where
     nothing : (ks : List Key) → flat_map (counted_at [] g) ks ≡ []
@@ -103,5 +104,5 @@ same_filter p q same [] = refl
 same_filter p q same (m ∷ ms) = (λ i. if same m i then m ∷ filter p ms else filter p ms) ∙ ap (λ ns. if q m then m ∷ ns else ns) (same_filter p q same ms)
 
 -- the models that count are found by a walk over the members
-pub counted_walk : (g : GroupRow) (ms : List Model) → IsAscending key_cmp row_key ms → IsAscending key_cmp key_itself g.holds.members → flat_map (counted_at ms g) g.holds.members ≡ filter (λ m. counts m g) ms
+pub counted_walk : (g : GroupRow) (ms : List Model) → IsAscending key_cmp row_key ms → IsAscending key_cmp itself g.holds.members → flat_map (counted_at ms g) g.holds.members ≡ filter (λ m. counts m g) ms
 counted_walk g ms order listed = walked g ms g.holds.members order listed ∙ (same_filter (λ m. has_key g.holds.members m && counts m g) (λ m. counts m g) (listed_counts g) ms)

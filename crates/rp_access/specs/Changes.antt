@@ -1,39 +1,20 @@
 -- Changes of models and groups and of who may do what with them: what each makes of the rows, and why it is refused.
 use Rattle.std.specs.Prelude.{Bool, nat_le, List, [], ◌∷◌, length, filter, Option, Some, None, is_some, ℕ, if◌then◌else◌}
-use Rattle.std.specs.List.{find, list_any}
+use Rattle.std.specs.List.{find}
 use Rattle.std.specs.Str.{bytes_eq}
-use Rattle.sorted_tables.specs.Table.{with_row}
 use Rattle.rp_rows.specs.declared.rows.Level.{Level}
 use Rattle.rp_rows.specs.declared.rows.Level.TheVariants.{Read}
 use Rattle.rp_rows.specs.declared.rows.Listing.{Listing}
 use Rattle.rp_rows.specs.declared.rows.Right.{Right}
 use Rattle.rp_rows.specs.declared.rows.Right.TheVariants.{Unseen, Owns}
-use Rattle.rp_rows.specs.Rows.{Text, Key, key_cmp, same_key, Row, is_row, Model, GroupRow}
+use Rattle.rp_rows.specs.Rows.{Text, Key, Row, is_row, Model, GroupRow}
+use Rattle.rp_rows.specs.Listings.{max_models, max_groups, max_members, is_among, with_member, without_member}
 use Rattle.rp_rows.specs.Sight.{owns, is_grant_to, granted_right, level, group_right}
 use Rattle.rp_rows.specs.Alterations.{Alteration, Holds, Grants, altered}
 use Rattle.rp_access.specs.declared.changes.Change.{Change}
 use Rattle.rp_access.specs.declared.changes.Change.TheVariants.{CreateModel, CreateGroup, RemoveModel, RemoveGroup, GrantModel, GrantGroup, RevokeModel, RevokeGroup, Include, Exclude}
 use Rattle.rp_access.specs.declared.changes.AccessFault.{AccessFault}
 use Rattle.rp_access.specs.declared.changes.AccessFault.TheVariants.{Exists, Absent, Membership, TooMany}
-use Rattle.rp_access.specs.Listed.{key_itself}
-
--- the models and the groups of one owner, and the members of a group
-abbrev pub max_items : ℕ
-max_items = 100
-
-abbrev pub max_members : ℕ
-max_members = 50
-
--- ---- what a group lists
-
-abbrev pub with_member : Key → Listing → Listing
-with_member k g = record g { members = with_row key_cmp key_itself k (Some k) g.members }
-
-abbrev pub without_member : Key → Listing → Listing
-without_member k g = record g { members = with_row key_cmp key_itself k None g.members }
-
-abbrev pub lists_key : Key → GroupRow → Bool
-lists_key k g = list_any (same_key k) g.holds.members
 
 -- ---- what a change makes of the rows
 
@@ -63,24 +44,25 @@ groups_after _ gs = gs
 
 -- ---- why it is refused
 
-abbrev pub is_new : {A : Type 0} → Key → List (Row A) → Option AccessFault
-is_new k rows = if is_some (find (is_row k) rows) then Some Exists else (if nat_le max_items (length (filter (owns k.0) rows)) then Some TooMany else None)
+-- there are `most` of one owner
+abbrev pub is_new : {A : Type 0} → ℕ → Key → List (Row A) → Option AccessFault
+is_new most k rows = if is_some (find (is_row k) rows) then Some Exists else (if nat_le most (length (filter (owns k.0) rows)) then Some TooMany else None)
 
 abbrev pub is_there : {A : Type 0} → Key → List (Row A) → Option AccessFault
 is_there k rows = if is_some (find (is_row k) rows) then None else Some Absent
 
 abbrev pub is_listable : Key → Option GroupRow → Option AccessFault
 is_listable m None = Some Absent
-is_listable m (Some g) = if lists_key m g then Some Membership else (if nat_le max_members (length g.holds.members) then Some TooMany else None)
+is_listable m (Some g) = if is_among m g.holds.members then Some Membership else (if nat_le max_members (length g.holds.members) then Some TooMany else None)
 
 abbrev pub is_unlistable : Key → Option GroupRow → Option AccessFault
 is_unlistable m None = Some Absent
-is_unlistable m (Some g) = if lists_key m g then None else Some Membership
+is_unlistable m (Some g) = if is_among m g.holds.members then None else Some Membership
 
 -- a model that is included is there; one that is excluded isn't looked at
 abbrev pub fault : List Model → List GroupRow → Change → Option AccessFault
-fault ms gs (CreateModel k a) = is_new k ms
-fault ms gs (CreateGroup k schema) = is_new k gs
+fault ms gs (CreateModel k a) = is_new max_models k ms
+fault ms gs (CreateGroup k schema) = is_new max_groups k gs
 fault ms gs (RemoveModel k) = is_there k ms
 fault ms gs (RemoveGroup k) = is_there k gs
 fault ms gs (GrantModel k to l) = is_there k ms

@@ -1,18 +1,9 @@
 -- The models that count in a group, found by a walk over its members.
 use Rattle.std.specs.Prelude.{Bool, false, List, [], ◌∷◌, map, Option, Some, None, if◌then◌else◌}
 use Rattle.std.specs.List.{find}
-use Rattle.sorted_tables.specs.Table.{IsAscending}
-use Rattle.rp_rows.specs.declared.rows.Listing.{Listing}
-use Rattle.rp_rows.specs.Rows.{Key, key_cmp, is_row, Model, GroupRow}
+use Rattle.rp_rows.specs.Rows.{Key, is_row, Model, GroupRow}
 use Rattle.rp_rows.specs.Sight.{counts}
 use Rattle.rp_access.specs.declared.members.Member.{Member}
-
-abbrev pub key_itself : Key → Key
-key_itself k = k
-
--- its members stand in the order of owner and name, each once
-abbrev pub IsListed : Listing → Type 0
-IsListed g = IsAscending key_cmp key_itself g.members
 
 -- a model that was looked up, if it counts
 abbrev pub counting : GroupRow → Option Model → List Model

@@ -15,6 +15,7 @@ use crate::steps::{
 use crate::visible::{Seen, visible_groups, visible_models};
 use plain_data::{Rows, Text};
 use rp_content::Instance;
+use rp_rows::limits::{MAX_GROUPS, MAX_MODELS};
 use rp_rows::rows::{Key, Level, Listing, ModelContent, Right};
 use rp_tables::Table;
 use std::alloc::{AllocError, Global};
@@ -60,13 +61,14 @@ impl Access {
     ghost use Rattle.std.specs.List.{find};
     ghost use Rattle.std.specs.Vec.{vec_capacity};
     ghost use Rattle.rp_rows.specs.Rows.{is_row};
+    ghost use Rattle.rp_rows.specs.Listings.{with_member, without_member};
     ghost use Rattle.rp_rows.specs.Instances.{with_instance, without_instance};
     ghost use Rattle.rp_rows.specs.Sight as sight;
     ghost use Rattle.rp_rows.specs.Alterations.{altered};
     ghost use Rattle.rp_tables.specs.Named.{IsNamed, HasRoomIn};
     ghost use Rattle.rp_tables.specs.Stored.{rewritten, reheld, HasRowAt};
     ghost use Rattle.rp_access.specs.Listed.{members_in, member_of};
-    ghost use Rattle.rp_access.specs.Changes.{models_after, groups_after, fault, granted, relisted_at, with_member, without_member, right_on_model, right_on_group, seen_model, seen_group};
+    ghost use Rattle.rp_access.specs.Changes.{models_after, groups_after, fault, granted, relisted_at, right_on_model, right_on_group, seen_model, seen_group};
     ghost use Rattle.rp_access.specs.declared.changes.AccessFault.TheVariants.{NoMemory};
     ghost use Rattle.rp_access.specs.Prepared.{prepared_models, prepared_groups, PreparedFits, seen_of};
     ghost use Rattle.rp_access.specs.Steps.{alteration_of, model_stepped, group_stepped, ModelFits, GroupFits};
@@ -225,8 +227,8 @@ impl Access {
     {
         let groups = self.groups.table();
         match change {
-            Change::CreateModel(key, _) => is_new(key, &self.models),
-            Change::CreateGroup(key, _) => is_new(key, groups),
+            Change::CreateModel(key, _) => is_new(MAX_MODELS, key, &self.models),
+            Change::CreateGroup(key, _) => is_new(MAX_GROUPS, key, groups),
             Change::RemoveModel(key)
             | Change::GrantModel(key, _, _)
             | Change::RevokeModel(key, _) => { is_there(key, &self.models) }

@@ -8,23 +8,18 @@ ghost use Rattle.rp_access.specs.Changes as changes;
 
 use crate::changes::AccessFault;
 use crate::sight::has_key;
+use rp_rows::limits::MAX_MEMBERS;
 use rp_rows::rows::{Key, Listing};
 use rp_tables::{RowRef, Table};
 
-/// The most models and the most groups of one owner.
-const MAX_ITEMS: usize = 100;
-
-/// The most members of a group.
-const MAX_MEMBERS: usize = 50;
-
 /// Of an item that is there, or whose owner has as many as he may.
-pub fn is_new<A>(key: &Key, table: &Table<A>) -> Option<AccessFault>
-    ensures { result ≡ changes.is_new key.now table.now.rows }
+pub fn is_new<A>(most: usize, key: &Key, table: &Table<A>) -> Option<AccessFault>
+    ensures { result ≡ changes.is_new most key.now table.now.rows }
 {
     if table.find(key).is_some() {
         return Some(AccessFault::Exists);
     }
-    if table.count_of(&key.0) >= MAX_ITEMS {
+    if table.count_of(&key.0) >= most {
         return Some(AccessFault::TooMany);
     }
     None

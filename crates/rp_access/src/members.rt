@@ -3,9 +3,10 @@
 ghost use Rattle.std.specs.Prelude.{◌≡◌, ◌++◌, map, filter, OnOk, IfOk};
 ghost use Rattle.std.specs.List.{find, flat_map};
 ghost use Rattle.rp_rows.specs.Rows.{is_row};
+ghost use Rattle.rp_rows.specs.Listings.{IsListed};
 ghost use Rattle.rp_rows.specs.Sight as sight;
 ghost use Rattle.rp_tables.specs.Stored.{row_of};
-ghost use Rattle.rp_access.specs.Listed.{IsListed, counted_at, is_counting, member_in, member_of};
+ghost use Rattle.rp_access.specs.Listed.{counted_at, is_counting, member_in, member_of};
 
 use crate::sight::counts;
 use rp_rows::rows::{Key, Listing, ModelContent};

@@ -3,8 +3,7 @@
 ghost use Rattle.std.specs.Prelude.{◌≡◌, ◌++◌, filter, OnOk, IfOk};
 ghost use Rattle.sorted_tables.specs.Table.{is_before, is_after};
 ghost use Rattle.rp_rows.specs.Rows.{key_cmp};
-ghost use Rattle.rp_access.specs.Listed.{key_itself};
-ghost use Rattle.rp_access.specs.Changes.{with_member, without_member};
+ghost use Rattle.rp_rows.specs.Listings.{itself, with_member, without_member};
 
 use crate::sight::key_order;
 use crate::steps::copy_key;
@@ -19,7 +18,7 @@ fn push_before(
     members: &[Key],
     out: &mut Vec<Key>,
 ) -> Result<(), AllocError>
-    ensures { OnOk result (out.new.items ≡ out.old.items ++ filter (is_before key_cmp key_itself model.now) members.now) }
+    ensures { OnOk result (out.new.items ≡ out.old.items ++ filter (is_before key_cmp itself model.now) members.now) }
 {
     for member in members {
         if key_order(member, model).is_lt() {
@@ -36,7 +35,7 @@ fn push_after(
     members: &[Key],
     out: &mut Vec<Key>,
 ) -> Result<(), AllocError>
-    ensures { OnOk result (out.new.items ≡ out.old.items ++ filter (is_after key_cmp key_itself model.now) members.now) }
+    ensures { OnOk result (out.new.items ≡ out.old.items ++ filter (is_after key_cmp itself model.now) members.now) }
 {
     for member in members {
         if key_order(member, model).is_gt() {

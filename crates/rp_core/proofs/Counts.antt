@@ -16,7 +16,6 @@ use Rattle.rp_rows.specs.Rows.{Text, text_cmp, Key, key_cmp, same_key, row_key, 
 use Rattle.rp_rows.specs.Sight.{counts, lists, may_group}
 use Rattle.rp_rows.proofs.Keys.{key_total}
 use Rattle.rp_plain.specs.Asked.{as_counted, counted_in}
-use Rattle.rp_plain.specs.Groups.{itself}
 use Rattle.rp_plain.specs.Populations.{counts_among}
 use Rattle.rp_core.proofs.Looking.{seen_found}
 

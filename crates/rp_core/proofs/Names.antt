@@ -18,7 +18,7 @@ use Rattle.rp_plain.specs.Plain.{Plain, model_at, group_at}
 use Rattle.rp_plain.specs.Asked.{asked, held}
 use Rattle.rp_tables.specs.Named.{IsNamed, HoldsNamed}
 use Rattle.rp_core.specs.Named.{AreNamed, TellsNamed}
-use Rattle.rp_access.specs.Listed.{IsListed}
+use Rattle.rp_rows.specs.Listings.{IsListed}
 use Rattle.rp_core.specs.Listed.{HoldsListed, AreListed, TellsListed}
 
 -- what is read at a place stands there

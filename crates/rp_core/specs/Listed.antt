@@ -4,15 +4,13 @@ use Rattle.std.specs.List.{find, AllByRecursion}
 use Rattle.sorted_tables.specs.Table.{IsAscending}
 use Rattle.rp_rows.specs.declared.rows.Listing.{Listing}
 use Rattle.rp_rows.specs.Rows.{Key, key_cmp, is_row, Model, GroupRow}
-use Rattle.rp_rows.specs.Sight.{counts}
+use Rattle.rp_rows.specs.Listings.{IsListed}
 use Rattle.rp_population.specs.Populations.{Counted}
 use Rattle.rp_plain.specs.Plain.{Plain}
-use Rattle.rp_plain.specs.Groups.{itself}
 use Rattle.rp_plain.specs.Asked.{Asked, as_counted}
 use Rattle.rp_rows.specs.declared.rows.ModelContent.{ModelContent}
 use Rattle.rp_tables.specs.declared.table.RowRef.{RowRef}
 use Rattle.rp_tables.specs.Stored.{row_of}
-use Rattle.rp_access.specs.Listed.{IsListed}
 
 -- the members of the group stand in the order of owner and name, each once
 abbrev pub HoldsListed : GroupRow → Type 0

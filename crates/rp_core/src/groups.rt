@@ -10,11 +10,9 @@ use crate::models::own;
 use plain_data::{Rows, Text};
 use rp_access::{Altered, at_least};
 use rp_plain::messages::{Refusal, Reply, Request};
+use rp_rows::limits::MAX_GROUPS;
 use rp_rows::rows::{Level, Listing, Right};
 use std::alloc::Global;
-
-/// The most groups of one owner.
-const MAX_GROUPS: usize = 100;
 
 /// A group of the caller's, without members.
 pub fn plan_create_group(

@@ -17,7 +17,6 @@ mod holdings;
 mod instances;
 mod items;
 mod kept;
-mod limits;
 mod links;
 mod listings;
 mod lists;

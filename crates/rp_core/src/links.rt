@@ -13,12 +13,12 @@ ghost use Rattle.rp_core.specs.Links.{AreInOrder};
 use crate::asked::Asking;
 use crate::faults::when;
 use crate::instances::instance_named;
-use crate::limits::MAX_NAME;
 use p21_bind::{DefinedNames, Names};
 use plain_data::{Items, Rows, Text};
 use rp_access::is_same_key;
 use rp_content::{Content, Instance, Link};
 use rp_plain::messages::{LinkFault, LinkFaultKind, Refusal};
+use rp_rows::limits::MAX_NAME;
 use rp_rows::rows::Key;
 use std::alloc::{AllocError, Global};
 

@@ -5,7 +5,6 @@ ghost use Rattle.sorted_tables.specs.Table.{is_before, is_after};
 ghost use Rattle.rp_rows.specs.Rows.{key_cmp};
 ghost use Rattle.rp_plain.specs.Meaning.{first_some};
 ghost use Rattle.rp_plain.specs.Groups as of_groups;
-ghost use Rattle.rp_plain.specs.Groups.{itself};
 ghost use Rattle.rp_core.specs.Told.{told};
 ghost use Rattle.rp_core.specs.Plans.{Plans};
 
@@ -16,12 +15,10 @@ use crate::models::own;
 use plain_data::{Rows, Text};
 use rp_access::{Altered, excluding, has_key, including};
 use rp_plain::messages::{Refusal, Reply, Request};
+use rp_rows::limits::MAX_MEMBERS;
 use rp_rows::names::is_valid_name;
 use rp_rows::rows::{Key, Listing, ModelContent, Right};
 use std::alloc::{AllocError, Global};
-
-/// The most members of a group.
-const MAX_MEMBERS: usize = 50;
 
 // ---- tests
 

@@ -12,11 +12,9 @@ use plain_data::Text;
 use rp_access::{Altered, at_least};
 use rp_content::Content;
 use rp_plain::messages::{Refusal, Reply, Request};
+use rp_rows::limits::MAX_MODELS;
 use rp_rows::rows::{Key, ModelContent, Right};
 use std::alloc::{AllocError, Global};
-
-/// The most models of one owner.
-const MAX_MODELS: usize = 100;
 
 /// The caller's own name.
 pub fn own(alloc: Global, asked: &Asking<'_>, name: Text) -> Result<Key, AllocError>

@@ -17,7 +17,8 @@ use Rattle.rp_plain.specs.declared.messages.Refusal.TheVariants as refusal
 use Rattle.rp_plain.specs.Plain.{Plain, group_at}
 use Rattle.rp_plain.specs.Asked.{asked, held}
 use Rattle.rp_plain.specs.Meaning.{first_some, when, has_text, has_schema, is_no_partner}
-use Rattle.rp_plain.specs.Groups.{max_groups, max_members, new_listing, itself, with_member, without_member, members_of, member_fault, relisted}
+use Rattle.rp_rows.specs.Listings.{max_groups, max_members, itself, with_member, without_member}
+use Rattle.rp_plain.specs.Groups.{new_listing, members_of, member_fault, relisted}
 use Rattle.rp_plain.specs.Step.{meaning}
 use Rattle.rp_plain.specs.Valid.{IsValidMember, IsValidGroup, IsRead, IsValid}
 use Rattle.rp_laws.proofs.Counts.{every, count_every, count-with_row, count-without}

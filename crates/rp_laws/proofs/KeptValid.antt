@@ -31,7 +31,8 @@ use Rattle.rp_plain.specs.Plain.{Plain, model_at}
 use Rattle.rp_plain.specs.Edits.{Edit, EditModel, EditGroup}
 use Rattle.rp_plain.specs.Asked.{asked, held}
 use Rattle.rp_plain.specs.Meaning.{first_some, has_text, schema_name, has_schema, schema_named}
-use Rattle.rp_plain.specs.Models.{max_models, new_content}
+use Rattle.rp_rows.specs.Listings.{max_models}
+use Rattle.rp_plain.specs.Models.{new_content}
 use Rattle.rp_plain.specs.Links.{max_links, links_in_order, linking, no_request}
 use Rattle.rp_plain.specs.Files.{Reading, told, bound_by, read_for, read_content, ill_linked, too_many, refilled, filled}
 use Rattle.rp_plain.specs.Grants.{unless_own}

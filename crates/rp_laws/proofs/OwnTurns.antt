@@ -19,7 +19,8 @@ use Rattle.rp_plain.specs.Asked.{asked, held}
 use Rattle.rp_plain.specs.Meaning.{first_some}
 use Rattle.rp_plain.specs.Files.{Reading, read_content, filled}
 use Rattle.rp_plain.specs.Grants.{unless_own}
-use Rattle.rp_plain.specs.Groups.{with_member, without_member, relisted}
+use Rattle.rp_rows.specs.Listings.{with_member, without_member}
+use Rattle.rp_plain.specs.Groups.{relisted}
 use Rattle.rp_plain.specs.Instances.{Saying, said, next_in, placing, dropping}
 use Rattle.rp_plain.specs.Step.{meaning, outcome, answer, next}
 use Rattle.rp_plain.specs.Valid.{IsOrdered}

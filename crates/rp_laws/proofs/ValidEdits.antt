@@ -9,8 +9,7 @@ use Rattle.rp_rows.specs.Rows.{Text, Key, key_cmp}
 use Rattle.rp_plain.specs.Plain.{Plain}
 use Rattle.rp_plain.specs.Edits.{Edit, EditModel, EditGroup, edited_by, changed}
 use Rattle.rp_plain.specs.Meaning.{has_schema}
-use Rattle.rp_plain.specs.Models.{max_models}
-use Rattle.rp_plain.specs.Groups.{max_groups, max_members, itself}
+use Rattle.rp_rows.specs.Listings.{max_models, max_groups, max_members, IsListed}
 use Rattle.rp_plain.specs.Opening.{new_fault}
 use Rattle.rp_plain.specs.Valid.{IsValidContent, IsValidModel, IsValidMember, IsValidGroup, IsRead, IsValid}
 use Rattle.rp_laws.proofs.ValidTables.{all_each, IsGood, IsGoodTable, IsFit, altered_good}
@@ -20,7 +19,7 @@ use Rattle.rp_laws.proofs.ValidTables.{all_each, IsGood, IsGoodTable, IsFit, alt
 pub record IsValidListing (schemas : List Checked) (partners : List Text) (h : Listing) : Type 0 where
   pub schema : has_schema schemas h.schema ≡ true
   pub members : AllByRecursion (IsValidMember partners) h.members
-  pub order : IsAscending key_cmp itself h.members
+  pub order : IsListed h
   pub few : length h.members ≤ max_members
 
 -- under any name

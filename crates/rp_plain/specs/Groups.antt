@@ -1,13 +1,12 @@
 -- The requests that create and delete groups, and that change which models they list.
-use Rattle.std.specs.Prelude.{ℕ, Bool, not, ◌&&◌, nat_le, List, [], ◌∷◌, length, Option, Some, None}
-use Rattle.std.specs.List.{list_any}
+use Rattle.std.specs.Prelude.{Bool, not, ◌&&◌, nat_le, List, [], ◌∷◌, length, Option, Some, None}
 use Rattle.std.specs.Str.{bytes_eq, str_to_ascii_uppercase}
-use Rattle.sorted_tables.specs.Table.{with_row}
 use Rattle.rp_rows.specs.declared.rows.Listing.{Listing}
 use Rattle.rp_rows.specs.declared.rows.ModelContent.{ModelContent}
 use Rattle.rp_rows.specs.declared.rows.Right.TheVariants.{Reads, Groups}
 use Rattle.rp_rows.specs.Names.{is_name}
-use Rattle.rp_rows.specs.Rows.{Text, Key, key_cmp, same_key}
+use Rattle.rp_rows.specs.Rows.{Text, Key}
+use Rattle.rp_rows.specs.Listings.{max_groups, max_members, is_among, with_member, without_member}
 use Rattle.rp_rows.specs.Sight.{at_least}
 use Rattle.rp_rows.specs.Alterations.{Holds}
 use Rattle.rp_plain.specs.declared.messages.Refusal.{Refusal}
@@ -16,14 +15,6 @@ use Rattle.rp_plain.specs.declared.messages.Reply.TheVariants.{Done}
 use Rattle.rp_plain.specs.Asked.{Asked}
 use Rattle.rp_plain.specs.Edits.{Edit, EditGroup}
 use Rattle.rp_plain.specs.Meaning.{Meaning, when, name_fault, is_no_partner, is_no_schema, unseen, lacks}
-
--- the groups of one owner
-abbrev pub max_groups : ℕ
-max_groups = 100
-
--- the members of a group
-abbrev pub max_members : ℕ
-max_members = 50
 
 -- a group as it is created
 abbrev pub new_listing : Text → Listing
@@ -45,23 +36,12 @@ delete_group a c name = record {
 
 -- ---- members
 
-abbrev pub itself : Key → Key
-itself k = k
-
--- the list has the model from now on
-abbrev pub with_member : Key → Listing → Listing
-with_member k g = record g { members = with_row key_cmp itself k (Some k) g.members }
-
--- it has it no longer
-abbrev pub without_member : Key → Listing → Listing
-without_member k g = record g { members = with_row key_cmp itself k None g.members }
-
 abbrev pub members_of : Option Listing → List Key
 members_of None = []
 members_of (Some g) = g.members
 
 abbrev pub is_member : Key → Option Listing → Bool
-is_member k g = list_any (same_key k) (members_of g)
+is_member k g = is_among k (members_of g)
 
 -- the name of a group, and a model's
 abbrev pub member_fault : Text → Key → Option Refusal

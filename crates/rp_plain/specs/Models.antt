@@ -1,10 +1,11 @@
 -- The requests that create and delete models.
-use Rattle.std.specs.Prelude.{ℕ, nat_le, [], ◌∷◌, Some, None}
+use Rattle.std.specs.Prelude.{nat_le, [], ◌∷◌, Some, None}
 use Rattle.std.specs.Str.{str_to_ascii_uppercase}
 use Rattle.rp_content.specs.Headers.{default_header}
 use Rattle.rp_rows.specs.declared.rows.ModelContent.{ModelContent}
 use Rattle.rp_rows.specs.declared.rows.Right.TheVariants.{Reads}
 use Rattle.rp_rows.specs.Rows.{Text}
+use Rattle.rp_rows.specs.Listings.{max_models}
 use Rattle.rp_rows.specs.Sight.{at_least}
 use Rattle.rp_rows.specs.Alterations.{Holds}
 use Rattle.rp_plain.specs.declared.messages.Refusal.TheVariants.{Exists, TooMany}
@@ -12,10 +13,6 @@ use Rattle.rp_plain.specs.declared.messages.Reply.TheVariants.{Done}
 use Rattle.rp_plain.specs.Asked.{Asked}
 use Rattle.rp_plain.specs.Edits.{EditModel}
 use Rattle.rp_plain.specs.Meaning.{Meaning, when, name_fault, is_no_schema, unseen}
-
--- the models of one owner
-abbrev pub max_models : ℕ
-max_models = 100
 
 -- a model as it is created
 abbrev pub new_content : Text → ModelContent

@@ -22,14 +22,13 @@ use Rattle.rp_rows.specs.declared.rows.Grant.{Grant}
 use Rattle.rp_rows.specs.declared.rows.ModelContent.{ModelContent}
 use Rattle.rp_rows.specs.Names.{is_name}
 use Rattle.rp_rows.specs.Rows.{text_cmp, Key, key_cmp, same_key, grant_key, Row, row_key, Model, GroupRow}
+use Rattle.rp_rows.specs.Listings.{max_models, max_groups, max_members, IsListed}
 use Rattle.rp_rows.specs.Contents.{instance_name, names, link_name, greatest_of, references_of}
 use Rattle.rp_rows.specs.Instances.{max_instances, max_name}
 use Rattle.rp_rows.specs.Sight.{owns}
 use Rattle.rp_plain.specs.Plain.{Plain}
 use Rattle.rp_plain.specs.Opening.{new_fault}
 use Rattle.rp_plain.specs.Meaning.{has_text, has_schema, schema_named}
-use Rattle.rp_plain.specs.Models.{max_models}
-use Rattle.rp_plain.specs.Groups.{max_groups, max_members, itself}
 use Rattle.rp_plain.specs.Links.{max_links, target_model}
 use Rattle.rp_plain.specs.Instances.{is_defined}
 
@@ -129,8 +128,7 @@ pub record IsValidGroup (schemas : List Checked) (partners : List (List ℕ)) (g
   pub levels : AllByRecursion IsRead g.grants
   pub schema : has_schema schemas g.holds.schema ≡ true
   pub members : AllByRecursion (IsValidMember partners) g.holds.members
-  -- each once, in order
-  pub order : IsAscending key_cmp itself g.holds.members
+  pub order : IsListed g.holds
   pub few : length g.holds.members ≤ max_members
 
 -- ---- repositories

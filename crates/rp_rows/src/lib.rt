@@ -4,5 +4,6 @@
 //! one. Nothing here speaks of requests.
 #![tactic(auto)]
 
+pub mod limits;
 pub mod names;
 pub mod rows;

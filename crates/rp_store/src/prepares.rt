@@ -12,15 +12,10 @@ use crate::model::{KeptContent, KeptModel};
 use crate::store::Store;
 use plain_data::{Items, Text};
 use rp_content::{Instance, Types};
+use rp_rows::limits::{MAX_INSTANCES, MAX_NAME};
 use rp_rows::rows::Key;
 use rp_value::Value;
 use std::alloc::Global;
-
-/// The most instances of a model.
-const MAX_INSTANCES: usize = 200_000;
-
-/// The greatest name of an instance.
-const MAX_NAME: u64 = 999_999_999_999_999_999;
 
 impl Store {
     /// A model that nothing was put into. Its schema's name is in upper case.

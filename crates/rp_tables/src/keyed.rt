@@ -153,10 +153,7 @@ impl<B> Keyed<B> {
     pub fn find(&self, key: &Key) -> Option<&Entry<B>>
         ensures { option_copied result ≡ find (is_entry key.now) self.now.entries }
     {
-        match self.search(key) {
-            Ok(place) => Some(&self.entries[place]),
-            Err(_) => None,
-        }
+        self.find_for(&key.0, &key.1)
     }
 
     /// How many keys are of owners before this one.

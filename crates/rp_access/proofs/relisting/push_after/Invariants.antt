@@ -2,8 +2,8 @@ use Rattle.std.proofs.Common.{◌≡◌, ◌++◌, take}
 use Rattle.std.specs.Prelude.{filter}
 use Rattle.sorted_tables.specs.Table.{is_after}
 use Rattle.rp_rows.specs.Rows.{key_cmp}
-use Rattle.rp_access.specs.Listed.{key_itself}
+use Rattle.rp_rows.specs.Listings.{itself}
 use Rattle.rp_access.proofs.relisting.push_after.Given as goal
 
 abbrev pub invariant-loop-member : goal.invariant-loop-member
-invariant-loop-member l = l.out.items ≡ l.fn.out.items ++ filter (is_after key_cmp key_itself l.model) (take l.member-index l.members)
+invariant-loop-member l = l.out.items ≡ l.fn.out.items ++ filter (is_after key_cmp itself l.model) (take l.member-index l.members)

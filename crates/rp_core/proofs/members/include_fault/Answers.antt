@@ -1,9 +1,10 @@
 use Rattle.std.proofs.Common.{◌∷◌, [], ◌∙◌, ap, length}
 use Rattle.std.specs.Prelude.{nat_le}
 use Rattle.rp_rows.specs.declared.rows.Right.TheVariants.{Groups}
+use Rattle.rp_rows.specs.Listings.{max_members}
 use Rattle.rp_plain.specs.declared.messages.Refusal.TheVariants.{Membership, TooMany}
 use Rattle.rp_plain.specs.Meaning.{first_some, when, unseen, lacks}
-use Rattle.rp_plain.specs.Groups.{is_of_other, max_members}
+use Rattle.rp_plain.specs.Groups.{is_of_other}
 use Rattle.rp_core.proofs.members.include_fault.Goals as goal
 
 pub returns : goal.returns
