@@ -1,5 +1,5 @@
 -- Which models count in a group, told by a look at its members alone.
-use Rattle.std.proofs.Common.{◌≡◌, Bool, ◌&&◌, ◌||◌, true, false, List, [], ◌∷◌, ◌++◌, map, Option, Some, None, is_some, refl, sym, ◌∙◌, ap}
+use Rattle.std.proofs.Common.{◌≡◌, Bool, ◌&&◌, ◌||◌, true, false, List, [], ◌∷◌, ◌++◌, None, refl, sym, ◌∙◌, ap}
 use Rattle.std.specs.Prelude.{filter, if◌then◌else◌}
 use Rattle.std.specs.List.{find, list_any, flat_map, AllByRecursion}
 use Rattle.std.specs.Str.{bytes_eq}

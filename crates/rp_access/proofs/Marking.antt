@@ -1,5 +1,5 @@
 -- Marks beside models.
-use Rattle.std.proofs.Common.{◌≡◌, ℕ, zero, suc, ◌<◌, Bool, true, false, ◌&&◌, ◌||◌, List, [], ◌∷◌, ◌+◌, ◌≤◌, length, set, get_or, take, drop, map, replicate, Option, Some, None, is_some, refl, sym, ◌∙◌, ap, arith}
+use Rattle.std.proofs.Common.{◌≡◌, ℕ, zero, suc, ◌<◌, Bool, true, false, ◌&&◌, ◌||◌, List, [], ◌∷◌, ◌+◌, ◌≤◌, length, set, get_or, drop, map, replicate, Option, Some, None, is_some, refl, sym, ◌∙◌, ap, arith}
 use Rattle.std.specs.Prelude.{filter, slice_get, if◌then◌else◌}
 use Rattle.std.specs.List.{find, list_any, AllByRecursion}
 use Rattle.std.specs.declared.cmp.Ordering.{Ordering}
@@ -11,8 +11,8 @@ use Rattle.sorted_tables.proofs.Ascending.{follows_all, none_before, none_there}
 use Rattle.sorted_tables.proofs.Searching.{at_place, chosen}
 use Rattle.std.proofs.lemmas.Option.{slice_get-get_or}
 use Rattle.rp_tables.specs.Stored.{IsRowThere}
-use Rattle.rp_rows.specs.Rows.{Key, key_cmp, same_key, row_key, is_row, Model, GroupRow}
-use Rattle.rp_rows.specs.Sight.{lists, counts}
+use Rattle.rp_rows.specs.Rows.{Key, key_cmp, row_key, is_row, Model, GroupRow}
+use Rattle.rp_rows.specs.Sight.{counts}
 use Rattle.rp_rows.proofs.Keys.{key_total}
 use Rattle.rp_rows.specs.Rows.{Text}
 use Rattle.rp_rows.specs.Sight.{is_granted}

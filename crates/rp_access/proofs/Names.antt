@@ -1,12 +1,12 @@
 -- The names of groups that partners are granted, as grants and groups change.
-use Rattle.std.proofs.Common.{◌≡◌, Bool, true, false, not, ◌&&◌, ◌||◌, List, [], ◌∷◌, ◌++◌, Option, Some, None, is_some, refl, sym, ◌∙◌, ap, subst}
+use Rattle.std.proofs.Common.{◌≡◌, Bool, true, false, ◌&&◌, ◌||◌, List, [], ◌∷◌, ◌++◌, Option, Some, None, refl, sym, ◌∙◌, ap}
 use Rattle.std.specs.Prelude.{filter, if◌then◌else◌, option_map, option_to_list}
 use Rattle.std.specs.List.{find, list_any}
 use Rattle.std.specs.Str.{bytes_eq}
 use Rattle.std.specs.declared.cmp.Ordering.{Ordering}
 use Rattle.std.specs.declared.cmp.Ordering.TheVariants.{Less, Equal, Greater}
 use Rattle.std.specs.Ordering.{is_lt, is_eq, is_gt}
-use Rattle.std.proofs.lemmas.Bool.{false≢true, and_parts}
+use Rattle.std.proofs.lemmas.Bool.{false≢true}
 use Rattle.std.proofs.lemmas.Slice.Eq.{bytes_eq-Decides}
 use Rattle.std.proofs.lemmas.Map.Text.{is_eq-slice_cmp}
 use Rattle.std.specs.Cmp.{tied_then}
@@ -19,9 +19,8 @@ use Rattle.rp_rows.specs.declared.rows.Level.{Level}
 use Rattle.rp_rows.specs.declared.rows.Listing.{Listing}
 use Rattle.rp_rows.specs.Rows.{Text, text_cmp, grant_key, Key, key_cmp, same_key, Row, row_key, is_row, GroupRow}
 use Rattle.rp_rows.specs.Sight.{is_grant_to, is_granted}
-use Rattle.rp_rows.specs.Alterations.{Holds, alter, altered, grants_of, grant_for}
+use Rattle.rp_rows.specs.Alterations.{Holds, altered, grants_of, grant_for}
 use Rattle.rp_rows.proofs.Keys.{key_total, key_at, found_at}
-use Rattle.rp_tables.specs.declared.keyed.Entry.{Entry}
 use Rattle.rp_tables.specs.Entries.{entry_key, is_entry, revalued, without_name}
 use Rattle.rp_tables.specs.Stored.{rewritten}
 use Rattle.rp_tables.proofs.Finding.{entry_at}

@@ -14,7 +14,7 @@ use Rattle.std.proofs.lemmas.Cmp.{tied_itself}
 use Rattle.sorted_tables.specs.Table.{IsAscending}
 use Rattle.rp_rows.specs.declared.rows.Grant.{Grant}
 use Rattle.rp_rows.specs.declared.rows.Right.{Right}
-use Rattle.rp_rows.specs.declared.rows.Right.TheVariants.{Unseen, Reads, Owns}
+use Rattle.rp_rows.specs.declared.rows.Right.TheVariants.{Reads, Owns}
 use Rattle.rp_rows.specs.Rows.{Text, Key, key_cmp, row_key, is_row, Model, GroupRow}
 use Rattle.rp_rows.specs.Sight.{is_grant_to, is_group_grant, is_granted, owns, may_group, sees_group, lists, counts, is_counted, granted_right, level, at_least, sees}
 use Rattle.rp_rows.proofs.Keys.{key_total}

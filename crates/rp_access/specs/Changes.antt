@@ -1,5 +1,5 @@
 -- Changes of models and groups and of who may do what with them: what each makes of the rows, and why it is refused.
-use Rattle.std.specs.Prelude.{Bool, nat_le, List, [], ◌∷◌, length, filter, Option, Some, None, is_some, ℕ, if◌then◌else◌}
+use Rattle.std.specs.Prelude.{Bool, nat_le, List, [], length, filter, Option, Some, None, is_some, ℕ, if◌then◌else◌}
 use Rattle.std.specs.List.{find}
 use Rattle.std.specs.Str.{bytes_eq}
 use Rattle.rp_rows.specs.declared.rows.Level.{Level}
@@ -10,7 +10,7 @@ use Rattle.rp_rows.specs.declared.rows.Right.TheVariants.{Unseen, Owns}
 use Rattle.rp_rows.specs.Rows.{Text, Key, Row, is_row, Model, GroupRow}
 use Rattle.rp_rows.specs.Listings.{max_models, max_groups, max_members, is_among, with_member, without_member}
 use Rattle.rp_rows.specs.Sight.{owns, is_grant_to, granted_right, level, group_right}
-use Rattle.rp_rows.specs.Alterations.{Alteration, Holds, Grants, altered}
+use Rattle.rp_rows.specs.Alterations.{Holds, Grants, altered}
 use Rattle.rp_access.specs.declared.changes.Change.{Change}
 use Rattle.rp_access.specs.declared.changes.Change.TheVariants.{CreateModel, CreateGroup, RemoveModel, RemoveGroup, GrantModel, GrantGroup, RevokeModel, RevokeGroup, Include, Exclude}
 use Rattle.rp_access.specs.declared.changes.AccessFault.{AccessFault}

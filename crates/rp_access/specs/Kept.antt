@@ -1,6 +1,5 @@
 -- What is kept of groups, and of all that rights are on.
 use Rattle.std.specs.Prelude.{ℕ, Bool, false, ◌||◌, List, [], ◌∷◌}
-use Rattle.rp_rows.specs.declared.rows.Listing.{Listing}
 use Rattle.rp_rows.specs.declared.rows.ModelContent.{ModelContent}
 use Rattle.rp_rows.specs.Rows.{Model, GroupRow}
 use Rattle.rp_tables.specs.Stored.{Stored}

@@ -1,5 +1,5 @@
 -- Changes of models and groups with all the memory that they take.
-use Rattle.std.specs.Prelude.{◌≡◌, ℕ, ◌<◌, List, Option, Some, None}
+use Rattle.std.specs.Prelude.{◌≡◌, ◌<◌, List, Some, None}
 use Rattle.std.specs.List.{find}
 use Rattle.sorted_tables.specs.Table.{with_row}
 use Rattle.rp_rows.specs.declared.rows.Grant.{Grant}

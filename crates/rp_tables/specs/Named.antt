@@ -1,5 +1,5 @@
 -- Models whose instances can be found by their names, and be given new ones: those of each valid repository.
-use Rattle.std.specs.Prelude.{◌≡◌, ℕ, ◌<◌, ◌≤◌, length}
+use Rattle.std.specs.Prelude.{ℕ, ◌<◌, ◌≤◌, length}
 use Rattle.std.specs.Ordering.{nat_cmp}
 use Rattle.sorted_tables.specs.Table.{IsAscending}
 use Rattle.rp_rows.specs.declared.rows.ModelContent.{ModelContent}

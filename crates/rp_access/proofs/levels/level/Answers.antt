@@ -1,11 +1,8 @@
-use Rattle.std.proofs.Common.{◌≡◌, Bool, Option, None, sym, ◌∙◌, ap}
-use Rattle.std.specs.List.{find}
-use Rattle.rp_rows.specs.declared.rows.Grant.{Grant}
-use Rattle.rp_rows.specs.declared.rows.Right.{Right}
+use Rattle.std.proofs.Common.{◌∙◌}
 use Rattle.rp_rows.specs.declared.rows.Right.TheVariants.{Owns}
 use Rattle.std.specs.Prelude.{if◌then◌else◌}
 use Rattle.rp_rows.specs.Rows.{Model}
-use Rattle.rp_rows.specs.Sight.{granted_right, is_grant_to}
+use Rattle.rp_rows.specs.Sight.{granted_right}
 use Rattle.rp_tables.specs.Stored.{row_of}
 use Rattle.rp_access.specs.Granted.{granted_of}
 use Rattle.rp_access.proofs.Seeing.{level_known}

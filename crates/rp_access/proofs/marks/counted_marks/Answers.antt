@@ -1,4 +1,4 @@
-use Rattle.std.proofs.Common.{◌≡◌, false, map, replicate, sym, ◌∙◌, ap}
+use Rattle.std.proofs.Common.{false, map, replicate, sym, ◌∙◌, ap}
 use Rattle.std.specs.Prelude.{Bool}
 use Rattle.rp_rows.specs.Rows.{Model}
 use Rattle.rp_access.specs.Granted.{Names, counts_under}

@@ -1,4 +1,4 @@
-use Rattle.std.proofs.Common.{drop, map}
+use Rattle.std.proofs.Common.{drop}
 use Rattle.rp_access.specs.Granted.{counts_under}
 use Rattle.rp_access.specs.Kept.{unmarked}
 use Rattle.rp_access.proofs.Marking.{IsMarking}

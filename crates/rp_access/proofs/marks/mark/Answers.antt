@@ -1,6 +1,4 @@
-use Rattle.std.proofs.Common.{◌≡◌, List, Some, get_or, sym, ◌∙◌, ap}
-use Rattle.std.specs.List.{find}
-use Rattle.rp_rows.specs.Rows.{Model, is_row}
+use Rattle.std.proofs.Common.{sym, ◌∙◌}
 use Rattle.rp_rows.specs.Sight.{counts}
 use Rattle.rp_tables.specs.Stored.{row_of}
 use Rattle.rp_access.proofs.Marking.{marked_at, unmarked_at, unmarked_none}

@@ -1,4 +1,4 @@
-use Rattle.std.proofs.Common.{◌≡◌, true, false, None, sym, ◌∙◌, ap}
+use Rattle.std.proofs.Common.{true, false, sym, ◌∙◌}
 use Rattle.std.specs.List.{find}
 use Rattle.rp_rows.specs.Rows.{is_row}
 use Rattle.rp_tables.specs.Stored.{row_of}

@@ -1,4 +1,4 @@
-use Rattle.std.proofs.Common.{◌≡◌, sym, ◌∙◌, ap}
+use Rattle.std.proofs.Common.{sym, ◌∙◌, ap}
 use Rattle.rp_rows.specs.Sight.{counts}
 use Rattle.rp_tables.specs.Stored.{row_of}
 use Rattle.rp_access.specs.Kept.{marked}

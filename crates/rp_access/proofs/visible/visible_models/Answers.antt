@@ -1,4 +1,4 @@
-use Rattle.std.proofs.Common.{◌≡◌, ◌<◌, length, sym, ◌∙◌, ap, arith}
+use Rattle.std.proofs.Common.{◌<◌, length, arith}
 use Rattle.rp_tables.specs.Stored.{row_of}
 use Rattle.rp_access.specs.Changes.{level_by}
 use Rattle.rp_access.specs.Granted.{granted_of}

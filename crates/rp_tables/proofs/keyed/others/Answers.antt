@@ -1,4 +1,4 @@
-use Rattle.std.proofs.Common.{rules, ◌≡◌, not, sym, ◌∙◌, ap}
+use Rattle.std.proofs.Common.{rules, not, ◌∙◌, ap}
 use Rattle.std.specs.Str.{bytes_eq}
 use Rattle.std.proofs.lemmas.Fn.{filter_same}
 use Rattle.rp_tables.specs.Entries.{without_name}

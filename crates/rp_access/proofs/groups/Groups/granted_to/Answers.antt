@@ -1,4 +1,4 @@
-use Rattle.std.proofs.Common.{sym, ◌∙◌, ap, subst}
+use Rattle.std.proofs.Common.{sym, ap, subst}
 use Rattle.rp_access.specs.Granted.{granted_of, TellsGranted}
 use Rattle.rp_access.proofs.Names.{tells_whole}
 use Rattle.rp_access.proofs.groups.Groups.granted_to.Goals as goal

@@ -1,7 +1,7 @@
 use Rattle.std.proofs.Common.{◌≡◌, List, Some, sym, ◌∙◌, ap, subst}
 use Rattle.std.specs.List.{find}
 use Rattle.sorted_tables.specs.Table.{with_row}
-use Rattle.rp_rows.specs.Rows.{Text, text_cmp, grant_key, Key, key_cmp, is_row, GroupRow}
+use Rattle.rp_rows.specs.Rows.{text_cmp, grant_key, Key, key_cmp, is_row, GroupRow}
 use Rattle.rp_rows.specs.Alterations.{grants_of, grant_for}
 use Rattle.rp_tables.specs.Entries.{entry_key}
 use Rattle.rp_tables.specs.Stored.{rewritten}

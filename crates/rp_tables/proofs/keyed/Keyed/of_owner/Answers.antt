@@ -1,4 +1,4 @@
-use Rattle.std.proofs.Common.{sym, ◌∙◌, ap, subst}
+use Rattle.std.proofs.Common.{◌∙◌, ap, subst}
 use Rattle.sorted_tables.specs.Table.{IsAscending}
 use Rattle.rp_rows.specs.Rows.{key_cmp}
 use Rattle.rp_tables.specs.Entries.{entry_key}
