@@ -1,5 +1,5 @@
 -- Links: names of a model that stand for instances of other models.
-use Rattle.std.specs.Prelude.{ℕ, Bool, not, ◌&&◌, ◌||◌, nat_le, nat_lt, List, [], ◌∷◌, length, Option, Some, None, is_some, if◌then◌else◌}
+use Rattle.std.specs.Prelude.{ℕ, Bool, not, ◌&&◌, ◌||◌, nat_le, nat_lt, List, [], ◌∷◌, Option, Some, None, is_some, if◌then◌else◌}
 use Rattle.std.specs.List.{list_all}
 use Rattle.std.specs.Str.{bytes_eq}
 use Rattle.p21_instances.specs.Instances.{in_order, is_among}
@@ -7,7 +7,7 @@ use Rattle.rp_content.specs.declared.content.Content.{Content}
 use Rattle.rp_content.specs.declared.link.Link.{Link}
 use Rattle.rp_rows.specs.declared.rows.ModelContent.{ModelContent}
 use Rattle.rp_rows.specs.Rows.{Text, Key, same_key}
-use Rattle.rp_rows.specs.Contents.{names, link_name, link_names}
+use Rattle.rp_rows.specs.Contents.{names, link_names}
 use Rattle.rp_rows.specs.Instances.{max_name, instance_of}
 use Rattle.rp_plain.specs.declared.messages.LinkFault.{LinkFault}
 use Rattle.rp_plain.specs.declared.messages.LinkFaultKind.{LinkFaultKind}
