@@ -62,7 +62,7 @@ LISTED = [
            "the reply's bytes, which are had by a word"),
     Listed("crates/rp_repo/src/answer.rt", "refused", "reply_line(alloc, &Reply::Refused(refusal)).ok()",
            "AllocError is the one error of reply_line"),
-    Listed("crates/rp_repo/src/answer.rt", "answer_prepared", "reply_line(alloc, pending.reply()).ok()?",
+    Listed("crates/rp_repo/src/answer.rt", "line_of", "reply_line(alloc, pending.reply()).ok()",
            "AllocError is the one error of reply_line"),
     Listed("crates/rp_repo/src/run.rt", "serve", "None => write_all(writer, no_memory_line())",
            "`answer` answers None where memory is wanting alone"),

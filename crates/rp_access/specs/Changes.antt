@@ -44,7 +44,7 @@ groups_after _ gs = gs
 
 -- ---- why it is refused
 
--- there are `most` of one owner
+-- of one owner there may be `most`
 abbrev pub is_new : {A : Type 0} → ℕ → Key → List (Row A) → Option AccessFault
 is_new most k rows = if is_some (find (is_row k) rows) then Some Exists else (if nat_le most (length (filter (owns k.0) rows)) then Some TooMany else None)
 

@@ -127,7 +127,21 @@ fn answer_prepared(
     ensures changed { IfSome result (λ _. repository.new.content ≡ made pending.steps repository.old.content) }
     ensures refused { IfNone result (repository.new.content ≡ repository.old.content) }
 {
-    let bytes = reply_line(alloc, pending.reply()).ok()?;
-    let _ = repository.commit(pending);
-    Some(bytes)
+    let bytes = line_of(alloc, &pending);
+    if bytes.is_some() {
+        let _ = repository.commit(pending);
+    } else {
+        let_go(pending);
+    }
+    bytes
 }
+
+/// The bytes of the reply.
+fn line_of(alloc: Global, pending: &Pending) -> Option<Vec<u8>>
+    ensures { IfSome result (λ bytes. bytes.items ≡ line_of_reply pending.now.reply) }
+{
+    reply_line(alloc, pending.reply()).ok()
+}
+
+/// A change that isn't made.
+fn let_go(_pending: Pending) {}
