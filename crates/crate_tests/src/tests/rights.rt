@@ -254,7 +254,29 @@ fn is_as_wanted(alloc: Global, access: &mut Access, turn: &Turn) -> Result<bool,
     Ok(is_answered && told(alloc, access)? == *wanted)
 }
 
-/// How many models of names of two digits are made, and then how many of them a group lists, before one too many.
+/// The model of the name is created, or listed by g.
+fn change_of_one(alloc: Global, asked: Asked, name: &str) -> Result<Change, AllocError> {
+    match asked {
+        Asked::CreateModel => change_of(alloc, asked, name, ""),
+        _ => change_of(alloc, asked, "g", name),
+    }
+}
+
+/// Makes that change of the model whose name is these two digits.
+fn make_one(
+    alloc: Global,
+    access: &mut Access,
+    asked: Asked,
+    first: &str,
+    second: &str,
+) -> Result<Option<AccessFault>, AllocError> {
+    let mut name = String::from_str(alloc, first)?;
+    name.push_str(second)?;
+    let change = change_of_one(alloc, asked, name.as_str())?;
+    Ok(make(alloc, access, change))
+}
+
+/// How many such changes are made of a hundred, and why the next one isn't.
 fn most(
     alloc: Global,
     access: &mut Access,
@@ -263,13 +285,7 @@ fn most(
     let mut made: usize = 0;
     for first in DIGITS {
         for second in DIGITS {
-            let mut name = String::from_str(alloc, first)?;
-            name.push_str(second)?;
-            let change = match asked {
-                Asked::CreateModel => change_of(alloc, asked, name.as_str(), "")?,
-                _ => change_of(alloc, asked, "g", name.as_str())?,
-            };
-            let fault = make(alloc, access, change);
+            let fault = make_one(alloc, access, asked, first, second)?;
             if fault.is_some() {
                 return Ok((made, fault));
             }
