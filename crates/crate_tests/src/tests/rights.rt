@@ -295,18 +295,41 @@ fn most(
     Ok((made, None))
 }
 
+/// Whether all turns come to what they must.
+fn turns_hold_in(alloc: Global, access: &mut Access) -> Result<bool, AllocError> {
+    for turn in TURNS.iter() {
+        if !is_as_wanted(alloc, access, turn)? {
+            return Ok(false);
+        }
+    }
+    Ok(true)
+}
+
+fn turns_hold(alloc: Global) -> Result<bool, AllocError> {
+    let mut access = Access::new(alloc);
+    turns_hold_in(alloc, &mut access)
+}
+
+/// Whether an owner has at most 100 models, and a group 50 members.
+fn limits_hold_in(alloc: Global, access: &mut Access) -> Result<bool, AllocError> {
+    let group = change_of(alloc, Asked::CreateGroup, "g", "")?;
+    let is_there = make(alloc, access, group).is_none();
+    let models = most(alloc, access, Asked::CreateModel)?;
+    let one_more = change_of(alloc, Asked::CreateModel, "m", "")?;
+    let fault = make(alloc, access, one_more);
+    let members = most(alloc, access, Asked::Include)?;
+    let too_many = Some(AccessFault::TooMany);
+    Ok(is_there && models == (100, None) && fault == too_many && members == (50, too_many))
+}
+
+fn limits_hold(alloc: Global) -> Result<bool, AllocError> {
+    let mut access = Access::new(alloc);
+    limits_hold_in(alloc, &mut access)
+}
+
 #[test]
 fn rights_are_changed(rt: HostRuntime) -> Result<(), Fail> {
-    let mut access = Access::new(rt.alloc());
-    for turn in TURNS.iter() {
-        assert!(rt; is_as_wanted(rt.alloc(), &mut access, turn)?);
-    }
-    let mut access = Access::new(rt.alloc());
-    let group = change_of(rt.alloc(), Asked::CreateGroup, "g", "")?;
-    assert!(rt; make(rt.alloc(), &mut access, group).is_none());
-    assert!(rt; most(rt.alloc(), &mut access, Asked::CreateModel)? == (100, None));
-    let model = change_of(rt.alloc(), Asked::CreateModel, "m", "")?;
-    assert!(rt; make(rt.alloc(), &mut access, model) == Some(AccessFault::TooMany));
-    assert!(rt; most(rt.alloc(), &mut access, Asked::Include)? == (50, Some(AccessFault::TooMany)));
+    assert!(rt; turns_hold(rt.alloc())?);
+    assert!(rt; limits_hold(rt.alloc())?);
     Ok(())
 }
