@@ -117,6 +117,7 @@ fn count_parts(
     counts: &mut [usize],
     stack: &mut Vec<Counting>,
 ) -> Result<(), AllocError> {
+    // (The stack is empty long before: the bound shows that the walk ends.)
     for _ in 0..u64::MAX {
         let Some(mut at) = stack.pop() else {
             break;
