@@ -39,7 +39,7 @@ const NOT_COUNTED: (Right, Right, usize, usize) = (Right::Unseen, Right::Reads, 
 
 const EMPTY_GROUP: (Right, Right, usize, usize) = (Right::Unseen, Right::Reads, 0, 0);
 
-static TURNS: [Turn; 30] = [
+static TURNS: [Turn; 34] = [
     (
         (Asked::RemoveModel, "m", ""),
         Some(AccessFault::Absent),
@@ -118,6 +118,16 @@ static TURNS: [Turn; 30] = [
     // A model of the same name has none of the former one's grants.
     ((Asked::RemoveModel, "m", ""), None, NOT_COUNTED),
     (
+        (Asked::RemoveModel, "m", ""),
+        Some(AccessFault::Absent),
+        NOT_COUNTED,
+    ),
+    (
+        (Asked::RevokeModel, "m", "carl"),
+        Some(AccessFault::Absent),
+        NOT_COUNTED,
+    ),
+    (
         (Asked::GrantModel(Level::Group), "m", "carl"),
         Some(AccessFault::Absent),
         NOT_COUNTED,
@@ -130,6 +140,16 @@ static TURNS: [Turn; 30] = [
     ),
     // A group of the same name has none of the former one's members and grants.
     ((Asked::RemoveGroup, "g", ""), None, UNSEEN),
+    (
+        (Asked::RemoveGroup, "g", ""),
+        Some(AccessFault::Absent),
+        UNSEEN,
+    ),
+    (
+        (Asked::Exclude, "g", "m"),
+        Some(AccessFault::Absent),
+        UNSEEN,
+    ),
     (
         (Asked::GrantGroup, "g", "bob"),
         Some(AccessFault::Absent),
@@ -254,15 +274,15 @@ fn is_as_wanted(alloc: Global, access: &mut Access, turn: &Turn) -> Result<bool,
     Ok(is_answered && told(alloc, access)? == *wanted)
 }
 
-/// The model of the name is created, or listed by g.
+/// The model or the group of the name is created, or the model listed by g.
 fn change_of_one(alloc: Global, asked: Asked, name: &str) -> Result<Change, AllocError> {
     match asked {
-        Asked::CreateModel => change_of(alloc, asked, name, ""),
+        Asked::CreateModel | Asked::CreateGroup => change_of(alloc, asked, name, ""),
         _ => change_of(alloc, asked, "g", name),
     }
 }
 
-/// Makes that change of the model whose name is these two digits.
+/// Makes that change of the name of these two digits.
 fn make_one(
     alloc: Global,
     access: &mut Access,
@@ -310,7 +330,7 @@ fn turns_hold(alloc: Global) -> Result<bool, AllocError> {
     turns_hold_in(alloc, &mut access)
 }
 
-/// Whether an owner has at most 100 models, and a group 50 members.
+/// Whether an owner has at most 100 models and 100 groups, and a group 50 members.
 fn limits_hold_in(alloc: Global, access: &mut Access) -> Result<bool, AllocError> {
     let group = change_of(alloc, Asked::CreateGroup, "g", "")?;
     let is_there = make(alloc, access, group).is_none();
@@ -318,8 +338,10 @@ fn limits_hold_in(alloc: Global, access: &mut Access) -> Result<bool, AllocError
     let one_more = change_of(alloc, Asked::CreateModel, "m", "")?;
     let fault = make(alloc, access, one_more);
     let members = most(alloc, access, Asked::Include)?;
+    let groups = most(alloc, access, Asked::CreateGroup)?;
     let too_many = Some(AccessFault::TooMany);
-    Ok(is_there && models == (100, None) && fault == too_many && members == (50, too_many))
+    let models_hold = models == (100, None) && fault == too_many;
+    Ok(is_there && models_hold && members == (50, too_many) && groups == (99, too_many))
 }
 
 fn limits_hold(alloc: Global) -> Result<bool, AllocError> {
