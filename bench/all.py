@@ -78,7 +78,7 @@ def measure(folder, program, with_hostile):
         failed = run_script("hostile.py", program) or failed
     show_chart([
         ("put of a file", [(row["file"], row["run"]) for row in files]),
-        ("export", [(row["text"], row["run "]) for row in files]),
+        ("export", [(row["text"], row["export"]) for row in files]),
         ("check of a schema", [(row["schema"], row["seconds"]) for row in schemas]),
         *grouped([row for row in of_kinds if row["way"] == "check"], lambda row: f"check, {row['family']}", "bytes"),
         *grouped(of_names, lambda row: f"names, {row['schema']}", "bytes"),
