@@ -1,21 +1,25 @@
--- A word is ASCII.
-use Rattle.std.proofs.Common.{◌≡◌, ◌<◌, ◌+◌, ◌||◌, ℕ, suc, nat_le, Bool, true, false, List, [], ◌∷◌, take, if◌then◌else◌, Option, Some, None, refl, ◌∙◌, ap, arith}
+-- A word is ASCII, and no token is of the kind `End`.
+use Rattle.std.proofs.Common.{◌≡◌, ◌<◌, ◌+◌, ◌||◌, ℕ, suc, nat_le, Bool, true, false, List, [], ◌∷◌, take, if◌then◌else◌, Option, Some, None, refl, ◌∙◌, ap, arith, rules}
 use Rattle.std.proofs.lemmas.Bool.Decides.{nat_tests}
 use Rattle.std.proofs.lemmas.Str.Ascii.{IsAscii-nil, IsAscii-cons}
 use Rattle.std.specs.Char.{is_ascii_digit}
 use Rattle.std.specs.List.{prefix_len, slice_index}
 use Rattle.std.specs.Str.{IsAscii}
 use Rattle.p21_strings.specs.declared.fault.StringFault.{StringFault}
+use denote.Enum.Bare.{false_same}
+use Rattle.p21_text.specs.contracts.token.TokenKind.{the_type}
+use Rattle.p21_text.specs.Tokens.{same_kind}
 use Rattle.p21_text.specs.declared.token.TokenKind.{TokenKind}
 use Rattle.p21_text.specs.declared.token.TokenKind.TheVariants as k
 use Rattle.p21_text.specs.declared.front.Start.{Start}
 use Rattle.p21_text.specs.declared.front.Start.TheVariants.{Blank, Token}
 use Rattle.p21_text.specs.Lexical.{is_letter, is_mark_byte, is_sign, word, number, name, item, quoted, closed, string, binary, commented, slash, directive, single, punctuation, front}
 
--- ---- nothing else is a word
+-- ---- nothing else is a word, and nothing at all is the end
 
 abbrev is_word : Start → Bool
 is_word (Token k.Word n) = true
+is_word (Token k.End n) = true
 is_word _ = false
 
 number_is : (z : List ℕ) → is_word (number z) ≡ false
@@ -87,20 +91,40 @@ word_len z n e = grind arith
 no_word : (s : Start) (n : ℕ) → is_word s ≡ false → s ≡ Token k.Word n → ⊥
 no_word s n other e = let same = ap is_word e in cc
 
-the_word : (is_blank begins_word begins_number : Bool) (a b c : Start) (n m : ℕ) → (a ≡ Token k.Word n → n ≡ m) → (b ≡ Token k.Word n → ⊥) → (c ≡ Token k.Word n → ⊥)
-    → (if is_blank then Blank 1 else if begins_word then a else if begins_number then b else c) ≡ Token k.Word n → n ≡ m
-the_word true begins_word begins_number a b c n m here there elsewhere e = cc
-the_word false true begins_number a b c n m here there elsewhere e = here e
-the_word false false true a b c n m here there elsewhere e = absurd (there e)
-the_word false false false a b c n m here there elsewhere e = absurd (elsewhere e)
+-- of the kind k, what stands in front can only be a word
+of_kind : {P : Type 0} (kind : TokenKind) (is_blank begins_word begins_number : Bool) (a b c : Start) (n : ℕ) → (a ≡ Token kind n → P) → (b ≡ Token kind n → ⊥) → (c ≡ Token kind n → ⊥)
+    → (if is_blank then Blank 1 else if begins_word then a else if begins_number then b else c) ≡ Token kind n → P
+of_kind kind true begins_word begins_number a b c n here there elsewhere e = cc
+of_kind kind false true begins_number a b c n here there elsewhere e = here e
+of_kind kind false false true a b c n here there elsewhere e = absurd (there e)
+of_kind kind false false false a b c n here there elsewhere e = absurd (elsewhere e)
 
 front_len : (z : List ℕ) (n : ℕ) → front z ≡ Token k.Word n → n ≡ prefix_len is_mark_byte z
 unfolding front
 front_len z n e =
     let b = slice_index z 0 in
-    the_word (nat_le b 32) (is_letter b) (is_sign b || is_ascii_digit b) (word z) (number z) (punctuation z) n (prefix_len is_mark_byte z)
+    of_kind k.Word (nat_le b 32) (is_letter b) (is_sign b || is_ascii_digit b) (word z) (number z) (punctuation z) n
     (word_len z n) (no_word (number z) n (number_is z)) (no_word (punctuation z) n (punctuation_is z)) e
 
 -- a word in front of a text
 pub word-IsAscii : (z : List ℕ) (kind : TokenKind) (n : ℕ) → front z ≡ Token kind n → kind ≡ k.Word → IsAscii (take n z)
 word-IsAscii z kind n e is = rw (front_len z n (e ∙ ap (λ k. Token k n) is)) (marks_below z)
+
+no_end : (s : Start) (n : ℕ) → is_word s ≡ false → s ≡ Token k.End n → ⊥
+no_end s n other e = let same = ap is_word e in cc
+
+word_no_end : (z : List ℕ) (n : ℕ) → word z ≡ Token k.End n → ⊥
+unfolding word
+word_no_end z n e = grind arith
+
+front_no_end : (z : List ℕ) (n : ℕ) → front z ≡ Token k.End n → ⊥
+unfolding front
+front_no_end z n e =
+    let b = slice_index z 0 in
+    of_kind k.End (nat_le b 32) (is_letter b) (is_sign b || is_ascii_digit b) (word z) (number z) (punctuation z) n
+    (word_no_end z n) (no_end (number z) n (number_is z)) (no_end (punctuation z) n (punctuation_is z)) e
+
+-- the kind of a token in front of a text
+pub token_is : (z : List ℕ) (kind : TokenKind) (n : ℕ) → front z ≡ Token kind n → same_kind kind k.End ≡ false
+unfolding same_kind
+token_is z kind n e = false_same the_type (search rules) kind k.End (λ is. front_no_end z n (e ∙ ap (λ k. Token k n) is))

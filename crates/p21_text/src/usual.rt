@@ -10,6 +10,7 @@ ghost use Rattle.p21_text.specs.Lexical as spec;
 ghost use Rattle.p21_text.specs.Usual.{IsNear};
 
 use crate::front::{MAX_NAME, are_few, byte, digits_len, greatest, is_letter, sign_len, word_len};
+use crate::kinds::{same_kind, single_kind};
 use crate::token::TokenKind;
 
 /// The length of `#` and a few digits.
@@ -156,52 +157,51 @@ fn of_kind(kind: TokenKind, len: Option<usize>) -> Option<(TokenKind, usize)>
     }
 }
 
-/// A word or a number.
-#[tactic(auto, unfolding(crate::specs::Lexical::front))]
-#[inline(always)]
-fn word_or_number(z: &[u8]) -> Option<(TokenKind, usize)>
-    ensures { IfSome result (λ found. (spec.front z.now ≡ Token found.0 found.1) × spec.Fits (Token found.0 found.1) (length z.now)) }
-{
-    let b = byte(z, 0);
-    if b <= b' ' {
-        None
-    } else if is_letter(b) {
-        of_kind(TokenKind::Word, keyword_len(z))
-    } else if b == b'-' || b.is_ascii_digit() {
-        number(z)
-    } else {
-        None
-    }
-}
-
 /// The kind and the length of the token in front of a text, where it is a usual one, and neither a word nor a number.
 #[tactic(auto, unfolding(crate::specs::Lexical::front, crate::specs::Lexical::punctuation))]
 #[inline(always)]
 pub fn usual(z: &[u8]) -> Option<(TokenKind, usize)>
     ensures { IfSome result (λ found. (spec.front z.now ≡ Token found.0 found.1) × spec.Fits (Token found.0 found.1) (length z.now)) }
 {
-    match byte(z, 0) {
-        b'(' => Some((TokenKind::Open, 1)),
-        b')' => Some((TokenKind::Close, 1)),
-        b',' => Some((TokenKind::Comma, 1)),
-        b'=' => Some((TokenKind::Equals, 1)),
-        b';' => Some((TokenKind::Semicolon, 1)),
-        b'$' => Some((TokenKind::Dollar, 1)),
-        b'*' => Some((TokenKind::Star, 1)),
-        b'#' => of_kind(TokenKind::Name, name_len(z)),
-        b'\'' => of_kind(TokenKind::Text, empty_string_len(z)),
-        b'.' => of_kind(TokenKind::Item, item_len(z)),
-        _ => None,
+    let b = byte(z, 0);
+    let kind = single_kind(b);
+    if !same_kind(kind, TokenKind::End) {
+        return Some((kind, 1));
+    }
+    if b == b'#' {
+        of_kind(TokenKind::Name, name_len(z))
+    } else if b == b'\'' {
+        of_kind(TokenKind::Text, empty_string_len(z))
+    } else if b == b'.' {
+        of_kind(TokenKind::Item, item_len(z))
+    } else {
+        None
     }
 }
 
-/// The kind and the length of the token in front of a text, where it is a usual one.
+/// The kind and the length of the token in front of a text, where it is a usual one and no number.
+#[tactic(auto, unfolding(crate::specs::Lexical::front))]
 #[inline(always)]
-pub fn any_usual(z: &[u8]) -> Option<(TokenKind, usize)>
+pub fn usual_or_word(z: &[u8]) -> Option<(TokenKind, usize)>
     ensures { IfSome result (λ found. (spec.front z.now ≡ Token found.0 found.1) × spec.Fits (Token found.0 found.1) (length z.now)) }
 {
-    match usual(z) {
-        Some(found) => Some(found),
-        None => word_or_number(z),
+    if is_letter(byte(z, 0)) {
+        of_kind(TokenKind::Word, keyword_len(z))
+    } else {
+        usual(z)
+    }
+}
+
+/// The kind and the length of the number in front of a text, where it is a usual one.
+#[tactic(auto, unfolding(crate::specs::Lexical::front))]
+#[inline(always)]
+pub fn usual_number(z: &[u8]) -> Option<(TokenKind, usize)>
+    ensures { IfSome result (λ found. (spec.front z.now ≡ Token found.0 found.1) × spec.Fits (Token found.0 found.1) (length z.now)) }
+{
+    let b = byte(z, 0);
+    if b == b'-' || b.is_ascii_digit() {
+        number(z)
+    } else {
+        None
     }
 }
