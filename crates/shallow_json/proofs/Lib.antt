@@ -1,3 +1,4 @@
 pub mod Passes
 pub mod Reading
 pub mod Shallow
+pub mod StringLemmas

@@ -1,2 +1,3 @@
 pub mod Shallow
 pub mod Passing
+pub mod Texts

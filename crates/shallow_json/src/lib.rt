@@ -5,6 +5,8 @@
 mod members;
 mod numbers;
 mod skip;
+mod texts;
 
 pub use members::{Unread, read_flat, read_member, read_members, read_scalar, take_begin_object};
 pub use skip::{skip_items, skip_members};
+pub use texts::read_texts;
