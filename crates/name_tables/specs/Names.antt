@@ -50,10 +50,6 @@ rows_of rows = map (λ r. (r.0.now, r.1)) rows
 abbrev pub values_of : {A : Type 0} → List ℕ → BTreeMap (Bor (List ℕ)) (Vec A) → List A
 values_of name by_name = option_map_or (λ v. v.items) (get_by (λ n. slice_cmp nat_cmp name n.now) by_name) []
 
--- the map has, at any bytes, all that stands beside the name of these bytes
-abbrev pub HasRows : {A : Type 0} → BTreeMap (Bor (List ℕ)) (Vec A) → List (List ℕ × A) → Type 0
-HasRows by_name rows = (name : List ℕ) → values_of name by_name ≡ named name rows
-
 -- the first of what stands beside a name, and whether more does
 abbrev pub first_of : {A : Type 0} → List A → Option (A × Bool)
 first_of [] = None

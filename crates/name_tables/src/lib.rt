@@ -9,6 +9,7 @@ use std::collections::BTreeMap;
 use std::marker::Model;
 
 mod firsts;
+mod hashes;
 mod rows;
 mod sorted;
 
