@@ -2,3 +2,4 @@ pub mod Ranges
 pub mod Members
 pub mod Walked
 pub mod InTurn
+pub mod Listed

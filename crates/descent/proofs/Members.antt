@@ -69,7 +69,7 @@ one_sorted e = (tt, tt)
 
 -- ---- all of it
 
-same_keys : (xs ys : List ℕ) → IsStrictlySortedBy nat_cmp xs → IsStrictlySortedBy nat_cmp ys → ((q : ℕ) → is_among xs q ≡ is_among ys q) → xs ≡ ys
+pub same_keys : (xs ys : List ℕ) → IsStrictlySortedBy nat_cmp xs → IsStrictlySortedBy nat_cmp ys → ((q : ℕ) → is_among xs q ≡ is_among ys q) → xs ≡ ys
 same_keys xs ys rise rise_too same =
     let first : BTreeSet ℕ = record { keys = xs } in
     let second : BTreeSet ℕ = record { keys = ys } in

@@ -98,6 +98,62 @@ fn all_within(
     Ok(Some(found))
 }
 
+/// Whether a number stands in a list.
+fn is_listed(numbers: &[usize], number: usize) -> bool
+    ensures { result ≡ graphs.is_among numbers.now number }
+{
+    numbers.iter().any(|other| *other == number)
+}
+
+/// So many ancestors, or fewer, are few.
+const FEW: usize = 16;
+
+/// The ancestors of a member among the members, in any order, where they are few.
+fn few_above(
+    alloc: Global,
+    graph: &[Rows<usize>],
+    member: usize,
+) -> Result<Option<Vec<usize>>, AllocError>
+    ensures { IfOk result (λ found. IfSome found (λ above. spec.AreAbove graph.now member above.items)) }
+{
+    let mut found = Vec::new(alloc);
+    let mut waiting = Vec::from_slice(alloc, supertypes(graph, member))?;
+    while let Some(next) = waiting.pop() {
+        if next >= graph.len() {
+            continue;
+        }
+        if !is_listed(&found, next) {
+            if found.len() >= FEW {
+                return Ok(None);
+            }
+            found.push(next)?;
+            waiting.extend_from_slice(supertypes(graph, next))?;
+        }
+    }
+    Ok(Some(found))
+}
+
+/// The family of a member, ascending, where it is known to be one and its ancestors are few.
+// A set takes memory for each.
+fn few(
+    alloc: Global,
+    graph: &[Rows<usize>],
+    member: usize,
+) -> Result<Option<Vec<usize>>, AllocError>
+    ensures { IfOk result (λ found. IfSome found (λ all. all.items ≡ graphs.family graph.now member)) }
+{
+    if member >= graph.len() {
+        return Ok(None);
+    }
+    let Some(mut found) = few_above(alloc, graph, member)? else {
+        return Ok(None);
+    };
+    found.push(member)?;
+    found.sort_unstable();
+    found.dedup();
+    Ok(Some(found))
+}
+
 /// Whether it is a member, and nobody stands above it.
 fn is_alone(graph: &[Rows<usize>], member: usize) -> bool
     ensures { result ≡ spec.is_alone graph.now member }
@@ -165,6 +221,12 @@ impl Descent {
         // Of most it is asked that have nobody above them: these need no set.
         if limit > 0 && is_alone(&self.trees.graph, member) {
             return Ok(Some(Vec::from_slice(alloc, &[member])?));
+        }
+        if let Some(found) = few(alloc, &self.trees.graph, member)? {
+            if found.len() > limit {
+                return Ok(None);
+            }
+            return Ok(Some(found));
         }
         match all_within(alloc, &self.trees.graph, member, limit)? {
             Some(found) => {

@@ -10,7 +10,12 @@ returns-then-is_alone-clause-exact c =
     let is : is_alone c.args.self.now c.args.member ≡ true = grind arith in
     c.in_ok-from_slice.ensures.items ∙ sym (family_alone c.args.self.now c.args.member is)
 
-pub returns-in_ok-all-in-Some-clause-ascending : goal.returns-in_ok-all-in-Some-clause-ascending
-returns-in_ok-all-in-Some-clause-ascending c =
-    let same : c.in_ok-all-in-Some.all.items ≡ family c.args.self.now c.args.member = search rules in
+pub returns-in_ok-all-in-Some-2-clause-ascending : goal.returns-in_ok-all-in-Some-2-clause-ascending
+returns-in_ok-all-in-Some-2-clause-ascending c =
+    let same : c.in_ok-all-in-Some-2.all.items ≡ family c.args.self.now c.args.member = search rules in
+    rw same (family_rises c.args.self.now c.args.member)
+
+pub returns-in-Some-clause-ascending : goal.returns-in-Some-clause-ascending
+returns-in-Some-clause-ascending c =
+    let same : c.in-Some.found.items ≡ family c.args.self.now c.args.member = search rules in
     rw same (family_rises c.args.self.now c.args.member)

@@ -1,0 +1,15 @@
+use Rattle.std.proofs.Common.{◌≡◌, ℕ, ◌+◌, true, length}
+use Rattle.lineage.specs.Lineage.{is_among}
+use Rattle.lineage.proofs.Left.{left}
+use Rattle.lineage.proofs.Search.{Search}
+use Rattle.descent.proofs.Members.{inside}
+use Rattle.descent.proofs.descents.few_above.Given as goal
+
+abbrev pub invariant-loop-next : goal.invariant-loop-next
+invariant-loop-next l = record {
+  search : Search l.graph l.member (inside l.graph l.member) l.found.items l.waiting.items;
+  within : (a : ℕ) → is_among l.found.items a ≡ true → inside l.graph l.member a ≡ true;
+}
+
+abbrev pub decreases-loop-next : goal.decreases-loop-next
+decreases-loop-next l = length l.waiting.items + left length l.graph l.found.items
