@@ -22,6 +22,9 @@ fn room_for_one<T>(alloc: Global) -> Result<Vec<T>, AllocError>
 fn packed<T: Drop>(alloc: Global, found: Vec<T>) -> Result<Items<T>, AllocError>
     ensures { IfOk result (λ items. items ≡ found.items) }
 {
+    if found.capacity() == found.len() {
+        return Ok(Items::from_vec(found));
+    }
     let mut found = found;
     let mut packed = Vec::with_capacity(alloc, found.len())?;
     packed.append(&mut found)?;
@@ -89,7 +92,7 @@ pub fn separated<S: TokenSource, F: Form<S>>(
     ensures reads { Reads (separated_by S.turns (S.sees separator) (S.expect separator) (F.form item.now) source.old) result source.new }
     ensures takes { OnOk result (S.turns source.new < S.turns source.old) }
 {
-    let mut found = Vec::new(alloc);
+    let mut found = room_for_one(alloc)?;
     found.push(item.read(alloc, source)?)?;
     'more: while source.sees(separator) {
         source.expect(separator)?;
