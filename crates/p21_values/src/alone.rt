@@ -17,7 +17,7 @@ ghost use Rattle.p21_values.specs.Taking as spec;
 
 use crate::ends::{Base, base_of};
 use crate::sorts::Class;
-use crate::tokens::{bits, boolean, in_upper_case, integer, logical};
+use crate::tokens::{bits, boolean, in_upper_case, integer, is_upper_case, logical};
 use crate::types::DefinedTypes;
 use ex_tree::SimpleType;
 use p21_strings::decode_string;
@@ -125,16 +125,40 @@ fn of_item(types: &DefinedTypes<'_>, name: &[u8], base: &Base<'_>) -> Option<Val
     }
 }
 
+/// What a SELECT takes of a reference.
+fn selected_reference(alloc: Global, types: &DefinedTypes<'_>, name: u64, number: usize) -> Taken
+    ensures { IfOk result (λ taken. taken ≡ spec.reference_at types.now name (ends.Select number)) }
+{
+    let takes = types.chooses_instances(alloc, number)?;
+    Ok(if takes { Some(Value::Inst(name)) } else { None })
+}
+
+/// What an item in either case is. Most are in upper case, and then no copy is made.
+fn item_in_either_case(
+    alloc: Global,
+    types: &DefinedTypes<'_>,
+    token: &[u8],
+    base: &Base<'_>,
+) -> Taken
+    ensures { IfOk result (λ taken. taken ≡ spec.of_item types.now (str_to_ascii_uppercase token.now) (seen base.now)) }
+{
+    if is_upper_case(token) {
+        return Ok(of_item(types, token, base));
+    }
+    let name = in_upper_case(alloc, token)?;
+    Ok(of_item(types, &name, base))
+}
+
 /// What a type takes of a reference.
+#[inline(always)]
 pub fn reference(alloc: Global, types: &DefinedTypes<'_>, name: u64, base: &Base<'_>) -> Taken
     ensures { IfOk result (λ taken. taken ≡ spec.reference_at types.now name (seen base.now)) }
 {
-    let takes = match base {
-        Base::Instance => true,
-        Base::Select(number) => types.chooses_instances(alloc, *number)?,
-        _ => false,
-    };
-    Ok(if takes { Some(Value::Inst(name)) } else { None })
+    match base {
+        Base::Instance => Ok(Some(Value::Inst(name))),
+        Base::Select(number) => selected_reference(alloc, types, name, *number),
+        _ => Ok(None),
+    }
 }
 
 /// A value under the name of a defined type.
@@ -157,10 +181,7 @@ fn token(alloc: Global, types: &DefinedTypes<'_>, value: &Spelled<'_>, base: &Ba
         Spelled::Real(token) => of_real(alloc, token.as_slice(), base),
         Spelled::Text(token) => of_text(alloc, token.as_slice(), base),
         Spelled::Binary(token) => of_binary(alloc, token.as_slice(), base),
-        Spelled::Item(token) => {
-            let name = in_upper_case(alloc, token.as_slice())?;
-            Ok(of_item(types, &name, base))
-        }
+        Spelled::Item(token) => item_in_either_case(alloc, types, token.as_slice(), base),
         Spelled::Unset | Spelled::Derived => Ok(None),
         Spelled::Reference(_) | Spelled::List(_) | Spelled::Typed(_, _) => Ok(None),
     }
@@ -200,6 +221,7 @@ fn class_of(value: &Spelled<'_>) -> Class
 }
 
 /// What a SELECT takes of a token without a keyword.
+#[inline(never)]
 #[tactic(auto, using(crate::proofs::Chosen::tokens_kept))]
 fn select_token(
     alloc: Global,
@@ -219,6 +241,7 @@ fn select_token(
 }
 
 /// What a type takes of a token without a keyword.
+#[inline(always)]
 pub fn bare_token(
     alloc: Global,
     types: &DefinedTypes<'_>,

@@ -4,6 +4,7 @@
 mod alone;
 mod deciding;
 mod ends;
+mod expected;
 mod items;
 mod kept;
 mod levels;
@@ -14,5 +15,6 @@ mod taking;
 mod tokens;
 mod types;
 
+pub use expected::{Expected, bound_by};
 pub use taking::bound;
 pub use types::DefinedTypes;

@@ -64,10 +64,11 @@ fn elements(
     Ok(Some(Items::from_vec(items)))
 }
 
-/// What the type of an attribute or an element takes.
+/// What the type of an attribute or an element takes. What holds no other value is read here, without a further call.
 #[cycle(taking)]
+#[inline(always)]
 #[tactic(auto, unfolding(crate::specs::Taking::meaning))]
-fn placed(
+pub fn placed(
     alloc: Global,
     types: &DefinedTypes<'_>,
     value: &Spelled<'_>,
@@ -77,7 +78,11 @@ fn placed(
 {
     match value {
         Spelled::Unset => Ok(Some(Value::Indet)),
-        _ => fitting(alloc, types, value, target),
+        Spelled::Reference(name) => reference(alloc, types, *name, &target.base),
+        Spelled::Derived | Spelled::Typed(_, _) | Spelled::List(_) => {
+            fitting(alloc, types, value, target)
+        }
+        _ => bare_token(alloc, types, value, &target.base),
     }
 }
 

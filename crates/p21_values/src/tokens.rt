@@ -1,6 +1,6 @@
 //! The values of tokens.
 
-ghost use Rattle.std.specs.Prelude.{◌≡◌, ◌≤◌, ◌<◌, ◌-◌, ◌+◌, ◌^◌, ◌++◌, drop, nat_le, if◌then◌else◌, Some, None, IfOk, OnOk};
+ghost use Rattle.std.specs.Prelude.{◌≡◌, ◌≤◌, ◌<◌, ◌-◌, ◌+◌, ◌^◌, ◌++◌, drop, nat_le, if◌then◌else◌, Some, None, true, IfOk, OnOk};
 ghost use Rattle.std.specs.List.{flat_map, list_all};
 ghost use Rattle.std.specs.Char.{is_ascii_digit};
 ghost use Rattle.std.specs.Str.{str_to_ascii_uppercase};
@@ -178,6 +178,13 @@ pub fn boolean(token: &[u8]) -> Option<Logical>
         [letter] => by_letter(*letter),
         _ => None,
     }
+}
+
+/// Whether no letter of the token is a small one.
+pub fn is_upper_case(token: &[u8]) -> bool
+    ensures { result ≡ true → str_to_ascii_uppercase token.now ≡ token.now }
+{
+    token.iter().all(|byte| byte.to_ascii_uppercase() == *byte)
 }
 
 /// The token in upper case.
