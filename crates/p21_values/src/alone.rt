@@ -22,6 +22,7 @@ use crate::types::DefinedTypes;
 use ex_tree::SimpleType;
 use p21_strings::decode_string;
 use p21_tree::Value as Spelled;
+use plain_data::Text;
 use rp_value::{Decimal, Value};
 use std::alloc::{AllocError, Global};
 use text_forms::Failure;
@@ -49,6 +50,7 @@ fn decimal_of_integer(alloc: Global, token: &[u8]) -> Taken
     decimal(alloc, &real)
 }
 
+#[inline(never)]
 fn of_integer(alloc: Global, token: &[u8], base: &Base<'_>) -> Taken
     ensures { IfOk result (λ taken. taken ≡ spec.of_integer token.now (seen base.now)) }
 {
@@ -59,6 +61,7 @@ fn of_integer(alloc: Global, token: &[u8], base: &Base<'_>) -> Taken
     }
 }
 
+#[inline(never)]
 fn of_real(alloc: Global, token: &[u8], base: &Base<'_>) -> Taken
     ensures { IfOk result (λ taken. taken ≡ spec.of_real token.now (seen base.now)) }
 {
@@ -68,10 +71,14 @@ fn of_real(alloc: Global, token: &[u8], base: &Base<'_>) -> Taken
     }
 }
 
-/// The string that the bytes between its apostrophes spell.
+/// The string that the bytes between its apostrophes spell. Most are empty, and spell nothing.
+#[tactic(auto, unfolding(p21_strings::specs::Decoding::decoded, p21_strings::specs::Decoding::spelled))]
 fn text(alloc: Global, token: &[u8]) -> Taken
     ensures { IfOk result (λ taken. taken ≡ option_map v.Str (ok (decoded token.now))) }
 {
+    if token.is_empty() {
+        return Ok(Some(Value::text(alloc, Text::new(String::new(alloc)))?));
+    }
     match decode_string(alloc, token) {
         Ok(text) => Ok(Some(Value::text(alloc, text)?)),
         Err(Failure::Fault(_)) => Ok(None),
@@ -79,6 +86,7 @@ fn text(alloc: Global, token: &[u8]) -> Taken
     }
 }
 
+#[inline(never)]
 fn of_text(alloc: Global, token: &[u8], base: &Base<'_>) -> Taken
     ensures { IfOk result (λ taken. taken ≡ spec.of_text token.now (seen base.now)) }
 {
@@ -88,6 +96,7 @@ fn of_text(alloc: Global, token: &[u8], base: &Base<'_>) -> Taken
     }
 }
 
+#[inline(never)]
 fn of_binary(alloc: Global, token: &[u8], base: &Base<'_>) -> Taken
     ensures { IfOk result (λ taken. taken ≡ spec.of_binary token.now (seen base.now)) }
 {
@@ -134,6 +143,7 @@ fn selected_reference(alloc: Global, types: &DefinedTypes<'_>, name: u64, number
 }
 
 /// What an item in either case is. Most are in upper case, and then no copy is made.
+#[inline(never)]
 fn item_in_either_case(
     alloc: Global,
     types: &DefinedTypes<'_>,
@@ -171,7 +181,8 @@ pub fn under_name(alloc: Global, number: usize, taken: Option<Value>) -> Taken
     }
 }
 
-/// What a type that is no SELECT takes of a token.
+/// What a type that is no SELECT takes of a token. Each kind has a function of its own, that saves what it changes alone.
+#[inline(always)]
 #[tactic(auto, unfolding(crate::specs::Taking::meaning))]
 fn token(alloc: Global, types: &DefinedTypes<'_>, value: &Spelled<'_>, base: &Base<'_>) -> Taken
     ensures { IfOk result (λ taken. taken ≡ deciding.alone types.now value.now (seen base.now)) }

@@ -47,6 +47,7 @@ impl<'s> Expected<'s> {
 }
 
 /// The value of an attribute of the type that is expected, where the type takes what is spelled.
+#[inline(always)]
 pub fn bound_by(
     alloc: Global,
     types: &DefinedTypes<'_>,
