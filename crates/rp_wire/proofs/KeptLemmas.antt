@@ -1,5 +1,5 @@
 -- What is kept of values and of members.
-use Rattle.std.proofs.Common.{◌≡◌, ◌<◌, ◌-◌, ℕ, List, length, ◌∷◌, Bool, true, false, true≢false, cond, codes, bytes_eq, Option, Some, None, MatchOption, option_map, option_and_then, refl, ap, ap₂, sym, ◌∙◌}
+use Rattle.std.proofs.Common.{◌≡◌, ◌<◌, ◌-◌, ℕ, List, length, [], ◌∷◌, Bool, true, false, true≢false, cond, is_some, codes, bytes_eq, Option, Some, None, MatchOption, option_map, option_and_then, refl, ap, ap₂, sym, ◌∙◌}
 use Rattle.std.proofs.lemmas.Slice.Eq.{bytes_eq-Decides}
 use Rattle.json.specs.Token as spec
 use Rattle.json.specs.Json.{parse_map, items, value}
@@ -13,11 +13,11 @@ use Rattle.serde_json.proofs.Views.{get_member-put, get_member-put_other}
 use Rattle.rp_content.specs.declared.link.Link.{Link}
 use Rattle.rp_population.specs.declared.place.Place.{Place}
 use Rattle.shallow_json.specs.Passing.{scalar_of}
-use Rattle.shallow_json.specs.Shallow.{plain}
+use Rattle.shallow_json.specs.Shallow.{plain, shallow}
 use Rattle.shallow_json.proofs.Reading.{pick, converted-array}
 use Rattle.rp_wire.specs.declared.lines.Lists.{Lists}
 use Rattle.rp_wire.specs.Asks.{links_of, links_if_any, links_in, place_of, place_in, lists_in}
-use Rattle.rp_wire.specs.Kept.{seen, with_list, lists_at, kept_at}
+use Rattle.rp_wire.specs.Kept.{seen, with_list, lists_at, kept_at, kept}
 
 pub mapped_none : {A B : Type 0} (f : A → B) (o : Option (A × List spec.Token)) → parse_map f o ≡ None → o ≡ None
 mapped_none f None e = refl
@@ -118,3 +118,14 @@ pub lists_in-put : (k : List ℕ) (d : Data) (ms : Members) → lists_in (put k 
 lists_in-put k d ms =
     ap₂ both (by_name links_if_any (codes "links") k d ms _ refl) (by_name place_if_any (codes "of") k d ms _ refl)
     ∙ by_both (links_in ms) (links_if_any (Some d)) (place_in ms) (place_if_any (Some d)) _ _ (one_name k)
+
+-- ---- members that are strings alone
+
+absent : (o : Option Data) → is_some o ≡ false → o ≡ None
+absent None e = refl
+absent (Some d) e = absurd (true≢false e)
+
+pub texts_kept : (ms : Members) → shallow ms ≡ ms → is_some (get_member (codes "links") ms) ≡ false → is_some (get_member (codes "of") ms) ≡ false
+    → option_map kept (Some ms) ≡ Some (ms, record { links = Some []; place = None })
+texts_kept ms texts links place =
+    λ i. Some (texts i, record { links = links_if_any (absent (get_member (codes "links") ms) links i); place = place_if_any (absent (get_member (codes "of") ms) place i) })

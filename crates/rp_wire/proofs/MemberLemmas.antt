@@ -1,5 +1,5 @@
 -- The entries of a map, and the members that they stand for.
-use Rattle.std.proofs.Common.{◌≡◌, ℕ, List, [], ◌∷◌, Bool, true, false, cond, true≢false, map, String, string_bytes, Bor, Global, Ordering, Less, Equal, Greater, is_eq, Option, Some, None, option_map, option_and_then, MatchOption, refl, ap, sym, ◌∙◌, bytes_eq, nat_cmp}
+use Rattle.std.proofs.Common.{◌≡◌, ℕ, List, [], ◌∷◌, Bool, true, false, cond, true≢false, map, String, string_bytes, Bor, Global, Ordering, Less, Equal, Greater, is_eq, Option, Some, None, is_some, option_map, option_and_then, MatchOption, refl, ap, sym, ◌∙◌, bytes_eq, nat_cmp}
 use Rattle.std.proofs.lemmas.Map.Text.{is_eq-slice_cmp}
 use Rattle.std.proofs.lemmas.Slice.Eq.{bytes_eq-Decides}
 use Rattle.std.specs.Cmp.Lexicographic.{slice_cmp}
@@ -83,3 +83,10 @@ text_if_any-lookup name es found is = ap text_if_any (ap (option_map view) is �
 
 pub flag_if_any-lookup : (name : List ℕ) (es : List Entry) (found : Option Value) → found ≡ lookup (is_named name) es → flag_if_any (option_map view found) ≡ flag_if_any (get_member name (members_view es))
 flag_if_any-lookup name es found is = ap flag_if_any (ap (option_map view) is ∙ view-lookup name es)
+
+some_viewed : (found : Option Value) → is_some found ≡ is_some (option_map view found)
+some_viewed None = refl
+some_viewed (Some v) = refl
+
+pub is_some-lookup : (name : List ℕ) (es : List Entry) → is_some (lookup (is_named name) es) ≡ is_some (get_member name (members_view es))
+is_some-lookup name es = some_viewed (lookup (is_named name) es) ∙ ap is_some (view-lookup name es)

@@ -1,9 +1,9 @@
 //! From a line to its members and lists.
 
-ghost use Rattle.std.specs.Prelude.{◌≡◌, ◌<◌, length, None, Some, option_map, option_and_then, IfOk, IsErrOf, OnOk};
+ghost use Rattle.std.specs.Prelude.{◌≡◌, ◌<◌, length, [], None, Some, is_some, option_map, option_and_then, IfOk, IfSome, IsErrOf, OnOk};
 ghost use Rattle.json.specs.Json.{value, members, parse_map};
 ghost use Rattle.serde_json.specs.Data.{no_members};
-ghost use Rattle.serde_json.specs.Find.{as_object};
+ghost use Rattle.serde_json.specs.Find.{as_object, get_member};
 ghost use Rattle.serde_json.specs.Read.{of_json, of_members, converted, read as read_json};
 ghost use Rattle.serde_json.specs.View.{view, members_view};
 ghost use Rattle.rp_wire.specs.Asks.{asked_with, asked_of};
@@ -16,11 +16,14 @@ use json::{Reader, Scratch};
 use plain_data::Rows;
 use rp_population::Place;
 use serde_json::{Map, Value};
-use shallow_json::{Unread, read_member, take_begin_object};
-use std::alloc::Global;
+use shallow_json::{Unread, read_member, read_texts, take_begin_object};
+use std::alloc::{AllocError, Global};
 
 /// How deep lists and objects may nest in a member.
 const DEPTH: usize = 126;
+
+/// From how many bytes on a line is first read as one of strings alone. A short one isn't worth a try that may fail.
+const LONG: usize = 4096;
 
 /// What the lists of a line hold.
 #[derive(Drop)]
@@ -43,7 +46,48 @@ pub(crate) fn read_line(alloc: Global, line: &[u8]) -> Result<(Members, Lists), 
     }
 }
 
+/// Whether there is a member of this name.
+fn has_member(members: &Members, name: &str) -> bool
+    ensures { result ≡ is_some (get_member name.now (members_view members.now.entries)) }
+{
+    members.contains_key(name)
+}
+
+/// The members of the object that a long text is, if they are strings alone, and none stands where a list may.
+fn texts_of(alloc: Global, text: &str) -> Result<Option<Members>, AllocError>
+    ensures { IfOk result (λ found. IfSome found (λ members. option_map kept (option_and_then as_object (read_json text.now))
+        ≡ Some (members_view members.entries, record { links = Some []; place = None }))) }
+{
+    if text.len() < LONG || !text.ends_with("\"}") {
+        return Ok(None);
+    }
+    let Some(members) = read_texts(alloc, text)? else {
+        return Ok(None);
+    };
+    if has_member(&members, "links") || has_member(&members, "of") {
+        return Ok(None);
+    }
+    Ok(Some(members))
+}
+
+/// The members and the lists of the object that a text is.
 fn read_object(alloc: Global, text: &str) -> Result<(Members, Lists), Unread>
+    ensures ok { IfOk result (λ read. option_map kept (option_and_then as_object (read_json text.now))
+        ≡ Some (members_view read.0.entries, read.1)) }
+    ensures bad { IsErrOf result Unread.Invalid → option_and_then as_object (read_json text.now) ≡ None }
+{
+    let Some(members) = texts_of(alloc, text)? else {
+        return read_any_object(alloc, text);
+    };
+    let lists = Lists {
+        links: Some(Rows::new(alloc)),
+        place: None,
+    };
+    Ok((members, lists))
+}
+
+/// The same, whatever the members are.
+fn read_any_object(alloc: Global, text: &str) -> Result<(Members, Lists), Unread>
     ensures ok { IfOk result (λ read. option_map kept (option_and_then as_object (read_json text.now))
         ≡ Some (members_view read.0.entries, read.1)) }
     ensures bad { IsErrOf result Unread.Invalid → option_and_then as_object (read_json text.now) ≡ None }

@@ -7,7 +7,7 @@ use Rattle.serde_json.specs.Find.{as_object}
 use Rattle.shallow_json.proofs.Reading.{whole}
 use Rattle.shallow_json.proofs.Shallow.{mapped_some, members_read, members_and_more, members_refused, no_object}
 use Rattle.rp_wire.specs.Kept.{kept}
-use Rattle.rp_wire.proofs.lines.read_object.Goals as goal
+use Rattle.rp_wire.proofs.lines.read_any_object.Goals as goal
 
 pub returns-in_err-read-clause-bad : goal.returns-in_err-read-clause-bad
 returns-in_err-read-clause-bad c refused =
