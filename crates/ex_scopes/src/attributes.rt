@@ -103,7 +103,7 @@ impl<'a> AttributeRows<'a> {
     }
 }
 
-/// How many attributes of a name are looked at before the members of a family are counted.
+/// How many attributes of a name are looked at, where the members of the family are more.
 const FIRST_LOOK: usize = 8;
 
 /// Those of the attributes that this entity declares.
@@ -168,8 +168,8 @@ fn and_of_family(
     Ok(seen)
 }
 
-/// What is seen with those of the attributes that a family declares: of ever more attributes one after another, until
-/// the family has fewer members than were looked at.
+/// What is seen with those of the attributes that a family declares: of ever more attributes one after another, unless
+/// the family has no more members than would be looked at.
 fn and_left(
     alloc: Global,
     before: Seen,
@@ -186,15 +186,15 @@ fn and_left(
     if left.len() <= count {
         return and_of_family(alloc, before, family, sorts, left);
     }
+    if is_ascending {
+        if let Some(members) = family.within(alloc, count)? {
+            return Ok(and_of_each(before, sorts, &members, left));
+        }
+    }
     let (next, others) = left.split_at(count);
     let seen = and_of_family(alloc, before, family, sorts, next)?;
     if seen.is_settled() {
         return Ok(seen);
-    }
-    if is_ascending {
-        if let Some(members) = family.within(alloc, count)? {
-            return Ok(and_of_each(seen, sorts, &members, others));
-        }
     }
     and_left(alloc, seen, family, sorts, is_ascending, 2 * count, others)
 }

@@ -22,17 +22,12 @@ returns-then-is_settled t c =
 pub returns-in-Some : goal.returns-in-Some
 returns-in-Some t c =
     let can = admitted c.args.sorts in
-    let keep = λ (a : AttributePlace). is_among c.args.family.now a.entity in
     let entity_of = λ (a : AttributePlace). a.entity in
-    let rest = filter keep (drop c.args.count c.args.left.now) in
-    let front = c.in_ok-seen.ensures ∙ ap (λ (ps : List AttributePlace). seen_after can c.args.before (filter keep ps)) c.split_at.ensures.front in
     let exact = rw c.in-Some.is at c.in_ok-members.ensures.exact in
     let ascending = rw c.in-Some.is at c.in_ok-members.ensures.ascending in
-    let order = IsNonDecreasingBy-drop entity_of c.args.count c.args.left.now (c.requires.ascending (search (rules, c.if-is_ascending.true))) in
+    let order = c.requires.ascending (search (rules, c.if-is_ascending.true)) in
     c.and_of_each.ensures
-    ∙ rw (c.split_at.ensures.back, c.deref.ensures.value) (ap (seen_after can c.in_ok-seen.seen) (of_members entity_of c.in-Some.members.items c.args.family.now (drop c.args.count c.args.left.now) exact ascending order))
-    ∙ ap (λ (s : Seen). seen_after can s rest) front
-    ∙ seen_split can c.args.before keep c.args.left.now c.args.count
+    ∙ rw c.deref.ensures.value (ap (seen_after can c.args.before) (of_members entity_of c.in-Some.members.items c.args.family.now c.args.left.now exact ascending order))
 
 pub returns : goal.returns
 returns t c =
