@@ -4,7 +4,6 @@ ghost use Rattle.std.specs.Prelude.{◌≡◌, IfOk, IsTrue};
 ghost use Rattle.ex_attributes.specs.Attributes as spec;
 
 use ex_kinds::{Kinds, TypeFaultKind, Typed, are_same, copied};
-use plain_data::Rows;
 use std::alloc::{AllocError, Global};
 
 /// What was found of an attribute's name among several entities.
@@ -24,7 +23,7 @@ impl Found {
         Found {
             is_there: false,
             is_ambiguous: false,
-            kinds: Rows::new(alloc),
+            kinds: Kinds::new(alloc),
         }
     }
 

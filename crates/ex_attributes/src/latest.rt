@@ -10,7 +10,6 @@ use crate::attribute::Redeclared;
 use crate::attributes::Attributes;
 use ex_kinds::{Kinds, TypeFaultKind, Typed, copied, join};
 use ex_named::{AttributeMeaning, AttributePlace, AttributeUse};
-use plain_data::Rows;
 use std::alloc::{AllocError, Global};
 use std::collections::BTreeSet;
 
@@ -35,7 +34,7 @@ pub(crate) fn join_all(kinds: &mut Kinds, all: &[&Redeclared]) -> Result<(), All
 fn all_kinds(alloc: Global, all: &[&Redeclared]) -> Result<Kinds, AllocError>
     ensures { IfOk result (λ kinds. kinds ≡ spec.all_kinds [] (read all.now)) }
 {
-    let mut kinds = Rows::new(alloc);
+    let mut kinds = Kinds::new(alloc);
     join_all(&mut kinds, all)?;
     Ok(kinds)
 }
@@ -78,7 +77,7 @@ impl Attributes {
             return all_kinds(alloc, all);
         }
         let overridden = self.overridden(alloc, all)?;
-        let mut kinds = Rows::new(alloc);
+        let mut kinds = Kinds::new(alloc);
         for redeclared in all {
             if !is_in(&overridden, redeclared.entity) {
                 join(&mut kinds, redeclared.kinds.as_slice())?;
@@ -93,7 +92,7 @@ impl Attributes {
     {
         match self.declared().declared_at(alloc, place)?.as_slice() {
             [attribute, ..] => copied(alloc, attribute.kinds.as_slice()),
-            [] => Ok(Rows::new(alloc)),
+            [] => Ok(Kinds::new(alloc)),
         }
     }
 

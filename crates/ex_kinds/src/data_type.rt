@@ -3,10 +3,10 @@
 ghost use Rattle.std.specs.Prelude.{◌≡◌, ◌∷◌, [], IfOk};
 ghost use Rattle.ex_kinds.specs.Kinds as spec;
 
-use crate::kind::{Kinds, Sort, ValueKind};
+use crate::kind::{Sort, ValueKind};
+use crate::kinds::Kinds;
 use ex_named::{NamedDataType, TypeName};
 use ex_tree::SimpleType;
-use plain_data::Rows;
 use std::alloc::{AllocError, Global};
 
 /// What the value itself may be.
@@ -16,20 +16,11 @@ fn itself(sort: Sort) -> ValueKind
     ValueKind { depth: 0, sort }
 }
 
-/// The one kind.
-fn single(alloc: Global, kind: ValueKind) -> Result<Kinds, AllocError>
-    ensures { IfOk result (λ kinds. kinds ≡ kind ∷ []) }
-{
-    let mut kinds = Rows::new(alloc);
-    kinds.push(kind)?;
-    Ok(kinds)
-}
-
 /// What a value may be that is of one kind.
 pub fn kinds_of_one(alloc: Global, sort: Sort) -> Result<Kinds, AllocError>
     ensures { IfOk result (λ kinds. kinds ≡ spec.itself sort ∷ []) }
 {
-    single(alloc, itself(sort))
+    Ok(Kinds::one(alloc, itself(sort)))
 }
 
 /// What the elements of an aggregate may be, or their elements.
@@ -92,7 +83,7 @@ pub fn kinds_of(alloc: Global, tree: &NamedDataType) -> Result<Kinds, AllocError
 {
     match tree {
         NamedDataType::Simple(simple) => kinds_of_simple(alloc, *simple),
-        NamedDataType::Named(name) => single(alloc, kind_of_name(*name)),
+        NamedDataType::Named(name) => Ok(Kinds::one(alloc, kind_of_name(*name))),
         NamedDataType::Array { element, .. }
         | NamedDataType::List { element, .. }
         | NamedDataType::Bag { element, .. }

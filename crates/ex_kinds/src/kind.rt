@@ -1,7 +1,5 @@
 //! Kinds.
 
-use plain_data::Rows;
-
 /// What a value may be.
 #[derive(Clone, Copy, PartialEq, Eq)]
 pub enum Sort {
@@ -46,6 +44,3 @@ pub struct ValueKind {
     pub depth: usize,
     pub sort: Sort,
 }
-
-/// What a value may be: one of these. `?` has none.
-pub type Kinds = Rows<ValueKind>;

@@ -4,6 +4,7 @@
 mod data_type;
 mod fault;
 mod kind;
+mod kinds;
 mod leading;
 mod list;
 mod meeting;
@@ -12,7 +13,8 @@ mod types;
 
 pub use data_type::{aggregate_of, kinds_of, kinds_of_one};
 pub use fault::{TypeFault, TypeFaultKind, either, fault_at};
-pub use kind::{Kinds, PlainSort, Sort, ValueKind};
+pub use kind::{PlainSort, Sort, ValueKind};
+pub use kinds::Kinds;
 pub use leading::is_marked;
 pub use list::{apart, are_same, copied, elements, join};
 pub use typed::{Typed, ruled};

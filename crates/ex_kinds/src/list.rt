@@ -4,8 +4,8 @@ ghost use Rattle.std.specs.Prelude.{◌≡◌, IfOk, IsTrue, OnOk};
 ghost use Rattle.std.specs.List.{list_any};
 ghost use Rattle.ex_kinds.specs.Kinds as spec;
 
-use crate::kind::{Kinds, Sort, ValueKind};
-use plain_data::Rows;
+use crate::kind::{Sort, ValueKind};
+use crate::kinds::Kinds;
 use std::alloc::{AllocError, Global};
 
 /// Whether this kind is one of those.
@@ -56,11 +56,14 @@ pub(crate) fn shallower(kind: ValueKind) -> Option<ValueKind>
 pub fn elements(alloc: Global, kinds: &[ValueKind]) -> Result<Kinds, AllocError>
     ensures { IfOk result (λ found. found ≡ spec.elements kinds.now) }
 {
-    let found: Vec<ValueKind> = kinds.iter().copied().filter_map(shallower).collect(alloc)?;
     // Each once: a value may have its elements on many ways, and each way again.
-    let mut elements = Rows::new(alloc);
-    join(&mut elements, &found)?;
-    Ok(elements)
+    let mut found = Kinds::new(alloc);
+    for kind in kinds {
+        if let Some(element) = shallower(*kind) {
+            add(&mut found, element)?;
+        }
+    }
+    Ok(found)
 }
 
 /// Whether the value itself is of this kind, and no aggregate.
@@ -77,12 +80,13 @@ fn is_element(kind: ValueKind) -> bool
 pub fn apart(alloc: Global, kinds: &[ValueKind]) -> Result<Kinds, AllocError>
     ensures { IfOk result (λ found. found ≡ spec.apart kinds.now) }
 {
-    let found = kinds
-        .iter()
-        .copied()
-        .filter(|kind| is_element(*kind))
-        .collect(alloc)?;
-    Ok(Rows::from_vec(found))
+    let mut found = Kinds::new(alloc);
+    for kind in kinds {
+        if is_element(*kind) {
+            found.push(*kind)?;
+        }
+    }
+    Ok(found)
 }
 
 fn is_kind(kind: ValueKind, other: ValueKind) -> bool
@@ -113,5 +117,5 @@ pub fn are_same(kinds: &[ValueKind], others: &[ValueKind]) -> bool
 pub fn copied(alloc: Global, kinds: &[ValueKind]) -> Result<Kinds, AllocError>
     ensures { IfOk result (λ found. found ≡ kinds.now) }
 {
-    Ok(Rows::from_vec(Vec::from_slice(alloc, kinds)?))
+    Kinds::from_slice(alloc, kinds)
 }

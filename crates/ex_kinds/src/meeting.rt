@@ -4,7 +4,8 @@ ghost use Rattle.std.specs.Prelude.{◌≡◌, map, slice_get, Some, IfOk};
 ghost use Rattle.std.specs.List.{list_any};
 ghost use Rattle.ex_kinds.specs.Types as spec;
 
-use crate::kind::{Kinds, PlainSort, Sort, ValueKind};
+use crate::kind::{PlainSort, Sort, ValueKind};
+use crate::kinds::Kinds;
 use crate::leading::{Turned, is_marked};
 use crate::list::shallower;
 use crate::types::{alternative, held, is_instance, mentioned};

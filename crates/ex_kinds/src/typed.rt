@@ -7,8 +7,7 @@ ghost use Rattle.ex_kinds.specs.Kinds.{Kinds};
 ghost use Rattle.ex_kinds.specs.declared.fault.TypeFaultKind.{TypeFaultKind};
 
 use crate::fault::{TypeFault, TypeFaultKind, either, fault_at};
-use crate::kind::Kinds;
-use plain_data::Rows;
+use crate::kinds::Kinds;
 use std::alloc::{AllocError, Global};
 use text_forms::Failure;
 
@@ -32,7 +31,7 @@ impl Typed {
         ensures { result ≡ spec.refused kind at }
     {
         Typed {
-            kinds: Rows::new(alloc),
+            kinds: Kinds::new(alloc),
             fault: fault_at(kind, at),
         }
     }

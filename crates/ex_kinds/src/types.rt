@@ -8,7 +8,8 @@ ghost use Rattle.ex_kinds.specs.Leading as graphs;
 ghost use Rattle.ex_kinds.specs.Types as spec;
 
 use crate::data_type::{kind_of_name, kinds_of, kinds_of_one};
-use crate::kind::{Kinds, PlainSort, Sort, ValueKind};
+use crate::kind::{PlainSort, Sort, ValueKind};
+use crate::kinds::Kinds;
 use crate::leading::{Turned, is_marked};
 use crate::meeting::{
     all_holding, any_holds_instance, has_elements, holds_instance, is_value, met, place_of,
@@ -180,7 +181,7 @@ impl Types {
     pub fn own(&self, alloc: Global, number: usize) -> Result<Kinds, AllocError>
         ensures { IfOk result (λ found. found ≡ spec.own (spec.declared self.now number)) }
     {
-        let mut found = Rows::new(alloc);
+        let mut found = Kinds::new(alloc);
         push_own(&mut found, self.declared(number))?;
         Ok(found)
     }
@@ -208,7 +209,7 @@ impl Types {
     pub fn plain(&self, alloc: Global, kinds: &[ValueKind]) -> Result<Kinds, AllocError>
         ensures { IfOk result (λ found. found ≡ spec.plain self.now kinds.now) }
     {
-        let mut found = Rows::new(alloc);
+        let mut found = Kinds::new(alloc);
         for kind in kinds {
             match alternative(*kind) {
                 Some(number) => self.push_plain(alloc, &mut found, number)?,
@@ -251,8 +252,11 @@ fn members(alloc: Global, graph: &[Rows<usize>], number: usize) -> Result<Vec<us
 fn kinds_of_names(alloc: Global, names: &[TypeName]) -> Result<Kinds, AllocError>
     ensures { IfOk result (λ kinds. kinds ≡ map of_name names.now) }
 {
-    let kinds = names.iter().copied().map(kind_of_name).collect(alloc)?;
-    Ok(Rows::from_vec(kinds))
+    let mut kinds = Kinds::new(alloc);
+    for name in names {
+        kinds.push(kind_of_name(*name))?;
+    }
+    Ok(kinds)
 }
 
 /// What a value of a type may be by its declaration.

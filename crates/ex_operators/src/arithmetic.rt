@@ -12,7 +12,6 @@ use crate::possibilities::{
 };
 use crate::ruling::{Ruling, kinds_if, or_else_fault, with_more};
 use ex_kinds::{Kinds, PlainSort, Sort, TypeFaultKind, aggregate_of, join};
-use plain_data::Rows;
 use std::alloc::{AllocError, Global};
 use text_forms::Failure;
 
@@ -80,7 +79,7 @@ fn sum_aggregate(
         let elements = summed(alloc, left, right)?;
         aggregate_of(alloc, elements.as_slice())
     } else {
-        Ok(Rows::new(alloc))
+        Ok(Kinds::new(alloc))
     }
 }
 
@@ -130,7 +129,7 @@ fn aggregate_if(alloc: Global, possible: bool, operand: &Operand<'_>) -> Result<
         let elements = operand.elements(alloc)?;
         aggregate_of(alloc, elements.as_slice())
     } else {
-        Ok(Rows::new(alloc))
+        Ok(Kinds::new(alloc))
     }
 }
 

@@ -18,7 +18,6 @@ use ex_kinds::{
     Kinds, Sort, TypeFaultKind, Types, ValueKind, aggregate_of, copied, join, kinds_of_one,
 };
 use ex_tree::BuiltInFunction;
-use plain_data::Rows;
 use std::alloc::{AllocError, Global};
 use text_forms::Failure;
 
@@ -195,7 +194,7 @@ pub fn built_in_anyway(
 {
     match function {
         BuiltInFunction::Exists | BuiltInFunction::Odd | BuiltInFunction::ValueIn => logical(alloc),
-        BuiltInFunction::Nvl => Ok(Rows::new(alloc)),
+        BuiltInFunction::Nvl => Ok(Kinds::new(alloc)),
         BuiltInFunction::TypeOf => aggregate_of_one(alloc, Sort::String),
         BuiltInFunction::UsedIn => users(alloc, has_entities),
         _ => kinds_of_one(alloc, Sort::Integer),

@@ -7,7 +7,6 @@ ghost use Rattle.ex_kinds.specs.Types.{can_be as can_be_in, enumeration as enume
 ghost use Rattle.ex_operators.specs.Operands as spec;
 
 use ex_kinds::{Kinds, PlainSort, Sort, Types, ValueKind, apart, elements};
-use plain_data::Rows;
 use std::alloc::{AllocError, Global};
 use std::marker::Model;
 
@@ -49,7 +48,7 @@ impl<'a> Operand<'a> {
             let plain = self.types.plain(alloc, self.kinds)?;
             elements(alloc, plain.as_slice())
         } else {
-            Ok(Rows::new(alloc))
+            Ok(Kinds::new(alloc))
         }
     }
 

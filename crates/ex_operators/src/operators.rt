@@ -13,7 +13,6 @@ use crate::possibilities::{
 use crate::ruling::{Ruling, logical, or_else_fault};
 use ex_kinds::{Kinds, TypeFaultKind, Types, ValueKind};
 use ex_tree::{BinaryOperator, IntervalOperator, UnaryOperator};
-use plain_data::Rows;
 use std::alloc::{AllocError, Global};
 use text_forms::Failure;
 
@@ -116,7 +115,7 @@ pub fn binary_anyway(alloc: Global, operator: BinaryOperator) -> Result<Kinds, A
         | BinaryOperator::Div
         | BinaryOperator::Mod
         | BinaryOperator::Add
-        | BinaryOperator::Subtract => Ok(Rows::new(alloc)),
+        | BinaryOperator::Subtract => Ok(Kinds::new(alloc)),
         _ => logical(alloc),
     }
 }
@@ -127,6 +126,6 @@ pub fn unary_anyway(alloc: Global, operator: UnaryOperator) -> Result<Kinds, All
 {
     match operator {
         UnaryOperator::Not => logical(alloc),
-        UnaryOperator::Plus | UnaryOperator::Minus => Ok(Rows::new(alloc)),
+        UnaryOperator::Plus | UnaryOperator::Minus => Ok(Kinds::new(alloc)),
     }
 }

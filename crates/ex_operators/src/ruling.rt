@@ -5,7 +5,6 @@ ghost use Rattle.text_forms.specs.Gives.{Gives};
 ghost use Rattle.ex_operators.specs.Operators as spec;
 
 use ex_kinds::{Kinds, Sort, TypeFaultKind, ValueKind, aggregate_of, kinds_of_one};
-use plain_data::Rows;
 use std::alloc::{AllocError, Global};
 use text_forms::Failure;
 
@@ -36,7 +35,7 @@ pub(crate) fn kinds_if(alloc: Global, possible: bool, sort: Sort) -> Result<Kind
     if possible {
         kinds_of_one(alloc, sort)
     } else {
-        Ok(Rows::new(alloc))
+        Ok(Kinds::new(alloc))
     }
 }
 
@@ -51,7 +50,7 @@ pub(crate) fn aggregate_if(
     if possible {
         aggregate_of(alloc, elements)
     } else {
-        Ok(Rows::new(alloc))
+        Ok(Kinds::new(alloc))
     }
 }
 
@@ -59,7 +58,9 @@ pub(crate) fn aggregate_if(
 pub(crate) fn with_more(kinds: Kinds, more: &[ValueKind]) -> Result<Kinds, AllocError>
     ensures { IfOk result (λ all. all ≡ kinds ++ more.now) }
 {
-    let mut all = kinds.into_vec();
-    all.extend_from_slice(more)?;
-    Ok(Rows::from_vec(all))
+    let mut all = kinds;
+    for kind in more {
+        all.push(*kind)?;
+    }
+    Ok(all)
 }

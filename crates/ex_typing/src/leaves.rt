@@ -17,7 +17,6 @@ use ex_operators::{
     binary, binary_anyway, built_in, built_in_anyway, grouped, unary, unary_anyway,
 };
 use ex_tree::{BinaryOperator, BuiltInFunction, Literal, UnaryOperator};
-use plain_data::Rows;
 use std::alloc::{AllocError, Global};
 
 fn literal(alloc: Global, value: &Literal) -> Result<Kinds, AllocError>
@@ -82,7 +81,7 @@ pub(crate) fn attribute(
 {
     match scope.entity() {
         Some(entity) => schema.attributes().used(alloc, entity, name),
-        None => Ok(Typed::fine(Rows::new(alloc))),
+        None => Ok(Typed::fine(Kinds::new(alloc))),
     }
 }
 
@@ -97,7 +96,7 @@ pub(crate) fn called(
     ensures { IfOk result (λ typed. typed ≡ spec.called_by schema.now function at arguments.now) }
 {
     let Some(signature) = schema.function(function) else {
-        return Ok(Typed::fine(Rows::new(alloc)));
+        return Ok(Typed::fine(Kinds::new(alloc)));
     };
     let rule = ex_operators::called(
         alloc,
@@ -217,7 +216,7 @@ pub(crate) fn initializer(
 fn all_joined(alloc: Global, list: &[Kinds]) -> Result<Kinds, AllocError>
     ensures { IfOk result (λ kinds. kinds ≡ spec.joined_after [] list.now) }
 {
-    let mut found = Rows::new(alloc);
+    let mut found = Kinds::new(alloc);
     for kinds in list {
         join(&mut found, kinds.as_slice())?;
     }

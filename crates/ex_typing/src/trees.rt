@@ -33,7 +33,7 @@ pub fn expression(
     match tree {
         NamedExpression::Literal(value) => literal_value(alloc, value),
         NamedExpression::Itself => known_kinds(alloc, scope.itself()),
-        NamedExpression::Indeterminate => Ok(Typed::fine(Rows::new(alloc))),
+        NamedExpression::Indeterminate => Ok(Typed::fine(Kinds::new(alloc))),
         NamedExpression::Variable(slot) => known_kinds(alloc, scope.variable(*slot)),
         NamedExpression::Attribute(name) => attribute(alloc, schema, scope, name),
         NamedExpression::Constant(number) => known_kinds(alloc, schema.constant(*number)),
