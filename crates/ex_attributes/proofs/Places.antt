@@ -27,19 +27,19 @@ pub place_next : (k key : List ℕ) (i : ℕ) (keys : List (List ℕ)) (before n
 place_next k key i keys before now is = is_on (bytes_eq k key) i (places_from key (suc i) keys) before now is
 
 module _ {A : Type 0} (key_of : A → List ℕ) (key : List ℕ) where
-  stands : (before : List A) (x : A) (xs : List A) → slice_get (before ++ x ∷ xs) (length before) ≡ Some x
+  pub stands : (before : List A) (x : A) (xs : List A) → slice_get (before ++ x ∷ xs) (length before) ≡ Some x
   stands [] x xs = refl
   stands (b ∷ before) x xs = stands before x xs
 
-  moved : (before : List A) (x : A) (xs : List A) → (before ++ x ∷ []) ++ xs ≡ before ++ x ∷ xs
+  pub moved : (before : List A) (x : A) (xs : List A) → (before ++ x ∷ []) ++ xs ≡ before ++ x ∷ xs
   moved [] x xs = refl
   moved (b ∷ before) x xs = ap (λ l. b ∷ l) (moved before x xs)
 
-  longer : (before : List A) (x : A) → length (before ++ x ∷ []) ≡ suc (length before)
+  pub longer : (before : List A) (x : A) → length (before ++ x ∷ []) ≡ suc (length before)
   longer [] x = refl
   longer (b ∷ before) x = ap suc (longer before x)
 
-  rows_from : (before xs : List A) → rows_at (before ++ xs) (places_from key (length before) (map key_of xs)) ≡ filter (λ a. bytes_eq (key_of a) key) xs
+  pub rows_from : (before xs : List A) → rows_at (before ++ xs) (places_from key (length before) (map key_of xs)) ≡ filter (λ a. bytes_eq (key_of a) key) xs
   rows_from before [] = refl
   rows_from before (x ∷ xs) = by (bytes_eq (key_of x) key)
       (ap (λ l. rows_at l (places_from key (suc (length before)) (map key_of xs))) (sym (moved before x xs))

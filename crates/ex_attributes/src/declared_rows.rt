@@ -1,17 +1,18 @@
 //! The attributes that entities declare, found by their names and by where they are declared.
 
-ghost use Rattle.std.specs.Prelude.{◌≡◌, IfOk, filter};
+ghost use Rattle.std.specs.Prelude.{◌≡◌, ◌≤◌, ◌==◌, true, false, [], length, if◌then◌else◌, IfOk, filter};
 ghost use Rattle.std.specs.List.{flat_map};
+ghost use Rattle.std.specs.List.Sorted.{IsNonDecreasingBy, IsPartitionPoint};
 ghost use Rattle.ex_named.specs.Scopes.{is_among};
 ghost use Rattle.ex_attributes.specs.Attributes as spec;
 ghost use Rattle.ex_attributes.specs.Steps.{read};
 ghost use Rattle.ex_attributes.specs.Tables as tables;
 
 use crate::attribute::Attribute;
-use crate::keys::{declared_keys, declarer_key, declarer_keys, name_key, name_keys, place_key};
-use crate::order::attributes_ascend;
-use crate::tables::{places_at, places_by_key, push_rows_at, rows_at};
+use crate::order::{attributes_ascend, attributes_in_order, is_same_place, place_order};
+use crate::tables::{places_of, push_rows_at, put_name, rows_at};
 use descent::Family;
+use ex_kinds::ValueKind;
 use ex_named::AttributePlace;
 use plain_data::Text;
 use std::alloc::{AllocError, Global};
@@ -21,11 +22,11 @@ use std::marker::Model;
 /// The attributes that entities declare.
 pub(crate) struct DeclaredRows {
     rows: Vec<Attribute>,
-    by_name: BTreeMap<Vec<usize>, Vec<usize>>,
-    by_declarer: BTreeMap<Vec<usize>, Vec<usize>>,
-    by_place: BTreeMap<Vec<usize>, Vec<usize>>,
+    by_name: BTreeMap<Vec<u8>, Vec<usize>>,
     /// Whether they stand in the order of who declares them, as those of a schema do.
     is_ascending: bool,
+    /// Whether they stand in the order of where they are declared, as those of a schema do.
+    is_in_order: bool,
 }
 
 impl Drop for DeclaredRows {
@@ -33,62 +34,36 @@ impl Drop for DeclaredRows {
         let DeclaredRows {
             rows,
             by_name,
-            by_declarer,
-            by_place,
             is_ascending: _,
+            is_in_order: _,
         } = self;
         drop(rows);
         drop(by_name);
-        drop(by_declarer);
-        drop(by_place);
     }
 }
 
 impl Model for DeclaredRows {
-    ghost use Rattle.std.specs.Prelude.{List};
+    ghost use Rattle.std.specs.Prelude.{List, IsTrue};
     ghost use Rattle.ex_attributes.specs.declared.attribute.Attribute.{Attribute};
-    ghost use Rattle.ex_attributes.specs.Tables.{HasPlaces, AscendIf, declarer_key, declared_key};
+    ghost use Rattle.ex_attributes.specs.Tables.{HasNames, AscendIf, IsInOrder};
 
     ghost Value = { List Attribute };
 
     ghost view = { λ d. d.rows.items };
 
-    ghost invariant = { λ d. HasPlaces (λ a. a.name) d.rows.items d.by_name
-        × (HasPlaces declarer_key d.rows.items d.by_declarer
-        × (HasPlaces declared_key d.rows.items d.by_place
-        × AscendIf (λ a. a.place.entity) d.is_ascending d.rows.items)) };
+    ghost invariant = { λ d. HasNames d.rows.items d.by_name
+        × (AscendIf (λ a. a.place.entity) d.is_ascending d.rows.items
+        × (IsTrue d.is_in_order → IsInOrder d.rows.items)) };
 }
 
-fn by_name(
-    alloc: Global,
-    rows: &[Attribute],
-) -> Result<BTreeMap<Vec<usize>, Vec<usize>>, AllocError>
-    ensures { IfOk result (λ table. tables.HasPlaces (λ a. a.name) rows.now table) }
+/// The places of each name among attributes.
+fn by_name(alloc: Global, rows: &[Attribute]) -> Result<BTreeMap<Vec<u8>, Vec<usize>>, AllocError>
+    ensures { IfOk result (λ table. tables.HasNames rows.now table) }
 {
-    let keys = name_keys(alloc, rows)?;
-    let table = places_by_key(alloc, keys)?;
-    Ok(table)
-}
-
-fn by_declarer(
-    alloc: Global,
-    rows: &[Attribute],
-) -> Result<BTreeMap<Vec<usize>, Vec<usize>>, AllocError>
-    ensures { IfOk result (λ table. tables.HasPlaces tables.declarer_key rows.now table) }
-{
-    let keys = declarer_keys(alloc, rows)?;
-    let table = places_by_key(alloc, keys)?;
-    Ok(table)
-}
-
-fn by_place(
-    alloc: Global,
-    rows: &[Attribute],
-) -> Result<BTreeMap<Vec<usize>, Vec<usize>>, AllocError>
-    ensures { IfOk result (λ table. tables.HasPlaces tables.declared_key rows.now table) }
-{
-    let keys = declared_keys(alloc, rows)?;
-    let table = places_by_key(alloc, keys)?;
+    let mut table = BTreeMap::new(alloc);
+    for (place, row) in rows.iter().enumerate() {
+        put_name(alloc, &mut table, row.name.as_bytes(), place)?;
+    }
     Ok(table)
 }
 
@@ -109,22 +84,85 @@ fn of_family<'r>(
     Ok(found)
 }
 
-/// Those of this name that these entities declare, one entity after another.
+/// Which entity declares the attribute in this place.
+fn declarer_at(rows: &[Attribute], place: usize) -> usize
+    ensures { result ≡ tables.declarer_at rows.now place }
+{
+    match rows.get(place) {
+        Some(row) => row.place.entity,
+        None => 0,
+    }
+}
+
+/// Those of the places whose attributes this entity declares.
+fn run_of<'p>(rows: &[Attribute], entity: usize, places: &'p [usize]) -> &'p [usize]
+    requires { IsNonDecreasingBy (tables.declarer_at rows.now) places.now }
+    ensures { result.now ≡ filter (λ p. entity == tables.declarer_at rows.now p) places.now }
+{
+    let start = places.partition_point(|place| declarer_at(rows, *place) < entity);
+    let from = &places[start..];
+    let end = from.partition_point(|place| declarer_at(rows, *place) <= entity);
+    &from[..end]
+}
+
+/// Those of the attributes in these places that these entities declare, one entity after another.
 fn of_members<'r>(
     alloc: Global,
     rows: &'r [Attribute],
-    by_declarer: &BTreeMap<Vec<usize>, Vec<usize>>,
+    places: &[usize],
     members: &[usize],
-    name: &Text,
 ) -> Result<Vec<&'r Attribute>, AllocError>
-    ensures { IfOk result (λ found. read found.items ≡ flat_map (λ e. tables.rows_at rows.now (tables.places_at (tables.behind e name.now) by_declarer.now)) members.now) }
+    requires { IsNonDecreasingBy (tables.declarer_at rows.now) places.now }
+    ensures { IfOk result (λ found. read found.items ≡ flat_map (λ e. tables.rows_at rows.now (filter (λ p. e == tables.declarer_at rows.now p) places.now)) members.now) }
 {
     let mut found = Vec::new(alloc);
     for member in members {
-        let key = declarer_key(alloc, *member, name)?;
-        push_rows_at(&mut found, rows, places_at(by_declarer, &key))?;
+        push_rows_at(&mut found, rows, run_of(rows, *member, places))?;
     }
     Ok(found)
+}
+
+/// Where the first of these stands that isn't declared before this place.
+fn first_not_before(rows: &[Attribute], place: AttributePlace) -> usize
+    requires { tables.IsInOrder rows.now }
+    ensures within { result ≤ length rows.now }
+    ensures parts { IsPartitionPoint (λ a. tables.is_before place a ≡ true) (λ a. tables.is_before place a ≡ false) rows.now result }
+{
+    rows.partition_point(|row| place_order(row.place, place).is_lt())
+}
+
+/// What an attribute may be, if it is declared there.
+fn kinds_if<'r>(row: &'r Attribute, place: AttributePlace) -> &'r [ValueKind]
+    ensures { result.now ≡ (if spec.same_place row.now.place place then row.now.kinds else []) }
+{
+    if is_same_place(row.place, place) {
+        row.kinds.as_slice()
+    } else {
+        &[]
+    }
+}
+
+/// What the first attribute that is declared there may be, where they stand in the order of that.
+fn kinds_in_order(rows: &[Attribute], place: AttributePlace) -> &[ValueKind]
+    requires { tables.IsInOrder rows.now }
+    ensures { result.now ≡ spec.kinds_of_first (filter (λ a. spec.same_place a.place place) rows.now) }
+{
+    match rows.get(first_not_before(rows, place)) {
+        Some(row) => kinds_if(row, place),
+        None => &[],
+    }
+}
+
+/// What the first attribute that is declared there may be.
+fn kinds_of_first(rows: &[Attribute], place: AttributePlace) -> &[ValueKind]
+    ensures { result.now ≡ spec.kinds_of_first (filter (λ a. spec.same_place a.place place) rows.now) }
+{
+    for row in rows {
+        if is_same_place(row.place, place) {
+            return row.kinds.as_slice();
+        }
+    }
+    &[]
 }
 
 impl DeclaredRows {
@@ -132,15 +170,13 @@ impl DeclaredRows {
         ensures { IfOk result (λ d. d ≡ rows.items) }
     {
         let by_name = by_name(alloc, &rows)?;
-        let by_declarer = by_declarer(alloc, &rows)?;
-        let by_place = by_place(alloc, &rows)?;
         let is_ascending = attributes_ascend(&rows);
+        let is_in_order = attributes_in_order(&rows);
         Ok(DeclaredRows {
             rows,
             by_name,
-            by_declarer,
-            by_place,
             is_ascending,
+            is_in_order,
         })
     }
 
@@ -148,8 +184,7 @@ impl DeclaredRows {
     pub(crate) fn named(&self, alloc: Global, name: &Text) -> Result<Vec<&Attribute>, AllocError>
         ensures { IfOk result (λ found. read found.items ≡ spec.named name.now self.now) }
     {
-        let key = name_key(alloc, name)?;
-        rows_at(alloc, &self.rows, places_at(&self.by_name, &key))
+        rows_at(alloc, &self.rows, places_of(&self.by_name, name.as_bytes()))
     }
 
     /// Those of this name that a family declares.
@@ -161,13 +196,12 @@ impl DeclaredRows {
     ) -> Result<Vec<&Attribute>, AllocError>
         ensures { IfOk result (λ found. read found.items ≡ filter (λ a. is_among family.now a.place.entity) (spec.named name.now self.now)) }
     {
-        let key = name_key(alloc, name)?;
-        let places = places_at(&self.by_name, &key);
+        let places = places_of(&self.by_name, name.as_bytes());
         // Few are looked at sooner than the members of a family are counted.
         if places.len() > 8 {
             if self.is_ascending {
                 if let Some(members) = family.within(alloc, places.len() / 8)? {
-                    return of_members(alloc, &self.rows, &self.by_declarer, &members, name);
+                    return of_members(alloc, &self.rows, places, &members);
                 }
             }
         }
@@ -175,15 +209,14 @@ impl DeclaredRows {
         of_family(alloc, family, &rows)
     }
 
-    /// Those that are declared there.
-    pub(crate) fn declared_at(
-        &self,
-        alloc: Global,
-        place: AttributePlace,
-    ) -> Result<Vec<&Attribute>, AllocError>
-        ensures { IfOk result (λ found. read found.items ≡ filter (λ a. spec.same_place a.place place) self.now) }
+    /// What the first that is declared there may be.
+    pub(crate) fn kinds_at(&self, place: AttributePlace) -> &[ValueKind]
+        ensures { result.now ≡ spec.kinds_of_first (filter (λ a. spec.same_place a.place place) self.now) }
     {
-        let key = place_key(alloc, place)?;
-        rows_at(alloc, &self.rows, places_at(&self.by_place, &key))
+        if self.is_in_order {
+            kinds_in_order(&self.rows, place)
+        } else {
+            kinds_of_first(&self.rows, place)
+        }
     }
 }

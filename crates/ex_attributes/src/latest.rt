@@ -90,10 +90,7 @@ impl Attributes {
     fn declared_kinds(&self, alloc: Global, place: AttributePlace) -> Result<Kinds, AllocError>
         ensures { IfOk result (λ kinds. kinds ≡ spec.declared_kinds self.now place) }
     {
-        match self.declared().declared_at(alloc, place)?.as_slice() {
-            [attribute, ..] => copied(alloc, attribute.kinds.as_slice()),
-            [] => Ok(Kinds::new(alloc)),
-        }
+        copied(alloc, self.declared().kinds_at(place))
     }
 
     /// What an attribute may be in an instance of an entity that doesn't redeclare it.

@@ -22,6 +22,33 @@ pub(crate) fn places_at<'t>(
     }
 }
 
+/// The places of the rows of a name, in order.
+pub(crate) fn places_of<'t>(table: &'t BTreeMap<Vec<u8>, Vec<usize>>, name: &[u8]) -> &'t [usize]
+    ensures { result.now ≡ spec.places_at name.now table.now }
+{
+    match table.get(name) {
+        Some(places) => places,
+        None => &[],
+    }
+}
+
+/// Puts a place behind those of its name.
+pub(crate) fn put_name(
+    alloc: Global,
+    table: &mut BTreeMap<Vec<u8>, Vec<usize>>,
+    name: &[u8],
+    place: usize,
+) -> Result<(), AllocError>
+    ensures { (other : List ℕ) → OnOk result (spec.places_at other table.new ≡ (if bytes_eq name.now other then spec.places_at other table.old ++ place ∷ [] else spec.places_at other table.old)) }
+{
+    let key = Vec::from_slice(alloc, name)?;
+    let places = table
+        .entry(key)?
+        .or_try_insert_with(|| Vec::with_capacity(alloc, 1))?;
+    places.push(place)?;
+    Ok(())
+}
+
 /// Puts a place behind those of its key.
 fn put(
     alloc: Global,

@@ -1,4 +1,4 @@
-use Rattle.std.proofs.Common.{◌≡◌, ◌++◌, drop}
+use Rattle.std.proofs.Common.{◌≡◌, ◌==◌, ◌++◌, filter, drop}
 use Rattle.std.specs.List.{flat_map}
 use Rattle.ex_attributes.specs.Steps.{read}
 use Rattle.ex_attributes.specs.Tables as tables
@@ -6,5 +6,5 @@ use Rattle.ex_attributes.proofs.declared_rows.of_members.Given as goal
 
 abbrev pub invariant-loop-member : goal.invariant-loop-member
 invariant-loop-member l =
-    read l.found.items ++ flat_map (λ e. tables.rows_at l.rows (tables.places_at (tables.behind e l.name) l.by_declarer)) (drop l.member-index l.members)
-    ≡ flat_map (λ e. tables.rows_at l.rows (tables.places_at (tables.behind e l.name) l.by_declarer)) l.members
+    read l.found.items ++ flat_map (λ e. tables.rows_at l.rows (filter (λ p. e == tables.declarer_at l.rows p) l.places)) (drop l.member-index l.members)
+    ≡ flat_map (λ e. tables.rows_at l.rows (filter (λ p. e == tables.declarer_at l.rows p) l.places)) l.members
