@@ -1,5 +1,5 @@
 -- What is asked of operands, and of what they are made.
-use Rattle.std.proofs.Common.{◌≡◌, ℕ, zero, suc, ◌+◌, ◌<◌, drop, get_or, Bool, true, false, ◌||◌, ◌&&◌, ◌==◌, nat_lt, List, [], ◌∷◌, length, refl, sym, ◌∙◌, ap, arith}
+use Rattle.std.proofs.Common.{◌≡◌, ℕ, zero, suc, ◌+◌, ◌<◌, ◌≤◌, drop, get_or, Bool, true, false, ◌||◌, ◌&&◌, ◌==◌, nat_lt, List, [], ◌∷◌, length, refl, sym, true≢false, ◌∙◌, ap, arith}
 use Rattle.std.specs.Prelude.{Some, None}
 use Rattle.std.specs.List.{list_any, filter_map}
 use Rattle.std.proofs.lemmas.Bool.Decides.{nat_tests}
@@ -10,7 +10,9 @@ use Rattle.ex_kinds.specs.declared.kind.Sort.TheVariants as k
 use Rattle.ex_kinds.specs.declared.kind.PlainSort.{PlainSort}
 use Rattle.ex_kinds.specs.declared.kind.PlainSort.TheVariants as p
 use Rattle.ex_kinds.specs.Kinds.{Kinds, elements, shallower, joined}
-use Rattle.ex_kinds.specs.Types.{possible, plain, some_plain, is_value, is_sort, can_be, enumeration, has_elements}
+use Rattle.ex_kinds.specs.declared.kind.ValueKind.{ValueKind}
+use Rattle.ex_operators.specs.Fitting.{is_nothing}
+use Rattle.ex_kinds.specs.Types.{alternative, alternative_at, stays, possible, plain, some_plain, is_value, is_sort, can_be, enumeration, has_elements}
 
 some_there : {A : Type 0} → (xs : List A) → nat_lt zero (suc (length xs)) ≡ true
 some_there xs = grind (arith, nat_tests)
@@ -98,3 +100,25 @@ set_next i numbers keys more k within is =
     ap (λ b. b || rest) is
     ∙ swap_or (get_or numbers i 0 == k) (is_among keys k) rest
     ∙ ap (λ b. is_among keys k || b) (sym (ap (λ l. is_among l k) (drop-cons numbers i 0 within) ∙ ap (λ j. (get_or numbers i 0 == k) || is_among (drop j numbers) k) later))
+
+-- ---- a first kind of no defined type
+
+something : (types : List Kinds) (more : Kinds) (depth : ℕ) (sort : Sort) → ((depth == zero) && stays (alternative_at depth sort)) ≡ true
+    → is_nothing (possible (plain types (record { depth = depth; sort = sort } ∷ more))) ≡ false
+unfolding plain possible
+something types more zero k.Integer own = refl
+something types more zero k.Real own = grind arith
+something types more zero k.String own = grind arith
+something types more zero k.Binary own = grind arith
+something types more zero k.Logical own = grind arith
+something types more zero (k.Enumeration n) own = let there = some_there (filter_map enumeration (plain types more)) in grind arith
+something types more zero (k.Defined n) own = absurd (true≢false (sym own))
+something types more zero (k.Entity n) own = grind arith
+something types more zero k.Instance own = grind arith
+something types more zero k.Aggregate own = grind arith
+something types more zero k.Generic own = grind arith
+something types more (suc depth) sort own = absurd (grind (arith, nat_tests))
+
+pub plain_first : (types : List Kinds) (kinds : Kinds) (d : ValueKind) → 1 ≤ length kinds → (((get_or kinds 0 d).depth == zero) && stays (alternative (get_or kinds 0 d))) ≡ true → is_nothing (possible (plain types kinds)) ≡ false
+plain_first types [] d some own = absurd (omega (arith, some))
+plain_first types (kind ∷ more) d some own = something types more kind.depth kind.sort own

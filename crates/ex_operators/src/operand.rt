@@ -1,12 +1,13 @@
 //! Operands, of which it is found when it is asked what they may be.
 
-ghost use Rattle.std.specs.Prelude.{◌≡◌, IfOk};
+ghost use Rattle.std.specs.Prelude.{◌≡◌, ◌==◌, ◌&&◌, false, IfOk, IsTrue};
 ghost use Rattle.std.specs.List.{filter_map};
 ghost use Rattle.ex_kinds.specs.Kinds as kinds;
-ghost use Rattle.ex_kinds.specs.Types.{can_be as can_be_in, enumeration as enumeration_in, may_hold_instance as may_hold_instance_in};
+ghost use Rattle.ex_kinds.specs.Types.{alternative as alternative_of, can_be as can_be_in, enumeration as enumeration_in, may_hold_instance as may_hold_instance_in, stays};
+ghost use Rattle.ex_operators.specs.Fitting.{is_nothing};
 ghost use Rattle.ex_operators.specs.Operands as spec;
 
-use ex_kinds::{Kinds, PlainSort, Sort, Types, ValueKind, apart, elements};
+use ex_kinds::{Kinds, PlainSort, Sort, Types, ValueKind, alternative, apart, elements};
 use std::alloc::{AllocError, Global};
 use std::marker::Model;
 
@@ -38,6 +39,16 @@ impl<'a> Operand<'a> {
         ensures { result ≡ can_be_in self.now.possible sort }
     {
         self.types.can_be(self.kinds, sort)
+    }
+
+    /// Whether its first kind is of no defined type, as that of most is. It is then at least of that sort.
+    pub(crate) fn is_plain(&self) -> bool
+        ensures { IsTrue result → is_nothing self.now.possible ≡ false }
+    {
+        match self.kinds {
+            [kind, ..] => is_own(*kind),
+            [] => false,
+        }
     }
 
     /// What its elements may be.
@@ -74,6 +85,13 @@ impl<'a> Operand<'a> {
         let plain = self.types.plain(alloc, self.kinds)?;
         enumerations_of(alloc, plain.as_slice())
     }
+}
+
+/// Whether the value itself is of the kind, and of no defined type.
+fn is_own(kind: ValueKind) -> bool
+    ensures { result ≡ (kind.depth == 0) && stays (alternative_of kind) }
+{
+    kind.depth == 0 && alternative(kind).is_none()
 }
 
 /// The enumeration that the value itself is of.

@@ -20,6 +20,13 @@ fn is_enumeration(operand: &Operand<'_>) -> bool
 pub(crate) fn is_nothing(operand: &Operand<'_>) -> bool
     ensures { result ≡ spec.is_nothing operand.now.possible }
 {
+    !operand.is_plain() && can_be_nothing(operand)
+}
+
+/// The same by a look at each sort.
+fn can_be_nothing(operand: &Operand<'_>) -> bool
+    ensures { result ≡ spec.is_nothing operand.now.possible }
+{
     !(operand.can_be(PlainSort::Integer)
         || operand.can_be(PlainSort::Real)
         || operand.can_be(PlainSort::String)
