@@ -289,6 +289,19 @@ def items_at_a_wide_select(count):
     return file_of(f"#1=A((.I999.{',.I999.' * count}));"), put(1), schema_of_select(types, "LIST OF s")
 
 
+WIDE = 50_000
+
+
+@family("values")
+def renamings_of_a_wide_select(count):
+    """Strings at a SELECT of many types, of which one takes them, that many types rename one after the other or at once."""
+    types = each(WIDE, lambda k: f"TYPE t{k} = {'INTEGER' if k else 'STRING'}; END_TYPE;")
+    types += f"TYPE s = SELECT ({each(WIDE, lambda k: f't{k}', ',')}); END_TYPE;TYPE r0 = s; END_TYPE;"
+    types += each(RENAMINGS, lambda k: f"TYPE r{k + 1} = {f'r{k}' if k % 2 else 's'}; END_TYPE;")
+    data = "#1=A(('a'" + ",'a'" * count + "));"
+    return file_of(data), put(1), schema_of_select(types, f"LIST OF r{RENAMINGS}")
+
+
 # Each with a string, so long that less than the most of a model fit into a file.
 
 @family("instances")

@@ -1,9 +1,7 @@
 -- What stands for all that a SELECT chooses from.
-use Rattle.std.proofs.Common.{◌≡◌, ◌<◌, ◌≤◌, ◌+◌, ℕ, Bool, true, false, not, ◌&&◌, ◌||◌, ◌==◌, nat_lt, if◌then◌else◌, BTreeSet, List, [], ◌∷◌, length, filter, slice_get, Option, Some, None, option_map, ◌⊎◌, inl, inr, ⊎_elim, refl, sym, ◌∙◌, ap, arith}
+use Rattle.std.proofs.Common.{◌≡◌, ◌<◌, ◌≤◌, ◌+◌, ℕ, Bool, true, false, not, ◌&&◌, ◌||◌, ◌==◌, nat_lt, if◌then◌else◌, List, [], ◌∷◌, length, filter, slice_get, Option, Some, None, option_map, ◌⊎◌, inl, inr, ⊎_elim, refl, sym, ◌∙◌, ap, subst, arith}
 use Rattle.std.proofs.lemmas.Bool.{eqb-true}
 use Rattle.std.proofs.lemmas.Bool.Decides.{nat_tests}
-use Rattle.std.proofs.lemmas.Cmp.{nat_cmp_total}
-use Rattle.std.proofs.lemmas.Map.Lookups.{btree_set_from_contains, exact_unsigned}
 use Rattle.std.proofs.lemmas.Option.{slice_get_cases}
 use Rattle.std.proofs.lemmas.List.Kept.{IsStrictlySortedBy-filter}
 use Rattle.std.specs.Prelude.{is_some}
@@ -20,10 +18,11 @@ use Rattle.ex_warnings.specs.Selects.{is_listed, is_select}
 use Rattle.lineage.specs.Lineage.{is_among, is_ancestor, family}
 use Rattle.lineage.proofs.Bounded.{any_at, any_where}
 use Rattle.lineage.proofs.Families.{family_sorted, in_family, is_among-filter}
-use Rattle.lineage.proofs.Sets.{contained, either, or_left, or_right}
+use Rattle.lineage.proofs.Sets.{either, or_left, or_right}
 use Rattle.p21_tree.specs.declared.value.Value as tree
 use Rattle.p21_tree.specs.declared.value.Value.TheFolds as trees
 use Rattle.p21_tree.specs.declared.value.Value.TheOpen.{Value-F}
+use Rattle.p21_tree.specs.declared.value.Value.TheVariants as t
 use Rattle.p21_tree.specs.declared.value.Value.TheViews as views
 use Rattle.rp_value.specs.declared.value.Value.{Value}
 use Rattle.rp_value.specs.declared.value.Value.TheVariants as v
@@ -31,15 +30,17 @@ use Rattle.p21_values.specs.declared.sorts.Class.{Class}
 use Rattle.p21_values.specs.declared.sorts.Class.TheVariants as class
 use Rattle.p21_values.specs.declared.sorts.Sort.{Sort}
 use Rattle.p21_values.specs.declared.sorts.Sort.TheVariants as sort
-use Rattle.p21_values.specs.Ends.{Base, Plain, Instance, Aggregate, Enumeration, Select, Nothing, base_by, base_of, choices, chooses_instances, defined, end, is_entity, members, members_by, selection}
+use Rattle.p21_values.specs.Ends.{Base, Plain, Instance, Aggregate, Enumeration, Select, Nothing, base_by, base_of, choices, chooses_instances, end, is_entity, members, members_by, selection}
+use Rattle.p21_values.specs.Shared.{lists_entity, shared, unrenamed}
 use Rattle.std.specs.Str.{str_to_ascii_uppercase}
 use Rattle.p21_values.specs.Taking.{Meaning, by_choice, layer, meaning, of_binary, of_integer, of_item, of_list, of_real, of_text, only}
 use Rattle.p21_values.specs.Deciding.{alone, alone_by, asked_choice, element, single}
 use Rattle.p21_values.specs.Sorts.{all_sorts, is_of, of_base, sort_at, sort_of}
 use Rattle.p21_values.specs.Kept.{suffices, IsCovered, StandFor, StandForClass, class_by, class_of, of_class}
 use Rattle.p21_values.proofs.Decided.{mapped, picked}
+use Rattle.p21_values.proofs.Renamed.{choices_shared, instances_shared, many_shared, same_keys, same_truth}
 use Rattle.p21_values.proofs.Standing.{both_true, first_true, second_true, two_of}
-use Rattle.p21_values.proofs.Tables.{map_get, numbered_index, numbered_length}
+use Rattle.p21_values.proofs.Tables.{map_get, numbered_index}
 
 -- ---- the only one of several
 
@@ -118,17 +119,6 @@ module _ (sorts : List Sort) (all kept : List ℕ) (s : StandFor sorts all kept)
       picked f all ∙ ap (option_and_then f) lone ∙ sym (picked f kept)
 
 -- ---- those that take nothing left out
-
-same_truth : (a b : Bool) → (a ≡ true → b ≡ true) → (b ≡ true → a ≡ true) → a ≡ b
-same_truth true b h g = sym (h refl)
-same_truth false true h g = g refl
-same_truth false false h g = refl
-
-same_keys : (xs ys : List ℕ) → IsStrictlySortedBy nat_cmp xs → IsStrictlySortedBy nat_cmp ys → ((q : ℕ) → is_among xs q ≡ is_among ys q) → xs ≡ ys
-same_keys xs ys up rise same =
-    let first : BTreeSet ℕ = record { keys = xs } in
-    let second : BTreeSet ℕ = record { keys = ys } in
-    btree_set_from_contains nat_cmp_total first second up rise (λ q. contained xs q ∙ same q ∙ sym (contained ys q)) exact_unsigned
 
 passes : {X : Type 0} (f : ℕ → Option X) (p : ℕ → Bool) (k : ℕ) (is_kept : Bool) (xs : List ℕ) → p k ≡ is_kept → (is_kept ≡ false → f k ≡ None)
     → filter_map f (filter p xs) ≡ filter_map f xs → filter_map f (filter p (k ∷ xs)) ≡ filter_map f (k ∷ xs)
@@ -321,6 +311,9 @@ module _ (types : List NamedType) where
   entity_base : (k : ℕ) → list_any is_entity (members types k) ≡ true → base_of types k ≡ Select (end types k)
   entity_base k e = has_members (slice_get types (end types k)) (end types k) e
 
+  listing : (k : ℕ) → lists_entity types k ≡ true → list_any is_entity (members types k) ≡ true
+  listing k e = second_true (unrenamed types k == k) (list_any is_entity (members types k)) e
+
   no_instance : (b : Base) → is_of class.Instances (of_base b) ≡ false
   no_instance (Plain s.Integer) = refl
   no_instance (Plain s.Number) = refl
@@ -359,14 +352,13 @@ module _ (types : List NamedType) where
       (λ past. inr (past.0, found ∙ ap (λ o. option_map_or (λ x. sort_of types (0 + k)) o sort.Nothing) past.1))
       (slice_get_cases types k).1
 
-  in_types : (n k : ℕ) → is_among (family (selection types) n) k ≡ true → k < length types
-  unfolding selection
+  in_types : (n k : ℕ) → is_among (family (shared types) n) k ≡ true → k < length types
   in_types n k there =
-      let inside = first_true (nat_lt k (length (selection types))) (k == n || is_ancestor (selection types) n k) (sym (in_family (selection types) n k) ∙ there) in
-      let many = numbered_length (λ number x. filter_map defined (members types number)) 0 types in
+      let inside = first_true (nat_lt k (length (shared types))) (k == n || is_ancestor (shared types) n k) (sym (in_family (shared types) n k) ∙ there) in
+      let many = many_shared types in
       grind (arith, nat_tests, inside, many)
 
-  sorted_within : (n k : ℕ) → is_among (family (selection types) n) k ≡ true → sort_at sorts k ≡ sort_of types k
+  sorted_within : (n k : ℕ) → is_among (family (shared types) n) k ≡ true → sort_at sorts k ≡ sort_of types k
   sorted_within n k there = elim (sorted_at k) [
     | inl same ↦ same
     | inr past ↦ (let within = in_types n k there in let beyond = past.0 in let no : ⊥ = omega arith in absurd no)
@@ -374,17 +366,18 @@ module _ (types : List NamedType) where
 
   module _ {X : Type 0} (sought : Class) (f : ℕ → Option X) (selects : (k n : ℕ) → base_of types k ≡ Select n → f k ≡ None)
       (none : (k : ℕ) → is_of sought (of_base (base_of types k)) ≡ false → f k ≡ None) where
-    none_of : (k : ℕ) (has_entity : Bool) → list_any is_entity (members types k) ≡ has_entity
+    none_of : (k : ℕ) (has_entity : Bool) → lists_entity types k ≡ has_entity
         → is_of sought (if has_entity then sort.Instance else of_base (base_of types k)) ≡ false → f k ≡ None
-    none_of k true is e = selects k (end types k) (entity_base k is)
+    none_of k true is e = selects k (end types k) (entity_base k (listing k is))
     none_of k false is e = none k e
 
-    all_same : (n : ℕ) → filter_map f (choices types n) ≡ filter_map f (of_class (selection types) sorts sought n)
-    unfolding choices
+    all_same : (n : ℕ) → filter_map f (choices types n) ≡ filter_map f (of_class (shared types) sorts sought (unrenamed types n))
     all_same n =
-        left_out f (λ k. not (is_select types k)) (family (selection types) n) (λ k there e. selects k (end types k) (select_base k (not_false (is_select types k) e)))
-        ∙ sym (left_out f (λ k. is_of sought (sort_at sorts k)) (family (selection types) n) (λ k there e.
-        none_of k (list_any is_entity (members types k)) refl (rw (sorted_within n k there) at e)))
+        let all = family (shared types) (unrenamed types n) in
+        ap (filter_map f) (choices_shared types n)
+        ∙ left_out f (λ k. not (is_select types k)) all (λ k there e. selects k (end types k) (select_base k (not_false (is_select types k) e)))
+        ∙ sym (left_out f (λ k. is_of sought (sort_at sorts k)) all (λ k there e.
+        none_of k (lists_entity types k) refl (rw (sorted_within (unrenamed types n) k there) at e)))
       where
         not_false : (b : Bool) → not b ≡ false → b ≡ true
         not_false true e = refl
@@ -394,11 +387,11 @@ module _ (types : List NamedType) where
 
   module _ (sought : Class) (g : Base → Option Value) (selects : (n : ℕ) → g (Select n) ≡ None) (none : (b : Base) → is_of sought (of_base b) ≡ false → g b ≡ None)
       (alike : (b c : Base) → suffices (of_base b) ≡ true → of_base b ≡ of_base c → g b ≡ g c) where
-    same_by : (j k : ℕ) (a b : Bool) → list_any is_entity (members types j) ≡ a → list_any is_entity (members types k) ≡ b
+    same_by : (j k : ℕ) (a b : Bool) → lists_entity types j ≡ a → lists_entity types k ≡ b
         → suffices (if a then sort.Instance else of_base (base_of types j)) ≡ true
         → (if a then sort.Instance else of_base (base_of types j)) ≡ (if b then sort.Instance else of_base (base_of types k))
         → g (base_of types j) ≡ g (base_of types k)
-    same_by j k true true p q e same = rw (entity_base j p, entity_base k q, selects (end types j), selects (end types k)) refl
+    same_by j k true true p q e same = rw (entity_base j (listing j p), entity_base k (listing k q), selects (end types j), selects (end types k)) refl
     same_by j k true false p q e same = let no = sym (no_instance (base_of types k)) ∙ ap (is_of class.Instances) (sym same) in cc
     same_by j k false true p q e same = let no = sym (no_instance (base_of types j)) ∙ ap (is_of class.Instances) same in cc
     same_by j k false false p q e same = alike (base_of types j) (base_of types k) e same
@@ -410,7 +403,7 @@ module _ (types : List NamedType) where
       | inl is_j ↦ elim (sorted_at k) [
         | inr past ↦ (let no = sym (ap suffices (same ∙ past.1)) ∙ e in cc)
         | inl is_k ↦ mapped (v.Named j) (g (base_of types j))
-            ∙ ap is_some (same_by j k (list_any is_entity (members types j)) (list_any is_entity (members types k)) refl refl (sym (ap suffices is_j) ∙ e) (sym is_j ∙ same ∙ is_k))
+            ∙ ap is_some (same_by j k (lists_entity types j) (lists_entity types k) refl refl (sym (ap suffices is_j) ∙ e) (sym is_j ∙ same ∙ is_k))
             ∙ sym (mapped (v.Named k) (g (base_of types k)))
       ]
     ]
@@ -420,8 +413,8 @@ module _ (types : List NamedType) where
     kept_only n kept s =
         ap only (all_same sought (by_choice types g) (λ k m is. ap (λ b. option_map (v.Named k) (g b)) is ∙ ap (option_map (v.Named k)) (selects m))
         (λ k e. ap (option_map (v.Named k)) (none (base_of types k) e)) n)
-        ∙ only_same sorts (of_class (selection types) sorts sought n) kept s (by_choice types g) both_take
-        (IsStrictlySortedBy-filter nat_cmp (λ k. is_of sought (sort_at sorts k)) (family (selection types) n) (family_sorted (selection types) n))
+        ∙ only_same sorts (of_class (shared types) sorts sought (unrenamed types n)) kept s (by_choice types g) both_take
+        (IsStrictlySortedBy-filter nat_cmp (λ k. is_of sought (sort_at sorts k)) (family (shared types) (unrenamed types n)) (family_sorted (shared types) (unrenamed types n)))
 
   select_form : (f : Value-F tree.Value) (n : ℕ) → by_form f (Select n) ≡ None
   select_form Value-F.Unset n = refl
@@ -443,17 +436,25 @@ module _ (types : List NamedType) where
       ∙ kept_only (class_of x) (by_form f) (select_form f) (none_by_form f) (λ b c e same. as_its_sort f b e ∙ ap (λ t. by_form f (of_sort t)) same ∙ sym (as_its_sort f c (sym (ap suffices same) ∙ e))) n kept s
       ∙ ap (λ g. only (filter_map (by_choice types g) kept)) (sym (formed x))
 
+  -- what is taken of an item, by its name
+  pub items_kept_only : (x : tree.Value) (token : List ℕ) (n : ℕ) (kept : List ℕ) → x ≡ t.Item token → StandForClass types class.Items n kept
+      → (alone types x ≡ of_item types (str_to_ascii_uppercase token))
+      × (only (filter_map (by_choice types (alone types x)) (choices types n)) ≡ only (filter_map (by_choice types (alone types x)) kept))
+  items_kept_only x token n kept is s =
+      let form : tree.out-Value x ≡ Value-F.Item token = ap tree.out-Value (is ∙ sym (t.rolls-Item token)) ∙ views.out-roll-Value (Value-F.Item token) in
+      (formed x ∙ ap by_form form, tokens_kept x n kept (subst (λ f. StandForClass types (class_by f) n kept) (sym form) s))
+
   -- ---- lists
 
-  exact : (n : ℕ) (kept : List ℕ) → StandForClass types class.Lists n kept → of_class (selection types) sorts class.Lists n ≡ kept
+  exact : (n : ℕ) (kept : List ℕ) → StandForClass types class.Lists n kept → of_class (shared types) sorts class.Lists (unrenamed types n) ≡ kept
   exact n kept s =
-      let all = of_class (selection types) sorts class.Lists n in
+      let all = of_class (shared types) sorts class.Lists (unrenamed types n) in
       let p : ℕ → Bool = λ k. is_of class.Lists (sort_at sorts k) in
-      same_keys all kept (IsStrictlySortedBy-filter nat_cmp p (family (selection types) n) (family_sorted (selection types) n)) s.ascend
+      same_keys all kept (IsStrictlySortedBy-filter nat_cmp p (family (shared types) (unrenamed types n)) (family_sorted (shared types) (unrenamed types n))) s.ascend
       (λ k. same_truth (is_among all k) (is_among kept k)
       (λ there. elim (s.whole k there) [
         | inl kept ↦ kept
-        | inr two ↦ (let alone = list_alone (sort_at sorts k) (second_true (is_among (family (selection types) n) k) (p k) (sym (is_among-filter p (family (selection types) n) k) ∙ there)) in
+        | inr two ↦ (let alone = list_alone (sort_at sorts k) (second_true (is_among (family (shared types) (unrenamed types n)) k) (p k) (sym (is_among-filter p (family (shared types) (unrenamed types n)) k) ∙ there)) in
             let no = sym alone ∙ (two_of sorts kept (sort_at sorts k) two).enough in cc)
       ])
       (s.within k))
@@ -481,22 +482,19 @@ module _ (types : List NamedType) where
 
   -- ---- instances
 
-  lists_entity : (k : ℕ) (has_entity : Bool) → list_any is_entity (members types k) ≡ has_entity
+  of_instances : (k : ℕ) (has_entity : Bool) → lists_entity types k ≡ has_entity
       → is_of class.Instances (if has_entity then sort.Instance else of_base (base_of types k)) ≡ has_entity
-  lists_entity k true is = refl
-  lists_entity k false is = no_instance (base_of types k)
+  of_instances k true is = refl
+  of_instances k false is = no_instance (base_of types k)
 
-  listed : (n k : ℕ) → is_among (family (selection types) n) k ≡ true → is_of class.Instances (sort_at sorts k) ≡ list_any is_entity (members types k)
-  listed n k there = ap (is_of class.Instances) (sorted_within n k there) ∙ lists_entity k (list_any is_entity (members types k)) refl
+  listed : (n k : ℕ) → is_among (family (shared types) n) k ≡ true → is_of class.Instances (sort_at sorts k) ≡ lists_entity types k
+  listed n k there = ap (is_of class.Instances) (sorted_within n k there) ∙ of_instances k (lists_entity types k) refl
 
-  abbrev lists : ℕ → Bool
-  lists k = list_any is_entity (members types k)
-
-  some_kept : (n : ℕ) (kept : List ℕ) → StandForClass types class.Instances n kept → list_any lists (family (selection types) n) ≡ not (length kept == 0)
-  some_kept n [] s = not_there (list_any lists (family (selection types) n)) (λ e.
-      let found = any_where lists (family (selection types) n) e in
+  some_kept : (n : ℕ) (kept : List ℕ) → StandForClass types class.Instances n kept → list_any (lists_entity types) (family (shared types) (unrenamed types n)) ≡ not (length kept == 0)
+  some_kept n [] s = not_there (list_any (lists_entity types) (family (shared types) (unrenamed types n))) (λ e.
+      let found = any_where (lists_entity types) (family (shared types) (unrenamed types n)) e in
       let p : ℕ → Bool = λ k. is_of class.Instances (sort_at sorts k) in
-      elim (s.whole found.0 (is_among-filter p (family (selection types) n) found.0 ∙ both_true (is_among (family (selection types) n) found.0) (p found.0) found.1.0 (listed n found.0 found.1.0 ∙ found.1.1))) [
+      elim (s.whole found.0 (is_among-filter p (family (shared types) (unrenamed types n)) found.0 ∙ both_true (is_among (family (shared types) (unrenamed types n)) found.0) (p found.0) found.1.0 (listed (unrenamed types n) found.0 found.1.0 ∙ found.1.1))) [
         | inl there ↦ (let no = there in cc)
         | inr two ↦ (let no = (two_of sorts [] (sort_at sorts found.0) two).first_there in cc)
       ])
@@ -506,14 +504,13 @@ module _ (types : List NamedType) where
       not_there false never = refl
   some_kept n (k ∷ ks) s =
       let p : ℕ → Bool = λ k. is_of class.Instances (sort_at sorts k) in
-      let both = sym (is_among-filter p (family (selection types) n) k) ∙ s.within k (here k ks) in
-      let there = first_true (is_among (family (selection types) n) k) (p k) both in
+      let both = sym (is_among-filter p (family (shared types) (unrenamed types n)) k) ∙ s.within k (here k ks) in
+      let there = first_true (is_among (family (shared types) (unrenamed types n)) k) (p k) both in
       let some : not (length (k ∷ ks) == 0) ≡ true = grind (arith, nat_tests) in
-      any_at lists (family (selection types) n) k there (sym (listed n k there) ∙ second_true (is_among (family (selection types) n) k) (p k) both) ∙ sym some
+      any_at (lists_entity types) (family (shared types) (unrenamed types n)) k there (sym (listed (unrenamed types n) k there) ∙ second_true (is_among (family (shared types) (unrenamed types n)) k) (p k) both) ∙ sym some
 
   pub instances_kept : (n : ℕ) (kept : List ℕ) → StandForClass types class.Instances n kept → chooses_instances types n ≡ not (length kept == 0)
-  unfolding chooses_instances
-  instances_kept n kept s = some_kept n kept s
+  instances_kept n kept s = instances_shared types n ∙ some_kept n kept s
 
   -- ---- which are chosen
 
@@ -525,9 +522,10 @@ module _ (types : List NamedType) where
       and_false true = refl
       and_false false = refl
 
-  pub chosen_among : (n k : ℕ) → is_select types k ≡ false → is_among (choices types n) k ≡ is_among (family (selection types) n) k
-  unfolding choices
-  chosen_among n k is = is_among-filter (λ j. not (is_select types j)) (family (selection types) n) k ∙ rw is (and_true (is_among (family (selection types) n) k))
+  pub chosen_among : (n k : ℕ) → is_select types k ≡ false → is_among (choices types n) k ≡ is_among (family (shared types) (unrenamed types n)) k
+  chosen_among n k is =
+      let all = family (shared types) (unrenamed types n) in
+      ap (λ l. is_among l k) (choices_shared types n) ∙ is_among-filter (λ j. not (is_select types j)) all k ∙ rw is (and_true (is_among all k))
     where
       and_true : (b : Bool) → (b && true) ≡ b
       and_true true = refl

@@ -13,7 +13,7 @@ use Rattle.ex_named.specs.declared.declaration.NamedType.{NamedType}
 use Rattle.p21_tree.specs.declared.value.Value as tree
 use Rattle.p21_tree.specs.declared.value.Value.TheOpen.{Value-F}
 use Rattle.p21_values.specs.declared.sorts.Class.TheVariants as class
-use Rattle.p21_values.specs.Ends.{selection}
+use Rattle.p21_values.specs.Shared.{shared, unrenamed}
 use Rattle.p21_values.specs.Sorts.{all_sorts, sort_at, is_of}
 
 -- whether two of a sort stand for all others of it
@@ -89,7 +89,7 @@ IsKept graph sorts kept = (class : Class) → IsTable graph sorts class (table_o
 module _ (types : List NamedType) where
   -- these stand for all of a class that a type chooses from
   abbrev pub StandForClass : Class → ℕ → List ℕ → Type 0
-  StandForClass class number kept = StandFor (all_sorts types) (of_class (selection types) (all_sorts types) class number) kept
+  StandForClass class number kept = StandFor (all_sorts types) (of_class (shared types) (all_sorts types) class (unrenamed types number)) kept
 
 -- the class of the types that may take a token
 abbrev pub class_by : Value-F tree.Value → Class

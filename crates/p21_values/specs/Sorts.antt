@@ -1,6 +1,5 @@
 -- Defined types by the values of a file that they take.
 use Rattle.std.specs.Prelude.{ℕ, Bool, true, false, if◌then◌else◌, List, slice_index_or}
-use Rattle.std.specs.List.{list_any}
 use Rattle.ex_tree.specs.declared.data_type.SimpleType.{SimpleType}
 use Rattle.ex_tree.specs.declared.data_type.SimpleType.TheVariants as s
 use Rattle.ex_named.specs.declared.declaration.NamedType.{NamedType}
@@ -9,7 +8,8 @@ use Rattle.p21_values.specs.declared.sorts.Class.{Class}
 use Rattle.p21_values.specs.declared.sorts.Class.TheVariants as c
 use Rattle.p21_values.specs.declared.sorts.Sort.{Sort}
 use Rattle.p21_values.specs.declared.sorts.Sort.TheVariants as sort
-use Rattle.p21_values.specs.Ends.{Base, Plain, Instance, Aggregate, Enumeration, Select, Nothing, base_of, is_entity, members}
+use Rattle.p21_values.specs.Ends.{Base, Plain, Instance, Aggregate, Enumeration, Select, Nothing, base_of}
+use Rattle.p21_values.specs.Shared.{lists_entity}
 
 abbrev pub of_simple : SimpleType → Sort
 of_simple s.Integer = sort.Integer
@@ -29,9 +29,9 @@ of_base Instance = sort.Nothing
 of_base (Select number) = sort.Nothing
 of_base Nothing = sort.Nothing
 
--- of a SELECT it is told whether it lists an entity
+-- of a SELECT it is told whether it lists an entity; not of a type that renames it
 abbrev pub sort_of : List NamedType → ℕ → Sort
-sort_of types number = if list_any is_entity (members types number) then sort.Instance else of_base (base_of types number)
+sort_of types number = if lists_entity types number then sort.Instance else of_base (base_of types number)
 
 unfoldable pub all_sorts : List NamedType → List Sort
 all_sorts types = numbered (λ number x. sort_of types number) types

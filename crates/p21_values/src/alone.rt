@@ -2,24 +2,28 @@
 
 ghost use Rattle.std.specs.Prelude.{◌≡◌, ◌++◌, ◌∷◌, [], map, Some, None, IfOk, OnOk};
 ghost use Rattle.std.specs.List.{filter_map};
-ghost use Rattle.std.specs.Option.{option_map};
+ghost use Rattle.std.specs.Option.{option_and_then, option_map};
 ghost use Rattle.std.specs.Str.{str_to_ascii_uppercase};
 ghost use Rattle.name_tables.specs.Names.{place_of};
 ghost use Rattle.p21_strings.specs.Decoding.{decoded};
 ghost use Rattle.rp_numbers.specs.Spelling.{parse};
 ghost use Rattle.rp_value.specs.declared.value.Value.TheVariants as v;
+ghost use Rattle.p21_tree.specs.declared.value.Value.TheVariants as tree;
 ghost use Rattle.p21_values.specs.Ends as ends;
 ghost use Rattle.p21_values.specs.Seen.{seen};
 ghost use Rattle.p21_values.specs.Tokens.{ok};
 ghost use Rattle.p21_values.specs.Deciding as deciding;
 ghost use Rattle.p21_values.specs.Kept as kept;
+ghost use Rattle.p21_values.specs.Takers as takers;
 ghost use Rattle.p21_values.specs.Taking as spec;
 
 use crate::ends::{Base, base_of};
 use crate::sorts::Class;
+use crate::takers::{Takers, taker_at};
 use crate::tokens::{bits, boolean, in_upper_case, integer, is_upper_case, logical};
 use crate::types::DefinedTypes;
 use ex_tree::SimpleType;
+use name_tables::First;
 use p21_strings::decode_string;
 use p21_tree::Value as Spelled;
 use plain_data::Text;
@@ -231,15 +235,47 @@ fn class_of(value: &Spelled<'_>) -> Class
     }
 }
 
-/// What a SELECT takes of a token without a keyword.
-#[inline(never)]
-#[tactic(auto, using(crate::proofs::Chosen::tokens_kept))]
-fn select_token(
+/// What the first takes of the token, where no other does.
+fn first_token(
     alloc: Global,
     types: &DefinedTypes<'_>,
     value: &Spelled<'_>,
-    number: usize,
+    first: Option<First<usize>>,
 ) -> Taken
+    ensures { IfOk result (λ taken. taken ≡ option_and_then (spec.by_choice types.now (deciding.alone types.now value.now)) (takers.lone first)) }
+{
+    match first {
+        Some(
+            First {
+                value: number,
+                is_repeated: false,
+            },
+        ) => {
+            let base = base_of(types.types(), number);
+            let taken = token(alloc, types, value, &base)?;
+            under_name(alloc, number, taken)
+        }
+        _ => Ok(None),
+    }
+}
+
+/// What a SELECT takes of an item without a keyword, by who takes it.
+fn known_item(
+    alloc: Global,
+    types: &DefinedTypes<'_>,
+    value: &Spelled<'_>,
+    item: &[u8],
+    by_name: &Takers<'_>,
+) -> Taken
+    ensures { IfOk result (λ taken. taken ≡ option_and_then (spec.by_choice types.now (deciding.alone types.now value.now)) (takers.only_taker (str_to_ascii_uppercase item.now) by_name.now)) }
+{
+    let name = in_upper_case(alloc, item)?;
+    first_token(alloc, types, value, taker_at(by_name, &name))
+}
+
+/// What a SELECT takes of a token without a keyword, asking each type that it chooses from.
+#[tactic(auto, using(crate::proofs::Chosen::tokens_kept))]
+fn asked_token(alloc: Global, types: &DefinedTypes<'_>, value: &Spelled<'_>, number: usize) -> Taken
     ensures { IfOk result (λ taken. taken ≡ spec.only (filter_map (spec.by_choice types.now (deciding.alone types.now value.now)) (ends.choices types.now number))) }
 {
     match types.kept(class_of(value), number) {
@@ -248,6 +284,39 @@ fn select_token(
             let numbers = types.choices(alloc, number)?;
             only_token(alloc, types, value, &numbers)
         }
+    }
+}
+
+/// What a SELECT takes of an item without a keyword.
+fn select_item(
+    alloc: Global,
+    types: &DefinedTypes<'_>,
+    value: &Spelled<'_>,
+    item: &[u8],
+    number: usize,
+) -> Taken
+    requires { value.now ≡ tree.Item item.now }
+    ensures { IfOk result (λ taken. taken ≡ spec.only (filter_map (spec.by_choice types.now (deciding.alone types.now value.now)) (ends.choices types.now number))) }
+{
+    match types.takers(number) {
+        Some(by_name) => known_item(alloc, types, value, item, by_name),
+        None => asked_token(alloc, types, value, number),
+    }
+}
+
+/// What a SELECT takes of a token without a keyword.
+#[inline(never)]
+fn select_token(
+    alloc: Global,
+    types: &DefinedTypes<'_>,
+    value: &Spelled<'_>,
+    number: usize,
+) -> Taken
+    ensures { IfOk result (λ taken. taken ≡ spec.only (filter_map (spec.by_choice types.now (deciding.alone types.now value.now)) (ends.choices types.now number))) }
+{
+    match value {
+        Spelled::Item(item) => select_item(alloc, types, value, item.as_slice(), number),
+        _ => asked_token(alloc, types, value, number),
     }
 }
 

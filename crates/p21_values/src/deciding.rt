@@ -4,7 +4,7 @@
 //! types of the elements of all of them, and each SELECT among these is asked once. What is found is kept in rows, so that the
 //! value is built without asking again.
 
-ghost use Rattle.std.specs.Prelude.{◌≡◌, ◌++◌, ◌∷◌, ◌&&◌, [], List, Bool, Some, None, true, map, length, is_some, slice_get, IfOk, OnOk};
+ghost use Rattle.std.specs.Prelude.{◌≡◌, ◌++◌, ◌∷◌, ◌&&◌, [], List, Bool, Some, None, true, map, length, is_some, slice_get, IfOk, IfSome, OnOk};
 ghost use Rattle.std.specs.List.{flat_map, list_all};
 ghost use Rattle.p21_values.specs.Ends as ends;
 ghost use Rattle.p21_values.specs.Seen.{seen, seen_target};
@@ -146,6 +146,22 @@ fn depth_of(values: &[Spelled<'_>]) -> usize {
         deepest = depth(value).max(deepest);
     }
     deepest
+}
+
+/// The SELECT that a type is, where a list stands among the values. That only says what is found beforehand, so no clause tells it.
+pub fn select_of_lists(values: &[Spelled<'_>], target: &Target<'_>) -> Option<usize>
+    ensures { IfSome result (λ number. seen target.now.base ≡ ends.Select number) }
+{
+    match target.base {
+        Base::Select(number) => {
+            if depth_of(values) == 0 {
+                None
+            } else {
+                Some(number)
+            }
+        }
+        _ => None,
+    }
 }
 
 /// The levels below one that the values of a list need.

@@ -3,6 +3,7 @@
 ghost use Rattle.std.specs.Prelude.{◌≡◌, ◌++◌, map, IfOk, OnOk};
 ghost use Rattle.p21_values.specs.Taking as spec;
 
+use crate::ends::Declared;
 use ex_named::{NamedType, NamedUnderlying};
 use ex_tree::Name;
 use name_tables::NameTable;
@@ -14,6 +15,16 @@ fn items_by(underlying: &NamedUnderlying) -> &[Name]
     match underlying {
         NamedUnderlying::Enumeration(items) => items.as_slice(),
         NamedUnderlying::Select(_) | NamedUnderlying::Data(_) => &[],
+    }
+}
+
+/// The items of a type of this number.
+pub fn items_of<'s>(types: &Declared<'s>, number: usize) -> &'s [Name]
+    ensures { map (λ n. n.text) result.now ≡ spec.items types.now number }
+{
+    match types.types().get(number) {
+        Some(declared) => items_by(&declared.underlying),
+        None => &[],
     }
 }
 

@@ -11,6 +11,7 @@ mod levels;
 mod rest;
 mod selects;
 mod sorts;
+mod takers;
 mod taking;
 mod tokens;
 mod types;

@@ -1,10 +1,11 @@
 //! What SELECTs choose from.
 
-ghost use Rattle.std.specs.Prelude.{◌≡◌, ◌++◌, not, filter, length, IfOk, OnOk};
+ghost use Rattle.std.specs.Prelude.{◌≡◌, ◌++◌, map, not, filter, length, IfOk, OnOk};
 ghost use Rattle.std.specs.List.{filter_map, list_any};
 ghost use Rattle.ex_warnings.specs.Selects.{lists_members, is_listed, is_select as is_a_select};
 ghost use Rattle.lineage.specs.Lineage as lineage;
 ghost use Rattle.p21_values.specs.Ends as spec;
+ghost use Rattle.p21_values.specs.Shared as shared;
 
 use crate::ends::Declared;
 use ex_named::{NamedType, NamedUnderlying, TypeName};
@@ -65,12 +66,49 @@ fn defined(name: TypeName) -> Option<usize>
     }
 }
 
-/// The defined types among members.
-fn defined_among(alloc: Global, members: &[TypeName]) -> Result<Rows<usize>, AllocError>
-    ensures { IfOk result (λ found. found ≡ filter_map spec.defined members.now) }
+/// The SELECT that a type renames, through any number of renamings; itself, where it is none or renames none.
+#[tactic(auto, unfolding(crate::specs::Ends::end))]
+pub fn unrenamed(types: &Declared<'_>, number: usize) -> usize
+    ensures { result ≡ shared.unrenamed types.now number }
 {
-    let found = members.iter().copied().filter_map(defined).collect(alloc)?;
-    Ok(Rows::from_vec(found))
+    let end = types.end(number);
+    if lists_members(types.types(), end) {
+        end
+    } else {
+        number
+    }
+}
+
+/// The defined types among members; for one that renames a SELECT, this SELECT.
+fn defined_among(
+    alloc: Global,
+    types: &Declared<'_>,
+    members: &[TypeName],
+) -> Result<Rows<usize>, AllocError>
+    ensures { IfOk result (λ found. found ≡ map (shared.unrenamed types.now) (filter_map spec.defined members.now)) }
+{
+    let mut found = Rows::new(alloc);
+    for name in members {
+        if let Some(number) = defined(*name) {
+            found.push(unrenamed(types, number))?;
+        }
+    }
+    Ok(found)
+}
+
+/// What a type chooses from at once. One that renames a SELECT has nothing: that SELECT is asked in its place.
+fn chosen_at_once(
+    alloc: Global,
+    types: &Declared<'_>,
+    number: usize,
+) -> Result<Rows<usize>, AllocError>
+    ensures { IfOk result (λ found. found ≡ shared.chosen_at_once types.now number) }
+{
+    if unrenamed(types, number) == number {
+        defined_among(alloc, types, members(types, number))
+    } else {
+        Ok(Rows::new(alloc))
+    }
 }
 
 fn is_entity(name: TypeName) -> bool
@@ -82,20 +120,27 @@ fn is_entity(name: TypeName) -> bool
     }
 }
 
-pub fn has_entity(members: &[TypeName]) -> bool
+fn has_entity(members: &[TypeName]) -> bool
     ensures { result ≡ list_any spec.is_entity members.now }
 {
     members.iter().any(|name| is_entity(*name))
 }
 
-/// Of each type the defined types among its members.
-#[tactic(auto, unfolding(crate::specs::Ends::selection))]
-pub fn selection(alloc: Global, types: &Declared<'_>) -> Result<Vec<Rows<usize>>, AllocError>
-    ensures { IfOk result (λ graph. graph.items ≡ spec.selection types.now) }
+/// Whether a type lists an entity. One that renames a SELECT doesn't: that SELECT is asked in its place.
+pub fn lists_entity(types: &Declared<'_>, number: usize) -> bool
+    ensures { result ≡ shared.lists_entity types.now number }
+{
+    unrenamed(types, number) == number && has_entity(members(types, number))
+}
+
+/// Of each type what it chooses from at once.
+#[tactic(auto, unfolding(crate::specs::Shared::shared))]
+pub fn shared_selection(alloc: Global, types: &Declared<'_>) -> Result<Vec<Rows<usize>>, AllocError>
+    ensures { IfOk result (λ graph. graph.items ≡ shared.shared types.now) }
 {
     let mut graph = Vec::with_capacity(alloc, types.types().len())?;
     for (number, _) in types.types().iter().enumerate() {
-        graph.push(defined_among(alloc, members(types, number))?)?;
+        graph.push(chosen_at_once(alloc, types, number)?)?;
     }
     Ok(graph)
 }
@@ -125,35 +170,36 @@ fn without_selects(
 }
 
 /// The defined types that a value of a SELECT may be of, by a walk.
-#[tactic(auto, unfolding(crate::specs::Ends::choices))]
+#[tactic(auto, using(crate::proofs::Renamed::choices_shared))]
 pub fn walked_choices(
     alloc: Global,
     types: &Declared<'_>,
     graph: &[Rows<usize>],
     number: usize,
 ) -> Result<Vec<usize>, AllocError>
-    requires { graph.now ≡ spec.selection types.now }
+    requires { graph.now ≡ shared.shared types.now }
     ensures { IfOk result (λ found. found.items ≡ spec.choices types.now number) }
 {
-    let family = family_of(alloc, graph, number)?;
+    let family = family_of(alloc, graph, unrenamed(types, number))?;
     without_selects(alloc, types, &family)
 }
 
+fn list_entities(types: &Declared<'_>, numbers: &[usize]) -> bool
+    ensures { result ≡ list_any (shared.lists_entity types.now) numbers.now }
+{
+    numbers.iter().any(|number| lists_entity(types, *number))
+}
+
 /// Whether a value of a SELECT may be an instance, by a walk.
-#[tactic(auto, unfolding(crate::specs::Ends::chooses_instances))]
 pub fn walked_instances(
     alloc: Global,
     types: &Declared<'_>,
     graph: &[Rows<usize>],
     number: usize,
 ) -> Result<bool, AllocError>
-    requires { graph.now ≡ spec.selection types.now }
+    requires { graph.now ≡ shared.shared types.now }
     ensures { IfOk result (λ found. found ≡ spec.chooses_instances types.now number) }
 {
-    let family = family_of(alloc, graph, number)?;
-    Ok(
-        family
-            .iter()
-            .any(|number| has_entity(members(types, *number))),
-    )
+    let family = family_of(alloc, graph, unrenamed(types, number))?;
+    Ok(list_entities(types, &family))
 }

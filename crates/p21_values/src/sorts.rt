@@ -8,7 +8,7 @@ ghost use Rattle.p21_values.specs.Seen.{seen};
 ghost use Rattle.p21_values.specs.Sorts as spec;
 
 use crate::ends::{Base, Declared, base_of};
-use crate::selects::{has_entity, members};
+use crate::selects::lists_entity;
 use ex_tree::SimpleType;
 use std::alloc::{AllocError, Global};
 
@@ -23,7 +23,7 @@ pub enum Sort {
     Binary,
     Item,
     List,
-    /// A SELECT that lists an entity.
+    /// A SELECT that lists an entity; none that renames it.
     Instance,
 }
 
@@ -63,7 +63,7 @@ fn of_base(base: &Base<'_>) -> Sort
 fn sort_of(types: &Declared<'_>, number: usize) -> Sort
     ensures { result ≡ spec.sort_of types.now number }
 {
-    if has_entity(members(types, number)) {
+    if lists_entity(types, number) {
         Sort::Instance
     } else {
         of_base(&base_of(types, number))

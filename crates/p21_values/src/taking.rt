@@ -10,7 +10,7 @@ ghost use Rattle.p21_values.specs.Deciding as deciding;
 ghost use Rattle.p21_values.specs.Taking as spec;
 
 use crate::alone::{Taken, bare_token, reference, under_name};
-use crate::deciding::{levels_below, rows_of};
+use crate::deciding::{levels_below, rows_of, select_of_lists};
 use crate::ends::{Base, Target, base_of, inside, target_of};
 use crate::levels::{Candidate, Level, level_of, only_candidate};
 use crate::rest::Rest;
@@ -31,6 +31,16 @@ fn aggregate(alloc: Global, kind: AggregateKind, low: i64, items: Option<Items<V
     }
 }
 
+/// A SELECT without a name.
+fn select_target<'s>(number: usize) -> Target<'s>
+    ensures { seen_target result ≡ record { name = None; base = ends.Select number } }
+{
+    Target {
+        name: None,
+        base: Base::Select(number),
+    }
+}
+
 /// What a type that is no SELECT takes of a list.
 #[cycle(taking)]
 fn list(alloc: Global, types: &DefinedTypes<'_>, values: &[Spelled<'_>], base: &Base<'_>) -> Taken
@@ -47,6 +57,82 @@ fn list(alloc: Global, types: &DefinedTypes<'_>, values: &[Spelled<'_>], base: &
 /// The elements, where the type takes each.
 #[cycle(taking)]
 fn elements(
+    alloc: Global,
+    types: &DefinedTypes<'_>,
+    values: &[Spelled<'_>],
+    target: &Target<'_>,
+) -> Result<Option<Items<Value>>, AllocError>
+    ensures { IfOk result (λ taken. taken ≡ spec.all_there (map (λ m. spec.place m (seen_target target.now)) (map (spec.meaning types.now) values.now))) }
+{
+    match select_of_lists(values, target) {
+        Some(number) => select_elements(alloc, types, values, target, number),
+        None => each_element(alloc, types, values, target),
+    }
+}
+
+/// The elements, where the SELECT of this number takes each. What the lists among them may be of is found once for all.
+#[cycle(taking)]
+fn select_elements(
+    alloc: Global,
+    types: &DefinedTypes<'_>,
+    values: &[Spelled<'_>],
+    target: &Target<'_>,
+    number: usize,
+) -> Result<Option<Items<Value>>, AllocError>
+    requires { seen target.now.base ≡ ends.Select number }
+    ensures { IfOk result (λ taken. taken ≡ spec.all_there (map (λ m. spec.place m (seen_target target.now)) (map (spec.meaning types.now) values.now))) }
+{
+    let select = select_target(number);
+    let level = level_of(alloc, types, slice::from_ref(&select))?;
+    let below = levels_below(alloc, types, values, &level)?;
+    let Some(group) = level.groups.first() else {
+        return Ok(None);
+    };
+    let mut items = Vec::with_capacity(alloc, values.len())?;
+    'values: for value in values {
+        let group = group.as_slice();
+        match select_element(alloc, types, value, target, number, group, &level, &below)? {
+            Some(item) => items.push(item)?,
+            None => return Ok(None),
+        }
+    }
+    Ok(Some(Items::from_vec(items)))
+}
+
+/// What the SELECT of this number takes of an element; a list may be of these aggregates.
+#[cycle(taking)]
+fn select_element<'s>(
+    alloc: Global,
+    types: &DefinedTypes<'s>,
+    value: &Spelled<'_>,
+    target: &Target<'_>,
+    number: usize,
+    group: &[Candidate],
+    level: &Level<'s>,
+    below: &[Level<'s>],
+) -> Taken
+    requires select { seen target.now.base ≡ ends.Select number }
+    requires group { deciding.IsGroup level.now.targets.items group.now (deciding.asked types.now (ends.Select number)) }
+    requires below { deciding.AreLevels types.now level.now.targets.items below.now }
+    ensures { IfOk result (λ taken. taken ≡ spec.place (spec.meaning types.now value.now) (seen_target target.now)) }
+{
+    match value {
+        Spelled::List(values) => list_by(
+            alloc,
+            types,
+            values.as_slice(),
+            number,
+            group,
+            level,
+            below,
+        ),
+        _ => placed(alloc, types, value, target),
+    }
+}
+
+/// The elements, where the type takes each.
+#[cycle(taking)]
+fn each_element(
     alloc: Global,
     types: &DefinedTypes<'_>,
     values: &[Spelled<'_>],
@@ -135,27 +221,42 @@ fn select_list(
 ) -> Taken
     ensures { IfOk result (λ taken. taken ≡ spec.bare_at types.now (spec.of_list types.now (map (spec.meaning types.now) values.now)) (ends.Select number)) }
 {
-    let target = Target {
-        name: None,
-        base: Base::Select(number),
-    };
-    let level = level_of(alloc, types, slice::from_ref(&target))?;
+    let select = select_target(number);
+    let level = level_of(alloc, types, slice::from_ref(&select))?;
     let below = levels_below(alloc, types, values, &level)?;
-    let rows = rows_of(alloc, types, values, &level, &below)?;
     let Some(group) = level.groups.first() else {
         return Ok(None);
     };
-    let mut rest = Rest::of(&rows);
-    list_at(
+    list_by(
         alloc,
         types,
         values,
-        &target.base,
+        number,
         group.as_slice(),
         &level,
         &below,
-        &mut rest,
     )
+}
+
+/// What a SELECT takes of a list without a keyword, which may be of these aggregates.
+#[cycle(taking)]
+fn list_by<'s>(
+    alloc: Global,
+    types: &DefinedTypes<'s>,
+    values: &[Spelled<'_>],
+    number: usize,
+    group: &[Candidate],
+    level: &Level<'s>,
+    below: &[Level<'s>],
+) -> Taken
+    requires group { deciding.IsGroup level.now.targets.items group.now (deciding.asked types.now (ends.Select number)) }
+    requires below { deciding.AreLevels types.now level.now.targets.items below.now }
+    ensures { IfOk result (λ taken. taken ≡ spec.bare_at types.now (spec.of_list types.now (map (spec.meaning types.now) values.now)) (ends.Select number)) }
+{
+    let rows = rows_of(alloc, types, values, level, below)?;
+    let base = Base::Select(number);
+    let mut rest = Rest::of(&rows);
+    list_at(alloc, types, values, &base, group, level, below, &mut rest)
 }
 
 /// What a type takes of a list, which may be of these aggregates, by the rows of which types take its elements.

@@ -11,8 +11,9 @@ ghost use Rattle.p21_values.specs.Taking as spec;
 use crate::ends::Declared;
 use crate::items::all_items;
 use crate::kept::{Kept, kept_at, kept_by_class, table_of};
-use crate::selects::{is_select, selection, walked_choices, walked_instances};
+use crate::selects::{is_select, shared_selection, unrenamed, walked_choices, walked_instances};
 use crate::sorts::{Class, all_sorts};
+use crate::takers::{Takers, all_takers, takers_at};
 use crate::tokens::in_upper_case;
 use descent::Descent;
 use ex_named::{NamedDataType, NamedType, NamedUnderlying};
@@ -30,6 +31,8 @@ pub struct DefinedTypes<'s> {
     /// Which types SELECTs list.
     descent: Descent,
     kept: Kept,
+    /// Of each SELECT which of those that it chooses from take an item, where that is kept.
+    takers: Vec<Option<Takers<'s>>>,
     /// Of each type the items that it has as an enumeration.
     items: Vec<NameTable<'s>>,
 }
@@ -37,16 +40,17 @@ pub struct DefinedTypes<'s> {
 impl<'s> Model for DefinedTypes<'s> {
     ghost use Rattle.std.specs.Prelude.{◌≡◌, List, map};
     ghost use Rattle.ex_named.specs.declared.declaration.NamedType.{NamedType};
-    ghost use Rattle.p21_values.specs.Ends.{selection};
     ghost use Rattle.p21_values.specs.Kept.{IsKept};
+    ghost use Rattle.p21_values.specs.Shared.{shared};
     ghost use Rattle.p21_values.specs.Sorts.{all_sorts};
+    ghost use Rattle.p21_values.specs.Takers.{AreAllTakers};
     ghost use Rattle.p21_values.specs.Taking as spec;
 
     ghost Value = { List NamedType };
 
     ghost view = { λ t. t.declared };
 
-    ghost invariant = { λ t. (t.names ≡ map (λ x. x.name.text) t.declared) × (t.descent ≡ selection t.declared) × (t.items.items ≡ map (λ x. spec.items_by x.underlying) t.declared) × IsKept (selection t.declared) (all_sorts t.declared) t.kept };
+    ghost invariant = { λ t. (t.names ≡ map (λ x. x.name.text) t.declared) × (t.descent ≡ shared t.declared) × (t.items.items ≡ map (λ x. spec.items_by x.underlying) t.declared) × IsKept (shared t.declared) (all_sorts t.declared) t.kept × AreAllTakers t.declared t.kept.items.items t.takers.items };
 
     ghost use Rattle.std.specs.Coded.{codes};
     ghost use Rattle.ex_named.specs.contracts.expression.NamedDataType as data_type;
@@ -78,6 +82,7 @@ fn place_at(all: &[NameTable<'_>], number: usize, name: &[u8]) -> Option<usize>
 impl<'s> DefinedTypes<'s> {
     ghost use Rattle.std.specs.Prelude.{◌≡◌, ⊤, MatchOption, IfOk, map};
     ghost use Rattle.p21_values.specs.Kept as kept;
+    ghost use Rattle.p21_values.specs.Takers as takers;
     ghost use Rattle.lineage.specs.Lineage.{is_among};
     ghost use Rattle.name_tables.specs.Names.{place_of};
     ghost use Rattle.p21_values.specs.Ends as ends;
@@ -91,14 +96,16 @@ impl<'s> DefinedTypes<'s> {
         let names = names_of(alloc, types)?;
         let items = all_items(alloc, types)?;
         let sorts = all_sorts(alloc, &declared)?;
-        let graph = selection(alloc, &declared)?;
+        let graph = shared_selection(alloc, &declared)?;
         let kept = kept_by_class(alloc, &graph, &sorts)?;
+        let takers = all_takers(alloc, &declared, &kept.items)?;
         let descent = Descent::of(alloc, graph)?;
         Ok(DefinedTypes {
             declared,
             names,
             descent,
             kept,
+            takers,
             items,
         })
     }
@@ -128,7 +135,17 @@ impl<'s> DefinedTypes<'s> {
     pub(crate) fn kept(&self, class: Class, number: usize) -> Option<&[usize]>
         ensures { MatchOption result ⊤ (λ found. kept.StandForClass self.now class number found.now) }
     {
-        kept_at(table_of(&self.kept, class), number)
+        kept_at(
+            table_of(&self.kept, class),
+            unrenamed(&self.declared, number),
+        )
+    }
+
+    /// Which of the types that a SELECT chooses from take an item, where that is kept.
+    pub(crate) fn takers(&self, number: usize) -> Option<&Takers<'s>>
+        ensures { MatchOption result ⊤ (λ found. takers.AreTakersOf self.now number found.now) }
+    {
+        takers_at(&self.takers, unrenamed(&self.declared, number))
     }
 
     /// Whether a value of a SELECT may be of this type.
@@ -144,7 +161,8 @@ impl<'s> DefinedTypes<'s> {
         if is_select(&self.declared, number) {
             return Ok(false);
         }
-        self.descent.is_in_family(alloc, select, number)
+        self.descent
+            .is_in_family(alloc, unrenamed(&self.declared, select), number)
     }
 
     /// Whether a value of a SELECT may be an instance.

@@ -21,6 +21,13 @@ fitting-returns-in-List t c =
     (subst (λ vs. IfOk c.bare_list.result (λ taken. taken ≡ bare_at types (of_list types (map (meaning types) vs)) (seen c.args.target.now.base)))
     c.as_slice.ensures c.bare_list.ensures)
 
+pub select_element-returns-in-List : goal.select_element-returns-in-List
+select_element-returns-in-List t c =
+    let types = c.args.types.now in
+    subst (λ m. IfOk c.list_by.result (λ taken. taken ≡ place m (seen_target c.args.target.now))) (sym (list_meaning types c.args.value.now c.in-List.values c.in-List.is))
+    (subst (λ vs. IfOk c.list_by.result (λ taken. taken ≡ bare_at types (of_list types (map (meaning types) vs)) (seen c.args.target.now.base))) c.as_slice.ensures
+    (subst (λ b. IfOk c.list_by.result (λ taken. taken ≡ bare_at types (of_list types (map (meaning types) c.as_slice.result.now)) b)) (sym c.requires.select) c.list_by.ensures))
+
 pub element_at-returns-in-List-clause-taken : goal.element_at-returns-in-List-clause-taken
 element_at-returns-in-List-clause-taken t c =
     let types = c.args.types.now in

@@ -6,8 +6,13 @@ use Rattle.p21_values.specs.Taking as spec
 use Rattle.p21_values.proofs.Several.{among_rest}
 use Rattle.p21_values.proofs.taking.+taking.Given as goal
 
-abbrev pub invariant-elements-values : goal.invariant-elements-values
-invariant-elements-values l =
+abbrev pub invariant-each_element-values : goal.invariant-each_element-values
+invariant-each_element-values l =
+    among_rest l.items.items (spec.all_there (map (λ m. spec.place m (seen_target l.target)) (map (spec.meaning l.types) (drop l.value-index l.values))))
+    ≡ spec.all_there (map (λ m. spec.place m (seen_target l.target)) (map (spec.meaning l.types) l.values))
+
+abbrev pub invariant-select_elements-values : goal.invariant-select_elements-values
+invariant-select_elements-values l =
     among_rest l.items.items (spec.all_there (map (λ m. spec.place m (seen_target l.target)) (map (spec.meaning l.types) (drop l.value-index l.values))))
     ≡ spec.all_there (map (λ m. spec.place m (seen_target l.target)) (map (spec.meaning l.types) l.values))
 
