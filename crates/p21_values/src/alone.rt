@@ -305,6 +305,7 @@ fn select_item(
 }
 
 /// What a SELECT takes of a token without a keyword.
+// Apart, so that the way of all other types is short.
 #[inline(never)]
 fn select_token(
     alloc: Global,
