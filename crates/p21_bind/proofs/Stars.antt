@@ -3,8 +3,6 @@ use Rattle.std.proofs.Common.{◌≡◌, ℕ, Bool, true, false, if◌then◌els
 use Rattle.std.proofs.lemmas.Bool.{cases_Bool}
 use Rattle.std.specs.List.{filter_map, list_all, list_any}
 use Rattle.ex_named.specs.declared.declaration.NamedType.{NamedType}
-use Rattle.ex_named.specs.declared.expression.NamedDataType.{NamedDataType}
-use Rattle.ex_slots.specs.Slots.{Slot}
 use Rattle.ex_types.specs.Checked.{Checked}
 use Rattle.lineage.specs.Lineage.{is_among}
 use Rattle.p21_instances.specs.Instances.{references}
@@ -15,10 +13,12 @@ use Rattle.p21_tree.specs.declared.value.Value.TheOpen.{Value-F}
 use Rattle.p21_tree.specs.declared.value.Value.TheViews as views
 use Rattle.p21_values.specs.Ends.{Base, Aggregate, Select, Target, base_of, choices, inside, target}
 use Rattle.p21_values.specs.Taking as taking
-use Rattle.p21_values.specs.Taking.{Meaning, all_there, bare_at, bound, by_choice, chosen, is_that, meaning, named_by, of_list, only, place, type_named, with_first}
+use Rattle.p21_values.specs.Taking.{Meaning, all_there, bare_at, by_choice, chosen, is_that, meaning, named_by, of_list, only, place, type_named, with_first}
 use Rattle.rp_value.specs.declared.value.Value.{Value}
 use Rattle.rp_value.specs.declared.value.Value.TheVariants as v
-use Rattle.p21_bind.specs.Instances.{star_layer, has_star, value}
+use Rattle.p21_bind.specs.declared.read_slot.ReadSlot.{ReadSlot}
+use Rattle.p21_bind.specs.Instances.{star_layer, has_star}
+use Rattle.p21_bind.specs.ReadSlots.{slot_value}
 
 -- a meaning that no type takes
 abbrev pub Never : Meaning → Type 0
@@ -114,18 +114,14 @@ module _ (types : List NamedType) where
   is_good : (x : tree.Value) → IsGood x
   is_good = trees.ind-Value IsGood (λ z y is. rolled z (subst LayerGood is (layer_good y)))
 
-  never_bound : (d : NamedDataType) (x : tree.Value) → has_star x ≡ true → bound types d x ≡ None
-  unfolding bound
-  never_bound d x e = never_placed (meaning types x) (is_good x e) (target types d)
-
   -- a value that a type takes has none
-  pub no_star : (d : NamedDataType) (x : tree.Value) (w : Value) → bound types d x ≡ Some w → has_star x ≡ false
-  no_star d x w e = ⊎_elim
-      (λ (star : has_star x ≡ true). let none = sym (never_bound d x star) ∙ e in cc)
+  pub no_star : (t : Target) (x : tree.Value) (w : Value) → place (meaning types x) t ≡ Some w → has_star x ≡ false
+  no_star t x w e = ⊎_elim
+      (λ (star : has_star x ≡ true). let none = sym (never_placed (meaning types x) (is_good x star) t) ∙ e in cc)
       (λ (none : has_star x ≡ false). none)
       (cases_Bool (has_star x))
 
--- the value of an attribute that no type of the instance derives, where its type takes what is spelled
-pub by_bound : (schema : Checked) (is_defined : ℕ → Bool) (slot : Slot) (x : tree.Value) (w : Value) → slot.is_derived ≡ false → bound schema.named.schema.types slot.data_type x ≡ Some w
-    → value schema is_defined (slot, x) ≡ (if list_all is_defined (references x) then Ok w else Err Undefined)
-by_bound schema is_defined slot x w own taken = rw (own, no_star schema.named.schema.types slot.data_type x w taken, taken) refl
+-- the value of a slot that no type of the instance derives, where its type takes what is spelled
+pub by_type : (schema : Checked) (is_defined : ℕ → Bool) (slot : ReadSlot) (x : tree.Value) (w : Value) → slot.is_derived ≡ false → place (meaning schema.named.schema.types x) slot.expected ≡ Some w
+    → slot_value schema is_defined (slot, x) ≡ (if list_all is_defined (references x) then Ok w else Err Undefined)
+by_type schema is_defined slot x w own taken = rw (own, no_star schema.named.schema.types slot.expected x w taken, taken) refl

@@ -7,6 +7,7 @@ use Rattle.p21_bind.specs.declared.plans.Combination.{Combination}
 use Rattle.p21_bind.specs.declared.plans.Keyword.{Keyword}
 use Rattle.rp_content.specs.declared.instance.Types.TheVariants as types
 use Rattle.p21_bind.specs.Plans.{entity_named, internal, external}
+use Rattle.p21_bind.specs.ReadSlots.{AreRead}
 
 -- what an instance of a leaf has values of
 abbrev pub leaf_plan : Leaf → Plan
@@ -24,6 +25,10 @@ module _ (schema : Checked) where
   -- each is what an instance of its entity has values of
   abbrev pub AreLeaves : List Leaf → Type 0
   AreLeaves leaves = (k : ℕ) → IfSome (slice_get leaves k) (λ x. internal schema x.entity ≡ Some (leaf_plan x))
+
+  -- the slots of each as their values are read are those of its slots
+  abbrev pub AreAllRead : List Leaf → Type 0
+  AreAllRead leaves = (k : ℕ) → IfSome (slice_get leaves k) (λ x. AreRead schema x)
 
   -- each is what an instance of its entities has values of, whose parts stand in their order
   abbrev pub AreCombinations : List Combination → Type 0

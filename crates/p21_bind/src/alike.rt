@@ -6,6 +6,16 @@ ghost use Rattle.std.specs.Prelude.{◌≡◌, IsTrue};
 pub fn are_alike(mut bytes: &[u8], mut others: &[u8]) -> bool
     ensures { IsTrue result → bytes.entry.now ≡ others.entry.now }
 {
+    'fours: while let [a, b, c, d, more @ ..] = bytes {
+        let [e, f, g, h, more_others @ ..] = others else {
+            return false;
+        };
+        if *a != *e || *b != *f || *c != *g || *d != *h {
+            return false;
+        }
+        bytes = more;
+        others = more_others;
+    }
     'bytes: while let [byte, more @ ..] = bytes {
         let [other, more_others @ ..] = others else {
             return false;

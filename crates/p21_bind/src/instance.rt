@@ -1,18 +1,21 @@
 //! An instance, from its mapping.
 
-ghost use Rattle.std.specs.Prelude.{◌≡◌, ◌&&◌, ◌++◌, ◌∷◌, [], true, length, map, slice_index_or, Some, IfOk, OnOk};
+ghost use Rattle.std.specs.Prelude.{◌≡◌, ◌&&◌, ◌++◌, ◌∷◌, [], true, if◌then◌else◌, length, map, slice_index_or, Some, Err, IfOk, OnOk};
 ghost use Rattle.std.specs.List.{flat_map, zip};
 ghost use Rattle.std.specs.Str.{str_to_ascii_uppercase};
 ghost use Rattle.name_tables.specs.Names.{place_of};
 ghost use Rattle.p21_instances.specs.Instances.{is_among};
+ghost use Rattle.p21_tree.specs.declared.fault.InstanceFaultKind.TheVariants.{Twice};
 ghost use Rattle.text_forms.specs.Gives.{Gives};
 ghost use Rattle.p21_bind.specs.Kept as kept;
 ghost use Rattle.p21_bind.specs.Plans as plans_spec;
 ghost use Rattle.p21_bind.specs.Instances as spec;
+ghost use Rattle.p21_bind.specs.ReadSlots as read_spec;
 
 use crate::names::DefinedNames;
 use crate::plan::{Leaf, Plan, external, internal};
 use crate::plans::Plans;
+use crate::read_slot::read_slots;
 use crate::reader::{Reader, in_upper_case};
 use crate::value::{Reading, part_values};
 use ex_slots::Slot;
@@ -49,17 +52,12 @@ fn repeats(alloc: Global, keywords: &[Text]) -> Result<bool, AllocError>
     Ok(false)
 }
 
-/// Whether a type stands twice.
-fn has_twice(alloc: Global, mapping: &Mapping<'_>) -> Result<bool, AllocError>
-    ensures { IfOk result (λ found. found ≡ spec.has_twice mapping.now) }
+/// Whether a type stands twice among the parts of an external mapping.
+fn has_twice(alloc: Global, parts: &[Record<'_>]) -> Result<bool, AllocError>
+    ensures { IfOk result (λ found. found ≡ spec.repeats [] (spec.keywords parts.now)) }
 {
-    match mapping {
-        Mapping::Internal(_) => Ok(false),
-        Mapping::External(parts) => {
-            let keywords = keywords(alloc, parts.as_slice())?;
-            repeats(alloc, &keywords)
-        }
-    }
+    let keywords = keywords(alloc, parts)?;
+    repeats(alloc, &keywords)
 }
 
 /// The entities of parts, where each keyword is the name of one.
@@ -98,12 +96,28 @@ fn same_counts(mut slots: &[Rows<Slot<'_>>], mut parts: &[Record<'_>]) -> bool
     true
 }
 
-/// The values of all parts, or what is wrong with the first that is faulty.
-fn all_values<N: DefinedNames>(
+/// The values of a part, or what is wrong with the first that is faulty.
+fn values_of_part<'s, N: DefinedNames>(
     alloc: Global,
-    reader: &Reader<'_>,
+    reader: &Reader<'s>,
     names: &N,
-    mut slots: &[Rows<Slot<'_>>],
+    slots: &[Slot<'s>],
+    part: &Record<'_>,
+) -> Reading<Items<Value>>
+    ensures { Gives (λ xs. xs) result (spec.part reader.now (N.is_defined names.now) (slots.now, part.now)) }
+{
+    let found = read_slots(alloc, reader, slots)?;
+    let slots = found.as_slice();
+    let values = part.values.as_slice();
+    part_values(alloc, reader, names, slots, values)
+}
+
+/// The values of all parts, or what is wrong with the first that is faulty.
+fn all_values<'s, N: DefinedNames>(
+    alloc: Global,
+    reader: &Reader<'s>,
+    names: &N,
+    mut slots: &[Rows<Slot<'s>>],
     mut parts: &[Record<'_>],
 ) -> Reading<Rows<Items<Value>>>
     ensures { Gives (λ lists. lists) result (spec.each (spec.part reader.now (N.is_defined names.now)) (zip slots.entry.now parts.entry.now)) }
@@ -113,8 +127,7 @@ fn all_values<N: DefinedNames>(
         let [part, more_parts @ ..] = parts else {
             break;
         };
-        let values = part.values.as_slice();
-        lists.push(part_values(alloc, reader, names, first.as_slice(), values)?)?;
+        lists.push(values_of_part(alloc, reader, names, first.as_slice(), part)?)?;
         slots = more_slots;
         parts = more_parts;
     }
@@ -173,13 +186,13 @@ fn made(
 }
 
 /// The instance of these parts, by the plan for their entities.
-fn by_plan<N: DefinedNames>(
+fn by_plan<'s, N: DefinedNames>(
     alloc: Global,
-    reader: &Reader<'_>,
+    reader: &Reader<'s>,
     names: &N,
     name: u64,
     parts: &[Record<'_>],
-    plan: &Plan<'_>,
+    plan: &Plan<'s>,
 ) -> Reading<Instance>
     ensures { Gives (λ x. x) result (spec.by_plan reader.now (N.is_defined names.now) name parts.now (Some plan.now)) }
 {
@@ -210,6 +223,22 @@ fn by_new_plan<N: DefinedNames>(
     Ok(instance)
 }
 
+/// The values of a part that is of a leaf, or what is wrong with the first that is faulty.
+fn values_of_leaf<N: DefinedNames>(
+    alloc: Global,
+    reader: &Reader<'_>,
+    names: &N,
+    leaf: &Leaf<'_>,
+    part: &Record<'_>,
+) -> Reading<Items<Value>>
+    requires { read_spec.AreRead reader.now leaf.now }
+    ensures { Gives (λ xs. xs) result (spec.part reader.now (N.is_defined names.now) (leaf.now.slots, part.now)) }
+{
+    let slots = leaf.read_slots.as_slice();
+    let values = part.values.as_slice();
+    part_values(alloc, reader, names, slots, values)
+}
+
 /// The instance of this part, which is of a leaf.
 fn by_leaf<N: DefinedNames>(
     alloc: Global,
@@ -219,13 +248,13 @@ fn by_leaf<N: DefinedNames>(
     part: &Record<'_>,
     leaf: &Leaf<'_>,
 ) -> Reading<Instance>
+    requires { read_spec.AreRead reader.now leaf.now }
     ensures { Gives (λ x. x) result (spec.by_plan reader.now (N.is_defined names.now) name (part.now ∷ []) (Some (kept.leaf_plan leaf.now))) }
 {
     if leaf.slots.len() != part.values.len() {
         return Err(Failure::Fault(InstanceFaultKind::WrongCount));
     }
-    let slots = leaf.slots.as_slice();
-    let values = part_values(alloc, reader, names, slots, part.values.as_slice())?;
+    let values = values_of_leaf(alloc, reader, names, leaf, part)?;
     Ok(Instance {
         name,
         types: Types::Leaf(leaf.entity),
@@ -292,20 +321,21 @@ fn by_entities<N: DefinedNames>(
     }
 }
 
-fn by_mapping<N: DefinedNames>(
+/// The instance of these parts, of which no two may be of one type.
+fn by_parts<N: DefinedNames>(
     alloc: Global,
     plans: &mut Plans<'_>,
     names: &N,
     name: u64,
-    mapping: &Mapping<'_>,
+    parts: &[Record<'_>],
 ) -> Reading<Instance>
     ensures plans { plans.new ≡ plans.old }
-    ensures made { Gives (λ x. x) result (spec.by_mapping plans.old (N.is_defined names.now) name mapping.now) }
+    ensures made { Gives (λ x. x) result (if spec.repeats [] (spec.keywords parts.now) then Err Twice else spec.by_several plans.old (N.is_defined names.now) name parts.now) }
 {
-    match mapping {
-        Mapping::Internal(part) => by_entity(alloc, plans, names, name, part),
-        Mapping::External(parts) => by_entities(alloc, plans, names, name, parts.as_slice()),
+    if has_twice(alloc, parts)? {
+        return Err(Failure::Fault(InstanceFaultKind::Twice));
     }
+    by_entities(alloc, plans, names, name, parts)
 }
 
 /// The instance, whose name stood before or not, or the first that holds of what is wrong with it.
@@ -320,8 +350,12 @@ pub fn instance<N: DefinedNames>(
     ensures plans { plans.new ≡ plans.old }
     ensures made { Gives (λ x. x) result (spec.instance plans.old (N.is_defined names.now) stood spelled.now) }
 {
-    if stood || has_twice(alloc, &spelled.mapping)? {
+    if stood {
         return Err(Failure::Fault(InstanceFaultKind::Twice));
     }
-    by_mapping(alloc, plans, names, spelled.name, &spelled.mapping)
+    let name = spelled.name;
+    match &spelled.mapping {
+        Mapping::Internal(part) => by_entity(alloc, plans, names, name, part),
+        Mapping::External(parts) => by_parts(alloc, plans, names, name, parts.as_slice()),
+    }
 }

@@ -11,6 +11,7 @@ mod loading;
 mod names;
 mod plan;
 mod plans;
+mod read_slot;
 mod reader;
 mod single;
 mod value;

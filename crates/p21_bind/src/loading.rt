@@ -30,8 +30,9 @@ pub struct Loading<'s> {
     instances: Vec<Instance>,
 }
 
-/// Puts the names that a value refers to behind the others.
+/// Puts the names that a value refers to behind the others. What holds no other value takes no further call.
 #[cycle(references)]
+#[inline(always)]
 fn put_references(found: &mut Vec<u64>, value: &Value<'_>) -> Result<(), AllocError>
     ensures { OnOk result (found.new.items ≡ found.old.items ++ references value.now) }
 {
@@ -41,9 +42,17 @@ fn put_references(found: &mut Vec<u64>, value: &Value<'_>) -> Result<(), AllocEr
             Ok(())
         }
         Value::List(values) => put_all_references(found, values.as_slice()),
-        Value::Typed(_, value) => put_references(found, value.get()),
+        Value::Typed(_, value) => put_references_inside(found, value.get()),
         _ => Ok(()),
     }
+}
+
+/// The same of the value behind a keyword.
+#[cycle(references)]
+fn put_references_inside(found: &mut Vec<u64>, value: &Value<'_>) -> Result<(), AllocError>
+    ensures { OnOk result (found.new.items ≡ found.old.items ++ references value.now) }
+{
+    put_references(found, value)
 }
 
 /// Puts the names that the values refer to behind the others.

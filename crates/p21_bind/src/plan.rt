@@ -9,7 +9,9 @@ ghost use Rattle.ex_slots.specs.Slots as slots_spec;
 ghost use Rattle.lineage.specs.Lineage.{is_among};
 ghost use Rattle.p21_bind.specs.Kept as kept;
 ghost use Rattle.p21_bind.specs.Plans as spec;
+ghost use Rattle.p21_bind.specs.ReadSlots as read_spec;
 
+use crate::read_slot::{ReadSlot, read_slots};
 use crate::reader::Reader;
 use ex_slots::{Slot, slots, slots_of_each};
 use ex_subtypes::TypeSet;
@@ -34,6 +36,8 @@ pub struct Leaf<'s> {
     pub entity: usize,
     /// In the order in which files write their values.
     pub slots: Rows<Slot<'s>>,
+    /// The same, as their values are read.
+    pub read_slots: Rows<ReadSlot<'s>>,
 }
 
 /// What an instance has values of that is of this entity and all above it; nothing where there can be none.
@@ -45,15 +49,18 @@ pub fn internal<'s>(
 ) -> Result<Option<Leaf<'s>>, AllocError>
     ensures plan { IfOk result (λ found. option_map kept.leaf_plan found ≡ spec.internal reader.now entity) }
     ensures entity { IfOk result (λ found. IfSome found (λ leaf. leaf.entity ≡ entity)) }
+    ensures read { IfOk result (λ found. IfSome found (λ leaf. read_spec.AreRead reader.now leaf)) }
 {
     let line = reader.line_of(alloc, entity)?;
     if !reader.is_legal(alloc, line.as_slice())? {
         return Ok(None);
     }
     let slots = slots(alloc, reader.entities(), line.as_slice())?;
+    let read_slots = read_slots(alloc, reader, &slots)?;
     Ok(Some(Leaf {
         entity,
         slots: Rows::from_vec(slots),
+        read_slots,
     }))
 }
 

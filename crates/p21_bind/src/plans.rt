@@ -62,11 +62,14 @@ fn hint_of(keyword: &[u8]) -> usize {
         count.wrapping_sub(1),
         0,
     ];
-    let mut hash = count;
+    let mut packed = count;
     for place in letters {
-        hash = hash.wrapping_mul(33).wrapping_add(letter(keyword, place));
+        packed = packed
+            .wrapping_mul(256)
+            .wrapping_add(letter(keyword, place));
     }
-    hash % KEYWORDS
+    // The upper bits of the product are of all letters.
+    (packed.wrapping_mul(0x9E37_79B9_7F4A_7C15) >> 52) % KEYWORDS
 }
 
 /// Where what is known of some entities may be kept: a number below `COMBINATIONS`.
@@ -127,6 +130,7 @@ impl<'s> Model for Plans<'s> {
     ghost invariant = { λ p. record {
       keywords : kept.AreNamed p.reader p.keywords.items;
       leaves : kept.AreLeaves p.reader p.leaves.items;
+      read : kept.AreAllRead p.reader p.leaves.items;
       combinations : kept.AreCombinations p.reader p.combinations.items;
       few : kept.AreFew (length p.keywords.items) (length p.leaves.items) (length p.combinations.items);
     } };
@@ -141,6 +145,7 @@ impl<'s> Plans<'s> {
     ghost use Rattle.std.specs.Prelude.{◌≡◌, Some, IfOk, IfSome};
     ghost use Rattle.p21_bind.specs.Kept as kept;
     ghost use Rattle.p21_bind.specs.Plans as spec;
+    ghost use Rattle.p21_bind.specs.ReadSlots as read_spec;
 
     pub fn of(alloc: Global, compiled: &'s Compiled) -> Result<Plans<'s>, AllocError>
         ensures { IfOk result (λ p. p ≡ compiled.now) }
@@ -226,7 +231,8 @@ impl<'s> Plans<'s> {
 
     /// What an instance of an entity and all above it has values of, if one was made before.
     pub(crate) fn leaf(&self, entity: usize) -> Option<&Leaf<'s>>
-        ensures { IfSome result (λ leaf. spec.internal self.now entity ≡ Some (kept.leaf_plan leaf.now)) }
+        ensures leaf { IfSome result (λ leaf. spec.internal self.now entity ≡ Some (kept.leaf_plan leaf.now)) }
+        ensures read { IfSome result (λ leaf. read_spec.AreRead self.now leaf.now) }
     {
         match self.leaves.get(self.leaf_hints.place(entity)) {
             Some(leaf) if leaf.entity == entity => Some(leaf),
@@ -236,7 +242,8 @@ impl<'s> Plans<'s> {
 
     /// Keeps a leaf, by which an instance was made, unless as many are kept as may be.
     pub(crate) fn keep_leaf(&mut self, leaf: Leaf<'s>) -> Result<(), AllocError>
-        requires { spec.internal self.old leaf.entity ≡ Some (kept.leaf_plan leaf) }
+        requires leaf { spec.internal self.old leaf.entity ≡ Some (kept.leaf_plan leaf) }
+        requires read { read_spec.AreRead self.old leaf }
         ensures { self.new ≡ self.old }
     {
         let place = self.leaves.len();

@@ -6,12 +6,13 @@ ghost use Rattle.ex_types.specs.Checked.{Checked};
 ghost use Rattle.p21_instances.specs.Instances.{is_among, references};
 ghost use Rattle.text_forms.specs.Gives.{Gives};
 ghost use Rattle.p21_bind.specs.Instances as spec;
+ghost use Rattle.p21_bind.specs.ReadSlots as read_spec;
 
 use crate::names::DefinedNames;
+use crate::read_slot::ReadSlot;
 use crate::reader::Reader;
-use ex_slots::Slot;
 use p21_tree::{InstanceFaultKind, Value as Spelled};
-use p21_values::bound;
+use p21_values::bound_by;
 use plain_data::Items;
 use rp_value::Value;
 use std::alloc::{AllocError, Global};
@@ -56,17 +57,26 @@ fn is_left_out(value: &Spelled<'_>) -> bool
     }
 }
 
-/// Whether each name that the value refers to is defined.
+/// Whether each name that the value refers to is defined. What holds no other value is told without a further call.
 #[cycle(references)]
+#[inline(always)]
 fn is_defined<N: DefinedNames>(names: &N, value: &Spelled<'_>) -> bool
     ensures { result ≡ list_all (N.is_defined names.now) (references value.now) }
 {
     match value {
         Spelled::Reference(name) => names.has(*name),
         Spelled::List(values) => are_defined(names, values.as_slice()),
-        Spelled::Typed(_, value) => is_defined(names, value.get()),
+        Spelled::Typed(_, value) => is_defined_inside(names, value.get()),
         _ => true,
     }
+}
+
+/// The same of the value behind a keyword.
+#[cycle(references)]
+fn is_defined_inside<N: DefinedNames>(names: &N, value: &Spelled<'_>) -> bool
+    ensures { result ≡ list_all (N.is_defined names.now) (references value.now) }
+{
+    is_defined(names, value)
 }
 
 /// Whether each name that the values refer to is defined.
@@ -104,21 +114,21 @@ fn derived_value(value: &Spelled<'_>) -> Reading<Value>
     }
 }
 
-/// The value of an attribute, or the first that holds of what is wrong with it.
+/// The value of a slot, or the first that holds of what is wrong with it.
 fn slot_value<N: DefinedNames>(
     alloc: Global,
     reader: &Reader<'_>,
     names: &N,
-    slot: &Slot<'_>,
+    slot: &ReadSlot<'_>,
     value: &Spelled<'_>,
 ) -> Reading<Value>
-    ensures { Gives (λ x. x) result (spec.value reader.now (N.is_defined names.now) (slot.now, value.now)) }
+    ensures { Gives (λ x. x) result (read_spec.slot_value reader.now (N.is_defined names.now) (slot.now, value.now)) }
 {
-    if slot.is_derived() {
+    if slot.is_derived {
         return derived_value(value);
     }
     // No type takes a value with a `*`.
-    let Some(found) = bound(alloc, reader.types(), slot.data_type(), value)? else {
+    let Some(found) = bound_by(alloc, reader.types(), &slot.expected, value)? else {
         return Err(Failure::Fault(misplaced(value)));
     };
     if is_defined(names, value) {
@@ -133,10 +143,10 @@ pub fn part_values<N: DefinedNames>(
     alloc: Global,
     reader: &Reader<'_>,
     names: &N,
-    mut slots: &[Slot<'_>],
+    mut slots: &[ReadSlot<'_>],
     mut values: &[Spelled<'_>],
 ) -> Reading<Items<Value>>
-    ensures { Gives (λ xs. xs) result (spec.each (spec.value reader.now (N.is_defined names.now)) (zip slots.entry.now values.entry.now)) }
+    ensures { Gives (λ xs. xs) result (spec.each (read_spec.slot_value reader.now (N.is_defined names.now)) (zip slots.entry.now values.entry.now)) }
 {
     let mut found = Vec::with_capacity(alloc, slots.len())?;
     'values: while let [slot, more_slots @ ..] = slots {
