@@ -4,14 +4,12 @@ use Rattle.std.specs.Cmp.{IsTotalOrder}
 use Rattle.std.specs.Cmp.Lexicographic.{slice_cmp, on_texts}
 use Rattle.std.specs.List.Sorted.{IsNonDecreasingBy, IsPartitionPoint, IsPartitionedBy}
 use Rattle.std.specs.Ordering.{nat_cmp, is_lt, is_eq, ordering_index}
-use Rattle.std.specs.Str.{bytes_eq}
 use Rattle.std.specs.declared.cmp.Ordering.{Ordering}
 use Rattle.std.specs.declared.cmp.Ordering.TheVariants.{Less, Equal, Greater}
 use Rattle.std.proofs.lemmas.List.{get_or_default}
 use Rattle.std.proofs.lemmas.List.Sorted.{searchable_from_sorted, IsPartitionedBy-ltb}
 use Rattle.std.proofs.lemmas.Map.Text.{is_eq-slice_cmp}
 use Rattle.ex_named.specs.declared.reference.AttributePlace.{AttributePlace}
-use Rattle.ex_kinds.specs.Kinds.{Kinds}
 use Rattle.ex_attributes.specs.declared.attribute.Attribute.{Attribute}
 use Rattle.ex_attributes.specs.Attributes.{place_key, same_place, kinds_of_first}
 use Rattle.ex_attributes.specs.Tables.{is_before, IsInOrder}
@@ -53,9 +51,6 @@ module _ (place : AttributePlace) (rows : List Attribute) (in_order : IsInOrder 
   parted = subst (λ t. IsPartitionedBy t rows) (λ i a. sym (is_less (slice_cmp nat_cmp (place_key a.place) (place_key place))) i) (IsPartitionedBy-ltb (λ (a : Attribute). ordering_index (slice_cmp nat_cmp (place_key a.place) (place_key place))) rows 1 rises)
 
   module _ (i : ℕ) (within : i ≤ length rows) (parts : IsPartitionPoint (λ a. is_before place a ≡ true) (λ a. is_before place a ≡ false) rows i) where
-    is_here : Attribute → Bool
-    is_here a = same_place a.place place
-
     apart_by : (a : Attribute) → is_eq (slice_cmp nat_cmp (place_key a.place) (place_key place)) ≡ false → same_place a.place place ≡ false
     apart_by a apart = sym (is_eq-slice_cmp (place_key a.place) (place_key place)) ∙ apart
 

@@ -1,6 +1,6 @@
 -- The attributes of a name by where they stand, and those of one entity among them, found by halving.
 use Rattle.std.proofs.Common.{◌≡◌, ℕ, zero, suc, ◌<◌, ◌≤◌, ◌==◌, Bool, true, false, List, [], ◌∷◌, ◌++◌, map, length, take, drop, leb, ltb, if◌then◌else◌, refl, sym, ◌∙◌, ap, arith}
-use Rattle.std.specs.Prelude.{filter, not, slice_get}
+use Rattle.std.specs.Prelude.{filter, not}
 use Rattle.std.specs.BTreeMap.{BTreeMap}
 use Rattle.std.specs.Global.{Vec}
 use Rattle.std.specs.List.{flat_map}
@@ -69,9 +69,6 @@ unmapped g ps rise = λ i j d le within.
     rw (get_or-map g ps i d d (omega (arith, le, within)), get_or-map g ps j d d within) at up
 
 -- ---- the attributes of a name
-
-entity_of : Attribute → ℕ
-entity_of a = a.place.entity
 
 module _ (name : List ℕ) where
   declarers_from : (before xs : List Attribute) → map (declarer_at (before ++ xs)) (places_from name (length before) (map (λ a. a.name) xs)) ≡ map (λ a. a.place.entity) (filter (λ a. bytes_eq a.name name) xs)

@@ -1,4 +1,4 @@
-use Rattle.std.proofs.Common.{ℕ, ◌-◌, length, take, drop, leb, ltb, rules}
+use Rattle.std.proofs.Common.{◌-◌, length, take, drop, leb, ltb, rules}
 use Rattle.std.proofs.lemmas.List.{take_rest}
 use Rattle.std.proofs.lemmas.List.Sorted.{IsPartitionPoint-from_clause, IsPartitionedBy-leb, IsPartitionedBy-ltb, IsNonDecreasingBy-drop}
 use Rattle.ex_attributes.specs.Tables.{declarer_at}
