@@ -17,6 +17,16 @@ fn room_for_one<T>(alloc: Global) -> Result<Vec<T>, AllocError>
     Vec::with_capacity(alloc, 1)
 }
 
+/// No item, with room for one or for some more.
+fn room_for<T>(alloc: Global, is_one: bool) -> Result<Vec<T>, AllocError>
+    ensures { IfOk result (λ found. found.items ≡ []) }
+{
+    if is_one {
+        return room_for_one(alloc);
+    }
+    Ok(Vec::new(alloc))
+}
+
 /// The items in memory of their own size. Lists are short and many, and each that shrank where it
 /// stands would leave a hole behind it.
 fn packed<T: Drop>(alloc: Global, found: Vec<T>) -> Result<Items<T>, AllocError>
@@ -92,8 +102,9 @@ pub fn separated<S: TokenSource, F: Form<S>>(
     ensures reads { Reads (separated_by S.turns (S.sees separator) (S.expect separator) (F.form item.now) source.old) result source.new }
     ensures takes { OnOk result (S.turns source.new < S.turns source.old) }
 {
-    let mut found = room_for_one(alloc)?;
-    found.push(item.read(alloc, source)?)?;
+    let first = item.read(alloc, source)?;
+    let mut found = room_for(alloc, !source.sees(separator))?;
+    found.push(first)?;
     'more: while source.sees(separator) {
         source.expect(separator)?;
         found.push(item.read(alloc, source)?)?;

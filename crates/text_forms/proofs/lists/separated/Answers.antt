@@ -9,8 +9,8 @@ returns-in_err-expect-clause-reads g c =
     let e = repeat_turn g.S.TokenSource.turns (g.S.TokenSource.sees c.args.separator) (g.S.TokenSource.expect c.args.separator >> g.F.Form.form c.args.item.now) c.more.found.items c.more.source (cc) in
     first_of (search rules, grind (arith, common_steps))
 
-pub returns-in_err-read-2-clause-reads : goal.returns-in_err-read-2-clause-reads
-returns-in_err-read-2-clause-reads g c =
+pub returns-in_err-read-clause-reads : goal.returns-in_err-read-clause-reads
+returns-in_err-read-clause-reads g c =
     let e = repeat_turn g.S.TokenSource.turns (g.S.TokenSource.sees c.args.separator) (g.S.TokenSource.expect c.args.separator >> g.F.Form.form c.args.item.now) c.more.found.items c.more.source (cc) in
     first_of (search rules, grind (arith, common_steps))
 
