@@ -1,5 +1,5 @@
 -- A list of few ancestors, once it is in order and has no number twice.
-use Rattle.std.proofs.Common.{◌≡◌, ℕ, ◌<◌, Bool, true, false, ◌||◌, ◌==◌, List, [], ◌∷◌, ◌++◌, length, refl, sym, ◌∙◌, ap, eqb, arith}
+use Rattle.std.proofs.Common.{◌≡◌, ℕ, ◌<◌, Bool, true, false, ◌||◌, ◌==◌, List, [], ◌∷◌, ◌++◌, length, refl, ◌∙◌, ap, eqb, arith}
 use Rattle.std.proofs.lemmas.Bool.Decides.{nat_tests}
 use Rattle.std.proofs.lemmas.Cmp.{nat_cmp_total}
 use Rattle.std.proofs.lemmas.List.Kept.{IsStrictlySortedBy-dedup}
@@ -8,7 +8,7 @@ use Rattle.std.specs.Cmp.{unsigned_ties}
 use Rattle.std.specs.List.{dedup, dedup_from}
 use Rattle.std.specs.List.Sorted.{IsSorted, IsPermutation, IsStrictlySortedBy}
 use Rattle.std.specs.Ordering.{nat_cmp}
-use Rattle.lineage.specs.Lineage.{is_among, is_ancestor, family}
+use Rattle.lineage.specs.Lineage.{is_among, family}
 use Rattle.lineage.proofs.Families.{family_sorted, in_family}
 use Rattle.lineage.proofs.Sets.{is_among-append}
 use Rattle.descent.specs.Kept.{AreAbove}
