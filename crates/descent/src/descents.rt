@@ -142,7 +142,7 @@ fn few(
 ) -> Result<Option<Vec<usize>>, AllocError>
     ensures { IfOk result (λ found. IfSome found (λ all. all.items ≡ graphs.family graph.now member)) }
 {
-    if member >= graph.len() {
+    if graph.len() <= member {
         return Ok(None);
     }
     let Some(mut found) = few_above(alloc, graph, member)? else {
