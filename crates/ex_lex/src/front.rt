@@ -29,14 +29,29 @@ pub fn byte(z: &[u8], at: usize) -> u8
     if at < z.len() { z[at] } else { 0 }
 }
 
+// Each byte of a word stands at its own place, and a point at every other. A table is read faster than a choice among bytes.
+static WORD_BYTES: [u8; 256] = *b"\
+    ................................\
+    ................0123456789......\
+    .ABCDEFGHIJKLMNOPQRSTUVWXYZ...._\
+    .abcdefghijklmnopqrstuvwxyz.....\
+    ................................\
+    ................................\
+    ................................\
+    ................................";
+
+fn is_word_byte(b: u8) -> bool
+    ensures { result ≡ spec.is_word_byte b }
+{
+    WORD_BYTES[usize::from(b)] != b'.'
+}
+
 fn word_len(z: &[u8]) -> usize
     ensures value { result ≡ prefix_len spec.is_word_byte z.now }
     ensures some { is_ascii_alphabetic (slice_index z.now 0) ≡ true → 0 < result }
     ensures within { result ≤ length z.now }
 {
-    z.iter()
-        .take_while(|b| b.is_ascii_alphanumeric() || **b == b'_')
-        .count()
+    z.iter().take_while(|b| is_word_byte(**b)).count()
 }
 
 #[tactic(auto, unfolding(crate::specs::Lexical::word))]
