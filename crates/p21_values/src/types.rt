@@ -6,6 +6,10 @@ ghost use Rattle.name_tables.specs.Names.{place_of};
 ghost use Rattle.std.specs.Str.{str_to_ascii_uppercase};
 ghost use Rattle.p21_values.specs.Ends as ends;
 ghost use Rattle.p21_values.specs.Seen.{seen, seen_target};
+ghost use Rattle.p21_values.specs.Kept as kept;
+ghost use Rattle.p21_values.specs.Shared as shared;
+ghost use Rattle.p21_values.specs.Sorts as sorts;
+ghost use Rattle.p21_values.specs.Takers as takers;
 ghost use Rattle.p21_values.specs.Taking as spec;
 
 use crate::ends::Declared;
@@ -69,6 +73,22 @@ fn names_of<'s>(alloc: Global, types: &'s [NamedType]) -> Result<NameTable<'s>, 
     Ok(names)
 }
 
+/// What is kept of what SELECTs choose from, where this is what they list, and of each who takes its items.
+fn kept_and_takers<'s>(
+    alloc: Global,
+    types: &Declared<'s>,
+    graph: &[Rows<usize>],
+) -> Result<(Kept, Vec<Option<Takers<'s>>>), AllocError>
+    requires { graph.now ≡ shared.shared types.now }
+    ensures kept { IfOk result (λ found. kept.IsKept (shared.shared types.now) (sorts.all_sorts types.now) found.0) }
+    ensures takers { IfOk result (λ found. takers.AreAllTakers types.now found.0.items.items found.1.items) }
+{
+    let sorts = all_sorts(alloc, types)?;
+    let kept = kept_by_class(alloc, graph, &sorts)?;
+    let takers = all_takers(alloc, types, &kept.items)?;
+    Ok((kept, takers))
+}
+
 /// The place of a type's item of this name. A number beyond the types has none.
 fn place_at(all: &[NameTable<'_>], number: usize, name: &[u8]) -> Option<usize>
     ensures { result ≡ place_of name.now (slice_index_or all.now number []) }
@@ -95,10 +115,8 @@ impl<'s> DefinedTypes<'s> {
         let declared = Declared::of(alloc, types)?;
         let names = names_of(alloc, types)?;
         let items = all_items(alloc, types)?;
-        let sorts = all_sorts(alloc, &declared)?;
         let graph = shared_selection(alloc, &declared)?;
-        let kept = kept_by_class(alloc, &graph, &sorts)?;
-        let takers = all_takers(alloc, &declared, &kept.items)?;
+        let (kept, takers) = kept_and_takers(alloc, &declared, &graph)?;
         let descent = Descent::of(alloc, graph)?;
         Ok(DefinedTypes {
             declared,
