@@ -10,6 +10,7 @@ ghost use Rattle.ex_check.specs.Check as spec;
 use crate::fault::SchemaFault;
 use crate::place::Position;
 use crate::schema::compile_schema;
+use ex_subtypes::Compiled;
 use ex_types::CheckedSchema;
 use rp_io::{Sink, write_all};
 use std::alloc::{AllocError, Global};
@@ -99,12 +100,20 @@ fn accepted(alloc: Global, text: &[u8], schema: &CheckedSchema) -> Result<String
     Ok(told)
 }
 
-/// The lines that are told of a text, and whether it is a schema.
-fn report(alloc: Global, text: &[u8]) -> Result<(String, Verdict), AllocError>
+/// The lines that are told of a text, and whether it is a schema, which is put where the caller wants it.
+fn report(
+    alloc: Global,
+    text: &[u8],
+    schema: &mut Option<Compiled>,
+) -> Result<(String, Verdict), AllocError>
     ensures { IfOk result (λ r. (string_bytes r.0 ≡ spec.report text.now) × (r.1 ≡ spec.verdict text.now)) }
 {
     match compile_schema(alloc, text) {
-        Ok(compiled) => Ok((accepted(alloc, text, compiled.schema())?, Verdict::Accepted)),
+        Ok(compiled) => {
+            let told = accepted(alloc, text, compiled.schema())?;
+            *schema = Some(compiled);
+            Ok((told, Verdict::Accepted))
+        }
         Err(Failure::Fault(fault)) => Ok((refused(alloc, text, fault)?, Verdict::Refused)),
         Err(Failure::NoMemory) => Err(AllocError),
     }
@@ -112,9 +121,12 @@ fn report(alloc: Global, text: &[u8]) -> Result<(String, Verdict), AllocError>
 
 /// Writes what there is to say of an EXPRESS text: `NAME: ok` with the name of its schema, and for each warning
 /// `warning KIND line L column C`; or `KIND line L column C` with the first fault. Lines and byte columns count from 1.
+///
+/// A schema is put into `schema`, since to let go of it takes a tenth of the time: a process that ends need not.
 pub fn check_text<W: Sink>(
     alloc: Global,
     text: &[u8],
+    schema: &mut Option<Compiled>,
     writer: &mut W,
 ) -> Result<Verdict, CheckFault>
     ensures verdict { IfOk result (λ verdict. verdict ≡ spec.verdict text.now) }
@@ -123,7 +135,7 @@ pub fn check_text<W: Sink>(
     ensures failed { IsErrOf result CheckFault.WriteFault → AppendsFront (W.contents writer.old) (W.contents writer.new) (spec.report text.now) }
     ensures device { IsErrOf result CheckFault.WriteFault → W.write_failures writer.new ≢ W.write_failures writer.old }
 {
-    let (line, verdict) = report(alloc, text)?;
+    let (line, verdict) = report(alloc, text, schema)?;
     if write_all(writer, line.as_bytes()).is_err() {
         return Err(CheckFault::WriteFault);
     }

@@ -12,7 +12,7 @@ use rp_config::{FromFiles, LoadFault, Loaded, file_bytes, load_all, wrong_place}
 use rp_repo::{FromReader, Repository, RunFault, ToWriter, run_lines};
 use std::process::ExitCode;
 use std::rt::{Env, Files};
-use std::{env, io};
+use std::{env, io, mem};
 use text_forms::Failure;
 
 fn main(rt: HostRuntime) -> ExitCode {
@@ -47,8 +47,12 @@ fn run<R: AllocGlobal + Files + Env + Print + Eprint + Input>(rt: &R) -> Result<
 fn check<R: AllocGlobal + Files + Print>(rt: &R, path: &str) -> Result<ExitCode, Fault> {
     let alloc = rt.alloc();
     let text = file_bytes(alloc, &FromFiles::new(rt), path)?;
+    let mut schema = None;
     let mut writer = ToWriter::new(io::writer(rt));
-    status_of(check_text(alloc, &text, &mut writer))
+    let checked = check_text(alloc, &text, &mut schema, &mut writer);
+    // As at the end of `batch`.
+    mem::forget(schema);
+    status_of(checked)
 }
 
 /// The same, with the lines of the text.
@@ -76,7 +80,11 @@ fn batch<R: AllocGlobal + Files + Print + Input>(rt: &R, path: &str) -> Result<E
     let mut repository = Repository::new(alloc, schemas.as_slice(), partners.into_vec())?;
     let mut reader = FromReader::new(rt.reader());
     let mut writer = ToWriter::new(io::writer(rt));
-    match run_lines(alloc, &mut repository, &mut reader, &mut writer) {
+    let ended = run_lines(alloc, &mut repository, &mut reader, &mut writer);
+    // The process ends, and all of its memory goes with it. To give that back value by value would take long.
+    mem::forget(repository);
+    mem::forget(schemas);
+    match ended {
         Ok(_) => Ok(ExitCode::SUCCESS),
         Err(RunFault::ReadFault) => Err(Fault::Read),
         Err(RunFault::WriteFault) => Err(Fault::Write),
