@@ -11,5 +11,5 @@ mod shown;
 
 pub use explain::explain_text;
 pub use fault::SchemaFault;
-pub use report::{CheckFault, Verdict, check_text, words_of_fault};
+pub use report::{CheckFault, Verdict, check_compiled, check_text, words_of_fault};
 pub use schema::compile_schema;

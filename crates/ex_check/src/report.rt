@@ -5,6 +5,7 @@ ghost use Rattle.std.specs.List.{flat_map};
 ghost use Rattle.std.specs.String.{string_bytes};
 ghost use Rattle.std.specs.Io.KnownBytes.{Appends};
 ghost use Rattle.rp_io.specs.Front.{AppendsFront};
+ghost use Rattle.text_forms.specs.Gives.{Gives};
 ghost use Rattle.ex_check.specs.Check as spec;
 
 use crate::fault::SchemaFault;
@@ -100,33 +101,49 @@ fn accepted(alloc: Global, text: &[u8], schema: &CheckedSchema) -> Result<String
     Ok(told)
 }
 
-/// The lines that are told of a text, and whether it is a schema, which is put where the caller wants it.
+/// The lines that are told of a text, and whether it is a schema, by what [`compile_schema`] gave of it.
 fn report(
     alloc: Global,
     text: &[u8],
-    schema: &mut Option<Compiled>,
+    compiled: &Result<Compiled, Failure<SchemaFault>>,
 ) -> Result<(String, Verdict), AllocError>
+    requires { Gives (λ schema. schema) compiled.now (spec.schema text.now) }
     ensures { IfOk result (λ r. (string_bytes r.0 ≡ spec.report text.now) × (r.1 ≡ spec.verdict text.now)) }
 {
-    match compile_schema(alloc, text) {
-        Ok(compiled) => {
-            let told = accepted(alloc, text, compiled.schema())?;
-            *schema = Some(compiled);
-            Ok((told, Verdict::Accepted))
-        }
-        Err(Failure::Fault(fault)) => Ok((refused(alloc, text, fault)?, Verdict::Refused)),
+    match compiled {
+        Ok(compiled) => Ok((accepted(alloc, text, compiled.schema())?, Verdict::Accepted)),
+        Err(Failure::Fault(fault)) => Ok((refused(alloc, text, *fault)?, Verdict::Refused)),
         Err(Failure::NoMemory) => Err(AllocError),
     }
 }
 
+/// Writes what [`check_text`] does, by what [`compile_schema`] gave of the text. To let go of a schema takes a tenth of the
+/// time of a check, so a process that ends keeps it.
+pub fn check_compiled<W: Sink>(
+    alloc: Global,
+    text: &[u8],
+    compiled: &Result<Compiled, Failure<SchemaFault>>,
+    writer: &mut W,
+) -> Result<Verdict, CheckFault>
+    requires { Gives (λ schema. schema) compiled.now (spec.schema text.now) }
+    ensures verdict { IfOk result (λ verdict. verdict ≡ spec.verdict text.now) }
+    ensures written { OnOk result (Appends (W.contents writer.old) (W.contents writer.new) (spec.report text.now)) }
+    ensures memory { IsErrOf result CheckFault.NoMemory → writer.new ≡ writer.old }
+    ensures failed { IsErrOf result CheckFault.WriteFault → AppendsFront (W.contents writer.old) (W.contents writer.new) (spec.report text.now) }
+    ensures device { IsErrOf result CheckFault.WriteFault → W.write_failures writer.new ≢ W.write_failures writer.old }
+{
+    let (line, verdict) = report(alloc, text, compiled)?;
+    if write_all(writer, line.as_bytes()).is_err() {
+        return Err(CheckFault::WriteFault);
+    }
+    Ok(verdict)
+}
+
 /// Writes what there is to say of an EXPRESS text: `NAME: ok` with the name of its schema, and for each warning
 /// `warning KIND line L column C`; or `KIND line L column C` with the first fault. Lines and byte columns count from 1.
-///
-/// A schema is put into `schema`, since to let go of it takes a tenth of the time: a process that ends need not.
 pub fn check_text<W: Sink>(
     alloc: Global,
     text: &[u8],
-    schema: &mut Option<Compiled>,
     writer: &mut W,
 ) -> Result<Verdict, CheckFault>
     ensures verdict { IfOk result (λ verdict. verdict ≡ spec.verdict text.now) }
@@ -135,9 +152,6 @@ pub fn check_text<W: Sink>(
     ensures failed { IsErrOf result CheckFault.WriteFault → AppendsFront (W.contents writer.old) (W.contents writer.new) (spec.report text.now) }
     ensures device { IsErrOf result CheckFault.WriteFault → W.write_failures writer.new ≢ W.write_failures writer.old }
 {
-    let (line, verdict) = report(alloc, text, schema)?;
-    if write_all(writer, line.as_bytes()).is_err() {
-        return Err(CheckFault::WriteFault);
-    }
-    Ok(verdict)
+    let compiled = compile_schema(alloc, text);
+    check_compiled(alloc, text, &compiled, writer)
 }

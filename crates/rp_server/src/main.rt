@@ -5,7 +5,7 @@ mod command;
 mod fault;
 
 use command::{Asked, asked_of};
-use ex_check::{CheckFault, Verdict, check_text, explain_text};
+use ex_check::{CheckFault, Verdict, check_compiled, compile_schema, explain_text};
 use fault::Fault;
 use plain_data::Text;
 use rp_config::{FromFiles, LoadFault, Loaded, file_bytes, load_all, wrong_place};
@@ -47,11 +47,11 @@ fn run<R: AllocGlobal + Files + Env + Print + Eprint + Input>(rt: &R) -> Result<
 fn check<R: AllocGlobal + Files + Print>(rt: &R, path: &str) -> Result<ExitCode, Fault> {
     let alloc = rt.alloc();
     let text = file_bytes(alloc, &FromFiles::new(rt), path)?;
-    let mut schema = None;
     let mut writer = ToWriter::new(io::writer(rt));
-    let checked = check_text(alloc, &text, &mut schema, &mut writer);
+    let compiled = compile_schema(alloc, &text);
+    let checked = check_compiled(alloc, &text, &compiled, &mut writer);
     // As at the end of `batch`.
-    mem::forget(schema);
+    mem::forget(compiled);
     status_of(checked)
 }
 
