@@ -2,12 +2,12 @@
 
 use ex_kinds::Kinds;
 use ex_named::AttributePlace;
-use plain_data::Text;
+use ex_tree::Identifier;
 
 /// An attribute that an entity declares, and what its value may be.
 #[derive(Drop)]
 pub struct Attribute {
-    pub name: Text,
+    pub name: Identifier,
     pub place: AttributePlace,
     pub kinds: Kinds,
 }

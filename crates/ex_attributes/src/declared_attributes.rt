@@ -82,7 +82,7 @@ fn push_rows(
             sort,
             place,
         };
-        let name = name.text.as_text().copy(alloc)?;
+        let name = name.text.copy(alloc)?;
         let kinds = kinds_of(alloc, data_type)?;
         found.push(Attribute { name, place, kinds })?;
     }
@@ -119,7 +119,7 @@ fn push_inverse(
             sort: AttributeSort::Inverse,
             place,
         };
-        let name = inverse.name.text.as_text().copy(alloc)?;
+        let name = inverse.name.text.copy(alloc)?;
         let kinds = inverse_kinds(alloc, &inverse.aggregate, inverse.entity)?;
         found.push(Attribute { name, place, kinds })?;
     }

@@ -14,7 +14,6 @@ use crate::tables::{places_of, push_rows_at, put_name, rows_at};
 use descent::Family;
 use ex_kinds::ValueKind;
 use ex_named::AttributePlace;
-use plain_data::Text;
 use std::alloc::{AllocError, Global};
 use std::collections::BTreeMap;
 use std::marker::Model;
@@ -181,7 +180,7 @@ impl DeclaredRows {
     }
 
     /// Those of this name.
-    pub(crate) fn named(&self, alloc: Global, name: &Text) -> Result<Vec<&Attribute>, AllocError>
+    pub(crate) fn named(&self, alloc: Global, name: &str) -> Result<Vec<&Attribute>, AllocError>
         ensures { IfOk result (λ found. read found.items ≡ spec.named name.now self.now) }
     {
         rows_at(alloc, &self.rows, places_of(&self.by_name, name.as_bytes()))
@@ -192,7 +191,7 @@ impl DeclaredRows {
         &self,
         alloc: Global,
         family: &Family<'_>,
-        name: &Text,
+        name: &str,
     ) -> Result<Vec<&Attribute>, AllocError>
         ensures { IfOk result (λ found. read found.items ≡ filter (λ a. is_among family.now a.place.entity) (spec.named name.now self.now)) }
     {

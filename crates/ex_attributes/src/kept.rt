@@ -23,10 +23,10 @@ pub struct Kept {
 
 impl Kept {
     /// Whether it is of this name.
-    pub fn is_of(&self, name: &Text) -> bool
+    pub fn is_of(&self, name: &str) -> bool
         ensures { result ≡ bytes_eq self.now.name name.now }
     {
-        self.name.is(name)
+        self.name.as_str() == name
     }
 
     /// What is found of the name in all that a type stands for.
@@ -46,7 +46,7 @@ fn own_found(
     alloc: Global,
     types: &Types,
     attributes: &Attributes,
-    name: &Text,
+    name: &str,
     number: usize,
 ) -> Result<Found, AllocError>
     ensures { IfOk result (λ found. found ≡ spec.after_own types.now attributes.now name.now attributes_spec.found_nothing number) }
@@ -60,7 +60,7 @@ fn first_found(
     alloc: Global,
     types: &Types,
     attributes: &Attributes,
-    name: &Text,
+    name: &str,
 ) -> Result<Found, AllocError> {
     for number in 0..types.len() {
         let found = own_found(alloc, types, attributes, name, number)?;
@@ -75,7 +75,7 @@ fn first_found(
 fn stays(
     alloc: Global,
     attributes: &Attributes,
-    name: &Text,
+    name: &str,
     found: &Found,
     own: &Kinds,
 ) -> Result<bool, AllocError>
@@ -90,7 +90,7 @@ fn own_mark(
     alloc: Global,
     types: &Types,
     attributes: &Attributes,
-    name: &Text,
+    name: &str,
     found: &Found,
     number: usize,
 ) -> Result<Option<bool>, AllocError>
@@ -115,7 +115,7 @@ fn own_marks(
     alloc: Global,
     types: &Types,
     attributes: &Attributes,
-    name: &Text,
+    name: &str,
     found: &Found,
 ) -> Result<Option<Vec<bool>>, AllocError>
     ensures { IfOk result (λ told. IfSome told (λ marks. (m : ℕ) → spec.IsAlike types.now attributes.now name.now found.now m (is_marked_in marks.items m))) }
@@ -136,7 +136,7 @@ pub fn keep(
     alloc: Global,
     types: &Types,
     attributes: &Attributes,
-    name: &Text,
+    name: &str,
 ) -> Result<Option<Kept>, AllocError>
     ensures { IfOk result (λ told. IfSome told (λ k. spec.IsKept types.now attributes.now k)) }
 {
@@ -145,6 +145,6 @@ pub fn keep(
         return Ok(None);
     };
     let marks = types.leading(alloc, &own)?;
-    let name = name.copy(alloc)?;
+    let name = Text::from_str(alloc, name)?;
     Ok(Some(Kept { name, marks, found }))
 }

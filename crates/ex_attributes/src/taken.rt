@@ -12,7 +12,6 @@ use crate::found::Found;
 use crate::latest::join_all;
 use ex_kinds::{Kinds, Sort, Typed, ValueKind, join};
 use ex_tree::Name;
-use plain_data::Text;
 use std::alloc::{AllocError, Global};
 
 impl Attributes {
@@ -21,7 +20,7 @@ impl Attributes {
         &self,
         alloc: Global,
         entity: usize,
-        name: &Text,
+        name: &str,
     ) -> Result<Vec<&Attribute>, AllocError>
         ensures { IfOk result (λ found. read found.items ≡ spec.named_attributes self.now entity name.now) }
     {
@@ -35,7 +34,7 @@ impl Attributes {
         alloc: Global,
         found: &mut Found,
         entity: usize,
-        name: &Text,
+        name: &str,
     ) -> Result<(), AllocError>
         ensures { OnOk result (found.new ≡ spec.with_attributes self.now found.old entity (spec.named_attributes self.now entity name.now)) }
     {
@@ -55,7 +54,7 @@ impl Attributes {
     }
 
     /// Whether an entity has two attributes of this name.
-    fn has_several(&self, alloc: Global, entity: usize, name: &Text) -> Result<bool, AllocError>
+    fn has_several(&self, alloc: Global, entity: usize, name: &str) -> Result<bool, AllocError>
         ensures { IfOk result (λ told. told ≡ spec.is_several (spec.named_attributes self.now entity name.now)) }
     {
         match self.named(alloc, entity, name)?.as_slice() {
@@ -68,7 +67,7 @@ impl Attributes {
     fn is_ambiguous(
         &self,
         alloc: Global,
-        name: &Text,
+        name: &str,
         declarations: &[&Attribute],
     ) -> Result<bool, AllocError>
         requires { read declarations.now ≡ spec.named name.now self.now.declared }
@@ -104,7 +103,7 @@ impl Attributes {
     }
 
     /// Looks for the name in all entities.
-    fn look_in_all(&self, alloc: Global, found: &mut Found, name: &Text) -> Result<(), AllocError>
+    fn look_in_all(&self, alloc: Global, found: &mut Found, name: &str) -> Result<(), AllocError>
         ensures { OnOk result (found.new ≡ spec.with_all self.now name.now found.old (spec.named name.now self.now.declared)) }
     {
         let declarations = self.declared().named(alloc, name)?;
@@ -124,7 +123,7 @@ impl Attributes {
         alloc: Global,
         found: &mut Found,
         kind: ValueKind,
-        name: &Text,
+        name: &str,
     ) -> Result<(), AllocError>
         ensures { OnOk result (found.new ≡ spec.found_at self.now name.now found.old kind.depth kind.sort) }
     {
@@ -144,7 +143,7 @@ impl Attributes {
         alloc: Global,
         before: Found,
         kinds: &[ValueKind],
-        name: &Text,
+        name: &str,
     ) -> Result<Found, AllocError>
         ensures { IfOk result (λ found. found ≡ spec.found_after self.now name.now before kinds.now) }
     {
@@ -160,7 +159,7 @@ impl Attributes {
         &self,
         alloc: Global,
         kinds: &[ValueKind],
-        name: &Text,
+        name: &str,
     ) -> Result<Found, AllocError>
         ensures { IfOk result (λ found. found ≡ spec.found_after self.now name.now spec.found_nothing kinds.now) }
     {
@@ -178,7 +177,7 @@ impl Attributes {
     ) -> Result<Typed, AllocError>
         ensures { IfOk result (λ typed. typed ≡ spec.taken self.now kinds.now dot name.now) }
     {
-        let found = self.found_among(alloc, kinds, name.text.as_text())?;
+        let found = self.found_among(alloc, kinds, name.text.as_str())?;
         Ok(found.told(alloc, dot, name.at))
     }
 }

@@ -96,7 +96,7 @@ fn push_warnings(
 fn accepted(alloc: Global, text: &[u8], schema: &CheckedSchema) -> Result<String, AllocError>
     ensures { IfOk result (λ told. string_bytes told ≡ spec.told_of_schema text.now schema.now) }
 {
-    let mut told = format!(in alloc; "{}: ok\n", schema.name().as_str())?;
+    let mut told = format!(in alloc; "{}: ok\n", schema.name())?;
     push_warnings(alloc, &mut told, text, schema.warnings())?;
     Ok(told)
 }

@@ -22,7 +22,7 @@ fn push_names(
     ensures { OnOk result (found.new ≡ and_names found.old (rows_of rows.now)) }
 {
     for (name, declared) in rows {
-        found.push_name(name.text.as_text().copy(alloc)?, *declared)?;
+        found.push_name(name.text.copy(alloc)?, *declared)?;
     }
     Ok(())
 }
@@ -43,7 +43,7 @@ fn push_places(
             sort,
             place,
         };
-        found.push_attribute(name.text.as_text().copy(alloc)?, attribute)?;
+        found.push_attribute(name.text.copy(alloc)?, attribute)?;
     }
     Ok(())
 }
@@ -91,7 +91,7 @@ fn push_items(
 {
     for (place, name) in names.iter().enumerate() {
         let item = EnumerationItem { type_number, place };
-        found.push_item(name.text.as_text().copy(alloc)?, item)?;
+        found.push_item(name.text.copy(alloc)?, item)?;
     }
     Ok(())
 }

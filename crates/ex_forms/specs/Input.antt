@@ -1,5 +1,5 @@
 -- What a form of the grammar reads from, and the forms that have no tree of their own.
-use Rattle.std.specs.Prelude.{ℕ, zero, suc, Bool, ◌&&◌, ◌||◌, List, [], ◌∷◌, codes, Option, Some, None, option_and_then, Ok, Err, if◌then◌else◌}
+use Rattle.std.specs.Prelude.{ℕ, zero, suc, Bool, ◌&&◌, ◌||◌, List, [], ◌∷◌, codes, Option, Some, None, Ok, Err, if◌then◌else◌}
 use Rattle.std.specs.List.{list_any}
 use Rattle.std.specs.Str.{str_eq_ignore_ascii_case, str_to_ascii_uppercase}
 use Rattle.std.specs.Str.{is_utf8}
@@ -126,7 +126,7 @@ utf8 bytes = if is_utf8 bytes then Some bytes else None
 
 -- the identifier in upper case that bytes spell, if they spell one
 abbrev pub identifier : List ℕ → Option (List ℕ)
-identifier bytes = option_and_then (λ text. as_identifier (str_to_ascii_uppercase text)) (utf8 bytes)
+identifier bytes = as_identifier (str_to_ascii_uppercase bytes)
 
 unfoldable pub name : Parser Name
 name = do

@@ -6,7 +6,6 @@ ghost use Rattle.ex_forms.specs.Input as spec;
 
 use crate::cursor::{Cursor, Read, refused};
 use ex_tree::{Identifier, Name, TokenKind};
-use plain_data::Text;
 use rp_numbers::whole_number;
 use std::alloc::{AllocError, Global};
 use text_forms::Failure;
@@ -25,12 +24,7 @@ pub fn utf8(bytes: &[u8]) -> Option<&str>
 fn identifier(alloc: Global, bytes: &[u8]) -> Result<Option<Identifier>, AllocError>
     ensures { IfOk result (λ found. found ≡ spec.identifier bytes.now) }
 {
-    let Some(text) = utf8(bytes) else {
-        return Ok(None);
-    };
-    let mut text = Text::from_str(alloc, text)?;
-    text.make_ascii_uppercase();
-    Ok(Identifier::new(text))
+    Identifier::in_upper_case(alloc, bytes)
 }
 
 /// An identifier, in upper case.

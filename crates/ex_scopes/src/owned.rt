@@ -5,16 +5,16 @@ ghost use Rattle.ex_named.specs.Scopes as spec;
 
 use crate::declarations::Declarations;
 use ex_named::{AttributePlace, Declared, EnumerationItem};
-use plain_data::Text;
+use ex_tree::Identifier;
 use std::alloc::{AllocError, Global};
 use std::marker::Model;
 
 /// What a schema declares, each list in the order of the text: its names with their meanings, the attributes that entities
 /// declare, the items of enumerations, and of each type whether it is an enumeration.
 pub struct OwnedDeclarations {
-    names: Vec<(Text, Declared)>,
-    attributes: Vec<(Text, AttributePlace)>,
-    items: Vec<(Text, EnumerationItem)>,
+    names: Vec<(Identifier, Declared)>,
+    attributes: Vec<(Identifier, AttributePlace)>,
+    items: Vec<(Identifier, EnumerationItem)>,
     enumerations: Vec<bool>,
 }
 
@@ -39,7 +39,7 @@ impl OwnedDeclarations {
     }
 
     /// Puts a name of the schema's own scope behind the others.
-    pub fn push_name(&mut self, name: Text, meaning: Declared) -> Result<(), AllocError>
+    pub fn push_name(&mut self, name: Identifier, meaning: Declared) -> Result<(), AllocError>
         ensures { OnOk result (self.new ≡ record self.old { names = self.old.names ++ (name, meaning) ∷ [] }) }
     {
         self.names.push((name, meaning))?;
@@ -47,7 +47,7 @@ impl OwnedDeclarations {
     }
 
     /// Puts an attribute behind the others.
-    pub fn push_attribute(&mut self, name: Text, place: AttributePlace) -> Result<(), AllocError>
+    pub fn push_attribute(&mut self, name: Identifier, place: AttributePlace) -> Result<(), AllocError>
         ensures { OnOk result (self.new ≡ record self.old { attributes = self.old.attributes ++ (name, place) ∷ [] }) }
     {
         self.attributes.push((name, place))?;
@@ -55,7 +55,7 @@ impl OwnedDeclarations {
     }
 
     /// Puts an item of an enumeration behind the others.
-    pub fn push_item(&mut self, name: Text, item: EnumerationItem) -> Result<(), AllocError>
+    pub fn push_item(&mut self, name: Identifier, item: EnumerationItem) -> Result<(), AllocError>
         ensures { OnOk result (self.new ≡ record self.old { items = self.old.items ++ (name, item) ∷ [] }) }
     {
         self.items.push((name, item))?;
@@ -85,7 +85,7 @@ impl OwnedDeclarations {
 
 fn push_all_names<'a>(
     tables: &mut Declarations<'a>,
-    rows: &'a [(Text, Declared)],
+    rows: &'a [(Identifier, Declared)],
 ) -> Result<(), AllocError>
     ensures { OnOk result (tables.new ≡ record tables.old { names = tables.old.names ++ rows.now }) }
 {
@@ -97,7 +97,7 @@ fn push_all_names<'a>(
 
 fn push_all_attributes<'a>(
     tables: &mut Declarations<'a>,
-    rows: &'a [(Text, AttributePlace)],
+    rows: &'a [(Identifier, AttributePlace)],
 ) -> Result<(), AllocError>
     ensures { OnOk result (tables.new ≡ record tables.old { attributes = tables.old.attributes ++ rows.now }) }
 {
@@ -109,7 +109,7 @@ fn push_all_attributes<'a>(
 
 fn push_all_items<'a>(
     tables: &mut Declarations<'a>,
-    rows: &'a [(Text, EnumerationItem)],
+    rows: &'a [(Identifier, EnumerationItem)],
 ) -> Result<(), AllocError>
     ensures { OnOk result (tables.new ≡ record tables.old { items = tables.old.items ++ rows.now }) }
 {

@@ -1,25 +1,46 @@
 //! Identifiers (7.4).
 
-ghost use Rattle.std.specs.Prelude.{ℕ, IfOk, List, true, ◌≡◌};
+ghost use Rattle.std.specs.Prelude.{◌≡◌, ◌≤◌, length, map, true, IfOk};
+ghost use Rattle.std.specs.Char.{to_ascii_uppercase};
 ghost use Rattle.std.specs.List.{list_all};
-ghost use Rattle.ex_tree.specs.Identifiers.{is_identifier, is_identifier_byte, as_identifier};
+ghost use Rattle.ex_tree.specs.Identifiers.{is_identifier, is_identifier_byte, as_identifier, bytes_in};
 
-use plain_data::Text;
 use std::alloc::{AllocError, Global};
 use std::marker::Model;
+
+/// How long an identifier may be that takes no block: with it, it is as large as with one.
+const SHORT: usize = 30;
+
+/// Where an identifier's bytes are kept: the first ones of a field, or a block.
+enum Spelling {
+    Short(u8, [u8; SHORT]),
+    Long(Vec<u8>),
+}
+
+impl Drop for Spelling {
+    fn drop(self) {
+        match self {
+            Spelling::Short(_, _) => {}
+            Spelling::Long(bytes) => drop(bytes),
+        }
+    }
+}
 
 /// An identifier in upper case: a letter, then letters, digits and underscores.
 #[derive(Drop)]
 pub struct Identifier {
-    text: Text,
+    spelling: Spelling,
 }
 
 impl Model for Identifier {
+    ghost use Rattle.std.specs.Prelude.{List, ℕ, true, ◌≡◌};
+    ghost use Rattle.ex_tree.specs.Identifiers.{bytes_in, is_identifier};
+
     ghost Value = { List ℕ };
 
-    ghost view = { λ i. i.text };
+    ghost view = { λ i. bytes_in i.spelling };
 
-    ghost invariant = { λ i. is_identifier i.text ≡ true };
+    ghost invariant = { λ i. is_identifier (bytes_in i.spelling) ≡ true };
 }
 
 fn is_identifier_byte(byte: u8) -> bool
@@ -44,47 +65,96 @@ fn is_identifier(bytes: &[u8]) -> bool
     }
 }
 
+/// The bytes of a spelling.
+fn bytes_in(spelling: &Spelling) -> &[u8]
+    ensures { result.now ≡ bytes_in spelling.now }
+{
+    match spelling {
+        Spelling::Short(len, bytes) => match bytes.get(..*len as usize) {
+            Some(front) => front,
+            None => bytes,
+        },
+        Spelling::Long(bytes) => bytes,
+    }
+}
+
+/// A few bytes in upper case.
+fn short_in_upper_case(bytes: &[u8]) -> Spelling
+    requires { length bytes.now ≤ 30 }
+    ensures { bytes_in result ≡ map to_ascii_uppercase bytes.now }
+{
+    let mut kept = [0; SHORT];
+    let front = &mut kept[..bytes.len()];
+    front.copy_from_slice(bytes);
+    front.make_ascii_uppercase();
+    Spelling::Short(bytes.len() as u8, kept)
+}
+
+/// Bytes in upper case.
+fn in_upper_case(alloc: Global, bytes: &[u8]) -> Result<Spelling, AllocError>
+    ensures { IfOk result (λ spelling. bytes_in spelling ≡ map to_ascii_uppercase bytes.now) }
+{
+    if bytes.len() <= SHORT {
+        return Ok(short_in_upper_case(bytes));
+    }
+    let mut kept = Vec::with_capacity(alloc, bytes.len())?;
+    kept.extend_from_slice(bytes)?;
+    kept.make_ascii_uppercase();
+    Ok(Spelling::Long(kept))
+}
+
+/// The same bytes once more.
+fn copy_of(alloc: Global, spelling: &Spelling) -> Result<Spelling, AllocError>
+    ensures { IfOk result (λ copy. bytes_in copy ≡ bytes_in spelling.now) }
+{
+    match spelling {
+        Spelling::Short(len, bytes) => Ok(Spelling::Short(*len, *bytes)),
+        Spelling::Long(bytes) => {
+            let mut kept = Vec::with_capacity(alloc, bytes.len())?;
+            kept.extend_from_slice(bytes)?;
+            Ok(Spelling::Long(kept))
+        },
+    }
+}
+
 impl Identifier {
-    /// The identifier that a text is, if it is one.
-    pub fn new(text: Text) -> Option<Identifier>
-        ensures { result ≡ as_identifier text }
+    /// The identifier that these bytes spell in upper case, if they spell one.
+    pub fn in_upper_case(alloc: Global, bytes: &[u8]) -> Result<Option<Identifier>, AllocError>
+        ensures { IfOk result (λ found. found ≡ as_identifier (map to_ascii_uppercase bytes.now)) }
     {
-        if is_identifier(text.as_bytes()) {
-            Some(Identifier { text })
+        let spelling = in_upper_case(alloc, bytes)?;
+        if is_identifier(bytes_in(&spelling)) {
+            Ok(Some(Identifier { spelling }))
         } else {
-            None
+            Ok(None)
         }
     }
 
-    pub fn as_text(&self) -> &Text
-        ensures { result.now ≡ self.now }
-    {
-        &self.text
-    }
-
+    #[tactic(auto, using(crate::proofs::Ascii::is_text))]
     pub fn as_str(&self) -> &str
         ensures { result.now ≡ self.now }
     {
-        self.text.as_str()
+        // It is ASCII by the invariant.
+        unsafe { str::from_utf8_unchecked(bytes_in(&self.spelling)) }
     }
 
     pub fn as_bytes(&self) -> &[u8]
         ensures { result.now ≡ self.now }
     {
-        self.text.as_bytes()
+        bytes_in(&self.spelling)
     }
 
     pub fn copy(&self, alloc: Global) -> Result<Identifier, AllocError>
         ensures { IfOk result (λ i. i ≡ self.now) }
     {
-        let text = self.text.copy(alloc)?;
-        Ok(Identifier { text })
+        let spelling = copy_of(alloc, &self.spelling)?;
+        Ok(Identifier { spelling })
     }
 
     /// Tells callers' contracts what each identifier is.
     pub fn proved(&self)
         ensures { is_identifier self.now ≡ true }
     {
-        let _ = &self.text;
+        let _ = &self.spelling;
     }
 }

@@ -8,7 +8,6 @@ use ex_named::{
 };
 use ex_typing::{Known, ask};
 use ex_typing_statements::ask_statements;
-use plain_data::Text;
 use std::alloc::{AllocError, Global};
 use std::collections::BTreeMap;
 
@@ -23,14 +22,14 @@ const FEWEST_LOOKS: usize = 1 << 17;
 /// So many looks a table has to save for each part of each type.
 const WORTH: usize = 8;
 
-fn ask_rules<'a>(names: &mut Vec<&'a Text>, list: &'a [NamedDomainRule]) -> Result<(), AllocError> {
+fn ask_rules<'a>(names: &mut Vec<&'a str>, list: &'a [NamedDomainRule]) -> Result<(), AllocError> {
     for rule in list {
         ask(names, &rule.condition)?;
     }
     Ok(())
 }
 
-fn ask_locals<'a>(names: &mut Vec<&'a Text>, list: &'a [NamedLocal]) -> Result<(), AllocError> {
+fn ask_locals<'a>(names: &mut Vec<&'a str>, list: &'a [NamedLocal]) -> Result<(), AllocError> {
     for local in list {
         if let Some(value) = &local.value {
             ask(names, value)?;
@@ -41,7 +40,7 @@ fn ask_locals<'a>(names: &mut Vec<&'a Text>, list: &'a [NamedLocal]) -> Result<(
 
 /// Puts the names that declarations of constants, types and entities take behind the others.
 fn ask_declarations<'a>(
-    names: &mut Vec<&'a Text>,
+    names: &mut Vec<&'a str>,
     schema: &'a NamedSchema,
 ) -> Result<(), AllocError> {
     for constant in schema.constants.as_slice() {
@@ -61,7 +60,7 @@ fn ask_declarations<'a>(
 
 /// Puts the names that functions and rules take behind the others.
 fn ask_algorithms<'a>(
-    names: &mut Vec<&'a Text>,
+    names: &mut Vec<&'a str>,
     schema: &'a NamedSchema,
 ) -> Result<(), AllocError> {
     for function in schema.functions.as_slice() {
@@ -77,10 +76,10 @@ fn ask_algorithms<'a>(
 }
 
 /// How often each name is taken.
-fn counted<'a>(alloc: Global, names: &[&'a Text]) -> Result<BTreeMap<&'a str, usize>, AllocError> {
+fn counted<'a>(alloc: Global, names: &[&'a str]) -> Result<BTreeMap<&'a str, usize>, AllocError> {
     let mut counts = BTreeMap::new(alloc);
     for name in names {
-        let count: &mut usize = counts.entry(name.as_str())?.or_insert(0);
+        let count: &mut usize = counts.entry(*name)?.or_insert(0);
         *count = count.saturating_add(1);
     }
     Ok(counts)
@@ -209,7 +208,7 @@ pub fn keep_asked(alloc: Global, known: &mut Known, schema: &NamedSchema) -> Res
         .rev()
         .take(MOST_NAMES.min(MOST_PARTS / all.max(1)))
     {
-        known.keep(alloc, &Text::from_str(alloc, name)?)?;
+        known.keep(alloc, name)?;
     }
     Ok(())
 }

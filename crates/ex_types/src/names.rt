@@ -6,15 +6,14 @@ ghost use Rattle.ex_types.specs.Checked as spec;
 
 use ex_named::{NamedEntity, NamedType};
 use name_order::NameOrder;
-use plain_data::Text;
 use std::alloc::{AllocError, Global};
 
-fn entity_names(alloc: Global, entities: &[NamedEntity]) -> Result<Vec<&Text>, AllocError>
+fn entity_names(alloc: Global, entities: &[NamedEntity]) -> Result<Vec<&str>, AllocError>
     ensures { IfOk result (λ names. map (λ n. n.now) names.items ≡ spec.entity_names entities.now) }
 {
     let mut names = Vec::with_capacity(alloc, entities.len())?;
     for entity in entities {
-        names.push(entity.name.text.as_text())?;
+        names.push(entity.name.text.as_str())?;
     }
     Ok(names)
 }
@@ -27,12 +26,12 @@ pub(crate) fn entity_order(alloc: Global, entities: &[NamedEntity]) -> Result<Na
     NameOrder::of(alloc, &names)
 }
 
-fn type_names(alloc: Global, types: &[NamedType]) -> Result<Vec<&Text>, AllocError>
+fn type_names(alloc: Global, types: &[NamedType]) -> Result<Vec<&str>, AllocError>
     ensures { IfOk result (λ names. map (λ n. n.now) names.items ≡ spec.type_names types.now) }
 {
     let mut names = Vec::with_capacity(alloc, types.len())?;
     for declaration in types {
-        names.push(declaration.name.text.as_text())?;
+        names.push(declaration.name.text.as_str())?;
     }
     Ok(names)
 }

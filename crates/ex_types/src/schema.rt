@@ -19,7 +19,7 @@ use ex_resolve::Named;
 use ex_typing::Known;
 use ex_warnings::warnings;
 use name_order::NameOrder;
-use plain_data::{Rows, Text};
+use plain_data::Rows;
 use std::alloc::{AllocError, Global};
 use std::marker::Model;
 use text_forms::Failure;
@@ -96,10 +96,10 @@ impl CheckedSchema {
     }
 
     /// Its name, in upper case.
-    pub fn name(&self) -> &Text
+    pub fn name(&self) -> &str
         ensures { result.now ≡ self.now.named.schema.name.text }
     {
-        self.named.schema().name.text.as_text()
+        self.named.schema().name.text.as_str()
     }
 
     /// The first bytes of the literals that are warned of, in the order of the schema's strings.
@@ -146,28 +146,28 @@ impl CheckedSchema {
     }
 
     /// The number of the entity of this name, which is in upper case.
-    pub fn entity_named(&self, name: &Text) -> Option<usize>
+    pub fn entity_named(&self, name: &str) -> Option<usize>
         ensures { result ≡ place_of name.now (spec.entity_names self.now.named.schema.entities) }
     {
         self.entity_order.number(name)
     }
 
     /// How many of its entities have names that come before this one, in the order of their bytes.
-    pub fn entity_rank(&self, name: &Text) -> usize
+    pub fn entity_rank(&self, name: &str) -> usize
         ensures { result ≡ rank (spec.entity_names self.now.named.schema.entities) name.now }
     {
         self.entity_order.rank(name)
     }
 
     /// The number of the type of this name, which is in upper case.
-    pub fn type_named(&self, name: &Text) -> Option<usize>
+    pub fn type_named(&self, name: &str) -> Option<usize>
         ensures { result ≡ place_of name.now (spec.type_names self.now.named.schema.types) }
     {
         self.type_order.number(name)
     }
 
     /// How many of its types have names that come before this one, in the order of their bytes.
-    pub fn type_rank(&self, name: &Text) -> usize
+    pub fn type_rank(&self, name: &str) -> usize
         ensures { result ≡ rank (spec.type_names self.now.named.schema.types) name.now }
     {
         self.type_order.rank(name)

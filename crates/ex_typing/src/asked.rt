@@ -2,12 +2,11 @@
 //! only decides what is kept.
 
 use ex_named::{NamedExpression, NamedInterval, NamedOperation, NamedQualifier, NamedQuery};
-use plain_data::Text;
 use std::alloc::AllocError;
 
 /// Puts the names that an expression takes behind the others.
 #[cycle(asked)]
-pub fn ask<'a>(names: &mut Vec<&'a Text>, tree: &'a NamedExpression) -> Result<(), AllocError> {
+pub fn ask<'a>(names: &mut Vec<&'a str>, tree: &'a NamedExpression) -> Result<(), AllocError> {
     match tree {
         NamedExpression::Call(_, _, list) => ask_all(names, list.as_slice()),
         NamedExpression::BuiltIn(_, _, list) => ask_all(names, list.as_slice()),
@@ -30,7 +29,7 @@ pub fn ask<'a>(names: &mut Vec<&'a Text>, tree: &'a NamedExpression) -> Result<(
 /// Puts the names that expressions take behind the others.
 #[cycle(asked)]
 pub fn ask_all<'a>(
-    names: &mut Vec<&'a Text>,
+    names: &mut Vec<&'a str>,
     list: &'a [NamedExpression],
 ) -> Result<(), AllocError> {
     for tree in list {
@@ -41,7 +40,7 @@ pub fn ask_all<'a>(
 
 #[cycle(asked)]
 fn ask_qualifiers<'a>(
-    names: &mut Vec<&'a Text>,
+    names: &mut Vec<&'a str>,
     list: &'a [NamedQualifier],
 ) -> Result<(), AllocError> {
     for tree in list {
@@ -52,11 +51,11 @@ fn ask_qualifiers<'a>(
 
 #[cycle(asked)]
 fn ask_qualifier<'a>(
-    names: &mut Vec<&'a Text>,
+    names: &mut Vec<&'a str>,
     tree: &'a NamedQualifier,
 ) -> Result<(), AllocError> {
     match tree {
-        NamedQualifier::Attribute(_, name) => Ok(names.push(name.text.as_text())?),
+        NamedQualifier::Attribute(_, name) => Ok(names.push(name.text.as_str())?),
         NamedQualifier::Group(_, _) => Ok(()),
         NamedQualifier::Index(_, index) => ask(names, index),
         NamedQualifier::Range(_, low, high) => {
@@ -68,7 +67,7 @@ fn ask_qualifier<'a>(
 
 #[cycle(asked)]
 fn ask_operations<'a>(
-    names: &mut Vec<&'a Text>,
+    names: &mut Vec<&'a str>,
     list: &'a [NamedOperation],
 ) -> Result<(), AllocError> {
     for tree in list {
@@ -78,14 +77,14 @@ fn ask_operations<'a>(
 }
 
 #[cycle(asked)]
-fn ask_interval<'a>(names: &mut Vec<&'a Text>, tree: &'a NamedInterval) -> Result<(), AllocError> {
+fn ask_interval<'a>(names: &mut Vec<&'a str>, tree: &'a NamedInterval) -> Result<(), AllocError> {
     ask(names, &tree.low)?;
     ask(names, &tree.item)?;
     ask(names, &tree.high)
 }
 
 #[cycle(asked)]
-fn ask_query<'a>(names: &mut Vec<&'a Text>, tree: &'a NamedQuery) -> Result<(), AllocError> {
+fn ask_query<'a>(names: &mut Vec<&'a str>, tree: &'a NamedQuery) -> Result<(), AllocError> {
     ask(names, &tree.source)?;
     ask(names, &tree.condition)
 }

@@ -6,7 +6,7 @@ ghost use Rattle.ex_attributes.specs.Attributes.{found_after, found_nothing};
 
 use ex_attributes::{Attributes, Found, Kept, keep};
 use ex_kinds::{Kinds, Types, ValueKind, alternative};
-use plain_data::{Rows, Text};
+use plain_data::Rows;
 use std::alloc::{AllocError, Global};
 use std::marker::Model;
 
@@ -78,7 +78,7 @@ impl Known {
     }
 
     /// Keeps what is found of a name in each type, if all types that have it have it alike.
-    pub fn keep(&mut self, alloc: Global, name: &Text) -> Result<(), AllocError>
+    pub fn keep(&mut self, alloc: Global, name: &str) -> Result<(), AllocError>
         ensures { self.new ≡ self.old }
     {
         if let Some(kept) = keep(alloc, &self.types, &self.attributes, name)? {
@@ -92,7 +92,7 @@ impl Known {
         &self,
         alloc: Global,
         kinds: &[ValueKind],
-        name: &Text,
+        name: &str,
     ) -> Result<Option<Found>, AllocError>
         ensures { IfOk result (λ told. IfSome told (λ found. found ≡ found_after self.now.attributes name.now found_nothing (plain self.now.types kinds.now))) }
     {

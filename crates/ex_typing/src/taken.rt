@@ -26,7 +26,7 @@ pub(crate) fn attribute_taken(
     ensures { IfOk result (λ typed. typed ≡ behind_by base.fault (taken_by schema.now.attributes (plain_by schema.now.types base.kinds) at name.now)) }
 {
     let kinds = base.kinds.as_slice();
-    let typed = match schema.found(alloc, kinds, name.text.as_text())? {
+    let typed = match schema.found(alloc, kinds, name.text.as_str())? {
         Some(found) => found.told(alloc, at, name.at),
         None => {
             let plain = schema.types().plain(alloc, kinds)?;

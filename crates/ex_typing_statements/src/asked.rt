@@ -4,13 +4,12 @@ use ex_named::{
     NamedCase, NamedCaseAction, NamedExpression, NamedIncrement, NamedRepeatControl, NamedStatement,
 };
 use ex_typing::{ask, ask_all};
-use plain_data::Text;
 use std::alloc::AllocError;
 
 /// Puts the names that statements take behind the others.
 #[cycle(asked)]
 pub fn ask_statements<'a>(
-    names: &mut Vec<&'a Text>,
+    names: &mut Vec<&'a str>,
     list: &'a [NamedStatement],
 ) -> Result<(), AllocError> {
     for tree in list {
@@ -21,7 +20,7 @@ pub fn ask_statements<'a>(
 
 #[cycle(asked)]
 fn ask_statement<'a>(
-    names: &mut Vec<&'a Text>,
+    names: &mut Vec<&'a str>,
     tree: &'a NamedStatement,
 ) -> Result<(), AllocError> {
     match tree {
@@ -43,7 +42,7 @@ fn ask_statement<'a>(
 }
 
 #[cycle(asked)]
-fn ask_case<'a>(names: &mut Vec<&'a Text>, case: &'a NamedCase) -> Result<(), AllocError> {
+fn ask_case<'a>(names: &mut Vec<&'a str>, case: &'a NamedCase) -> Result<(), AllocError> {
     ask(names, &case.selector)?;
     ask_actions(names, case.actions.as_slice())?;
     match &case.otherwise {
@@ -54,7 +53,7 @@ fn ask_case<'a>(names: &mut Vec<&'a Text>, case: &'a NamedCase) -> Result<(), Al
 
 #[cycle(asked)]
 fn ask_actions<'a>(
-    names: &mut Vec<&'a Text>,
+    names: &mut Vec<&'a str>,
     actions: &'a [NamedCaseAction],
 ) -> Result<(), AllocError> {
     for action in actions {
@@ -65,7 +64,7 @@ fn ask_actions<'a>(
 }
 
 fn ask_optional<'a>(
-    names: &mut Vec<&'a Text>,
+    names: &mut Vec<&'a str>,
     value: &'a Option<NamedExpression>,
 ) -> Result<(), AllocError> {
     match value {
@@ -75,7 +74,7 @@ fn ask_optional<'a>(
 }
 
 fn ask_increment<'a>(
-    names: &mut Vec<&'a Text>,
+    names: &mut Vec<&'a str>,
     increment: &'a NamedIncrement,
 ) -> Result<(), AllocError> {
     ask(names, &increment.first)?;
@@ -84,7 +83,7 @@ fn ask_increment<'a>(
 }
 
 fn ask_control<'a>(
-    names: &mut Vec<&'a Text>,
+    names: &mut Vec<&'a str>,
     control: &'a NamedRepeatControl,
 ) -> Result<(), AllocError> {
     if let Some(increment) = &control.increment {

@@ -29,7 +29,7 @@ impl Model for NameOrder {
 
 impl NameOrder {
     /// The order of names that are numbered as they stand, from 0.
-    pub fn of(alloc: Global, names: &[&Text]) -> Result<NameOrder, AllocError>
+    pub fn of(alloc: Global, names: &[&str]) -> Result<NameOrder, AllocError>
         ensures { IfOk result (λ order. spec.IsOrderOf (map (λ n. n.now) names.now) order) }
     {
         let mut rows = numbered_rows(alloc, names)?;
@@ -38,14 +38,14 @@ impl NameOrder {
     }
 
     /// How many names come before this one, whether or not it is among them.
-    pub fn rank(&self, name: &Text) -> usize
+    pub fn rank(&self, name: &str) -> usize
         ensures { result ≡ spec.rows_before self.now name.now }
     {
         rank_in(&self.rows, name)
     }
 
     /// The number of this name, of equal ones the least.
-    pub fn number(&self, name: &Text) -> Option<usize>
+    pub fn number(&self, name: &str) -> Option<usize>
         ensures { result ≡ spec.number_of name.now self.now }
     {
         number_in(&self.rows, name)
@@ -53,38 +53,38 @@ impl NameOrder {
 }
 
 /// The place of the first row whose name doesn't come before this one.
-fn first_not_before(rows: &[(Text, usize)], name: &Text) -> usize
+fn first_not_before(rows: &[(Text, usize)], name: &str) -> usize
     requires { spec.IsAscending rows.now }
     ensures within { result ≤ length rows.now }
     ensures parts { IsPartitionPoint (λ r. spec.is_before name.now r ≡ true) (λ r. spec.is_before name.now r ≡ false) rows.now result }
 {
-    rows.partition_point(|row| row.0.order(name).is_lt())
+    rows.partition_point(|row| row.0.as_str() < name)
 }
 
-fn rank_in(rows: &[(Text, usize)], name: &Text) -> usize
+fn rank_in(rows: &[(Text, usize)], name: &str) -> usize
     requires { spec.IsAscending rows.now }
     ensures { result ≡ spec.rows_before rows.now name.now }
 {
     first_not_before(rows, name)
 }
 
-fn number_in(rows: &[(Text, usize)], name: &Text) -> Option<usize>
+fn number_in(rows: &[(Text, usize)], name: &str) -> Option<usize>
     requires { spec.IsAscending rows.now }
     ensures { result ≡ spec.number_of name.now rows.now }
 {
     match rows.get(first_not_before(rows, name)) {
-        Some(row) if row.0.is(name) => Some(row.1),
+        Some(row) if row.0.as_str() == name => Some(row.1),
         _ => None,
     }
 }
 
 /// Each name beside its number.
-fn numbered_rows(alloc: Global, names: &[&Text]) -> Result<Vec<(Text, usize)>, AllocError>
+fn numbered_rows(alloc: Global, names: &[&str]) -> Result<Vec<(Text, usize)>, AllocError>
     ensures { IfOk result (λ rows. rows.items ≡ numbered (λ number n. (n, number)) (map (λ n. n.now) names.now)) }
 {
     let mut rows = Vec::with_capacity(alloc, names.len())?;
     for (number, name) in names.iter().enumerate() {
-        rows.push((name.copy(alloc)?, number))?;
+        rows.push((Text::from_str(alloc, name)?, number))?;
     }
     Ok(rows)
 }

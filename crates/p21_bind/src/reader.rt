@@ -100,7 +100,7 @@ impl<'s> Reader<'s> {
         ensures { IfOk result (λ entity. entity ≡ spec.entity_named self.now keyword.now) }
     {
         let keyword = in_upper_case(alloc, keyword)?;
-        Ok(self.compiled.schema().entity_named(&keyword))
+        Ok(self.compiled.schema().entity_named(keyword.as_str()))
     }
 
     /// The entities above one and itself, in the order in which files write their values.
@@ -126,7 +126,7 @@ impl<'s> Reader<'s> {
             Some(declared) => self
                 .compiled
                 .schema()
-                .entity_rank(declared.name.text.as_text()),
+                .entity_rank(declared.name.text.as_str()),
             None => 0,
         }
     }

@@ -77,7 +77,7 @@ pub fn write(alloc: Global, schema: &Compiled, content: &Content) -> Result<Text
     let schema = schema.schema();
     let mut out = Output::new(alloc);
     write_word(&mut out, "ISO-10303-21")?;
-    write_header(&mut out, &content.header, schema.name().as_str())?;
+    write_header(&mut out, &content.header, schema.name())?;
     write_data(alloc, &mut out, schema, content.instances.as_slice())?;
     write_word(&mut out, "END-ISO-10303-21")?;
     Ok(out.into_text())

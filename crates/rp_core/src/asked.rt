@@ -34,7 +34,7 @@ fn is_loaded(schemas: &[Compiled], name: &Text) -> bool
 {
     schemas
         .iter()
-        .any(|compiled| name.is(compiled.schema().name()))
+        .any(|compiled| name.as_str() == compiled.schema().name())
 }
 
 /// The schema of this name.
@@ -43,7 +43,7 @@ fn named<'a>(schemas: &'a [Compiled], name: &Text) -> Option<&'a Compiled>
 {
     schemas
         .iter()
-        .find(|compiled| name.is(compiled.schema().name()))
+        .find(|compiled| name.as_str() == compiled.schema().name())
 }
 
 /// Where the text stands among the texts.

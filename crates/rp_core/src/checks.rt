@@ -33,7 +33,7 @@ fn told_of_schema(alloc: Global, compiled: &Compiled) -> Result<Reply, AllocErro
 {
     let schema = compiled.schema();
     let warnings = Vec::from_slice(alloc, schema.warnings())?;
-    let schema = schema.name().copy(alloc)?;
+    let schema = Text::from_str(alloc, schema.name())?;
     Ok(Reply::Checked {
         schema,
         warnings: Rows::from_vec(warnings),

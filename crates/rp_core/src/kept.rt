@@ -46,7 +46,7 @@ fn place_named(plans: &[Plans<'_>], name: &Text) -> Option<usize>
 {
     plans
         .iter()
-        .position(|plans| name.is(plans.schema().schema().name()))
+        .position(|plans| name.as_str() == plans.schema().schema().name())
 }
 
 /// The instance of this name that the mapping is by the schema, or its first fault.

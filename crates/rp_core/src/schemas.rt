@@ -14,7 +14,7 @@ pub fn names_of(alloc: Global, schemas: &[Compiled]) -> Result<Vec<Text>, AllocE
 {
     let mut names = Vec::with_capacity(alloc, schemas.len())?;
     for compiled in schemas {
-        names.push(compiled.schema().name().copy(alloc)?)?;
+        names.push(Text::from_str(alloc, compiled.schema().name())?)?;
     }
     Ok(names)
 }

@@ -75,7 +75,7 @@ impl<'s> Extent<'s> {
         upper.make_ascii_uppercase();
         Ok(Extent {
             schema,
-            entity: schema.entity_named(&upper),
+            entity: schema.entity_named(upper.as_str()),
             told: Vec::new(alloc),
             places: BTreeMap::new(alloc),
         })

@@ -94,7 +94,7 @@ pub(crate) fn entities_of(
 fn is_attribute(slot: &Slot<'_>, line: &[usize], attribute: &Text) -> bool
     ensures { result ≡ (is_among line.now slot.now.place.entity && bytes_eq slot.now.name.text attribute.now) }
 {
-    slot.name().text.as_text().is(attribute) && has_number(line, slot.place().entity)
+    slot.name().text.as_str() == attribute.as_str() && has_number(line, slot.place().entity)
 }
 
 /// Which of the attributes have this name and are declared by one of these entities.

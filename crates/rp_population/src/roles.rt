@@ -44,7 +44,7 @@ fn attribute_role(
     ensures { IfOk result (λ role. role ≡ spec.role_of_attribute schema.now entity.now attribute.now) }
 {
     let entity = Text::from_str(alloc, entity)?;
-    match schema.entity_named(&entity) {
+    match schema.entity_named(entity.as_str()) {
         Some(number) => {
             let attribute = Text::from_str(alloc, attribute)?;
             Ok(Some(Role::Of(number, attribute)))
@@ -62,7 +62,7 @@ fn role_of_parts(
     ensures { IfOk result (λ role. role ≡ spec.role_of_parts schema.now (map (λ (x : Bor (List ℕ)). x.now) parts.now)) }
 {
     match parts {
-        [name, entity, attribute] if *name == schema.name().as_str() => {
+        [name, entity, attribute] if *name == schema.name() => {
             attribute_role(alloc, schema, entity, attribute)
         }
         _ => Ok(None),

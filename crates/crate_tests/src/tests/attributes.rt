@@ -141,13 +141,13 @@ fn names_in_the_order_of_their_bytes(rt: HostRuntime) -> Result<(), Fail> {
         ("Y", None, 3),
     ] {
         let name = Text::from_str(rt.alloc(), name)?;
-        assert_eq!(rt; schema.entity_named(&name), number);
-        assert_eq!(rt; schema.entity_rank(&name), rank);
+        assert_eq!(rt; schema.entity_named(name.as_str()), number);
+        assert_eq!(rt; schema.entity_rank(name.as_str()), rank);
     }
     for (name, number, rank) in [("Y", Some(0), 1), ("X", Some(1), 0), ("A", None, 0)] {
         let name = Text::from_str(rt.alloc(), name)?;
-        assert_eq!(rt; schema.type_named(&name), number);
-        assert_eq!(rt; schema.type_rank(&name), rank);
+        assert_eq!(rt; schema.type_named(name.as_str()), number);
+        assert_eq!(rt; schema.type_rank(name.as_str()), rank);
     }
     Ok(())
 }
