@@ -57,9 +57,6 @@ IsGroup targets _ _ = ⊥
 abbrev pub only_candidate : List Candidate → List Bool → Option Candidate
 only_candidate group taken = single (filter (λ c. at taken c.place) group)
 
-abbrev pub seen_level : Level → List Target
-seen_level level = map seen_target level.targets.items
-
 -- whose elements a further level below these is of
 abbrev pub last_asking : List code_target.Target → List Level → List code_target.Target
 last_asking asking [] = asking

@@ -17,5 +17,4 @@ mod tokens;
 mod types;
 
 pub use expected::{Expected, bound_by};
-pub use taking::bound;
 pub use types::DefinedTypes;

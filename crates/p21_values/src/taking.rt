@@ -15,7 +15,6 @@ use crate::ends::{Base, Target, base_of, inside, target_of};
 use crate::levels::{Candidate, Level, level_of, only_candidate};
 use crate::rest::Rest;
 use crate::types::DefinedTypes;
-use ex_named::NamedDataType;
 use p21_tree::Value as Spelled;
 use plain_data::Items;
 use rp_value::{AggregateKind, Value};
@@ -475,17 +474,4 @@ fn chosen(
     }
     let taken = fitting(alloc, types, value, &inside(types.types(), number))?;
     under_name(alloc, number, taken)
-}
-
-/// The value of an attribute of this type, where the type takes what is spelled.
-#[tactic(auto, unfolding(crate::specs::Taking::bound))]
-pub fn bound(
-    alloc: Global,
-    types: &DefinedTypes<'_>,
-    data_type: &NamedDataType,
-    value: &Spelled<'_>,
-) -> Taken
-    ensures { IfOk result (λ taken. taken ≡ spec.bound types.now data_type.now value.now) }
-{
-    placed(alloc, types, value, &target_of(types.types(), data_type))
 }
