@@ -9,7 +9,7 @@ use Rattle.lineage.specs.Lineage.{is_among, line}
 use Rattle.lineage.specs.Numbered.{numbered}
 use Rattle.p21_bind.specs.Plans.{in_name_order, is_legal, leaf, line_of}
 use Rattle.p21_tree.specs.declared.instance.Record.{Record}
-use Rattle.p21_write.specs.Trees.{attributes, entity_name, leaf_part, mapping, own_part, own_parts, record_of, records}
+use Rattle.p21_lines.specs.Trees.{attributes, entity_name, leaf_part, mapping, own_part, own_parts, record_of, records}
 use Rattle.rp_content.specs.declared.instance.Types.{Types}
 use Rattle.rp_content.specs.declared.instance.Types.TheVariants.{Leaf, Several}
 use Rattle.rp_value.specs.declared.value.Value.{Value}

@@ -1,4 +1,1 @@
-mod Ascii
-mod Decimals
-mod Forms
 mod Written

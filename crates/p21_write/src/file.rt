@@ -3,14 +3,11 @@
 ghost use Rattle.std.specs.Prelude.{◌≡◌, ◌++◌, IfOk, OnOk, map, None};
 ghost use Rattle.p21_spelling.specs.Files as spelled;
 ghost use Rattle.p21_strings.specs.Encoding.{encoded};
-ghost use Rattle.p21_write.specs.Trees as spec;
+ghost use Rattle.p21_lines.specs.Trees as spec;
 
-use crate::header::write_values;
-use crate::instance::write_lines;
-use crate::output::Output;
-use crate::tokens::write_string;
 use ex_subtypes::Compiled;
 use ex_types::CheckedSchema;
+use p21_lines::{Output, write_lines, write_string, write_values};
 use plain_data::Text;
 use rp_content::{Content, Header, Instance};
 use rp_value::Value;
@@ -70,7 +67,7 @@ fn write_data(
 /// The canonical text of what a model of this schema holds.
 ///
 /// Its time is that of the text, and of the entities of each instance.
-#[tactic(auto, unfolding(crate::specs::Trees::canonical))]
+#[tactic(auto, unfolding(p21_lines::specs::Trees::canonical))]
 pub fn write(alloc: Global, schema: &Compiled, content: &Content) -> Result<Text, AllocError>
     ensures { IfOk result (λ text. text ≡ spec.canonical schema.now content.now) }
 {

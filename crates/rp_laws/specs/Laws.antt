@@ -4,7 +4,7 @@ use Rattle.std.specs.List.{AllByRecursion, list_any}
 use Rattle.ex_types.specs.Checked.{Checked}
 use Rattle.p21_laws.specs.Contents.{IsRead}
 use Rattle.p21_laws.specs.Schemas.{IsAccepted}
-use Rattle.p21_write.specs.Trees.{canonical}
+use Rattle.p21_lines.specs.Trees.{canonical}
 use Rattle.rp_content.specs.declared.content.Content.{Content}
 use Rattle.rp_rows.specs.Contents.{link_names}
 use Rattle.rp_rows.specs.Rows.{Key, is_row, Model, GroupRow}

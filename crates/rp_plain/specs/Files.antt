@@ -7,7 +7,7 @@ use Rattle.p21_tree.specs.declared.fault.InstanceFault.{InstanceFault}
 use Rattle.p21_read.specs.File.{file_of}
 use Rattle.p21_read.specs.Schemas.{is_of_schema}
 use Rattle.p21_bind.specs.Files.{bound_file}
-use Rattle.p21_write.specs.Trees.{canonical}
+use Rattle.p21_lines.specs.Trees.{canonical}
 use Rattle.rp_content.specs.declared.content.Content.{Content}
 use Rattle.rp_content.specs.declared.link.Link.{Link}
 use Rattle.rp_rows.specs.declared.rows.ModelContent.{ModelContent}

@@ -8,7 +8,7 @@ use Rattle.p21_instances.specs.Instances.{is_among}
 use Rattle.p21_read.specs.Single.{mapping_of}
 use Rattle.p21_spelling.specs.Instances.{instance_text}
 use Rattle.p21_bind.specs.Single.{bound_instance}
-use Rattle.p21_write.specs.Trees.{instance_tree}
+use Rattle.p21_lines.specs.Trees.{instance_tree}
 use Rattle.rp_content.specs.declared.content.Content.{Content}
 use Rattle.rp_content.specs.declared.instance.Instance.{Instance}
 use Rattle.rp_rows.specs.declared.rows.ModelContent.{ModelContent}

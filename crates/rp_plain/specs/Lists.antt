@@ -3,7 +3,7 @@ use Rattle.std.specs.Prelude.{Bool, List, [], ◌∷◌, map, Option, Some}
 use Rattle.std.specs.Ordering.{is_lt}
 use Rattle.ex_types.specs.Checked.{Checked}
 use Rattle.p21_instances.specs.Instances.{in_order}
-use Rattle.p21_write.specs.Types.{type_text}
+use Rattle.p21_lines.specs.Types.{type_text}
 use Rattle.rp_content.specs.declared.instance.Instance.{Instance}
 use Rattle.rp_rows.specs.declared.rows.ModelContent.{ModelContent}
 use Rattle.rp_rows.specs.Rows.{Text, text_cmp, Key}

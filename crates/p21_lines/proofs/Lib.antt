@@ -1,0 +1,4 @@
+mod Ascii
+mod Decimals
+mod Forms
+mod Written

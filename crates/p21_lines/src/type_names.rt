@@ -1,0 +1,49 @@
+//! The type of an instance as it is told.
+
+ghost use Rattle.std.specs.Prelude.{◌≡◌, IfOk, codes};
+ghost use Rattle.std.specs.List.{join_by};
+ghost use Rattle.p21_lines.specs.Trees as tree;
+ghost use Rattle.p21_lines.specs.Types as spec;
+
+use crate::instance::entity_name;
+use crate::output::Output;
+use ex_named::NamedEntity;
+use ex_subtypes::Compiled;
+use plain_data::Text;
+use rp_content::Types;
+use std::alloc::{AllocError, Global};
+
+/// The bytes of the names of these entities, with one behind each.
+fn joined_len(entities: &[NamedEntity], all: &[usize]) -> usize {
+    let mut len = 0usize;
+    for entity in all {
+        let name = entity_name(entities, *entity);
+        len = len.saturating_add(name.len()).saturating_add(1);
+    }
+    len
+}
+
+/// The names of these entities, joined by `+`.
+fn joined(alloc: Global, entities: &[NamedEntity], all: &[usize]) -> Result<Text, AllocError>
+    ensures { IfOk result (λ text. text ≡ join_by (tree.entity_name entities.now) (codes "+") all.now) }
+{
+    let mut out = Output::with_capacity(alloc, joined_len(entities, all))?;
+    for (place, entity) in all.iter().enumerate() {
+        if place > 0 {
+            out.push(b'+')?;
+        }
+        out.push_str(entity_name(entities, *entity))?;
+    }
+    Ok(out.into_text())
+}
+
+/// The type of an instance: the name of its leaf, or the names of all its entities in the order in which they stand, joined by `+`.
+pub fn type_text(alloc: Global, schema: &Compiled, types: &Types) -> Result<Text, AllocError>
+    ensures { IfOk result (λ text. text ≡ spec.type_text schema.now types.now) }
+{
+    let entities = schema.schema().entities();
+    match types {
+        Types::Leaf(leaf) => Text::from_str(alloc, entity_name(entities, *leaf)),
+        Types::Several(all) => joined(alloc, entities, all.as_slice()),
+    }
+}
