@@ -3,7 +3,7 @@ use Rattle.std.proofs.Common.{◌≡◌, ◌≤◌, ◌==◌, ℕ, pos, suc, Boo
 use Rattle.std.proofs.lemmas.Bool.Decides.{nat_tests}
 use Rattle.p21_bind.specs.Files as bind
 use Rattle.p21_bind.specs.Files.{header, header_value, text}
-use Rattle.p21_read.specs.Grammar.{max_nesting}
+use Rattle.p21_grammar.specs.Grammar.{max_nesting}
 use Rattle.p21_spelling.proofs.Equations.{header_spelling-List, header_spelling-Text, header_spelling-Unset}
 use Rattle.p21_spelling.proofs.Headers as spelled
 use Rattle.p21_spelling.proofs.Runs.{both_hold, second_holds}

@@ -7,7 +7,7 @@ ghost use Rattle.ex_named.specs.declared.expression.NamedDataType.{NamedDataType
 ghost use Rattle.ex_resolve.specs.Proved.{DeclaresOnce, HasIdentifiers, held_types};
 ghost use Rattle.lineage.specs.Lineage.{IsAcyclic};
 ghost use Rattle.p21_laws.specs.Types.{AreTypes};
-ghost use Rattle.p21_read.specs.Grammar.{value_at};
+ghost use Rattle.p21_grammar.specs.Grammar.{value_at};
 ghost use Rattle.p21_spelling.specs.Again.{ReadsAgain};
 ghost use Rattle.p21_spelling.specs.Values.{spelling, text_of};
 ghost use Rattle.p21_text.specs.Tokens.{Lexemes, lexemes};

@@ -6,7 +6,7 @@ use Rattle.text_forms.specs.Forms.{◌>>=◌, ◌>>◌, pure}
 use Rattle.p21_text.specs.Tokens.{Parser, lexemes, finish}
 use Rattle.p21_tree.specs.declared.fault.FileFault.{FileFault}
 use Rattle.p21_tree.specs.declared.instance.Mapping.{Mapping}
-use Rattle.p21_read.specs.Grammar.{mapping_form}
+use Rattle.p21_grammar.specs.Grammar.{mapping_form}
 use Rattle.p21_read.specs.File.{tree_of}
 
 -- a mapping, and then the end of the text

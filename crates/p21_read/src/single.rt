@@ -4,8 +4,7 @@ ghost use Rattle.std.specs.Prelude.{◌≡◌};
 ghost use Rattle.text_forms.specs.Gives.{Reads, Gives};
 ghost use Rattle.p21_read.specs.Single as spec;
 
-use crate::grammar::{Read, mapping};
-use crate::source::Source;
+use p21_grammar::{Read, Source, mapping};
 use p21_text::Tokens;
 use p21_tree::{FileFault, Mapping};
 use std::alloc::Global;

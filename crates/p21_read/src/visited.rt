@@ -5,14 +5,12 @@ ghost use Rattle.text_forms.specs.Forms.{repeat};
 ghost use Rattle.p21_text.specs.Tokens.{sees};
 ghost use Rattle.p21_text.specs.declared.token.TokenKind.TheVariants as k;
 ghost use Rattle.p21_tree.specs.declared.instance.Instance as tree;
-ghost use Rattle.p21_read.specs.Grammar as grammar;
+ghost use Rattle.p21_grammar.specs.Grammar as grammar;
 ghost use Rattle.p21_read.specs.File.{data_section, file, file_of};
 ghost use Rattle.p21_read.specs.Visited as spec;
 
 use crate::file::{file_end, mark, section};
-use crate::grammar::{Read, instance};
-use crate::header::{Head, header_section, line};
-use crate::source::Source;
+use p21_grammar::{Head, Read, Source, header_section, instance, line};
 use p21_text::{TokenKind, Tokens};
 use p21_tree::{Instance, Raw, Section};
 use plain_data::Rows;
@@ -45,7 +43,7 @@ fn show_all<V: Visitor>(alloc: Global, source: &mut Source<'_>, visitor: &mut V)
 }
 
 /// Shows the instances of a data section, and gives its names.
-#[tactic(auto, unfolding(crate::specs::File::data_section, crate::specs::Grammar::instances))]
+#[tactic(auto, unfolding(crate::specs::File::data_section, p21_grammar::specs::Grammar::instances))]
 fn show_section<'t, V: Visitor>(
     alloc: Global,
     tokens: &mut Tokens<'t>,

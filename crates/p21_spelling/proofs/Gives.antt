@@ -11,7 +11,7 @@ use Rattle.p21_text.specs.Tokens.{Lexeme, Lexemes, Parser, expect, sees, sees_ne
 use Rattle.p21_tree.specs.declared.fault.FaultKind.{FaultKind}
 use Rattle.p21_tree.specs.declared.fault.FaultKind.TheVariants as fault
 use Rattle.p21_tree.specs.declared.fault.FileFault.{FileFault}
-use Rattle.p21_read.specs.Grammar.{listed, separated}
+use Rattle.p21_grammar.specs.Grammar.{listed, separated}
 use Rattle.p21_spelling.proofs.Found.{is_token, IsLexeme, AreTokens}
 
 abbrev pub Gives : {A : Type 0} → Parser A → (A → Type 0) → Type 0

@@ -3,7 +3,7 @@ use Rattle.std.proofs.Common.{◌≡◌, ℕ, Bool, true, false, if◌then◌els
 use Rattle.text_forms.specs.Forms.{repeat, ◌>>=◌, ◌>>◌, pure}
 use Rattle.p21_text.specs.declared.token.TokenKind.TheVariants as k
 use Rattle.p21_text.specs.Tokens.{Lexemes, Parser, lexemes, expect, sees, sees_next, same_kind}
-use Rattle.p21_read.specs.Grammar as grammar
+use Rattle.p21_grammar.specs.Grammar as grammar
 use Rattle.p21_spelling.specs.Tokens.{enclosed, is_cut}
 use Rattle.p21_spelling.specs.Values.{Spelling, more, listed, all_spelled, deepest}
 use Rattle.p21_spelling.specs.Again.{Again, ReadsAgain, ReadsAnywhere}

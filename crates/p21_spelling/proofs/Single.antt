@@ -3,7 +3,7 @@ use Rattle.std.proofs.Common.{◌≡◌, ℕ, true, List, [], Ok, sym, ◌∙◌
 use Rattle.text_forms.specs.Forms.{pure}
 use Rattle.p21_text.specs.Tokens.{lexemes, finish}
 use Rattle.p21_tree.specs.declared.instance.Mapping.{Mapping}
-use Rattle.p21_read.specs.Grammar.{mapping_form}
+use Rattle.p21_grammar.specs.Grammar.{mapping_form}
 use Rattle.p21_read.specs.File.{tree_of}
 use Rattle.p21_read.specs.Single.{single, mapping_of}
 use Rattle.p21_spelling.specs.Instances.{mapping_text, is_mapping}

@@ -12,7 +12,7 @@ use Rattle.p21_text.specs.declared.front.Start.TheVariants.{Token}
 use Rattle.p21_text.specs.Lexical.{front, punctuation}
 use Rattle.p21_text.specs.Tokens.{Lexeme, Lexemes, Parser, lexemes, before, sees, expect, same_kind}
 use Rattle.p21_text.proofs.Lexemes.{lexemes-blank, lexemes-token}
-use Rattle.p21_read.specs.Grammar.{inner, quoted}
+use Rattle.p21_grammar.specs.Grammar.{inner, quoted}
 use Rattle.p21_spelling.specs.Tokens as spec
 use Rattle.p21_spelling.specs.Tokens.{is_cut, is_string}
 use Rattle.p21_spelling.specs.Again.{Again, ReadsAgain, ReadsAnywhere}

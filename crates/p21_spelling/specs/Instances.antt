@@ -5,7 +5,7 @@ use Rattle.p21_tree.specs.declared.instance.Instance.{Instance}
 use Rattle.p21_tree.specs.declared.instance.Mapping.{Mapping}
 use Rattle.p21_tree.specs.declared.instance.Mapping.TheVariants.{Internal, External}
 use Rattle.p21_tree.specs.declared.instance.Record.{Record}
-use Rattle.p21_read.specs.Grammar.{max_nesting}
+use Rattle.p21_grammar.specs.Grammar.{max_nesting}
 use Rattle.p21_spelling.specs.Tokens.{is_name, is_word, enclosed}
 use Rattle.p21_spelling.specs.Values.{Spelling, all_spelled, deepest, listed, spelling}
 

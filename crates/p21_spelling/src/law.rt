@@ -4,7 +4,7 @@ ghost use Rattle.std.specs.Prelude.{◌≡◌, ◌≤◌, ◌++◌, ℕ, ℤ, tr
 ghost use mir.Syntax.{w64};
 ghost use Rattle.std.specs.Fmt.{signed_decimal};
 ghost use Rattle.std.specs.List.{list_all};
-ghost use Rattle.p21_read.specs.Grammar.{instance, instances, value_at};
+ghost use Rattle.p21_grammar.specs.Grammar.{instance, instances, value_at};
 ghost use Rattle.p21_read.specs.File.{file_of};
 ghost use Rattle.p21_read.specs.Single.{mapping_of};
 ghost use Rattle.p21_text.specs.Tokens.{Lexemes, lexemes, sees};

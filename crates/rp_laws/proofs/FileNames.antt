@@ -8,8 +8,9 @@ use Rattle.p21_tree.specs.declared.instance.Instance.{Instance}
 use Rattle.p21_tree.specs.declared.raw.Raw.{Raw}
 use Rattle.p21_text.specs.declared.token.TokenKind.TheVariants as k
 use Rattle.p21_text.specs.Tokens.{Lexemes, Parser, sees, word, expect, file_lexemes}
-use Rattle.p21_read.specs.Grammar.{name_of, name, mapping_form, instance, instances}
-use Rattle.p21_read.specs.File.{line, header_section, section, data_section, mark, file_end, file, file_of, tree_of}
+use Rattle.p21_grammar.specs.Grammar.{name_of, name, mapping_form, instance, instances}
+use Rattle.p21_grammar.specs.Header.{line, header_section}
+use Rattle.p21_read.specs.File.{section, data_section, mark, file_end, file, file_of, tree_of}
 use Rattle.rp_rows.specs.Instances.{max_name}
 
 -- what a parser gives has a property, whatever it reads

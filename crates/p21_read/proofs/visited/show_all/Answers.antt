@@ -4,7 +4,7 @@ use Rattle.text_forms.specs.Forms.{turns}
 use Rattle.text_forms.proofs.Repeat.{repeat_turn, repeat_done}
 use Rattle.p21_text.specs.Tokens.{sees}
 use Rattle.p21_text.specs.declared.token.TokenKind.TheVariants as k
-use Rattle.p21_read.specs.Grammar as grammar
+use Rattle.p21_grammar.specs.Grammar as grammar
 use Rattle.p21_read.proofs.visited.show_all.Goals as goal
 
 pub instances-init : goal.instances-init

@@ -7,8 +7,9 @@ use Rattle.p21_tree.specs.declared.fault.FileFault.{FileFault}
 use Rattle.p21_tree.specs.declared.instance.Instance.{Instance}
 use Rattle.p21_tree.specs.declared.raw.Section.{Section}
 use Rattle.p21_read.specs.declared.file.Body.{Body}
-use Rattle.p21_read.specs.File.{data_section, section, line}
-use Rattle.p21_read.specs.Grammar.{instances}
+use Rattle.p21_grammar.specs.Header.{line}
+use Rattle.p21_read.specs.File.{data_section, section}
+use Rattle.p21_grammar.specs.Grammar.{instances}
 use Rattle.p21_read.specs.Visited.{Shown, of_instances, of_body}
 use Rattle.p21_read.proofs.visited.show_section.Goals as goal
 

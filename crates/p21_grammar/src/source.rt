@@ -39,6 +39,7 @@ fn room_for_one<'t>(alloc: Global) -> Result<Items<Value<'t>>, AllocError>
 impl<'t> Source<'t> {
     ghost use Rattle.std.specs.Prelude.{◌≡◌, [], IfOk, OnOk};
 
+    /// These tokens, without any room so far.
     pub fn new(alloc: Global, tokens: Tokens<'t>) -> Source<'t>
         ensures { result ≡ tokens.entry }
     {
@@ -48,6 +49,7 @@ impl<'t> Source<'t> {
         }
     }
 
+    /// The tokens that are left.
     pub fn into_tokens(self) -> Tokens<'t>
         ensures { result ≡ self.entry }
     {
@@ -57,7 +59,7 @@ impl<'t> Source<'t> {
     }
 
     /// A list without values, in room that another one left if there is any.
-    pub fn room(&mut self, alloc: Global) -> Result<Items<Value<'t>>, AllocError>
+    pub(crate) fn room(&mut self, alloc: Global) -> Result<Items<Value<'t>>, AllocError>
         ensures empty { IfOk result (λ room. room ≡ []) }
         ensures tokens { self.new ≡ self.old }
     {

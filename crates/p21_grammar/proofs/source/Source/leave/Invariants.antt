@@ -1,5 +1,5 @@
 use Rattle.std.proofs.Common.{length}
-use Rattle.p21_read.proofs.source.Source.leave.Given as goal
+use Rattle.p21_grammar.proofs.source.Source.leave.Given as goal
 
 abbrev pub decreases-values : goal.decreases-values
 decreases-values l = length l.list

@@ -1,5 +1,5 @@
 use Rattle.std.proofs.Common.{◌≡◌, length}
-use Rattle.p21_read.proofs.source.Source.leave_lists.Given as goal
+use Rattle.p21_grammar.proofs.source.Source.leave_lists.Given as goal
 
 abbrev pub invariant-values : goal.invariant-values
 invariant-values l = l.self ≡ l.fn.self

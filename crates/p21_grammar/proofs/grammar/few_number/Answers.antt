@@ -1,7 +1,7 @@
 use Rattle.std.proofs.Common.{rules, arith, ◌<◌}
 use Rattle.std.proofs.lemmas.Grind.{common_steps}
-use Rattle.p21_read.proofs.Names.{next_below, next_most}
-use Rattle.p21_read.proofs.grammar.few_number.Goals as goal
+use Rattle.p21_grammar.proofs.Names.{next_below, next_most}
+use Rattle.p21_grammar.proofs.grammar.few_number.Goals as goal
 
 pub overflow_mul-number : goal.overflow_mul-number
 overflow_mul-number c =
