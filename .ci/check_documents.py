@@ -37,7 +37,7 @@ LIMITS = (
     (r"more than ([\d,]+) partners", "rp_core/src/opening.rt", "MAX_PARTNERS", 1),
     (r"greatest name is ([\d,]+)", "rp_rows/src/limits.rt", "MAX_NAME", 1),
     (r"nested ([\d,]+) lists deep", "p21_grammar/src/grammar.rt", "MAX_NESTING", 1),
-    (r"open at once \| ([\d,]+)", "ex_syntax/src/declarations.rt", "MAX_LEVELS", 1),
+    (r"open at once \| ([\d,]+)", "ex_declaration_syntax/src/declarations.rt", "MAX_LEVELS", 1),
 )
 
 

@@ -1,6 +1,1 @@
-pub mod DataTypes
-pub mod Supertypes
-pub mod Declarations
-pub mod Entities
-pub mod Algorithms
 pub mod Schemas

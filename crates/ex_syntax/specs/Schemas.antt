@@ -10,9 +10,9 @@ use Rattle.ex_tree.specs.declared.declaration.Declaration.TheVariants as tree
 use Rattle.ex_tree.specs.declared.declaration.Schema.{Schema}
 use Rattle.ex_expressions.specs.Strings.{strings}
 use Rattle.ex_forms.specs.Input.{Parser, Lexemes, sees, peek, expect, refuse, finish, name, many, stream}
-use Rattle.ex_syntax.specs.Declarations.{type_decl, constants}
-use Rattle.ex_syntax.specs.Entities.{entity_decl}
-use Rattle.ex_syntax.specs.Algorithms.{function_decl, rule_decl}
+use Rattle.ex_declaration_syntax.specs.Declarations.{type_decl, constants}
+use Rattle.ex_declaration_syntax.specs.Entities.{entity_decl}
+use Rattle.ex_declaration_syntax.specs.Algorithms.{function_decl, rule_decl}
 
 abbrev pub begins_declaration : Lexemes → Bool
 begins_declaration s = sees k.Entity s || sees k.Function s || sees k.Rule s || sees k.Type s

@@ -4,9 +4,7 @@ ghost use Rattle.std.specs.Prelude.{◌≡◌};
 ghost use Rattle.text_forms.specs.Gives.{Reads, Takes, Gives};
 ghost use Rattle.ex_syntax.specs.Schemas as spec;
 
-use crate::algorithms::{function_decl, rule_decl};
-use crate::declarations::{constants, type_decl};
-use crate::entities::entity_decl;
+use ex_declaration_syntax::{constants, entity_decl, function_decl, rule_decl, type_decl};
 use ex_expressions::strings;
 use ex_forms::{Begins, Cursor, Form, Read, TokenList, many, name};
 use ex_tree::{Declaration, ParseFault, Schema, TokenKind};

@@ -3,8 +3,8 @@
 ghost use Rattle.std.specs.Prelude.{◌≡◌};
 ghost use Rattle.text_forms.specs.Gives.{Reads, Takes, Keeps};
 ghost use Rattle.ex_forms.specs.Input as input;
-ghost use Rattle.ex_syntax.specs.Declarations.{begins_attribute};
-ghost use Rattle.ex_syntax.specs.Entities as spec;
+ghost use Rattle.ex_declaration_syntax.specs.Declarations.{begins_attribute};
+ghost use Rattle.ex_declaration_syntax.specs.Entities as spec;
 ghost use Rattle.ex_tree.specs.declared.kind.TokenKind.TheVariants as k;
 
 use crate::data_types::{base_type, optional_bounds};
@@ -376,8 +376,9 @@ fn entity_head(alloc: Global, cursor: &mut Cursor<'_>) -> Read<EntityHead>
     })
 }
 
+/// An entity, from ENTITY to its END_ENTITY.
 #[tactic(auto, unfolding(crate::specs::Entities::entity_decl))]
-pub(crate) fn entity_decl(alloc: Global, cursor: &mut Cursor<'_>) -> Read<Entity>
+pub fn entity_decl(alloc: Global, cursor: &mut Cursor<'_>) -> Read<Entity>
     ensures reads { Reads (spec.entity_decl cursor.old) result cursor.new }
     ensures takes { Takes result cursor.old cursor.new }
 {

@@ -4,7 +4,7 @@
 ghost use Rattle.std.specs.Prelude.{◌<◌};
 ghost use Rattle.text_forms.specs.Gives.{Reads, Takes, Keeps};
 ghost use Rattle.ex_forms.specs.Nests.{Nests};
-ghost use Rattle.ex_syntax.specs.DataTypes as spec;
+ghost use Rattle.ex_declaration_syntax.specs.DataTypes as spec;
 
 use ex_forms::{Cursor, Read, name, whole};
 use ex_tree::{ArrayBounds, Bounds, DataType, SimpleType, TokenKind, Width};

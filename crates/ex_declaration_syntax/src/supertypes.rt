@@ -4,7 +4,7 @@
 ghost use Rattle.std.specs.Prelude.{◌≡◌, ◌<◌};
 ghost use Rattle.text_forms.specs.Gives.{Reads, Takes};
 ghost use Rattle.ex_forms.specs.Nests.{Nests};
-ghost use Rattle.ex_syntax.specs.Supertypes as spec;
+ghost use Rattle.ex_declaration_syntax.specs.Supertypes as spec;
 
 use ex_forms::{Cursor, Form, Read, name, separated};
 use ex_tree::{SupertypeExpression, TokenKind};

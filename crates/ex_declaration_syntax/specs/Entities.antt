@@ -17,9 +17,9 @@ use Rattle.ex_tree.specs.declared.declaration.EntityBody.{EntityBody}
 use Rattle.ex_tree.specs.declared.declaration.Entity.{Entity}
 use Rattle.ex_forms.specs.Input.{Parser, Lexemes, sees, peek, eat, expect, enter, refuse, name, many, some, separated, optional}
 use Rattle.ex_expressions.specs.Expressions.{expression}
-use Rattle.ex_syntax.specs.DataTypes.{base_type, optional_bounds}
-use Rattle.ex_syntax.specs.Supertypes.{supertype_expression}
-use Rattle.ex_syntax.specs.Declarations.{max_levels, name_list, begins_label, label, begins_attribute, attribute_decl, where_rules}
+use Rattle.ex_declaration_syntax.specs.DataTypes.{base_type, optional_bounds}
+use Rattle.ex_declaration_syntax.specs.Supertypes.{supertype_expression}
+use Rattle.ex_declaration_syntax.specs.Declarations.{max_levels, name_list, begins_label, label, begins_attribute, attribute_decl, where_rules}
 
 -- ---- attributes
 

@@ -3,7 +3,7 @@
 ghost use Rattle.std.specs.Prelude.{◌≡◌};
 ghost use Rattle.text_forms.specs.Gives.{Reads, Takes, Keeps};
 ghost use Rattle.ex_forms.specs.Input as input;
-ghost use Rattle.ex_syntax.specs.Algorithms as spec;
+ghost use Rattle.ex_declaration_syntax.specs.Algorithms as spec;
 ghost use Rattle.ex_tree.specs.declared.kind.TokenKind.TheVariants as k;
 
 use crate::data_types::{base_type, parameter_type};
@@ -193,8 +193,9 @@ fn function_head(alloc: Global, cursor: &mut Cursor<'_>) -> Read<FunctionHead>
     })
 }
 
+/// A function, from FUNCTION to its END_FUNCTION.
 #[tactic(auto, unfolding(crate::specs::Algorithms::function_decl))]
-pub(crate) fn function_decl(alloc: Global, cursor: &mut Cursor<'_>) -> Read<Function>
+pub fn function_decl(alloc: Global, cursor: &mut Cursor<'_>) -> Read<Function>
     ensures reads { Reads (spec.function_decl cursor.old) result cursor.new }
     ensures takes { Takes result cursor.old cursor.new }
 {
@@ -236,8 +237,9 @@ fn rule_statements(alloc: Global, cursor: &mut Cursor<'_>) -> Read<Items<Stateme
     }
 }
 
+/// A rule, from RULE to its END_RULE.
 #[tactic(auto, unfolding(crate::specs::Algorithms::rule_decl))]
-pub(crate) fn rule_decl(alloc: Global, cursor: &mut Cursor<'_>) -> Read<Rule>
+pub fn rule_decl(alloc: Global, cursor: &mut Cursor<'_>) -> Read<Rule>
     ensures reads { Reads (spec.rule_decl cursor.old) result cursor.new }
     ensures takes { Takes result cursor.old cursor.new }
 {

@@ -3,7 +3,7 @@
 ghost use Rattle.std.specs.Prelude.{◌≡◌};
 ghost use Rattle.text_forms.specs.Gives.{Reads, Takes, Keeps};
 ghost use Rattle.ex_forms.specs.Input as input;
-ghost use Rattle.ex_syntax.specs.Declarations as spec;
+ghost use Rattle.ex_declaration_syntax.specs.Declarations as spec;
 ghost use Rattle.ex_tree.specs.declared.kind.TokenKind.TheVariants as k;
 ghost use Rattle.ex_expressions.specs.Expressions.{begins_expression};
 
@@ -242,7 +242,7 @@ fn constant_decl(alloc: Global, cursor: &mut Cursor<'_>) -> Read<Items<Constant>
 
 /// What CONSTANT declares, if it stands here.
 #[tactic(auto, unfolding(crate::specs::Declarations::constants))]
-pub(crate) fn constants(alloc: Global, cursor: &mut Cursor<'_>) -> Read<Items<Constant>>
+pub fn constants(alloc: Global, cursor: &mut Cursor<'_>) -> Read<Items<Constant>>
     ensures reads { Reads (spec.constants cursor.old) result cursor.new }
     ensures keeps { Keeps result cursor.old cursor.new }
 {
@@ -284,8 +284,9 @@ fn underlying_type(alloc: Global, cursor: &mut Cursor<'_>) -> Read<UnderlyingTyp
     }
 }
 
+/// A defined type, from TYPE to its END_TYPE.
 #[tactic(auto, unfolding(crate::specs::Declarations::type_decl))]
-pub(crate) fn type_decl(alloc: Global, cursor: &mut Cursor<'_>) -> Read<TypeDeclaration>
+pub fn type_decl(alloc: Global, cursor: &mut Cursor<'_>) -> Read<TypeDeclaration>
     ensures reads { Reads (spec.type_decl cursor.old) result cursor.new }
     ensures takes { Takes result cursor.old cursor.new }
 {

@@ -15,8 +15,8 @@ use Rattle.ex_forms.specs.Input.{Parser, Lexemes, sees, expect, enter, name, som
 use Rattle.ex_expressions.specs.Expressions.{expression}
 use Rattle.ex_statements.specs.declared.place.Place.{Place}
 use Rattle.ex_statements.specs.Statements.{statements, begins_statement}
-use Rattle.ex_syntax.specs.DataTypes.{base_type, parameter_type}
-use Rattle.ex_syntax.specs.Declarations.{max_levels, name_list, where_clause}
+use Rattle.ex_declaration_syntax.specs.DataTypes.{base_type, parameter_type}
+use Rattle.ex_declaration_syntax.specs.Declarations.{max_levels, name_list, where_clause}
 
 -- ---- parameters and local variables
 

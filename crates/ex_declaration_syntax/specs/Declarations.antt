@@ -14,7 +14,7 @@ use Rattle.ex_tree.specs.declared.declaration.UnderlyingType.TheVariants.{Enumer
 use Rattle.ex_tree.specs.declared.declaration.TypeDeclaration.{TypeDeclaration}
 use Rattle.ex_forms.specs.Input.{Parser, Lexemes, sees, sees_second, peek, expect, enter, refuse, name, some, separated, optional}
 use Rattle.ex_expressions.specs.Expressions.{expression, begins_expression}
-use Rattle.ex_syntax.specs.DataTypes.{base_type}
+use Rattle.ex_declaration_syntax.specs.DataTypes.{base_type}
 
 -- so many parentheses, statements and types may be open at once
 abbrev pub max_levels : ℕ

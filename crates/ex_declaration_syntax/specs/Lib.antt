@@ -1,0 +1,5 @@
+pub mod DataTypes
+pub mod Supertypes
+pub mod Declarations
+pub mod Entities
+pub mod Algorithms
