@@ -20,13 +20,27 @@ use std::alloc::{AllocError, Global};
 use text_forms::Failure;
 
 /// What the instances of a file are that were read so far, as if each name that they refer to were defined.
-#[derive(Drop)]
 pub struct Loading<'s> {
     plans: Plans<'s>,
     names: Vec<u64>,
     /// The names that they refer to.
     references: Vec<u64>,
     instances: Vec<Instance>,
+}
+
+impl<'s> Drop for Loading<'s> {
+    fn drop(self) {
+        let Loading {
+            plans,
+            names,
+            references,
+            instances,
+        } = self;
+        drop(plans);
+        drop(names);
+        drop(references);
+        drop(instances);
+    }
 }
 
 /// Puts the names that a value refers to behind the others. What holds no other value takes no further call.

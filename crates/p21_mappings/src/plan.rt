@@ -21,7 +21,6 @@ use std::alloc::{AllocError, Global};
 use std::collections::BTreeMap;
 
 /// What the instances of some entities have values of.
-#[derive(Drop)]
 pub struct Plan<'s> {
     pub types: Types,
     /// Of each part of the mapping, in the order of the file.
@@ -30,14 +29,38 @@ pub struct Plan<'s> {
     pub places: Rows<usize>,
 }
 
+impl<'s> Drop for Plan<'s> {
+    fn drop(self) {
+        let Plan {
+            types,
+            slots,
+            places,
+        } = self;
+        drop(types);
+        drop(slots);
+        drop(places);
+    }
+}
+
 /// What an instance of an entity and all above it has values of.
-#[derive(Drop)]
 pub struct Leaf<'s> {
     pub entity: usize,
     /// In the order in which files write their values.
     pub slots: Rows<Slot<'s>>,
     /// The same, as their values are read.
     pub read_slots: Rows<ReadSlot<'s>>,
+}
+
+impl<'s> Drop for Leaf<'s> {
+    fn drop(self) {
+        let Leaf {
+            entity: _,
+            slots,
+            read_slots,
+        } = self;
+        drop(slots);
+        drop(read_slots);
+    }
 }
 
 /// What an instance has values of that is of this entity and all above it; nothing where there can be none.

@@ -14,10 +14,16 @@ use std::alloc::{AllocError, Global};
 use std::marker::Model;
 
 /// A schema with what is looked up in it for each instance of a file.
-#[derive(Drop)]
 pub struct Reader<'s> {
     compiled: &'s Compiled,
     types: DefinedTypes<'s>,
+}
+
+impl<'s> Drop for Reader<'s> {
+    fn drop(self) {
+        let Reader { compiled: _, types } = self;
+        drop(types);
+    }
 }
 
 impl<'s> Model for Reader<'s> {
