@@ -9,8 +9,8 @@ use Rattle.p21_tree.specs.declared.instance.Mapping.{Mapping}
 use Rattle.p21_tree.specs.declared.instance.Mapping.TheVariants.{Internal, External}
 use Rattle.p21_tree.specs.declared.instance.Record.{Record}
 use Rattle.p21_tree.specs.declared.value.Value.{Value as Spelled}
-use Rattle.p21_bind.specs.declared.plan.Plan.{Plan}
-use Rattle.p21_bind.specs.Instances.{Read, each, value, part, by_plan, by_entity, by_entities, by_several, by_mapping, instance}
+use Rattle.p21_mappings.specs.declared.plan.Plan.{Plan}
+use Rattle.p21_mappings.specs.Instances.{Read, each, value, part, by_plan, by_entity, by_entities, by_several, by_mapping, instance}
 use Rattle.p21_bind.specs.Single.{part_references, mapping_references}
 
 each_same : {A B : Type 0} (f g : A → Read B) (xs : List A) → AllByRecursion (λ x. f x ≡ g x) xs → each f xs ≡ each g xs

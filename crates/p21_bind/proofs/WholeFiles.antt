@@ -1,5 +1,5 @@
 -- Instances that were bound as if each name were defined are those of their file, where each name is.
-use Rattle.std.proofs.Common.{◌≡◌, ℕ, Bool, true, false, ◌&&◌, ◌||◌, ◌==◌, List, [], ◌∷◌, ◌++◌, Some, Result, Ok, Err, refl, sym, ◌∙◌, ap}
+use Rattle.std.proofs.Common.{◌≡◌, ℕ, Bool, true, false, ◌&&◌, ◌||◌, ◌==◌, List, [], ◌∷◌, ◌++◌, Option, None, Some, IfSome, Result, Ok, Err, IfOk, refl, sym, ◌∙◌, ap}
 use Rattle.std.proofs.lemmas.List.{append_assoc, append-nil}
 use Rattle.std.specs.List.{AllByRecursion, list_all, list_any}
 use Rattle.ex_types.specs.Checked.{Checked}
@@ -40,6 +40,13 @@ references_more (z ∷ xs) x =
     ap (λ l. mapping_references z.mapping ++ l) (references_more xs x) ∙ sym (append_assoc (mapping_references z.mapping) (all_references xs) (mapping_references x.mapping))
 
 -- ---- all of them
+
+-- of what is found, where three statements make a fourth
+pub of_found : {X E : Type 0} (r : Result (Option X) E) (A B C D : X → Type 0) → ((x : X) → A x → B x → C x → D x)
+    → IfOk r (λ o. IfSome o A) → IfOk r (λ o. IfSome o B) → IfOk r (λ o. IfSome o C) → IfOk r (λ o. IfSome o D)
+of_found (Ok (Some x)) A B C D next a b c = next x a b c
+of_found (Ok None) A B C D next a b c = tt
+of_found (Err e) A B C D next a b c = tt
 
 both : (a b : Bool) → (a && b) ≡ true → (a ≡ true) × (b ≡ true)
 both true b e = (refl, e)

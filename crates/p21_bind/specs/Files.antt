@@ -17,7 +17,7 @@ use Rattle.rp_content.specs.declared.instance.Instance.{Instance}
 use Rattle.rp_value.specs.declared.value.AggregateKind.TheVariants as aggregate
 use Rattle.rp_value.specs.declared.value.Value.{Value}
 use Rattle.rp_value.specs.declared.value.Value.TheVariants as v
-use Rattle.p21_bind.specs.Instances.{Read, instance}
+use Rattle.p21_mappings.specs.Instances.{Read, instance}
 
 -- ---- the header
 

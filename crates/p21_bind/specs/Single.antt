@@ -8,7 +8,7 @@ use Rattle.p21_tree.specs.declared.instance.Mapping.{Mapping}
 use Rattle.p21_tree.specs.declared.instance.Mapping.TheVariants.{Internal, External}
 use Rattle.p21_tree.specs.declared.instance.Record.{Record}
 use Rattle.rp_content.specs.declared.instance.Instance.{Instance}
-use Rattle.p21_bind.specs.Instances.{instance}
+use Rattle.p21_mappings.specs.Instances.{instance}
 use Rattle.p21_bind.specs.Files.{told}
 
 -- The instance of this name that the mapping is, or its first fault, under the name. A reference may name what is defined: the

@@ -6,13 +6,11 @@ ghost use Rattle.p21_instances.specs.Instances.{in_order, is_among};
 ghost use Rattle.p21_instances.specs.Instances as order;
 ghost use Rattle.text_forms.specs.Gives.{Gives};
 ghost use Rattle.p21_bind.specs.Files as spec;
-ghost use Rattle.p21_bind.specs.Instances as instances;
+ghost use Rattle.p21_mappings.specs.Instances as instances;
 
 use crate::header::header_of;
-use crate::instance::instance;
-use crate::names::{Defined, DefinedNames, Names};
-use crate::plans::Plans;
 use ex_subtypes::Compiled;
+use p21_mappings::{Defined, DefinedNames, Names, Plans, instance};
 use p21_tree::{Header, Instance as Spelled, InstanceFault, Raw};
 use plain_data::{Items, Rows};
 use rp_content::{Content, Instance};

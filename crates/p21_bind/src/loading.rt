@@ -1,6 +1,6 @@
 //! A whole file, each instance of which is bound as soon as it is read.
 
-ghost use Rattle.std.specs.Prelude.{◌≡◌, ◌++◌, ◌==◌, ◌&&◌, not, Some, IfOk, IfSome, OnOk, Ok};
+ghost use Rattle.std.specs.Prelude.{◌≡◌, ◌++◌, ◌==◌, ◌&&◌, true, false, not, Some, IfOk, IfSome, OnOk, Ok};
 ghost use Rattle.std.specs.List.{flat_map, list_all};
 ghost use Rattle.p21_instances.specs.Instances.{has_twice, is_among, references};
 ghost use Rattle.p21_read.specs.File.{file_of};
@@ -10,9 +10,8 @@ ghost use Rattle.p21_bind.specs.OnePass as spec;
 
 use crate::file::{in_name_order, one};
 use crate::header::header_of;
-use crate::names::{AnyName, Defined, DefinedNames, Names};
-use crate::plans::Plans;
 use ex_subtypes::Compiled;
+use p21_mappings::{AnyName, Defined, DefinedNames, Names, Plans};
 use p21_read::{Visitor, is_of_schema, read_visited};
 use p21_tree::{Header, Instance as Spelled, Mapping, Record, Value};
 use plain_data::Items;
@@ -21,13 +20,27 @@ use std::alloc::{AllocError, Global};
 use text_forms::Failure;
 
 /// What the instances of a file are that were read so far, as if each name that they refer to were defined.
-#[derive(Drop)]
 pub struct Loading<'s> {
     plans: Plans<'s>,
     names: Vec<u64>,
     /// The names that they refer to.
     references: Vec<u64>,
     instances: Vec<Instance>,
+}
+
+impl<'s> Drop for Loading<'s> {
+    fn drop(self) {
+        let Loading {
+            plans,
+            names,
+            references,
+            instances,
+        } = self;
+        drop(plans);
+        drop(names);
+        drop(references);
+        drop(instances);
+    }
 }
 
 /// Puts the names that a value refers to behind the others. What holds no other value takes no further call.
@@ -171,6 +184,25 @@ fn content(
     })
 }
 
+/// What a model holds that a file of this header and of what was loaded is put into, if no name stands twice and each
+/// reference is to one of them or is linked.
+fn whole(
+    alloc: Global,
+    loading: Loading<'_>,
+    linked: &[u64],
+    header: &Header<'_>,
+) -> Result<Option<Content>, AllocError>
+    ensures content { IfOk result (λ found. IfSome found (λ content. content ≡ files.content header.now loading.entry.instances.items)) }
+    ensures once { IfOk result (λ found. IfSome found (λ content. has_twice (λ m n. m == n) loading.entry.names.items ≡ false)) }
+    ensures defined { IfOk result (λ found. IfSome found (λ content. list_all (is_among (loading.entry.names.items ++ linked.now)) loading.entry.references.items ≡ true)) }
+{
+    let linked = Names::of_slice(alloc, linked)?;
+    match loading.into_whole(&linked) {
+        Some(instances) => Ok(Some(content(alloc, header, instances)?)),
+        None => Ok(None),
+    }
+}
+
 /// What a model holds that the file is put into which a text spells, read in one pass and without its tree. The instances
 /// may refer to one another and to the names that are linked. Nothing where the file has a fault, is not of the schema of
 /// this name, or has a faulty instance: then `read_raw` and `bind` tell more.
@@ -194,9 +226,5 @@ pub fn load(
     if !is_of_schema(alloc, &raw, name)? {
         return Ok(None);
     }
-    let linked = Names::of_slice(alloc, linked)?;
-    match loading.into_whole(&linked) {
-        Some(instances) => Ok(Some(content(alloc, &raw.header, instances)?)),
-        None => Ok(None),
-    }
+    whole(alloc, loading, linked, &raw.header)
 }

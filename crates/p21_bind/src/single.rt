@@ -5,8 +5,7 @@ ghost use Rattle.text_forms.specs.Gives.{Gives};
 ghost use Rattle.p21_bind.specs.Single as spec;
 
 use crate::file::one;
-use crate::names::DefinedNames;
-use crate::plans::Plans;
+use p21_mappings::{DefinedNames, Plans};
 use p21_tree::{Instance as Spelled, InstanceFault, Mapping};
 use rp_content::Instance;
 use std::alloc::Global;

@@ -8,8 +8,8 @@ use Rattle.ex_slots.specs.Slots.{Slot}
 use Rattle.ex_types.specs.Checked.{Checked}
 use Rattle.lineage.proofs.Certain.{each_passes}
 use Rattle.lineage.specs.Lineage.{is_among}
-use Rattle.p21_bind.specs.Instances.{all_there, and_then, by_entities, by_entity, by_mapping, by_plan, by_several, counted, each, has_twice, in_places, instance, keywords, made, part, repeats, same_counts}
-use Rattle.p21_bind.specs.Plans.{entity_named, external, internal, of_leaf, of_several, order_by, place_in, slots_in, types_by}
+use Rattle.p21_mappings.specs.Instances.{all_there, and_then, by_entities, by_entity, by_mapping, by_plan, by_several, counted, each, has_twice, in_places, instance, keywords, made, part, repeats, same_counts}
+use Rattle.p21_mappings.specs.Plans.{entity_named, external, internal, of_leaf, of_several, order_by, place_in, slots_in, types_by}
 use Rattle.p21_instances.specs.Instances.{references}
 use Rattle.p21_spelling.proofs.Runs.{first_holds}
 use Rattle.p21_tree.specs.declared.fault.InstanceFaultKind.TheVariants.{Twice}

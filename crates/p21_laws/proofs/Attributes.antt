@@ -4,7 +4,7 @@ use Rattle.std.specs.List.{AllByRecursion, list_all}
 use Rattle.ex_named.specs.declared.declaration.NamedType.{NamedType}
 use Rattle.ex_slots.specs.Slots.{Slot}
 use Rattle.ex_types.specs.Checked.{Checked}
-use Rattle.p21_bind.specs.Instances.{Read, and_then, defined, derived_value, each, has_star, is_left_out, is_open, misplaced, value}
+use Rattle.p21_mappings.specs.Instances.{Read, and_then, defined, derived_value, each, has_star, is_left_out, is_open, misplaced, value}
 use Rattle.p21_instances.specs.Instances.{references, referred}
 use Rattle.p21_spelling.proofs.Equations.{spelling-Derived}
 use Rattle.p21_spelling.proofs.Runs.{both_hold, first_holds, second_holds}

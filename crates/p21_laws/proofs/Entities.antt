@@ -6,7 +6,7 @@ use Rattle.std.specs.Str.{bytes_eq, str_to_ascii_uppercase}
 use Rattle.ex_named.specs.declared.declaration.NamedEntity.{NamedEntity}
 use Rattle.ex_types.specs.Checked.{Checked, entity_names}
 use Rattle.name_tables.specs.Names.{place_of}
-use Rattle.p21_bind.specs.Plans.{entity_named}
+use Rattle.p21_mappings.specs.Plans.{entity_named}
 use Rattle.p21_spelling.proofs.Runs.{first_holds, second_holds}
 use Rattle.p21_spelling.specs.Tokens.{is_word}
 use Rattle.p21_lines.specs.Trees.{entity_name}

@@ -12,8 +12,8 @@ use Rattle.ex_subtypes.specs.declared.legal.Illegal.TheVariants.{NotClosed, NotC
 use Rattle.ex_types.specs.Checked.{Checked, entity_names}
 use Rattle.lineage.proofs.Sets.{either}
 use Rattle.lineage.specs.Lineage.{is_among}
-use Rattle.p21_bind.specs.Instances.{Read, all_there, and_then, by_entities, by_entity, by_mapping, by_plan, by_several, counted, each, has_twice, in_places, instance, keywords, made, part, repeats, same_counts, value}
-use Rattle.p21_bind.specs.Plans.{ascending, entity_named, external, in_name_order, internal, is_legal, leaf, line_of, name_rank, of_leaf, of_several, order_by, place_in, slots_in, types_by}
+use Rattle.p21_mappings.specs.Instances.{Read, all_there, and_then, by_entities, by_entity, by_mapping, by_plan, by_several, counted, each, has_twice, in_places, instance, keywords, made, part, repeats, same_counts, value}
+use Rattle.p21_mappings.specs.Plans.{ascending, entity_named, external, in_name_order, internal, is_legal, leaf, line_of, name_rank, of_leaf, of_several, order_by, place_in, slots_in, types_by}
 use Rattle.p21_spelling.proofs.Runs.{first_holds, second_holds}
 use Rattle.p21_tree.specs.declared.fault.InstanceFaultKind.TheVariants.{Twice}
 use Rattle.p21_tree.specs.declared.instance.Instance as tree

@@ -9,8 +9,8 @@ use Rattle.ex_types.specs.Checked.{Checked, entity_names}
 use Rattle.lineage.proofs.Sets.{either}
 use Rattle.lineage.specs.Lineage.{is_among}
 use Rattle.name_tables.specs.Names.{place_of}
-use Rattle.p21_bind.specs.Instances.{all_there, keywords, repeats, with_first}
-use Rattle.p21_bind.specs.Plans.{entity_named}
+use Rattle.p21_mappings.specs.Instances.{all_there, keywords, repeats, with_first}
+use Rattle.p21_mappings.specs.Plans.{entity_named}
 use Rattle.p21_tree.specs.declared.instance.Record.{Record}
 use Rattle.p21_laws.proofs.Names.{place_has}
 use Rattle.p21_laws.proofs.Order.{OnceBy, neither}

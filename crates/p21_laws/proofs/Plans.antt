@@ -11,7 +11,7 @@ use Rattle.ex_types.specs.Checked.{Checked}
 use Rattle.lineage.proofs.Certain.{each_passes}
 use Rattle.lineage.proofs.Rises.{Closed, line_within_closed}
 use Rattle.lineage.specs.Lineage.{each_once, is_among, line_within, supertypes}
-use Rattle.p21_bind.specs.Plans.{ascending, is_legal, leaf, line_of}
+use Rattle.p21_mappings.specs.Plans.{ascending, is_legal, leaf, line_of}
 use Rattle.p21_laws.proofs.Sets.{AreSame, all_same, any_flat, any_same, found, in_once, in_selected, none_same, selected_same}
 use Rattle.p21_laws.specs.Schemas.{IsAccepted}
 

@@ -8,7 +8,7 @@ use Rattle.ex_named.specs.declared.expression.NamedDataType.{NamedDataType}
 use Rattle.ex_tree.specs.declared.data_type.SimpleType.TheVariants as simple
 use Rattle.lineage.specs.Lineage.{is_among}
 use Rattle.name_tables.specs.Names.{place_of}
-use Rattle.p21_bind.specs.Instances.{has_star, star_layer}
+use Rattle.p21_mappings.specs.Instances.{has_star, star_layer}
 use Rattle.p21_instances.specs.Instances.{references, referred}
 use Rattle.p21_strings.specs.Decoding.{decoded}
 use Rattle.p21_strings.specs.Encoding.{encoded}

@@ -7,7 +7,7 @@ use Rattle.ex_slots.specs.Slots.{Slot, slots, slots_of}
 use Rattle.ex_types.specs.Checked.{Checked}
 use Rattle.lineage.specs.Lineage.{is_among, line}
 use Rattle.lineage.specs.Numbered.{numbered}
-use Rattle.p21_bind.specs.Plans.{in_name_order, is_legal, leaf, line_of}
+use Rattle.p21_mappings.specs.Plans.{in_name_order, is_legal, leaf, line_of}
 use Rattle.p21_tree.specs.declared.instance.Record.{Record}
 use Rattle.p21_lines.specs.Trees.{attributes, entity_name, leaf_part, mapping, own_part, own_parts, record_of, records}
 use Rattle.rp_content.specs.declared.instance.Types.{Types}

@@ -7,7 +7,7 @@ ghost use Rattle.ex_resolve.specs.Schemas.{Resolved};
 ghost use Rattle.ex_types.specs.Checked.{Checked};
 ghost use Rattle.lineage.specs.Lineage.{IsAcyclic};
 ghost use Rattle.p21_bind.specs.Files.{bound_file};
-ghost use Rattle.p21_bind.specs.Instances as binding;
+ghost use Rattle.p21_mappings.specs.Instances as binding;
 ghost use Rattle.p21_laws.specs.Instances.{references_of};
 ghost use Rattle.p21_laws.specs.Contents.{AreAmong, IsRead, new_content};
 ghost use Rattle.p21_laws.specs.Kept.{IsKept};

@@ -4,9 +4,9 @@ use Rattle.std.specs.Prelude.{if◌then◌else◌, map, slice_index_or}
 use Rattle.std.specs.List.{AllByRecursion, list_all, zip}
 use Rattle.ex_slots.specs.Slots.{Slot}
 use Rattle.ex_types.specs.Checked.{Checked}
-use Rattle.p21_bind.specs.Instances.{Read, and_then, each, has_star, is_left_out, has_twice, same_counts, in_places, made, counted, misplaced, derived_value, all_there, defined, value, part, by_plan, by_entity, by_entities, by_several, by_mapping, instance}
-use Rattle.p21_bind.specs.Plans.{entity_named, internal, external}
-use Rattle.p21_bind.specs.declared.plan.Plan.{Plan}
+use Rattle.p21_mappings.specs.Instances.{Read, and_then, each, has_star, is_left_out, has_twice, same_counts, in_places, made, counted, misplaced, derived_value, all_there, defined, value, part, by_plan, by_entity, by_entities, by_several, by_mapping, instance}
+use Rattle.p21_mappings.specs.Plans.{entity_named, internal, external}
+use Rattle.p21_mappings.specs.declared.plan.Plan.{Plan}
 use Rattle.p21_instances.specs.Instances as spelled
 use Rattle.p21_tree.specs.declared.fault.InstanceFaultKind.TheVariants.{Twice, NotDerived}
 use Rattle.p21_tree.specs.declared.instance.Instance as tree

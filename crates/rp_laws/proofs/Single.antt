@@ -11,7 +11,7 @@ use Rattle.p21_tree.specs.declared.fault.InstanceFault.{InstanceFault}
 use Rattle.p21_tree.specs.declared.instance.Mapping.{Mapping}
 use Rattle.p21_read.specs.Single.{mapping_of}
 use Rattle.p21_bind.specs.Files as files
-use Rattle.p21_bind.specs.Instances.{Read, instance}
+use Rattle.p21_mappings.specs.Instances.{Read, instance}
 use Rattle.p21_bind.specs.Single.{bound_instance}
 use Rattle.rp_content.specs.declared.instance.Instance.{Instance}
 use Rattle.rp_content.specs.declared.link.Link.{Link}

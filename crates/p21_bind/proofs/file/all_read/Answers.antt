@@ -3,7 +3,7 @@ use Rattle.std.specs.List.{list_any}
 use Rattle.p21_instances.specs.Instances.{has_twice, is_among, names}
 use Rattle.p21_instances.proofs.SortedNames.{is_one, once_in_any_order}
 use Rattle.p21_bind.specs.Files as spec
-use Rattle.p21_bind.specs.Instances as instances
+use Rattle.p21_mappings.specs.Instances as instances
 use Rattle.p21_bind.proofs.Reading.{none_behind, first_is, neither, noted, read_on}
 use Rattle.p21_bind.proofs.file.all_read.Goals as goal
 

@@ -1,7 +1,7 @@
 use Rattle.std.proofs.Common.{◌≡◌, ◌++◌, OnOk, sym, ◌∙◌, ap, subst}
 use Rattle.std.specs.List.{flat_map}
 use Rattle.p21_instances.specs.Instances.{references}
-use Rattle.p21_bind.proofs.References.{references-list}
+use Rattle.p21_mappings.proofs.References.{references-list}
 use Rattle.p21_bind.proofs.loading.+references.Goals as goal
 
 pub put_references-returns-in-List : goal.put_references-returns-in-List

@@ -1,18 +1,16 @@
-use Rattle.std.proofs.Common.{◌≡◌, true, ◌++◌, [], Ok, refl, sym, ◌∙◌, ap, subst}
-use Rattle.std.proofs.lemmas.List.Sorted.{IsPermutation-refl}
+use Rattle.std.proofs.Common.{◌≡◌, true, false, ◌++◌, ◌==◌, [], Some, Ok, refl, sym, ◌∙◌, ap, subst}
 use Rattle.std.specs.List.{list_all}
 use Rattle.std.specs.Prelude.{IfSome}
-use Rattle.p21_instances.specs.Instances.{is_among}
+use Rattle.p21_instances.specs.Instances.{has_twice, is_among}
 use Rattle.p21_read.specs.File.{file_of}
 use Rattle.p21_read.specs.Visited.{ShownAll}
-use Rattle.p21_bind.specs.OnePass.{Becomes}
+use Rattle.p21_bind.specs.OnePass.{Becomes, loaded}
 use Rattle.p21_bind.specs.Files.{content}
-use Rattle.p21_bind.proofs.Linked.{same_names}
-use Rattle.p21_bind.proofs.WholeFiles.{loaded_whole}
+use Rattle.p21_bind.proofs.WholeFiles.{loaded_whole, of_found}
 use Rattle.p21_bind.proofs.loading.load.Goals as goal
 
-pub returns-in-Some-into_whole : goal.returns-in-Some-into_whole
-returns-in-Some-into_whole c =
+pub returns-whole : goal.returns-whole
+returns-whole c =
     let first = c.in_ok-loading.loading in
     let now = c.read_visited.new.visitor in
     let start : Becomes first [] first = record {
@@ -23,10 +21,9 @@ returns-in-Some-into_whole c =
     } in
     let given : IfSome c.in_ok-raw.field-0 (λ rest. ShownAll (Becomes first) rest now (file_of c.args.text.now)) = c.in_ok-raw.ensures first start in
     let shown = subst (λ o. IfSome o (λ rest. ShownAll (Becomes first) rest now (file_of c.args.text.now))) c.in-Some.is given in
-    let found = c.in-Some-into_whole.ensures in
-    let defined : list_all (is_among (now.names.items ++ c.args.linked.now)) now.references.items ≡ true =
-    (λ i. list_all (λ n. same_names now.names.items now.names.items c.args.linked.now c.in_ok-linked.linked (IsPermutation-refl now.names.items) c.in_ok-linked.ensures n i) now.references.items)
-    ∙ found.defined in
-    loaded_whole c.args.schema.now c.args.name.now c.args.linked.now first now c.in-Some.raw c.in_ok-content-in-Some-into_whole.field-0 (file_of c.args.text.now) shown
-    c.in_ok-loading.ensures.plans (sym c.in_ok-is_of_schema.ensures ∙ c.if-not-branch.false) found.once defined
-    (c.in_ok-content-in-Some-into_whole.ensures ∙ ap (content c.in-Some.raw.header) found.instances)
+    of_found c.whole.result (λ held. held ≡ content c.in-Some.raw.header now.instances.items) (λ held. has_twice (λ m n. m == n) now.names.items ≡ false)
+    (λ held. list_all (is_among (now.names.items ++ c.args.linked.now)) now.references.items ≡ true)
+    (λ held. loaded c.args.schema.now c.args.name.now c.args.linked.now (file_of c.args.text.now) ≡ Some held)
+    (λ held made once defined. loaded_whole c.args.schema.now c.args.name.now c.args.linked.now first now c.in-Some.raw held (file_of c.args.text.now) shown
+    c.in_ok-loading.ensures.plans (sym c.in_ok-is_of_schema.ensures ∙ c.if-not-branch.false) once defined made)
+    c.whole.ensures.content c.whole.ensures.once c.whole.ensures.defined

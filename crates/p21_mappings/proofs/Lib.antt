@@ -1,0 +1,4 @@
+pub mod Ascending
+pub mod References
+pub mod Stars
+pub mod Slots

@@ -1,0 +1,149 @@
+-- The instance that a mapping is, or its first fault (ISO 10303-21:2002, 10.2).
+use Rattle.std.specs.Prelude.{ℕ, Bool, true, false, ◌||◌, ◌==◌, if◌then◌else◌, List, [], ◌∷◌, ◌++◌, length, map, Option, Some, None, is_some, slice_index_or, Result, Ok, Err}
+use Rattle.std.specs.Global.{Vec}
+use Rattle.std.specs.List.{flat_map, list_all, list_any, zip}
+use Rattle.std.specs.Option.{option_map}
+use Rattle.std.specs.Str.{str_to_ascii_uppercase}
+use Rattle.ex_slots.specs.Slots.{Slot}
+use Rattle.ex_types.specs.Checked.{Checked}
+use Rattle.name_tables.specs.Names.{place_of}
+use Rattle.p21_instances.specs.Instances.{references}
+use Rattle.p21_tree.specs.declared.fault.InstanceFaultKind.{InstanceFaultKind}
+use Rattle.p21_tree.specs.declared.fault.InstanceFaultKind.TheVariants.{Twice, UnknownEntity, IllegalCombination, WrongCount, NotDerived, WrongKind, Undefined}
+use Rattle.p21_tree.specs.declared.instance.Mapping.{Mapping}
+use Rattle.p21_tree.specs.declared.instance.Mapping.TheVariants.{Internal, External}
+use Rattle.p21_tree.specs.declared.instance.Record.{Record}
+use Rattle.p21_tree.specs.declared.value.Value.{Value as Spelled, out-Value}
+use Rattle.p21_tree.specs.declared.value.Value.TheFolds.{fold-Value}
+use Rattle.p21_tree.specs.declared.value.Value.TheOpen.{Value-F}
+use Rattle.p21_tree.specs.declared.instance.Instance as tree
+use Rattle.p21_values.specs.Taking.{bound}
+use Rattle.rp_content.specs.declared.instance.Instance.{Instance}
+use Rattle.rp_value.specs.declared.value.Value.{Value}
+use Rattle.rp_value.specs.declared.value.Value.TheVariants as v
+use Rattle.p21_mappings.specs.declared.plan.Plan.{Plan}
+use Rattle.p21_mappings.specs.Plans.{entity_named, internal, external}
+
+abbrev pub Read : Type 0 → Type 0
+Read A = Result A InstanceFaultKind
+
+abbrev pub and_then : {A B : Type 0} → Read A → (A → Read B) → Read B
+and_then (Ok a) next = next a
+and_then (Err kind) next = Err kind
+
+-- what all give, from the left, or the first fault
+abbrev pub each : {A B : Type 0} → (A → Read B) → List A → Read (List B)
+each read [] = Ok []
+each read (x ∷ xs) = and_then (read x) (λ y. and_then (each read xs) (λ ys. Ok (y ∷ ys)))
+
+-- ---- `*`
+
+abbrev pub star_layer : Value-F Bool → Bool
+star_layer Value-F.Derived = true
+star_layer (Value-F.List found) = list_any (λ b. b) found
+star_layer (Value-F.Typed keyword found) = found
+star_layer _ = false
+
+-- whether a value has one, at any depth
+abbrev pub has_star : Spelled → Bool
+has_star = fold-Value Bool star_layer
+
+abbrev pub is_open : Value-F Spelled → Bool
+is_open Value-F.Unset = true
+is_open Value-F.Derived = true
+is_open _ = false
+
+-- `*` or `$`
+abbrev pub is_left_out : Spelled → Bool
+is_left_out x = is_open (out-Value x)
+
+-- ---- keywords
+
+-- whether one of them stood before
+abbrev pub repeats : List (List ℕ) → List (List ℕ) → Bool
+repeats before [] = false
+repeats before (k ∷ ks) = is_some (place_of k before) || repeats (before ++ k ∷ []) ks
+
+abbrev pub keywords : List Record → List (List ℕ)
+keywords = map (λ part. str_to_ascii_uppercase part.keyword)
+
+-- whether a type stands twice
+abbrev pub has_twice : Mapping → Bool
+has_twice (Internal part) = false
+has_twice (External parts) = repeats [] (keywords parts)
+
+abbrev pub with_first : Option ℕ → Option (List ℕ) → Option (List ℕ)
+with_first None ns = None
+with_first (Some n) ns = option_map (λ ns. n ∷ ns) ns
+
+abbrev pub all_there : List (Option ℕ) → Option (List ℕ)
+all_there [] = Some []
+all_there (n ∷ ns) = with_first n (all_there ns)
+
+-- the numbers that were found, as contracts see them
+abbrev pub numbers_in : Option (Vec ℕ) → Option (List ℕ)
+numbers_in = option_map (λ v. v.items)
+
+-- ---- values
+
+-- each part has as many values as it has attributes
+abbrev pub same_counts : List (List Slot) → List Record → Bool
+same_counts slots records = list_all (λ p. length p.0 == length p.1.values) (zip slots records)
+
+-- the values of the parts, which stand in the file's order, as the plan has them
+abbrev pub in_places : List ℕ → List (List Value) → List Value
+in_places places lists = flat_map (λ place. slice_index_or lists place []) places
+
+abbrev pub made : ℕ → Plan → List (List Value) → Instance
+made name plan lists = record { name = name; types = plan.types; values = in_places plan.places lists }
+
+abbrev pub counted : {A : Type 0} → Bool → Read A → Read A
+counted fits read = if fits then read else Err WrongCount
+
+-- what is wrong with a value that an attribute doesn't take
+abbrev pub misplaced : Spelled → InstanceFaultKind
+misplaced x = if has_star x then NotDerived else WrongKind
+
+-- of an attribute that a type of the instance derives
+abbrev pub derived_value : Spelled → Read Value
+derived_value x = if is_left_out x then Ok v.Indet else Err (misplaced x)
+
+module _ (schema : Checked) (is_defined : ℕ → Bool) where
+  abbrev pub defined : Option Value → Bool → Read Value
+  defined None all = Err WrongKind
+  defined (Some x) all = if all then Ok x else Err Undefined
+
+  -- the value of an attribute, or the first that holds of what is wrong with it at any depth
+  abbrev pub value : Slot × Spelled → Read Value
+  value s =
+      if s.0.is_derived then derived_value s.1
+      else if has_star s.1 then Err NotDerived
+      else defined (bound schema.named.schema.types s.0.data_type s.1) (list_all is_defined (references s.1))
+
+  abbrev pub part : List Slot × Record → Read (List Value)
+  part p = each value (zip p.0 p.1.values)
+
+  abbrev pub by_plan : ℕ → List Record → Option Plan → Read Instance
+  by_plan name records None = Err IllegalCombination
+  by_plan name records (Some plan) =
+      counted (same_counts plan.slots records) (and_then (each part (zip plan.slots records)) (λ lists. Ok (made name plan lists)))
+
+  abbrev pub by_entity : ℕ → List Record → Option ℕ → Read Instance
+  by_entity name records None = Err UnknownEntity
+  by_entity name records (Some entity) = by_plan name records (internal schema entity)
+
+  abbrev pub by_entities : ℕ → List Record → Option (List ℕ) → Read Instance
+  by_entities name records None = Err UnknownEntity
+  by_entities name records (Some entities) = by_plan name records (external schema entities)
+
+  -- the instance of an external mapping of these parts
+  unfoldable pub by_several : ℕ → List Record → Read Instance
+  by_several name records = by_entities name records (all_there (map (λ r. entity_named schema r.keyword) records))
+
+  abbrev pub by_mapping : ℕ → Mapping → Read Instance
+  by_mapping name (Internal single) = by_entity name (single ∷ []) (entity_named schema single.keyword)
+  by_mapping name (External records) = by_several name records
+
+  -- an instance whose name stood before or not
+  unfoldable pub instance : Bool → tree.Instance → Read Instance
+  instance stood x = if stood || has_twice x.mapping then Err Twice else by_mapping x.name x.mapping

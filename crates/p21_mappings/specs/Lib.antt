@@ -1,0 +1,4 @@
+pub mod Plans
+pub mod Instances
+pub mod ReadSlots
+pub mod Kept
