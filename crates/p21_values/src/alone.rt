@@ -20,7 +20,7 @@ ghost use Rattle.p21_values.specs.Taking as spec;
 use crate::ends::{Base, base_of};
 use crate::sorts::Class;
 use crate::takers::{Takers, taker_at};
-use crate::tokens::{bits, boolean, in_upper_case, integer, is_upper_case, logical};
+use crate::tokens::{bits, boolean, integer, is_upper_case, logical};
 use crate::types::DefinedTypes;
 use ex_tree::SimpleType;
 use name_tables::First;
@@ -159,7 +159,7 @@ fn item_in_either_case(
     if is_upper_case(token) {
         return Ok(of_item(types, token, base));
     }
-    let name = in_upper_case(alloc, token)?;
+    let name = token.to_ascii_uppercase(alloc)?;
     Ok(of_item(types, &name, base))
 }
 
@@ -269,7 +269,7 @@ fn known_item(
 ) -> Taken
     ensures { IfOk result (λ taken. taken ≡ option_and_then (spec.by_choice types.now (deciding.alone types.now value.now)) (takers.only_taker (str_to_ascii_uppercase item.now) by_name.now)) }
 {
-    let name = in_upper_case(alloc, item)?;
+    let name = item.to_ascii_uppercase(alloc)?;
     first_token(alloc, types, value, taker_at(by_name, &name))
 }
 

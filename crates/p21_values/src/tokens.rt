@@ -186,14 +186,3 @@ pub fn is_upper_case(token: &[u8]) -> bool
 {
     token.iter().all(|byte| byte.to_ascii_uppercase() == *byte)
 }
-
-/// The token in upper case.
-pub fn in_upper_case(alloc: Global, token: &[u8]) -> Result<Vec<u8>, AllocError>
-    ensures { IfOk result (λ upper. upper.items ≡ str_to_ascii_uppercase token.now) }
-{
-    let mut upper = Vec::with_capacity(alloc, token.len())?;
-    for byte in token {
-        upper.push(byte.to_ascii_uppercase())?;
-    }
-    Ok(upper)
-}

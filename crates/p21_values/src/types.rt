@@ -18,7 +18,6 @@ use crate::kept::{Kept, kept_at, kept_by_class, table_of};
 use crate::selects::{is_select, shared_selection, unrenamed, walked_choices, walked_instances};
 use crate::sorts::{Class, all_sorts};
 use crate::takers::{Takers, all_takers, takers_at};
-use crate::tokens::in_upper_case;
 use descent::Descent;
 use ex_named::{NamedDataType, NamedType, NamedUnderlying};
 use ex_tree::Name;
@@ -138,7 +137,7 @@ impl<'s> DefinedTypes<'s> {
     pub(crate) fn number(&self, alloc: Global, keyword: &[u8]) -> Result<Option<usize>, AllocError>
         ensures { IfOk result (λ number. number ≡ spec.type_named self.now keyword.now) }
     {
-        let keyword = in_upper_case(alloc, keyword)?;
+        let keyword = keyword.to_ascii_uppercase(alloc)?;
         Ok(self.names.place(&keyword))
     }
 
