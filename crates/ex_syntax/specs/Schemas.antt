@@ -1,5 +1,5 @@
 -- Schemas (ISO 10303-11:1994, 9.3), and what the tokens of a text spell.
-use Rattle.std.specs.Prelude.{ℕ, Bool, ◌||◌, List, [], Result, Ok, Err}
+use Rattle.std.specs.Prelude.{Bool, ◌||◌, List, [], Result, Ok, Err}
 use Rattle.text_forms.specs.Forms.{◌>>=◌, ◌>>◌, ◌<$>◌, pure}
 use Rattle.ex_lex.specs.Lexeme.{Lexeme, Lexed}
 use Rattle.ex_tree.specs.declared.kind.TokenKind.{TokenKind}
