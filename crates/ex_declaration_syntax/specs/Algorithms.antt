@@ -1,8 +1,7 @@
 -- Functions and rules (ISO 10303-11:1994, 9.5, 9.6).
-use Rattle.std.specs.Prelude.{ℕ, Bool, true, false, ◌-◌, List, [], Option, if◌then◌else◌}
-use Rattle.text_forms.specs.Forms.{◌>>=◌, ◌>>◌, ◌<$>◌, pure}
+use Rattle.std.specs.Prelude.{true, false, ◌-◌, List, [], if◌then◌else◌}
+use Rattle.text_forms.specs.Forms.{◌>>=◌, ◌>>◌, pure}
 use Rattle.ex_tree.specs.declared.kind.TokenKind.TheVariants as k
-use Rattle.ex_tree.specs.declared.expression.Name.{Name}
 use Rattle.ex_tree.specs.declared.expression.Expression.{Expression}
 use Rattle.ex_tree.specs.declared.statement.Statement.{Statement}
 use Rattle.ex_tree.specs.declared.declaration.Parameter.{Parameter}
@@ -11,7 +10,7 @@ use Rattle.ex_tree.specs.declared.declaration.FunctionHead.{FunctionHead}
 use Rattle.ex_tree.specs.declared.declaration.Function.{Function}
 use Rattle.ex_tree.specs.declared.declaration.RuleHead.{RuleHead}
 use Rattle.ex_tree.specs.declared.declaration.Rule.{Rule}
-use Rattle.ex_forms.specs.Input.{Parser, Lexemes, sees, expect, enter, name, some, separated, optional}
+use Rattle.ex_forms.specs.Input.{Parser, sees, expect, enter, name, some, separated, optional}
 use Rattle.ex_expressions.specs.Expressions.{expression}
 use Rattle.ex_statements.specs.declared.place.Place.{Place}
 use Rattle.ex_statements.specs.Statements.{statements, begins_statement}

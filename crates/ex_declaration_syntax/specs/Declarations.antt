@@ -1,5 +1,5 @@
 -- Rules with their labels, names of attributes, constants and types (ISO 10303-11:1994, 8.3, 9.1, 9.2.2, 9.4).
-use Rattle.std.specs.Prelude.{ℕ, Bool, ◌&&◌, ◌||◌, List, [], Option, if◌then◌else◌}
+use Rattle.std.specs.Prelude.{ℕ, Bool, ◌&&◌, ◌||◌, List, [], if◌then◌else◌}
 use Rattle.text_forms.specs.Forms.{◌>>=◌, ◌>>◌, ◌<$>◌, pure}
 use Rattle.ex_tree.specs.declared.kind.TokenKind.{TokenKind}
 use Rattle.ex_tree.specs.declared.kind.TokenKind.TheVariants as k

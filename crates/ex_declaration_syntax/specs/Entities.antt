@@ -1,6 +1,6 @@
 -- Entities (ISO 10303-11:1994, 9.2).
-use Rattle.std.specs.Prelude.{ℕ, Bool, true, false, ◌-◌, List, [], Option, Some, None, if◌then◌else◌}
-use Rattle.text_forms.specs.Forms.{◌>>=◌, ◌>>◌, ◌<$>◌, pure}
+use Rattle.std.specs.Prelude.{Bool, true, false, ◌-◌, List, [], Option, Some, None, if◌then◌else◌}
+use Rattle.text_forms.specs.Forms.{◌>>=◌, ◌>>◌, pure}
 use Rattle.ex_tree.specs.declared.kind.TokenKind.{TokenKind}
 use Rattle.ex_tree.specs.declared.kind.TokenKind.TheVariants as k
 use Rattle.ex_tree.specs.declared.expression.Name.{Name}
@@ -15,7 +15,7 @@ use Rattle.ex_tree.specs.declared.declaration.SupertypeExpression.{SupertypeExpr
 use Rattle.ex_tree.specs.declared.declaration.EntityHead.{EntityHead}
 use Rattle.ex_tree.specs.declared.declaration.EntityBody.{EntityBody}
 use Rattle.ex_tree.specs.declared.declaration.Entity.{Entity}
-use Rattle.ex_forms.specs.Input.{Parser, Lexemes, sees, peek, eat, expect, enter, refuse, name, many, some, separated, optional}
+use Rattle.ex_forms.specs.Input.{Parser, Lexemes, sees, peek, eat, expect, enter, name, many, some, separated, optional}
 use Rattle.ex_expressions.specs.Expressions.{expression}
 use Rattle.ex_declaration_syntax.specs.DataTypes.{base_type, optional_bounds}
 use Rattle.ex_declaration_syntax.specs.Supertypes.{supertype_expression}
