@@ -16,12 +16,7 @@ use std::alloc::{AllocError, Global};
 
 impl Attributes {
     /// The attributes of this name that an entity or one above it declares.
-    fn named(
-        &self,
-        alloc: Global,
-        entity: usize,
-        name: &str,
-    ) -> Result<Vec<&Attribute>, AllocError>
+    fn named(&self, alloc: Global, entity: usize, name: &str) -> Result<Vec<&Attribute>, AllocError>
         ensures { IfOk result (λ found. read found.items ≡ spec.named_attributes self.now entity name.now) }
     {
         let family = self.family(entity);

@@ -47,7 +47,11 @@ impl OwnedDeclarations {
     }
 
     /// Puts an attribute behind the others.
-    pub fn push_attribute(&mut self, name: Identifier, place: AttributePlace) -> Result<(), AllocError>
+    pub fn push_attribute(
+        &mut self,
+        name: Identifier,
+        place: AttributePlace,
+    ) -> Result<(), AllocError>
         ensures { OnOk result (self.new ≡ record self.old { attributes = self.old.attributes ++ (name, place) ∷ [] }) }
     {
         self.attributes.push((name, place))?;

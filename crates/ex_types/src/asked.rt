@@ -59,10 +59,7 @@ fn ask_declarations<'a>(
 }
 
 /// Puts the names that functions and rules take behind the others.
-fn ask_algorithms<'a>(
-    names: &mut Vec<&'a str>,
-    schema: &'a NamedSchema,
-) -> Result<(), AllocError> {
+fn ask_algorithms<'a>(names: &mut Vec<&'a str>, schema: &'a NamedSchema) -> Result<(), AllocError> {
     for function in schema.functions.as_slice() {
         ask_locals(names, function.locals.as_slice())?;
         ask_statements(names, function.statements.as_slice())?;

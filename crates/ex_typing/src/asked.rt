@@ -50,10 +50,7 @@ fn ask_qualifiers<'a>(
 }
 
 #[cycle(asked)]
-fn ask_qualifier<'a>(
-    names: &mut Vec<&'a str>,
-    tree: &'a NamedQualifier,
-) -> Result<(), AllocError> {
+fn ask_qualifier<'a>(names: &mut Vec<&'a str>, tree: &'a NamedQualifier) -> Result<(), AllocError> {
     match tree {
         NamedQualifier::Attribute(_, name) => Ok(names.push(name.text.as_str())?),
         NamedQualifier::Group(_, _) => Ok(()),

@@ -19,10 +19,7 @@ pub fn ask_statements<'a>(
 }
 
 #[cycle(asked)]
-fn ask_statement<'a>(
-    names: &mut Vec<&'a str>,
-    tree: &'a NamedStatement,
-) -> Result<(), AllocError> {
+fn ask_statement<'a>(names: &mut Vec<&'a str>, tree: &'a NamedStatement) -> Result<(), AllocError> {
     match tree {
         NamedStatement::Null | NamedStatement::Escape | NamedStatement::Skip => Ok(()),
         NamedStatement::Assignment(_, _, value) => ask(names, value),
