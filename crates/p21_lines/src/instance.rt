@@ -1,6 +1,6 @@
 //! Instances.
 
-ghost use Rattle.std.specs.Prelude.{◌≡◌, ◌++◌, ◌∷◌, [], IfOk, OnOk, map, take, drop};
+ghost use Rattle.std.specs.Prelude.{◌≡◌, ◌++◌, ◌∷◌, [], OnOk, map, take, drop};
 ghost use Rattle.std.specs.List.{flat_map};
 ghost use Rattle.p21_spelling.specs.Instances as spelled;
 ghost use Rattle.p21_spelling.specs.Tokens.{enclosed};
@@ -11,9 +11,7 @@ use crate::parts::{Leaves, Part, leaf_part, own_parts};
 use crate::tokens::write_name;
 use crate::value::write_attributes;
 use ex_named::NamedEntity;
-use ex_subtypes::Compiled;
 use ex_types::CheckedSchema;
-use plain_data::Text;
 use rp_content::{Instance, Types};
 use rp_value::Value;
 use std::alloc::{AllocError, Global};
@@ -125,7 +123,7 @@ fn write_mapping(
 }
 
 /// `#name=mapping;`
-fn write_entity_instance(
+pub fn write_entity_instance(
     alloc: Global,
     out: &mut Output,
     leaves: &mut Leaves<'_>,
@@ -174,18 +172,4 @@ pub fn write_lines(
         write_line(alloc, out, &mut leaves, instance)?;
     }
     Ok(())
-}
-
-/// The canonical text of one instance: its line, without the line feed.
-pub fn write_instance(
-    alloc: Global,
-    schema: &Compiled,
-    instance: &Instance,
-) -> Result<Text, AllocError>
-    ensures { IfOk result (λ text. text ≡ spelled.instance_text (spec.instance_tree schema.now instance.now)) }
-{
-    let mut out = Output::new(alloc);
-    let mut leaves = Leaves::new(alloc, schema.schema());
-    write_entity_instance(alloc, &mut out, &mut leaves, instance)?;
-    Ok(out.into_text())
 }

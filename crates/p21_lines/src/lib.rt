@@ -11,7 +11,8 @@ mod type_names;
 mod value;
 
 pub use header::write_values;
-pub use instance::{write_instance, write_lines};
+pub use instance::{write_entity_instance, write_lines};
 pub use output::Output;
+pub use parts::Leaves;
 pub use tokens::write_string;
 pub use type_names::type_text;

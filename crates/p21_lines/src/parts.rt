@@ -90,7 +90,7 @@ pub(crate) fn own_parts(
 
 /// The leaves that were written before.
 #[derive(Drop)]
-pub(crate) struct Leaves<'s> {
+pub struct Leaves<'s> {
     schema: &'s CheckedSchema,
     parts: Vec<Part>,
     /// Where a leaf stands among them.
@@ -114,7 +114,7 @@ impl<'s> Model for Leaves<'s> {
 }
 
 impl<'s> Leaves<'s> {
-    pub(crate) fn new(alloc: Global, schema: &'s CheckedSchema) -> Leaves<'s>
+    pub fn new(alloc: Global, schema: &'s CheckedSchema) -> Leaves<'s>
         ensures { result ≡ schema.now }
     {
         Leaves {

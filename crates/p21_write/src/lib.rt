@@ -2,6 +2,8 @@
 #![tactic(auto)]
 
 mod file;
+mod single;
 
 pub use file::write;
-pub use p21_lines::{type_text, write_instance};
+pub use p21_lines::type_text;
+pub use single::write_instance;
