@@ -8,7 +8,7 @@ ghost use Rattle.ex_tree.specs.Identifiers.{is_identifier, is_identifier_byte, a
 use std::alloc::{AllocError, Global};
 use std::marker::Model;
 
-/// How long an identifier may be that takes no block: with it, it is as large as with one.
+/// The most bytes that stand in an identifier itself: so many make it no larger than the `Vec` of a block does.
 const SHORT: usize = 30;
 
 /// Where an identifier's bytes are kept: the first ones of a field, or a block.
