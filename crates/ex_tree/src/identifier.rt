@@ -43,10 +43,22 @@ impl Model for Identifier {
     ghost invariant = { λ i. is_identifier (bytes_in i.spelling) ≡ true };
 }
 
+// Each byte of an identifier stands at its own place, and a point at every other. A table is read faster than a choice
+// among bytes.
+static IDENTIFIER_BYTES: [u8; 256] = *b"\
+    ................................\
+    ................0123456789......\
+    .ABCDEFGHIJKLMNOPQRSTUVWXYZ...._\
+    ................................\
+    ................................\
+    ................................\
+    ................................\
+    ................................";
+
 fn is_identifier_byte(byte: u8) -> bool
     ensures { result ≡ is_identifier_byte byte }
 {
-    byte.is_ascii_uppercase() || byte.is_ascii_digit() || byte == b'_'
+    IDENTIFIER_BYTES[usize::from(byte)] != b'.'
 }
 
 fn are_identifier_bytes(bytes: &[u8]) -> bool
