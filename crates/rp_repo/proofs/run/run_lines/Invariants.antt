@@ -12,7 +12,7 @@ invariant-lines g l = record {
   spends : Spends (g.R.Source.remaining l.initial.reader) (g.R.Source.remaining l.reader) 4294967295 l.chunk.reads;
   same_reader : g.R.Source.read_failures l.reader ≡ g.R.Source.read_failures l.initial.reader;
   same_writer : g.W.Sink.write_failures l.writer ≡ g.W.Sink.write_failures l.initial.writer;
-  fits : l.count + turns l.chunk ≤ 4294967295 * 4097;
+  fits : l.count + turns l.chunk ≤ 4294967295 * 65537;
 }
 
 abbrev pub decreases-lines : goal.decreases-lines
