@@ -10,6 +10,7 @@ use fault::Fault;
 use plain_data::Text;
 use rp_config::{FromFiles, LoadFault, Loaded, file_bytes, load_all, wrong_place};
 use rp_repo::{FromReader, Repository, RunFault, ToWriter, run_lines};
+use std::alloc::Global;
 use std::process::ExitCode;
 use std::rt::{Env, Files};
 use std::{env, io, mem};
@@ -43,9 +44,22 @@ fn run<R: AllocGlobal + Files + Env + Print + Eprint + Input>(rt: &R) -> Result<
     }
 }
 
+/// How large a block may be that the C library's allocator keeps once it is let go, where it has had one of this size back
+/// before.
+const LARGEST_KEPT: usize = 31 << 20;
+
+/// Has the allocator keep the blocks of long lists that are let go. Else it gives each back to the system, and the lists
+/// after it take fresh pages, which cost a twentieth of a check. Nothing but time rests on it.
+fn keep_large_blocks(alloc: Global) {
+    if let Ok(block) = Vec::<u8>::with_capacity(alloc, LARGEST_KEPT) {
+        drop(block);
+    }
+}
+
 /// Tells whether the file of this path is a schema.
 fn check<R: AllocGlobal + Files + Print>(rt: &R, path: &str) -> Result<ExitCode, Fault> {
     let alloc = rt.alloc();
+    keep_large_blocks(alloc);
     let text = file_bytes(alloc, &FromFiles::new(rt), path)?;
     let mut writer = ToWriter::new(io::writer(rt));
     let compiled = compile_schema(alloc, &text);
