@@ -1,4 +1,2 @@
 pub mod Reading
-pub mod Agreement
-pub mod Linked
 pub mod WholeFiles

@@ -14,10 +14,11 @@ use Rattle.p21_tree.specs.declared.raw.Raw.{Raw}
 use Rattle.rp_content.specs.declared.content.Content.{Content}
 use Rattle.rp_content.specs.declared.instance.Instance.{Instance}
 use Rattle.p21_bind.specs.declared.loading.Loading.{Loading}
-use Rattle.p21_bind.specs.Files.{Instances, first_of, told, one, instances, instances_after, content, bound_file}
+use Rattle.p21_mappings.specs.Contents.{content}
+use Rattle.p21_bind.specs.Files.{Instances, first_of, told, one, instances, instances_after, bound_file}
 use Rattle.p21_bind.specs.OnePass.{any_name, no_name, apart, all_references, Becomes, loaded}
-use Rattle.p21_bind.specs.Single.{mapping_references}
-use Rattle.p21_bind.proofs.Agreement.{instance_same}
+use Rattle.p21_mappings.specs.Referred.{mapping_references}
+use Rattle.p21_mappings.proofs.Agreement.{instance_same}
 use Rattle.p21_bind.proofs.Reading.{neither, apart_from, alike}
 
 -- ---- one more

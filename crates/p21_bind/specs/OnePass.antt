@@ -12,7 +12,7 @@ use Rattle.p21_tree.specs.declared.raw.Raw.{Raw}
 use Rattle.rp_content.specs.declared.content.Content.{Content}
 use Rattle.p21_bind.specs.declared.loading.Loading.{Loading}
 use Rattle.p21_bind.specs.Files.{Instances, first_of, one, bound_file}
-use Rattle.p21_bind.specs.Single.{mapping_references}
+use Rattle.p21_mappings.specs.Referred.{mapping_references}
 
 abbrev pub any_name : ℕ → Bool
 any_name name = true

@@ -1,16 +1,16 @@
 //! A whole file.
 
-ghost use Rattle.std.specs.Prelude.{◌≡◌, ◌++◌, ◌∷◌, ◌==◌, ◌&&◌, ◌||◌, ℕ, [], false, not, reverse, nat_lt, IfOk, OnOk};
+ghost use Rattle.std.specs.Prelude.{◌≡◌, ◌++◌, ◌∷◌, ◌==◌, ◌&&◌, ◌||◌, ℕ, [], false, not, reverse, OnOk};
 ghost use Rattle.std.specs.List.Sorted.{IsPermutation};
-ghost use Rattle.p21_instances.specs.Instances.{in_order, is_among};
+ghost use Rattle.p21_instances.specs.Instances.{is_among};
 ghost use Rattle.p21_instances.specs.Instances as order;
 ghost use Rattle.text_forms.specs.Gives.{Gives};
 ghost use Rattle.p21_bind.specs.Files as spec;
 ghost use Rattle.p21_mappings.specs.Instances as instances;
 
-use crate::header::header_of;
+use crate::mapped::instance;
 use ex_subtypes::Compiled;
-use p21_mappings::{Defined, DefinedNames, Names, Plans, instance};
+use p21_mappings::{Defined, DefinedNames, Names, Plans, header_of, in_name_order};
 use p21_tree::{Header, Instance as Spelled, InstanceFault, Raw};
 use plain_data::{Items, Rows};
 use rp_content::{Content, Instance};
@@ -95,14 +95,6 @@ fn instances(
     let mut reversed = spelled.into_vec();
     reversed.reverse();
     all_read(alloc, plans, &names, &linked, reversed)
-}
-
-/// The instances in the order of their names.
-pub fn in_name_order(mut instances: Vec<Instance>) -> Result<Rows<Instance>, AllocError>
-    ensures { IfOk result (λ ordered. ordered ≡ in_order (λ x y. nat_lt x.name y.name) instances.items) }
-{
-    instances.sort_by_key(|instance| instance.name)?;
-    Ok(Rows::from_vec(instances))
 }
 
 /// The header of a file, and its instances.

@@ -3,8 +3,8 @@
 #![tactic(auto)]
 
 mod file;
-mod header;
 mod loading;
+mod mapped;
 mod single;
 
 pub use file::bind;

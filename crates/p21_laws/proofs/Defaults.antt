@@ -1,6 +1,6 @@
 -- The header that stands by default is read of one that is well spelled.
 use Rattle.std.proofs.Common.{◌≡◌, ℕ, true, List, [], ◌∷◌, Ok, codes, refl, ◌∙◌, ap}
-use Rattle.p21_bind.specs.Files.{header, header_value, text}
+use Rattle.p21_mappings.specs.Contents.{header, header_value, text}
 use Rattle.p21_spelling.proofs.Equations.{header_spelling-List, header_spelling-Text}
 use Rattle.p21_spelling.specs.Files.{is_header}
 use Rattle.p21_spelling.specs.Tokens.{is_string, quoted}

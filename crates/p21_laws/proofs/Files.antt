@@ -8,7 +8,8 @@ use Rattle.std.specs.List.{AllByRecursion, list_all}
 use Rattle.std.specs.Str.{IsAscii}
 use Rattle.ex_slots.specs.Slots.{Slot}
 use Rattle.ex_types.specs.Checked.{Checked}
-use Rattle.p21_bind.specs.Files.{bound_file, content, header}
+use Rattle.p21_bind.specs.Files.{bound_file}
+use Rattle.p21_mappings.specs.Contents.{content, header}
 use Rattle.p21_mappings.specs.Instances.{instance}
 use Rattle.p21_instances.specs.Instances.{is_among}
 use Rattle.p21_read.specs.File.{file_of}

@@ -1,8 +1,8 @@
 -- The header is read again of what is written of it.
 use Rattle.std.proofs.Common.{◌≡◌, ◌≤◌, ◌==◌, ℕ, pos, suc, Bool, true, ◌&&◌, nat_le, List, [], ◌∷◌, length, map, Ok, Err, Result, IsUtf8, refl, sym, ◌∙◌, ap, subst, arith}
 use Rattle.std.proofs.lemmas.Bool.Decides.{nat_tests}
-use Rattle.p21_bind.specs.Files as bind
-use Rattle.p21_bind.specs.Files.{header, header_value, text}
+use Rattle.p21_mappings.specs.Contents as bind
+use Rattle.p21_mappings.specs.Contents.{header, header_value, text}
 use Rattle.p21_grammar.specs.Grammar.{max_nesting}
 use Rattle.p21_spelling.proofs.Equations.{header_spelling-List, header_spelling-Text, header_spelling-Unset}
 use Rattle.p21_spelling.proofs.Headers as spelled

@@ -4,7 +4,8 @@ use Rattle.std.proofs.lemmas.Bool.Decides.{nat_tests}
 use Rattle.std.proofs.lemmas.List.Folds.{list_any-append}
 use Rattle.std.specs.List.{AllByRecursion, list_any}
 use Rattle.ex_types.specs.Checked.{Checked}
-use Rattle.p21_bind.specs.Files.{bound_file, header, told}
+use Rattle.p21_bind.specs.Files.{bound_file, told}
+use Rattle.p21_mappings.specs.Contents.{header}
 use Rattle.p21_mappings.specs.Instances.{Read, instance}
 use Rattle.p21_bind.specs.Single.{bound_instance}
 use Rattle.p21_instances.specs.Instances.{is_among}

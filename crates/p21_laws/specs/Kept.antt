@@ -2,7 +2,7 @@
 use Rattle.std.specs.Prelude.{◌≡◌, ◌≤◌, ◌<◌, ◌⊎◌, ℕ, Bool, true, List, [], ◌∷◌, ◌++◌, map, Ok}
 use Rattle.std.specs.List.{AllByRecursion, list_all}
 use Rattle.ex_types.specs.Checked.{Checked}
-use Rattle.p21_bind.specs.Files.{header}
+use Rattle.p21_mappings.specs.Contents.{header}
 use Rattle.p21_bind.specs.Single.{bound_instance}
 use Rattle.p21_instances.specs.Instances.{is_among}
 use Rattle.p21_read.specs.File.{file_of}

@@ -2,3 +2,5 @@ pub mod Ascending
 pub mod References
 pub mod Stars
 pub mod Slots
+pub mod Agreement
+pub mod Linked

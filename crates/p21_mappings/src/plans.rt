@@ -173,7 +173,7 @@ impl<'s> Plans<'s> {
     }
 
     /// The same, with what is looked up in it.
-    pub(crate) fn reader(&self) -> &Reader<'s>
+    pub fn reader(&self) -> &Reader<'s>
         ensures { result.now ≡ self.now }
     {
         &self.reader
@@ -210,7 +210,7 @@ impl<'s> Plans<'s> {
     }
 
     /// The entity of this name, in either case.
-    pub(crate) fn entity_named(
+    pub fn entity_named(
         &mut self,
         alloc: Global,
         keyword: &Spelled<'_>,
@@ -230,7 +230,7 @@ impl<'s> Plans<'s> {
     }
 
     /// What an instance of an entity and all above it has values of, if one was made before.
-    pub(crate) fn leaf(&self, entity: usize) -> Option<&Leaf<'s>>
+    pub fn leaf(&self, entity: usize) -> Option<&Leaf<'s>>
         ensures leaf { IfSome result (λ leaf. spec.internal self.now entity ≡ Some (kept.leaf_plan leaf.now)) }
         ensures read { IfSome result (λ leaf. read_spec.AreRead self.now leaf.now) }
     {
@@ -241,7 +241,7 @@ impl<'s> Plans<'s> {
     }
 
     /// Keeps a leaf, by which an instance was made, unless as many are kept as may be.
-    pub(crate) fn keep_leaf(&mut self, leaf: Leaf<'s>) -> Result<(), AllocError>
+    pub fn keep_leaf(&mut self, leaf: Leaf<'s>) -> Result<(), AllocError>
         requires leaf { spec.internal self.old leaf.entity ≡ Some (kept.leaf_plan leaf) }
         requires read { read_spec.AreRead self.old leaf }
         ensures { self.new ≡ self.old }

@@ -71,7 +71,7 @@ impl<'s> Reader<'s> {
     ghost use Rattle.std.specs.Prelude.{◌≡◌, IfOk};
     ghost use Rattle.p21_mappings.specs.Plans as spec;
 
-    pub fn of(alloc: Global, compiled: &'s Compiled) -> Result<Reader<'s>, AllocError>
+    pub(crate) fn of(alloc: Global, compiled: &'s Compiled) -> Result<Reader<'s>, AllocError>
         ensures { IfOk result (λ r. r ≡ compiled.now) }
     {
         let types = DefinedTypes::of(alloc, compiled.schema().types())?;
@@ -79,26 +79,26 @@ impl<'s> Reader<'s> {
     }
 
     /// The schema.
-    pub fn schema(&self) -> &'s Compiled
+    pub(crate) fn schema(&self) -> &'s Compiled
         ensures { result.now ≡ self.now }
     {
         self.compiled
     }
 
-    pub fn types(&self) -> &DefinedTypes<'s>
+    pub(crate) fn types(&self) -> &DefinedTypes<'s>
         ensures { result.now ≡ self.now.named.schema.types }
     {
         &self.types
     }
 
-    pub fn entities(&self) -> &'s [NamedEntity]
+    pub(crate) fn entities(&self) -> &'s [NamedEntity]
         ensures { result.now ≡ self.now.named.schema.entities }
     {
         self.compiled.schema().entities()
     }
 
     /// The entity of this name, in either case.
-    pub fn entity_named(
+    pub(crate) fn entity_named(
         &self,
         alloc: Global,
         keyword: &Keyword<'_>,
@@ -110,14 +110,14 @@ impl<'s> Reader<'s> {
     }
 
     /// The entities above one and itself, in the order in which files write their values.
-    pub fn line_of(&self, alloc: Global, entity: usize) -> Result<Rows<usize>, AllocError>
+    pub(crate) fn line_of(&self, alloc: Global, entity: usize) -> Result<Rows<usize>, AllocError>
         ensures { IfOk result (λ line. line ≡ spec.line_of self.now entity) }
     {
         self.compiled.schema().line(alloc, entity)
     }
 
     /// Whether an instance may have exactly these entities.
-    pub fn is_legal(&self, alloc: Global, numbers: &[usize]) -> Result<bool, AllocError>
+    pub(crate) fn is_legal(&self, alloc: Global, numbers: &[usize]) -> Result<bool, AllocError>
         ensures { IfOk result (λ legal. legal ≡ spec.is_legal self.now numbers.now) }
     {
         let set = set_of(alloc, numbers)?;
@@ -125,7 +125,7 @@ impl<'s> Reader<'s> {
     }
 
     /// How many of the schema's names come before that of an entity.
-    pub fn name_rank(&self, entity: usize) -> usize
+    pub(crate) fn name_rank(&self, entity: usize) -> usize
         ensures { result ≡ spec.name_rank self.now entity }
     {
         match self.entities().get(entity) {

@@ -4,7 +4,8 @@ use Rattle.std.specs.List.{AllByRecursion, list_all}
 use Rattle.std.proofs.lemmas.Bool.{eq-eqb, or_from, or_left, or_right}
 use Rattle.std.proofs.lemmas.Bool.Decides.{nat_tests}
 use Rattle.ex_types.specs.Checked.{Checked}
-use Rattle.p21_bind.specs.Files.{Instances, told, first_of, content, bound_by, instances_after, instances, bound_file}
+use Rattle.p21_mappings.specs.Contents.{content}
+use Rattle.p21_bind.specs.Files.{Instances, told, first_of, bound_by, instances_after, instances, bound_file}
 use Rattle.p21_mappings.specs.Instances.{Read, instance}
 use Rattle.p21_instances.specs.Instances as spelled
 use Rattle.p21_instances.specs.Instances.{is_among}

@@ -9,7 +9,8 @@ use Rattle.p21_read.specs.File.{file_of}
 use Rattle.p21_instances.specs.Instances as spelled
 use Rattle.p21_instances.specs.Instances.{in_order, is_among}
 use Rattle.p21_instances.proofs.Sets.{list_all-same}
-use Rattle.p21_bind.specs.Files.{content, bound_file}
+use Rattle.p21_mappings.specs.Contents.{content}
+use Rattle.p21_bind.specs.Files.{bound_file}
 use Rattle.rp_content.specs.declared.content.Content.{Content}
 use Rattle.rp_content.specs.declared.instance.Instance.{Instance}
 use Rattle.rp_content.specs.declared.link.Link.{Link}

@@ -12,7 +12,8 @@ use Rattle.p21_tree.specs.declared.fault.FileFault.{FileFault}
 use Rattle.p21_tree.specs.declared.fault.InstanceFault.{InstanceFault}
 use Rattle.p21_read.specs.File.{file_of}
 use Rattle.p21_read.specs.Schemas.{is_of_schema}
-use Rattle.p21_bind.specs.Files.{content, bound_file}
+use Rattle.p21_mappings.specs.Contents.{content}
+use Rattle.p21_bind.specs.Files.{bound_file}
 use Rattle.rp_content.specs.declared.content.Content.{Content}
 use Rattle.rp_content.specs.declared.link.Link.{Link}
 use Rattle.rp_rows.specs.declared.rows.Level.TheVariants.{Read}

@@ -9,7 +9,8 @@ use Rattle.p21_tree.specs.declared.raw.Raw.{Raw}
 use Rattle.p21_read.specs.File.{file_of}
 use Rattle.p21_tree.specs.declared.instance.Mapping.{Mapping}
 use Rattle.p21_read.specs.Single.{mapping_of}
-use Rattle.p21_bind.specs.Files.{header, bound_file}
+use Rattle.p21_mappings.specs.Contents.{header}
+use Rattle.p21_bind.specs.Files.{bound_file}
 use Rattle.p21_bind.specs.Single.{bound_instance}
 use Rattle.rp_content.specs.declared.content.Content.{Content}
 use Rattle.rp_content.specs.declared.header.Header.{Header}

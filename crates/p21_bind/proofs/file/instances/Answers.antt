@@ -4,7 +4,7 @@ use Rattle.std.specs.List.Sorted.{IsPermutation}
 use Rattle.text_forms.specs.Gives.{Gives}
 use Rattle.p21_instances.specs.Instances.{is_among, names}
 use Rattle.p21_bind.specs.Files as spec
-use Rattle.p21_bind.proofs.Linked.{same_names}
+use Rattle.p21_mappings.proofs.Linked.{same_names}
 use Rattle.p21_bind.proofs.file.instances.Goals as goal
 
 pub all_read-requires : goal.all_read-requires

@@ -5,12 +5,12 @@ use Rattle.p21_instances.specs.Instances.{has_twice, is_among}
 use Rattle.p21_read.specs.File.{file_of}
 use Rattle.p21_read.specs.Visited.{ShownAll}
 use Rattle.p21_bind.specs.OnePass.{Becomes, loaded}
-use Rattle.p21_bind.specs.Files.{content}
+use Rattle.p21_mappings.specs.Contents.{content}
 use Rattle.p21_bind.proofs.WholeFiles.{loaded_whole, of_found}
 use Rattle.p21_bind.proofs.loading.load.Goals as goal
 
-pub returns-whole : goal.returns-whole
-returns-whole c =
+pub returns-into_content : goal.returns-into_content
+returns-into_content c =
     let first = c.in_ok-loading.loading in
     let now = c.read_visited.new.visitor in
     let start : Becomes first [] first = record {
@@ -21,9 +21,9 @@ returns-whole c =
     } in
     let given : IfSome c.in_ok-raw.field-0 (λ rest. ShownAll (Becomes first) rest now (file_of c.args.text.now)) = c.in_ok-raw.ensures first start in
     let shown = subst (λ o. IfSome o (λ rest. ShownAll (Becomes first) rest now (file_of c.args.text.now))) c.in-Some.is given in
-    of_found c.whole.result (λ held. held ≡ content c.in-Some.raw.header now.instances.items) (λ held. has_twice (λ m n. m == n) now.names.items ≡ false)
+    of_found c.into_content.result (λ held. held ≡ content c.in-Some.raw.header now.instances.items) (λ held. has_twice (λ m n. m == n) now.names.items ≡ false)
     (λ held. list_all (is_among (now.names.items ++ c.args.linked.now)) now.references.items ≡ true)
     (λ held. loaded c.args.schema.now c.args.name.now c.args.linked.now (file_of c.args.text.now) ≡ Some held)
     (λ held made once defined. loaded_whole c.args.schema.now c.args.name.now c.args.linked.now first now c.in-Some.raw held (file_of c.args.text.now) shown
     c.in_ok-loading.ensures.plans (sym c.in_ok-is_of_schema.ensures ∙ c.if-not-branch.false) once defined made)
-    c.whole.ensures.content c.whole.ensures.once c.whole.ensures.defined
+    c.into_content.ensures.content c.into_content.ensures.once c.into_content.ensures.defined

@@ -2,7 +2,7 @@ use Rattle.std.proofs.Common.{[], ◌∷◌, ◌++◌, Ok, ◌∙◌, sym, ap}
 use Rattle.std.proofs.lemmas.List.{map-append}
 use Rattle.p21_bind.specs.Files.{one}
 use Rattle.p21_bind.specs.OnePass.{any_name, no_name}
-use Rattle.p21_bind.specs.Single.{mapping_references}
+use Rattle.p21_mappings.specs.Referred.{mapping_references}
 use Rattle.p21_bind.proofs.WholeFiles.{apart_more, references_more}
 use Rattle.p21_bind.proofs.loading.LoadingVisitor.visit.Goals as goal
 
