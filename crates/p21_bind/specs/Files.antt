@@ -2,7 +2,7 @@
 use Rattle.std.specs.Prelude.{ℕ, pos, Bool, false, ◌||◌, ◌==◌, nat_lt, List, [], ◌∷◌, ◌++◌, map, Option, Some, None, Result, Ok, Err}
 use Rattle.ex_types.specs.Checked.{Checked}
 use Rattle.p21_instances.specs.Instances.{in_order, names, is_among}
-use Rattle.p21_strings.specs.Decoding.{decoded}
+use Rattle.p21_escapes.specs.Decoding.{decoded}
 use Rattle.p21_tree.specs.declared.fault.InstanceFault.{InstanceFault}
 use Rattle.p21_tree.specs.declared.header.Header as spelled_header
 use Rattle.p21_tree.specs.declared.header.HeaderValue.{HeaderValue}
