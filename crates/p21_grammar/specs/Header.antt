@@ -1,9 +1,9 @@
 -- The header of an exchange file. ISO 10303-21.
 use Rattle.std.specs.Prelude.{ℕ, zero, suc, Bool, ◌||◌, List, [], ◌∷◌, ◌++◌, codes}
 use Rattle.text_forms.specs.Forms.{◌>>=◌, ◌>>◌, ◌<$>◌, pure, many}
-use Rattle.p21_text.specs.declared.token.TokenKind.{TokenKind}
-use Rattle.p21_text.specs.declared.token.TokenKind.TheVariants as k
-use Rattle.p21_text.specs.Tokens.{Lexemes, Parser, peek, sees_word, word, expect, refuse, too_deep}
+use Rattle.p21_lexemes.specs.declared.token.TokenKind.{TokenKind}
+use Rattle.p21_lexemes.specs.declared.token.TokenKind.TheVariants as k
+use Rattle.p21_lexemes.specs.Tokens.{Lexemes, Parser, peek, sees_word, word, expect, refuse, too_deep}
 use Rattle.p21_grammar.specs.Grammar.{quoted, listed, record_form, max_nesting}
 use Rattle.p21_tree.specs.declared.header.HeaderValue.{HeaderValue}
 use Rattle.p21_tree.specs.declared.header.HeaderValue.TheVariants as header

@@ -4,9 +4,9 @@ ghost use Rattle.std.specs.Prelude.{◌≡◌, [], IfOk, OnOk};
 ghost use Rattle.text_forms.specs.Forms as forms;
 ghost use Rattle.text_forms.specs.Forms.{turns};
 ghost use Rattle.text_forms.specs.Gives.{ReadsAs, Takes};
-ghost use Rattle.p21_text.specs.Tokens as spec;
+ghost use Rattle.p21_lexemes.specs.Tokens as spec;
 
-use p21_text::{TokenKind, Tokens};
+use p21_lexemes::{TokenKind, Tokens};
 use p21_tree::{FileFault, Instance, Record, Value};
 use plain_data::Items;
 use std::alloc::{AllocError, Global};
@@ -22,7 +22,7 @@ pub struct Source<'t> {
 }
 
 impl<'t> Model for Source<'t> {
-    ghost use Rattle.p21_text.specs.Tokens.{Lexemes};
+    ghost use Rattle.p21_lexemes.specs.Tokens.{Lexemes};
 
     ghost Value = { Lexemes };
 

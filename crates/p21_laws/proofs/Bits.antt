@@ -7,7 +7,7 @@ use Rattle.std.specs.Char.{is_ascii_hexdigit}
 use Rattle.std.specs.List.{flat_map, list_all}
 use Rattle.p21_spelling.specs.Tokens.{is_bits}
 use Rattle.p21_spelling.proofs.Runs.{both_hold, first_holds, second_holds}
-use Rattle.p21_text.specs.Lexical.{is_binary}
+use Rattle.p21_lexemes.specs.Lexical.{is_binary}
 use Rattle.p21_values.specs.Tokens.{bits, bits_of_digit}
 use Rattle.p21_lines.specs.Binaries.{binary, digit, digits, unused, unused_of, weighs}
 

@@ -5,7 +5,7 @@ use Rattle.p21_spelling.proofs.Equations.{header_spelling-List, header_spelling-
 use Rattle.p21_spelling.specs.Files.{is_header}
 use Rattle.p21_spelling.specs.Tokens.{is_string, quoted}
 use Rattle.p21_spelling.specs.Values.{header_spelling, leaf, list}
-use Rattle.p21_strings.specs.Decoding.{decoded, fault, front, spelled}
+use Rattle.p21_escapes.specs.Decoding.{decoded, fault, front, spelled}
 use Rattle.p21_tree.specs.declared.header.Header as tree
 use Rattle.p21_tree.specs.declared.header.HeaderValue.{HeaderValue}
 use Rattle.p21_tree.specs.declared.header.HeaderValue.TheVariants as h

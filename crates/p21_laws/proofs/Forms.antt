@@ -7,7 +7,7 @@ use Rattle.ex_named.specs.declared.declaration.NamedType.{NamedType}
 use Rattle.p21_spelling.proofs.Equations.{spelling-Unset, spelling-Integer, spelling-Real, spelling-Text, spelling-Item, spelling-Binary, spelling-Reference, spelling-List, spelling-Typed}
 use Rattle.p21_spelling.specs.Tokens.{is_bits, is_integer, is_name, is_real, is_string, is_word, quoted}
 use Rattle.p21_spelling.specs.Values.{Spelling, leaf, list, spelling, typed}
-use Rattle.p21_strings.specs.Encoding.{encoded}
+use Rattle.p21_escapes.specs.Encoding.{encoded}
 use Rattle.p21_tree.specs.declared.value.Value as tree
 use Rattle.p21_tree.specs.declared.value.Value.TheFolds as trees
 use Rattle.p21_tree.specs.declared.value.Value.TheOpen as opened

@@ -13,9 +13,9 @@ use Rattle.p21_spelling.specs.Instances.{are_values}
 use Rattle.p21_spelling.specs.Tokens.{is_string, quoted}
 use Rattle.p21_spelling.specs.Values as spellings
 use Rattle.p21_spelling.specs.Values.{Spelling, all_spelled, deepest, header_spelling, leaf, list}
-use Rattle.p21_strings.proofs.Escapes.{decoded-encoded}
-use Rattle.p21_strings.specs.Decoding.{decoded}
-use Rattle.p21_strings.specs.Encoding.{encoded}
+use Rattle.p21_escapes.proofs.Escapes.{decoded-encoded}
+use Rattle.p21_escapes.specs.Decoding.{decoded}
+use Rattle.p21_escapes.specs.Encoding.{encoded}
 use Rattle.p21_tree.specs.declared.header.Header as tree
 use Rattle.p21_tree.specs.declared.header.HeaderValue.{HeaderValue}
 use Rattle.p21_tree.specs.declared.header.HeaderValue.TheFolds.{fold-roll-HeaderValue, ind-HeaderValue, map-HeaderValue}

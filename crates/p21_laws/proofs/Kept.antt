@@ -17,7 +17,7 @@ use Rattle.p21_spelling.proofs.Spelled.{file_is}
 use Rattle.p21_spelling.specs.Files.{is_file, is_header}
 use Rattle.p21_spelling.specs.Instances.{is_mapping}
 use Rattle.p21_spelling.specs.Tokens.{is_name}
-use Rattle.p21_text.specs.Lexical.{max_name}
+use Rattle.p21_lexemes.specs.Lexical.{max_name}
 use Rattle.p21_tree.specs.declared.header.Header as spelled_header
 use Rattle.p21_tree.specs.declared.instance.Instance as tree
 use Rattle.p21_lines.specs.Trees.{canonical, content_tree, instance_tree}

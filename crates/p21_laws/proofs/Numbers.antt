@@ -10,7 +10,7 @@ use Rattle.std.specs.Prelude.{decimal, neg_ℤ}
 use Rattle.p21_spelling.proofs.Names.{are_digits-decimal, value-decimal}
 use Rattle.p21_spelling.proofs.Runs.{at_most, both_hold, first_holds, is_within, second_holds}
 use Rattle.p21_spelling.specs.Tokens.{are_digits}
-use Rattle.p21_text.specs.Lexical as lexical
+use Rattle.p21_lexemes.specs.Lexical as lexical
 use Rattle.p21_values.specs.Tokens.{greatest, integer}
 use Rattle.rp_numbers.specs.Spelling.{is_negative, sign_len, signed}
 use Rattle.rp_numbers.specs.Whole.{value, value_after}

@@ -7,7 +7,7 @@ use Rattle.p21_spelling.proofs.Spelled.{value_levels, value_spelled}
 use Rattle.p21_spelling.proofs.Values.{value_again}
 use Rattle.p21_spelling.specs.Again.{ReadsAgain}
 use Rattle.p21_spelling.specs.Values.{text_of}
-use Rattle.p21_text.specs.Tokens.{Lexemes, lexemes}
+use Rattle.p21_lexemes.specs.Tokens.{Lexemes, lexemes}
 use Rattle.p21_tree.specs.declared.value.Value as tree
 use Rattle.p21_values.specs.Taking.{bound}
 use Rattle.p21_lines.specs.Trees.{value_tree}

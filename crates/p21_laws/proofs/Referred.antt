@@ -10,8 +10,8 @@ use Rattle.lineage.specs.Lineage.{is_among}
 use Rattle.name_tables.specs.Names.{place_of}
 use Rattle.p21_mappings.specs.Instances.{has_star, star_layer}
 use Rattle.p21_instances.specs.Instances.{references, referred}
-use Rattle.p21_strings.specs.Decoding.{decoded}
-use Rattle.p21_strings.specs.Encoding.{encoded}
+use Rattle.p21_escapes.specs.Decoding.{decoded}
+use Rattle.p21_escapes.specs.Encoding.{encoded}
 use Rattle.p21_tree.specs.declared.value.Value as tree
 use Rattle.p21_tree.specs.declared.value.Value.TheFolds as trees
 use Rattle.p21_tree.specs.declared.value.Value.TheOpen as opened

@@ -17,9 +17,9 @@ use Rattle.p21_spelling.proofs.Written.{written_integer, written_real, written_t
 use Rattle.p21_spelling.specs.Tokens.{is_name, is_word}
 use Rattle.p21_spelling.specs.Values as spellings
 use Rattle.p21_spelling.specs.Values.{Spelling, all_spelled, deepest, leaf, list, spelling, typed}
-use Rattle.p21_strings.proofs.Escapes.{decoded-encoded}
-use Rattle.p21_strings.specs.Decoding.{decoded}
-use Rattle.p21_strings.specs.Encoding.{encoded}
+use Rattle.p21_escapes.proofs.Escapes.{decoded-encoded}
+use Rattle.p21_escapes.specs.Decoding.{decoded}
+use Rattle.p21_escapes.specs.Encoding.{encoded}
 use Rattle.p21_tree.specs.declared.value.Value as tree
 use Rattle.p21_tree.specs.declared.value.Value.TheFolds.{ind-Value, map-Value}
 use Rattle.p21_tree.specs.declared.value.Value.TheOpen.{Value-F}

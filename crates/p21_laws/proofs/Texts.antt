@@ -8,10 +8,10 @@ use Rattle.std.specs.Prelude.{slice_index}
 use Rattle.std.specs.Str.{is_utf8, continuation_len}
 use lib.Utf8.{scalar}
 use Rattle.p21_spelling.proofs.Runs.{second_holds}
-use Rattle.p21_strings.specs.declared.fault.StringFault.TheVariants as fault
-use Rattle.p21_strings.specs.Decoding as spec
-use Rattle.p21_strings.specs.Decoding.{Spelled, Front, ◌>>=◌, appended, character, coded, decoded, directive, enclosed, ended, escape, front, groups, hexadecimal, is_high, is_line_end, is_low, long, long_groups, page, raw, short, short_groups, spelled, spelled_from, text_of, unit, upper_half}
-use Rattle.p21_strings.specs.Digits.{is_digit, digit_value, value_of_four}
+use Rattle.p21_escapes.specs.declared.fault.StringFault.TheVariants as fault
+use Rattle.p21_escapes.specs.Decoding as spec
+use Rattle.p21_escapes.specs.Decoding.{Spelled, Front, ◌>>=◌, appended, character, coded, decoded, directive, enclosed, ended, escape, front, groups, hexadecimal, is_high, is_line_end, is_low, long, long_groups, page, raw, short, short_groups, spelled, spelled_from, text_of, unit, upper_half}
+use Rattle.p21_escapes.specs.Digits.{is_digit, digit_value, value_of_four}
 
 abbrev IsText : {A : Type 0} → Spelled A → Type 0
 IsText (Ok p) = IsUtf8 p.1

@@ -7,7 +7,7 @@ use Rattle.p21_bind.specs.Single.{bound_instance}
 use Rattle.p21_instances.specs.Instances.{is_among}
 use Rattle.p21_read.specs.File.{file_of}
 use Rattle.p21_read.specs.Single.{mapping_of}
-use Rattle.p21_text.specs.Lexical.{max_name}
+use Rattle.p21_lexemes.specs.Lexical.{max_name}
 use Rattle.p21_tree.specs.declared.instance.Mapping.{Mapping}
 use Rattle.p21_tree.specs.declared.raw.Raw.{Raw}
 use Rattle.p21_lines.specs.Trees.{instance_tree}

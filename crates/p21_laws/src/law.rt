@@ -10,7 +10,7 @@ ghost use Rattle.p21_laws.specs.Types.{AreTypes};
 ghost use Rattle.p21_grammar.specs.Grammar.{value_at};
 ghost use Rattle.p21_spelling.specs.Again.{ReadsAgain};
 ghost use Rattle.p21_spelling.specs.Values.{spelling, text_of};
-ghost use Rattle.p21_text.specs.Tokens.{Lexemes, lexemes};
+ghost use Rattle.p21_lexemes.specs.Tokens.{Lexemes, lexemes};
 ghost use Rattle.p21_tree.specs.declared.value.Value as tree;
 ghost use Rattle.p21_values.specs.Taking.{bound};
 ghost use Rattle.p21_lines.specs.Trees.{value_tree};

@@ -5,8 +5,8 @@ use Rattle.std.proofs.lemmas.Str.{IsUtf8-nil, IsUtf8-append, IsUtf8-from_ascii, 
 use Rattle.std.proofs.lemmas.Str.Ascii.{IsAscii-nil, IsAscii-cons}
 use Rattle.std.specs.List.{flat_map, list_any}
 use Rattle.std.specs.Str.{IsAscii, chars}
-use Rattle.p21_strings.specs.Digits.{digit, four, eight, end}
-use Rattle.p21_strings.specs.Encoding.{is_plain, Run, Plain, Others, with_other, runs, is_wide, plain_text, others_text, run_text, runs_text, encoded}
+use Rattle.p21_escapes.specs.Digits.{digit, four, eight, end}
+use Rattle.p21_escapes.specs.Encoding.{is_plain, Run, Plain, Others, with_other, runs, is_wide, plain_text, others_text, run_text, runs_text, encoded}
 
 either : (b : Bool) (xs ys : List ℕ) → IsAscii xs → IsAscii ys → IsAscii (if b then xs else ys)
 either true xs ys x y = x

@@ -3,7 +3,7 @@ use Rattle.std.proofs.Common.{◌≡◌, ℕ, ℤ, Bool, List, [], ◌∷◌, �
 use Rattle.std.specs.Prelude.{decimal}
 use Rattle.std.specs.Fmt.{signed_decimal}
 use Rattle.ex_named.specs.declared.declaration.NamedType.{NamedType}
-use Rattle.p21_strings.specs.Encoding.{encoded}
+use Rattle.p21_escapes.specs.Encoding.{encoded}
 use Rattle.p21_spelling.specs.Tokens.{quoted, enclosed}
 use Rattle.p21_spelling.specs.Values as spelled
 use Rattle.p21_spelling.specs.Values.{Spelling, spelling, header_spelling, text_of, listed}

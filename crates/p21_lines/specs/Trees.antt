@@ -14,7 +14,7 @@ use Rattle.ex_tree.specs.declared.expression.Name.{Name}
 use Rattle.ex_types.specs.Checked.{Checked}
 use Rattle.lineage.specs.Lineage.{line}
 use Rattle.lineage.specs.Numbered.{numbered}
-use Rattle.p21_strings.specs.Encoding.{encoded}
+use Rattle.p21_escapes.specs.Encoding.{encoded}
 use Rattle.p21_tree.specs.declared.header.Header as spelled_header
 use Rattle.p21_tree.specs.declared.header.HeaderValue.{HeaderValue}
 use Rattle.p21_tree.specs.declared.header.HeaderValue.TheVariants as h

@@ -1,7 +1,7 @@
 //! The text that is written.
 
 ghost use Rattle.std.specs.Prelude.{◌≡◌, ◌<◌, ◌++◌, ◌∷◌, [], OnOk, IfOk};
-ghost use Rattle.p21_strings.specs.Encoding.{encoded};
+ghost use Rattle.p21_escapes.specs.Encoding.{encoded};
 
 use p21_strings::encode_string;
 use plain_data::Text;

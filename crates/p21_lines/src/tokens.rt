@@ -3,7 +3,7 @@
 ghost use Rattle.std.specs.Prelude.{◌≡◌, ◌++◌, ◌∷◌, [], OnOk, decimal};
 ghost use Rattle.std.specs.Fmt.{signed_decimal};
 ghost use Rattle.p21_spelling.specs.Tokens as spec;
-ghost use Rattle.p21_strings.specs.Encoding.{encoded};
+ghost use Rattle.p21_escapes.specs.Encoding.{encoded};
 ghost use Rattle.rp_numbers.specs.Written.{written};
 
 use crate::output::Output;

@@ -1,7 +1,7 @@
 -- What a model holds of a file whose instances are made: the header, and the order of the instances (ISO 10303-21:2002, clause 9).
 use Rattle.std.specs.Prelude.{ℕ, pos, nat_lt, List, [], map, Option, Some, None}
 use Rattle.p21_instances.specs.Instances.{in_order}
-use Rattle.p21_strings.specs.Decoding.{decoded}
+use Rattle.p21_escapes.specs.Decoding.{decoded}
 use Rattle.p21_tree.specs.declared.header.Header as spelled_header
 use Rattle.p21_tree.specs.declared.header.HeaderValue.{HeaderValue}
 use Rattle.p21_tree.specs.declared.header.HeaderValue.TheFolds.{fold-HeaderValue}

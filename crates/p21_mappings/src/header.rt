@@ -1,7 +1,7 @@
 //! The header of a file.
 
 ghost use Rattle.std.specs.Prelude.{◌≡◌, map, IfOk, OnOk};
-ghost use Rattle.p21_strings.specs.Decoding.{decoded};
+ghost use Rattle.p21_escapes.specs.Decoding.{decoded};
 ghost use Rattle.p21_values.specs.Tokens.{ok};
 ghost use Rattle.p21_mappings.specs.Contents as spec;
 

@@ -3,7 +3,7 @@
 -- tokens, in front and behind too; values nest as deep as in a file. ISO 10303-21, SIMPLE_RECORD and SUBSUPER_RECORD.
 use Rattle.std.specs.Prelude.{ℕ, List, Result}
 use Rattle.text_forms.specs.Forms.{◌>>=◌, ◌>>◌, pure}
-use Rattle.p21_text.specs.Tokens.{Parser, lexemes, finish}
+use Rattle.p21_lexemes.specs.Tokens.{Parser, lexemes, finish}
 use Rattle.p21_tree.specs.declared.fault.FileFault.{FileFault}
 use Rattle.p21_tree.specs.declared.instance.Mapping.{Mapping}
 use Rattle.p21_grammar.specs.Grammar.{mapping_form}

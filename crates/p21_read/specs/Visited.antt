@@ -1,7 +1,7 @@
 -- A file whose instances are shown one after the other to a visitor.
 use Rattle.std.specs.Prelude.{◌≡◌, false, true, List, [], Option, Result, Ok, Err}
 use Rattle.text_forms.specs.Forms.{Outcome}
-use Rattle.p21_text.specs.Tokens.{Lexemes}
+use Rattle.p21_lexemes.specs.Tokens.{Lexemes}
 use Rattle.p21_tree.specs.declared.fault.FileFault.{FileFault}
 use Rattle.p21_tree.specs.declared.instance.Instance.{Instance}
 use Rattle.p21_tree.specs.declared.raw.Raw.{Raw}

@@ -5,7 +5,7 @@ ghost use Rattle.text_forms.specs.Gives.{Reads, Gives};
 ghost use Rattle.p21_read.specs.Single as spec;
 
 use p21_grammar::{Read, Source, mapping};
-use p21_text::Tokens;
+use p21_lexemes::Tokens;
 use p21_tree::{FileFault, Mapping};
 use std::alloc::Global;
 use text_forms::Failure;

@@ -2,8 +2,8 @@
 
 ghost use Rattle.std.specs.Prelude.{◌≡◌, ◌++◌, ◌∷◌, List, [], true, IfOk, IfSome};
 ghost use Rattle.text_forms.specs.Forms.{repeat};
-ghost use Rattle.p21_text.specs.Tokens.{sees};
-ghost use Rattle.p21_text.specs.declared.token.TokenKind.TheVariants as k;
+ghost use Rattle.p21_lexemes.specs.Tokens.{sees};
+ghost use Rattle.p21_lexemes.specs.declared.token.TokenKind.TheVariants as k;
 ghost use Rattle.p21_tree.specs.declared.instance.Instance as tree;
 ghost use Rattle.p21_grammar.specs.Grammar as grammar;
 ghost use Rattle.p21_read.specs.File.{data_section, file, file_of};
@@ -11,7 +11,7 @@ ghost use Rattle.p21_read.specs.Visited as spec;
 
 use crate::file::{file_end, mark, section};
 use p21_grammar::{Head, Read, Source, header_section, instance, line};
-use p21_text::{TokenKind, Tokens};
+use p21_lexemes::{TokenKind, Tokens};
 use p21_tree::{Instance, Raw, Section};
 use plain_data::Rows;
 use std::alloc::{AllocError, Global};

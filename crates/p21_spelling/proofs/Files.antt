@@ -2,10 +2,10 @@
 use Rattle.std.proofs.Common.{◌≡◌, ◌<◌, ℕ, ◌&&◌, true, false, Option, None, Some, List, [], ◌∷◌, ◌++◌, length, codes, Ok, refl, sym, ◌∙◌, ap, le_refl, arith, append_assoc, append-nil}
 use Rattle.std.specs.List.{list_all}
 use Rattle.text_forms.specs.Forms.{◌>>◌, pure}
-use Rattle.p21_text.specs.declared.token.TokenKind.{TokenKind}
-use Rattle.p21_text.specs.declared.token.TokenKind.TheVariants as k
-use Rattle.p21_text.specs.Tokens.{lexemes, sees, sees_word, finish, too_many_sections, same_kind}
-use Rattle.p21_text.proofs.Lexemes.{lexemes-end}
+use Rattle.p21_lexemes.specs.declared.token.TokenKind.{TokenKind}
+use Rattle.p21_lexemes.specs.declared.token.TokenKind.TheVariants as k
+use Rattle.p21_lexemes.specs.Tokens.{lexemes, sees, sees_word, finish, too_many_sections, same_kind}
+use Rattle.p21_lexemes.proofs.Lexemes.{lexemes-end}
 use Rattle.p21_read.specs.File.{section_names, section, data_section, mark, file_end, file, tree_of, file_of}
 use Rattle.p21_tree.specs.declared.instance.Instance.{Instance}
 use Rattle.p21_tree.specs.declared.raw.Raw.{Raw}

@@ -8,15 +8,15 @@ use Rattle.std.specs.List.{list_all, list_any, prefix_len, AllByRecursion}
 use Rattle.std.specs.Option.{is_none}
 use Rattle.std.specs.Prelude.{is_ok, slice_index}
 use Rattle.std.specs.Str.{str_eq_ignore_ascii_case}
-use Rattle.p21_strings.specs.declared.fault.StringFault.{StringFault}
-use Rattle.p21_strings.specs.Decoding as strings
-use Rattle.p21_strings.specs.Encoding.{is_paired}
-use Rattle.p21_text.specs.declared.token.TokenKind.{TokenKind}
-use Rattle.p21_text.specs.declared.token.TokenKind.TheVariants as k
-use Rattle.p21_text.specs.declared.front.Start.{Start}
-use Rattle.p21_text.specs.declared.front.Start.TheVariants.{Blank, Token, Fault}
-use Rattle.p21_text.specs.Lexical.{front, word, number, real, name, item, string, closed, quoted, binary, is_binary, slash, comment_len, commented, directive, single, punctuation, string_end, is_letter, is_word_byte, is_mark_byte, is_sign, sign_len, digits_len, exponent_len, value, greatest, max_name}
-use Rattle.p21_text.specs.Tokens.{Lexeme, Lexemes, lexemes, lexemes_from, with_front}
+use Rattle.p21_escapes.specs.declared.fault.StringFault.{StringFault}
+use Rattle.p21_escapes.specs.Decoding as strings
+use Rattle.p21_escapes.specs.Encoding.{is_paired}
+use Rattle.p21_lexemes.specs.declared.token.TokenKind.{TokenKind}
+use Rattle.p21_lexemes.specs.declared.token.TokenKind.TheVariants as k
+use Rattle.p21_lexemes.specs.declared.front.Start.{Start}
+use Rattle.p21_lexemes.specs.declared.front.Start.TheVariants.{Blank, Token, Fault}
+use Rattle.p21_lexemes.specs.Lexical.{front, word, number, real, name, item, string, closed, quoted, binary, is_binary, slash, comment_len, commented, directive, single, punctuation, string_end, is_letter, is_word_byte, is_mark_byte, is_sign, sign_len, digits_len, exponent_len, value, greatest, max_name}
+use Rattle.p21_lexemes.specs.Tokens.{Lexeme, Lexemes, lexemes, lexemes_from, with_front}
 use Rattle.p21_tree.specs.declared.fault.FaultKind.TheVariants as fault
 use Rattle.p21_grammar.specs.Grammar.{inner}
 use Rattle.rp_numbers.specs.Spelling.{parse}

@@ -10,13 +10,13 @@ use Rattle.std.specs.List.{list_all, list_any, prefix_len}
 use Rattle.std.specs.Option.{is_none, is_some}
 use Rattle.std.specs.Prelude.{is_ok, slice_index, option_map}
 use Rattle.std.specs.Str.{str_eq_ignore_ascii_case}
-use Rattle.p21_strings.specs.declared.fault.StringFault.{StringFault}
-use Rattle.p21_strings.specs.Decoding as strings
-use Rattle.p21_strings.specs.Encoding.{is_paired}
-use Rattle.p21_text.specs.declared.token.TokenKind.{TokenKind}
-use Rattle.p21_text.specs.declared.token.TokenKind.TheVariants as k
-use Rattle.p21_text.specs.declared.front.Start.TheVariants.{Token}
-use Rattle.p21_text.specs.Lexical.{front, word, number, name, item, string, quoted, binary, is_binary, punctuation, string_end, is_letter, is_word_byte, is_mark_byte, is_sign, sign_len, digits_len, exponent_len, value, greatest, max_name}
+use Rattle.p21_escapes.specs.declared.fault.StringFault.{StringFault}
+use Rattle.p21_escapes.specs.Decoding as strings
+use Rattle.p21_escapes.specs.Encoding.{is_paired}
+use Rattle.p21_lexemes.specs.declared.token.TokenKind.{TokenKind}
+use Rattle.p21_lexemes.specs.declared.token.TokenKind.TheVariants as k
+use Rattle.p21_lexemes.specs.declared.front.Start.TheVariants.{Token}
+use Rattle.p21_lexemes.specs.Lexical.{front, word, number, name, item, string, quoted, binary, is_binary, punctuation, string_end, is_letter, is_word_byte, is_mark_byte, is_sign, sign_len, digits_len, exponent_len, value, greatest, max_name}
 use Rattle.rp_numbers.specs.Spelling as numbers
 use Rattle.p21_spelling.specs.Tokens.{are_digits, is_integer, is_real, is_bits, is_word, is_string, is_cut}
 use Rattle.p21_spelling.proofs.Runs.{first_holds, second_holds, both_hold, cut_fails, run_ends, test_at, run_of_all, prefix_all, all_more, none_of}

@@ -4,10 +4,10 @@ use denote.Enum.Bare.{same_true}
 use Rattle.std.specs.List.{AllByRecursion}
 use Rattle.std.specs.Str.{str_eq_ignore_ascii_case}
 use Rattle.text_forms.specs.Forms.{Outcome, turns, repeat, repeat_from, and_then, ◌>>=◌, ◌>>◌, ◌<$>◌, pure}
-use Rattle.p21_text.specs.contracts.token.TokenKind.{the_type}
-use Rattle.p21_text.specs.declared.token.TokenKind.{TokenKind}
-use Rattle.p21_text.specs.declared.token.TokenKind.TheVariants as k
-use Rattle.p21_text.specs.Tokens.{Lexeme, Lexemes, Parser, expect, sees, sees_next, word, peek, same_kind, ends_by, finish}
+use Rattle.p21_lexemes.specs.contracts.token.TokenKind.{the_type}
+use Rattle.p21_lexemes.specs.declared.token.TokenKind.{TokenKind}
+use Rattle.p21_lexemes.specs.declared.token.TokenKind.TheVariants as k
+use Rattle.p21_lexemes.specs.Tokens.{Lexeme, Lexemes, Parser, expect, sees, sees_next, word, peek, same_kind, ends_by, finish}
 use Rattle.p21_tree.specs.declared.fault.FaultKind.{FaultKind}
 use Rattle.p21_tree.specs.declared.fault.FaultKind.TheVariants as fault
 use Rattle.p21_tree.specs.declared.fault.FileFault.{FileFault}

@@ -3,9 +3,9 @@ use Rattle.std.proofs.Common.{◌≡◌, ◌<◌, ◌≤◌, nat_le, ℕ, zero, 
 use Rattle.std.proofs.lemmas.Bool.{eqb-true}
 use Rattle.std.specs.Str.{str_eq_ignore_ascii_case}
 use Rattle.text_forms.specs.Forms.{◌>>=◌, ◌>>◌, pure}
-use Rattle.p21_text.specs.declared.token.TokenKind.{TokenKind}
-use Rattle.p21_text.specs.declared.token.TokenKind.TheVariants as k
-use Rattle.p21_text.specs.Tokens.{Lexeme, Lexemes, Parser, lexemes, before, kind, expect, sees, word, same_kind}
+use Rattle.p21_lexemes.specs.declared.token.TokenKind.{TokenKind}
+use Rattle.p21_lexemes.specs.declared.token.TokenKind.TheVariants as k
+use Rattle.p21_lexemes.specs.Tokens.{Lexeme, Lexemes, Parser, lexemes, before, kind, expect, sees, word, same_kind}
 use Rattle.p21_grammar.specs.Grammar.{quoted, max_nesting}
 use Rattle.p21_grammar.specs.Header.{header_value_with, header_value_by, header_list, header_value_at, header_value, more_of, header_values, line, entity, one_schema, file_schema, sees_dropped, dropped, all_dropped, header_section}
 use Rattle.p21_grammar.specs.declared.header.Head.{Head}

@@ -4,8 +4,8 @@ use Rattle.std.proofs.lemmas.List.{map-id}
 use Rattle.std.specs.List.{flat_map, list_all}
 use Rattle.std.specs.Prelude.{decimal}
 use Rattle.text_forms.specs.Forms.{repeat}
-use Rattle.p21_text.specs.declared.token.TokenKind.TheVariants as k
-use Rattle.p21_text.specs.Tokens.{Lexemes, lexemes, before, expect, sees, same_kind}
+use Rattle.p21_lexemes.specs.declared.token.TokenKind.TheVariants as k
+use Rattle.p21_lexemes.specs.Tokens.{Lexemes, lexemes, before, expect, sees, same_kind}
 use Rattle.p21_grammar.specs.Grammar.{max_nesting, name, listed, value, nested, record_form, records, mapping_form, instance, instances}
 use Rattle.p21_tree.specs.declared.instance.Instance.{Instance}
 use Rattle.p21_tree.specs.declared.instance.Mapping.{Mapping}

@@ -1,8 +1,8 @@
 -- Values in parentheses, with commas between, are read again where each of them is.
 use Rattle.std.proofs.Common.{◌≡◌, ℕ, Bool, true, false, if◌then◌else◌, List, [], ◌∷◌, ◌++◌, map, Ok, refl, sym, ◌∙◌, ap, le_refl, append_assoc, append-nil, arith, ◌≤◌}
 use Rattle.text_forms.specs.Forms.{repeat, ◌>>=◌, ◌>>◌, pure}
-use Rattle.p21_text.specs.declared.token.TokenKind.TheVariants as k
-use Rattle.p21_text.specs.Tokens.{Lexemes, Parser, lexemes, expect, sees, sees_next, same_kind}
+use Rattle.p21_lexemes.specs.declared.token.TokenKind.TheVariants as k
+use Rattle.p21_lexemes.specs.Tokens.{Lexemes, Parser, lexemes, expect, sees, sees_next, same_kind}
 use Rattle.p21_grammar.specs.Grammar as grammar
 use Rattle.p21_spelling.specs.Tokens.{enclosed, is_cut}
 use Rattle.p21_spelling.specs.Values.{Spelling, more, listed, all_spelled, deepest}

@@ -6,9 +6,9 @@ use Rattle.std.proofs.lemmas.Str.Parse.{IsNumeralModel, IsDigitsTest, FoldsDigit
 use Rattle.std.specs.Char.{is_ascii_digit}
 use Rattle.std.specs.List.{list_all}
 use Rattle.std.specs.Prelude.{decimal}
-use Rattle.p21_text.specs.declared.token.TokenKind.TheVariants as k
-use Rattle.p21_text.specs.Lexical.{value_after, value, max_name}
-use Rattle.p21_text.proofs.Digits.{le-value_after}
+use Rattle.p21_lexemes.specs.declared.token.TokenKind.TheVariants as k
+use Rattle.p21_lexemes.specs.Lexical.{value_after, value, max_name}
+use Rattle.p21_lexemes.proofs.Digits.{le-value_after}
 use Rattle.p21_grammar.specs.Grammar.{number_of}
 use Rattle.p21_spelling.specs.Tokens.{are_digits, is_name}
 use Rattle.p21_spelling.proofs.Runs.{both_hold, is_within}

@@ -1,7 +1,7 @@
 -- One instance by itself is read again.
 use Rattle.std.proofs.Common.{◌≡◌, ℕ, true, List, [], Ok, sym, ◌∙◌, ap, append-nil}
 use Rattle.text_forms.specs.Forms.{pure}
-use Rattle.p21_text.specs.Tokens.{lexemes, finish}
+use Rattle.p21_lexemes.specs.Tokens.{lexemes, finish}
 use Rattle.p21_tree.specs.declared.instance.Mapping.{Mapping}
 use Rattle.p21_grammar.specs.Grammar.{mapping_form}
 use Rattle.p21_read.specs.File.{tree_of}

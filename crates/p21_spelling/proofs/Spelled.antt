@@ -3,11 +3,11 @@ use Rattle.std.proofs.Common.{◌≡◌, ◌<◌, ◌≤◌, ℕ, zero, suc, ◌
 use Rattle.std.proofs.lemmas.Bool.Decides.{nat_tests}
 use Rattle.std.specs.List.{list_all, starts_with}
 use Rattle.text_forms.specs.Forms.{Outcome, repeat, many, ◌>>=◌, ◌>>◌, ◌<$>◌, pure}
-use Rattle.p21_text.specs.declared.token.TokenKind.{TokenKind}
-use Rattle.p21_text.specs.declared.token.TokenKind.TheVariants as k
-use Rattle.p21_text.specs.Lexical.{max_name}
-use Rattle.p21_text.specs.Tokens.{Lexemes, Parser, lexemes, expect, sees, peek, refuse, too_deep, too_many_sections, sees_word, word, finish, file_lexemes}
-use Rattle.p21_text.specs.Tokens as tokens
+use Rattle.p21_lexemes.specs.declared.token.TokenKind.{TokenKind}
+use Rattle.p21_lexemes.specs.declared.token.TokenKind.TheVariants as k
+use Rattle.p21_lexemes.specs.Lexical.{max_name}
+use Rattle.p21_lexemes.specs.Tokens.{Lexemes, Parser, lexemes, expect, sees, peek, refuse, too_deep, too_many_sections, sees_word, word, finish, file_lexemes}
+use Rattle.p21_lexemes.specs.Tokens as tokens
 use Rattle.p21_tree.specs.declared.fault.FileFault.{FileFault}
 use Rattle.p21_grammar.specs.Grammar.{inner, quoted, name_of, name, leaf, leaf_by, listed, list_of, value_by, value_with, typed_with, nested, deeper, value_at, enclosed_at, value, max_nesting, record_form, records, mapping_form, instance, instances}
 use Rattle.p21_grammar.specs.Header.{header_value_by, header_value_with, header_list, header_value_at, header_value, more_of, header_values, line, entity, one_schema, file_schema, sees_dropped, dropped, all_dropped, header_section}

@@ -5,13 +5,13 @@ use Rattle.std.proofs.lemmas.Bool.Decides.{nat_tests}
 use denote.Enum.Bare.{true_same}
 use Rattle.text_forms.specs.Forms.{turns, repeat, and_then, ◌>>=◌, ◌>>◌, ◌<$>◌, pure}
 use Rattle.text_forms.proofs.Repeat.{next, repeat_turn, repeat_done}
-use Rattle.p21_text.specs.contracts.token.TokenKind.{the_type}
-use Rattle.p21_text.specs.declared.token.TokenKind.{TokenKind}
-use Rattle.p21_text.specs.declared.token.TokenKind.TheVariants as k
-use Rattle.p21_text.specs.declared.front.Start.TheVariants.{Token}
-use Rattle.p21_text.specs.Lexical.{front, punctuation}
-use Rattle.p21_text.specs.Tokens.{Lexeme, Lexemes, Parser, lexemes, before, sees, expect, same_kind}
-use Rattle.p21_text.proofs.Lexemes.{lexemes-blank, lexemes-token}
+use Rattle.p21_lexemes.specs.contracts.token.TokenKind.{the_type}
+use Rattle.p21_lexemes.specs.declared.token.TokenKind.{TokenKind}
+use Rattle.p21_lexemes.specs.declared.token.TokenKind.TheVariants as k
+use Rattle.p21_lexemes.specs.declared.front.Start.TheVariants.{Token}
+use Rattle.p21_lexemes.specs.Lexical.{front, punctuation}
+use Rattle.p21_lexemes.specs.Tokens.{Lexeme, Lexemes, Parser, lexemes, before, sees, expect, same_kind}
+use Rattle.p21_lexemes.proofs.Lexemes.{lexemes-blank, lexemes-token}
 use Rattle.p21_grammar.specs.Grammar.{inner, quoted}
 use Rattle.p21_spelling.specs.Tokens as spec
 use Rattle.p21_spelling.specs.Tokens.{is_cut, is_string}

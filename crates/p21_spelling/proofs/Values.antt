@@ -2,9 +2,9 @@
 use Rattle.std.proofs.Common.{◌≡◌, ◌<◌, ◌≤◌, ℕ, zero, suc, ◌+◌, Bool, true, false, List, [], ◌∷◌, ◌++◌, length, map, Ok, refl, sym, ◌∙◌, ap, subst, arith, append_assoc}
 use Rattle.std.specs.Prelude.{decimal}
 use Rattle.text_forms.specs.Forms.{and_then, pure}
-use Rattle.p21_text.specs.declared.token.TokenKind.{TokenKind}
-use Rattle.p21_text.specs.declared.token.TokenKind.TheVariants as k
-use Rattle.p21_text.specs.Tokens.{Lexeme, Lexemes, Parser, lexemes, before, kind, expect, sees, same_kind}
+use Rattle.p21_lexemes.specs.declared.token.TokenKind.{TokenKind}
+use Rattle.p21_lexemes.specs.declared.token.TokenKind.TheVariants as k
+use Rattle.p21_lexemes.specs.Tokens.{Lexeme, Lexemes, Parser, lexemes, before, kind, expect, sees, same_kind}
 use Rattle.p21_grammar.specs.Grammar.{quoted, name, leaf, listed, list_of, value_by, value_with, typed_with, nested, deeper, value_at, enclosed_at}
 use Rattle.p21_tree.specs.declared.value.Value.{Value}
 use Rattle.p21_tree.specs.declared.value.Value.TheFolds.{fold-roll-Value, ind-Value, map-Value}

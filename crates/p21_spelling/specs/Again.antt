@@ -1,7 +1,7 @@
 -- What is spelled is read again.
 use Rattle.std.specs.Prelude.{◌≡◌, ◌<◌, ℕ, true, List, ◌++◌, Ok}
 use Rattle.text_forms.specs.Forms.{turns}
-use Rattle.p21_text.specs.Tokens.{Parser, lexemes}
+use Rattle.p21_lexemes.specs.Tokens.{Parser, lexemes}
 use Rattle.p21_spelling.specs.Tokens.{is_cut}
 
 -- A form reads a text in front of others as this tree, up to the place where they begin.

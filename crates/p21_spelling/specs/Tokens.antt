@@ -3,9 +3,9 @@ use Rattle.std.specs.Prelude.{ℕ, Bool, false, not, ◌&&◌, ◌||◌, ◌==�
 use Rattle.std.specs.Char.{is_ascii_digit}
 use Rattle.std.specs.List.{list_all}
 use Rattle.std.specs.Option.{is_none}
-use Rattle.p21_strings.specs.Decoding as strings
-use Rattle.p21_strings.specs.Encoding.{is_paired}
-use Rattle.p21_text.specs.Lexical.{is_letter, is_word_byte, is_binary, sign_len, value, greatest, max_name}
+use Rattle.p21_escapes.specs.Decoding as strings
+use Rattle.p21_escapes.specs.Encoding.{is_paired}
+use Rattle.p21_lexemes.specs.Lexical.{is_letter, is_word_byte, is_binary, sign_len, value, greatest, max_name}
 use Rattle.rp_numbers.specs.Spelling.{parse}
 
 -- one digit or more

@@ -6,7 +6,7 @@ use Rattle.rp_numbers.specs.declared.Logical.{Logical}
 use Rattle.rp_numbers.specs.declared.Logical.TheVariants as l
 use Rattle.rp_numbers.specs.Spelling.{sign_len, is_negative, signed}
 use Rattle.rp_numbers.specs.Whole.{value}
-use Rattle.p21_strings.specs.Digits.{digit_value}
+use Rattle.p21_escapes.specs.Digits.{digit_value}
 
 abbrev pub ok : {A E : Type 0} → Result A E → Option A
 ok (Ok a) = Some a

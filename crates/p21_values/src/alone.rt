@@ -5,7 +5,7 @@ ghost use Rattle.std.specs.List.{filter_map};
 ghost use Rattle.std.specs.Option.{option_and_then, option_map};
 ghost use Rattle.std.specs.Str.{str_to_ascii_uppercase};
 ghost use Rattle.name_tables.specs.Names.{place_of};
-ghost use Rattle.p21_strings.specs.Decoding.{decoded};
+ghost use Rattle.p21_escapes.specs.Decoding.{decoded};
 ghost use Rattle.rp_numbers.specs.Spelling.{parse};
 ghost use Rattle.rp_value.specs.declared.value.Value.TheVariants as v;
 ghost use Rattle.p21_tree.specs.declared.value.Value.TheVariants as tree;
@@ -76,7 +76,7 @@ fn of_real(alloc: Global, token: &[u8], base: &Base<'_>) -> Taken
 }
 
 /// The string that the bytes between its apostrophes spell. Most are empty, and spell nothing.
-#[tactic(auto, unfolding(p21_strings::specs::Decoding::decoded, p21_strings::specs::Decoding::spelled))]
+#[tactic(auto, unfolding(p21_escapes::specs::Decoding::decoded, p21_escapes::specs::Decoding::spelled))]
 fn text(alloc: Global, token: &[u8]) -> Taken
     ensures { IfOk result (λ taken. taken ≡ option_map v.Str (ok (decoded token.now))) }
 {

@@ -4,7 +4,7 @@ ghost use Rattle.std.specs.Prelude.{◌≡◌, ◌≤◌, ◌<◌, ◌-◌, ◌+
 ghost use Rattle.std.specs.List.{flat_map, list_all};
 ghost use Rattle.std.specs.Char.{is_ascii_digit};
 ghost use Rattle.std.specs.Str.{str_to_ascii_uppercase};
-ghost use Rattle.p21_strings.specs.Digits.{digit_value};
+ghost use Rattle.p21_escapes.specs.Digits.{digit_value};
 ghost use Rattle.rp_numbers.specs.Spelling as spelling;
 ghost use Rattle.rp_numbers.specs.Whole.{value, value_after};
 ghost use Rattle.p21_values.specs.Tokens as spec;

@@ -2,7 +2,7 @@
 
 ghost use Rattle.std.specs.Prelude.{◌≡◌, ◌++◌, IfOk, OnOk, map, None};
 ghost use Rattle.p21_spelling.specs.Files as spelled;
-ghost use Rattle.p21_strings.specs.Encoding.{encoded};
+ghost use Rattle.p21_escapes.specs.Encoding.{encoded};
 ghost use Rattle.p21_lines.specs.Trees as spec;
 
 use ex_subtypes::Compiled;

@@ -10,7 +10,7 @@ use Rattle.ex_named.specs.declared.expression.NamedDataType.{NamedDataType}
 use Rattle.lineage.specs.Lineage.{is_among}
 use Rattle.name_tables.specs.Names.{place_of}
 use Rattle.p21_instances.specs.Instances as spelled
-use Rattle.p21_strings.specs.Decoding.{decoded}
+use Rattle.p21_escapes.specs.Decoding.{decoded}
 use Rattle.p21_tree.specs.declared.value.Value as tree
 use Rattle.p21_tree.specs.declared.value.Value.TheFolds as trees
 use Rattle.p21_tree.specs.declared.value.Value.TheOpen.{Value-F}

@@ -6,8 +6,8 @@ use Rattle.text_forms.specs.Forms.{Outcome, and_then, ◌>>=◌, pure, turns, re
 use Rattle.p21_tree.specs.declared.fault.FileFault.{FileFault}
 use Rattle.p21_tree.specs.declared.instance.Instance.{Instance}
 use Rattle.p21_tree.specs.declared.raw.Raw.{Raw}
-use Rattle.p21_text.specs.declared.token.TokenKind.TheVariants as k
-use Rattle.p21_text.specs.Tokens.{Lexemes, Parser, sees, word, expect, file_lexemes}
+use Rattle.p21_lexemes.specs.declared.token.TokenKind.TheVariants as k
+use Rattle.p21_lexemes.specs.Tokens.{Lexemes, Parser, sees, word, expect, file_lexemes}
 use Rattle.p21_grammar.specs.Grammar.{name_of, name, mapping_form, instance, instances}
 use Rattle.p21_grammar.specs.Header.{line, header_section}
 use Rattle.p21_read.specs.File.{section, data_section, mark, file_end, file, file_of, tree_of}

@@ -2,8 +2,8 @@ use Rattle.std.proofs.Common.{rules, arith, [], ◌∷◌, ◌++◌, ◌∙◌, 
 use Rattle.std.proofs.lemmas.Grind.{common_steps}
 use Rattle.text_forms.specs.Forms.{turns}
 use Rattle.text_forms.proofs.Repeat.{repeat_turn, repeat_done}
-use Rattle.p21_text.specs.Tokens.{sees}
-use Rattle.p21_text.specs.declared.token.TokenKind.TheVariants as k
+use Rattle.p21_lexemes.specs.Tokens.{sees}
+use Rattle.p21_lexemes.specs.declared.token.TokenKind.TheVariants as k
 use Rattle.p21_grammar.specs.Grammar as grammar
 use Rattle.p21_read.proofs.visited.show_all.Goals as goal
 

@@ -1,7 +1,7 @@
 use Rattle.std.proofs.Common.{◌≡◌, List}
 use Rattle.text_forms.specs.Forms.{repeat, turns}
-use Rattle.p21_text.specs.Tokens.{sees}
-use Rattle.p21_text.specs.declared.token.TokenKind.TheVariants as k
+use Rattle.p21_lexemes.specs.Tokens.{sees}
+use Rattle.p21_lexemes.specs.declared.token.TokenKind.TheVariants as k
 use Rattle.p21_tree.specs.declared.instance.Instance as tree
 use Rattle.p21_grammar.specs.Grammar as grammar
 use Rattle.p21_read.proofs.visited.show_all.Given as goal

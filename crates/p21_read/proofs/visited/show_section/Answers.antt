@@ -1,8 +1,8 @@
 use Rattle.std.proofs.Common.{◌≡◌, ℕ, codes, List, [], Option, Ok, Err, ◌∙◌, ap, refl, subst, sym}
 use Rattle.std.specs.Prelude.{IfSome}
 use Rattle.text_forms.specs.Forms.{Outcome, and_then}
-use Rattle.p21_text.specs.Tokens.{Lexemes, expect, word}
-use Rattle.p21_text.specs.declared.token.TokenKind.TheVariants as k
+use Rattle.p21_lexemes.specs.Tokens.{Lexemes, expect, word}
+use Rattle.p21_lexemes.specs.declared.token.TokenKind.TheVariants as k
 use Rattle.p21_tree.specs.declared.fault.FileFault.{FileFault}
 use Rattle.p21_tree.specs.declared.instance.Instance.{Instance}
 use Rattle.p21_tree.specs.declared.raw.Section.{Section}

@@ -1,7 +1,7 @@
 use Rattle.std.proofs.Common.{rules, ◌≡◌, true}
 use Rattle.std.specs.List.{list_all}
-use Rattle.p21_strings.specs.Encoding.{is_itself}
-use Rattle.p21_strings.proofs.Runs.{encoded-themselves}
+use Rattle.p21_escapes.specs.Encoding.{is_itself}
+use Rattle.p21_escapes.proofs.Runs.{encoded-themselves}
 use Rattle.p21_strings.proofs.encode.encode_string.Goals as goal
 
 pub returns-then-are_themselves-clause-ok : goal.returns-then-are_themselves-clause-ok

@@ -1,4 +1,4 @@
-use Rattle.p21_strings.specs.Encoding.{encoded}
+use Rattle.p21_escapes.specs.Encoding.{encoded}
 use Rattle.p21_write.proofs.Written.{schema_written}
 use Rattle.p21_write.proofs.file.write_schema.Goals as goal
 

@@ -1,4 +1,4 @@
-use Rattle.p21_strings.specs.Encoding.{encoded}
+use Rattle.p21_escapes.specs.Encoding.{encoded}
 use Rattle.p21_lines.proofs.Ascii.{IsUtf8-tried, IsUtf8-encoded}
 use Rattle.p21_lines.proofs.output.Output.push_encoded.Goals as goal
 

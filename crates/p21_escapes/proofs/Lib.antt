@@ -1,0 +1,6 @@
+pub mod Begins
+pub mod Escapes
+pub mod Fronts
+pub mod LineEnds
+pub mod Runs
+pub mod Spelling
