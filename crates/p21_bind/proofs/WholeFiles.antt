@@ -5,8 +5,8 @@ use Rattle.std.specs.List.{AllByRecursion, list_all, list_any}
 use Rattle.ex_types.specs.Checked.{Checked}
 use Rattle.p21_instances.specs.Instances.{has_twice, is_among, names}
 use Rattle.p21_instances.proofs.SortedNames.{is_one}
-use Rattle.p21_read.specs.Schemas.{is_of_schema}
-use Rattle.p21_read.specs.Visited.{ShownAll}
+use Rattle.p21_grammar.specs.Schemas.{is_of_schema}
+use Rattle.p21_grammar.specs.Visited.{ShownAll}
 use Rattle.p21_tree.specs.declared.fault.FileFault.{FileFault}
 use Rattle.p21_tree.specs.declared.fault.InstanceFault.{InstanceFault}
 use Rattle.p21_tree.specs.declared.instance.Instance as tree

@@ -1,7 +1,7 @@
 //! A whole file, each instance of which is bound as soon as it is read.
 
 ghost use Rattle.std.specs.Prelude.{◌≡◌, Some, IfOk, IfSome, Ok};
-ghost use Rattle.p21_read.specs.File.{file_of};
+ghost use Rattle.p21_grammar.specs.File.{file_of};
 ghost use Rattle.p21_bind.specs.OnePass as spec;
 
 use crate::file::one;

@@ -12,7 +12,7 @@ use Rattle.p21_bind.specs.Files.{bound_file}
 use Rattle.p21_mappings.specs.Contents.{content, header}
 use Rattle.p21_mappings.specs.Instances.{instance}
 use Rattle.p21_instances.specs.Instances.{is_among}
-use Rattle.p21_read.specs.File.{file_of}
+use Rattle.p21_grammar.specs.File.{file_of}
 use Rattle.p21_grammar.specs.Grammar.{max_nesting}
 use Rattle.p21_spelling.proofs.Files.{file_again}
 use Rattle.p21_spelling.proofs.Runs.{both_hold, first_holds, second_holds}

@@ -9,7 +9,7 @@ use Rattle.p21_mappings.specs.Contents.{header}
 use Rattle.p21_mappings.specs.Instances.{Read, instance}
 use Rattle.p21_bind.specs.Single.{bound_instance}
 use Rattle.p21_instances.specs.Instances.{is_among}
-use Rattle.p21_read.specs.File.{file_of}
+use Rattle.p21_grammar.specs.File.{file_of}
 use Rattle.p21_spelling.proofs.Files.{file_again}
 use Rattle.p21_spelling.proofs.Runs.{both_hold}
 use Rattle.p21_spelling.proofs.Single.{mapping_of_is}

@@ -5,7 +5,7 @@ use Rattle.ex_types.specs.Checked.{Checked}
 use Rattle.p21_mappings.specs.Contents.{header}
 use Rattle.p21_bind.specs.Single.{bound_instance}
 use Rattle.p21_instances.specs.Instances.{is_among}
-use Rattle.p21_read.specs.File.{file_of}
+use Rattle.p21_grammar.specs.File.{file_of}
 use Rattle.p21_read.specs.Single.{mapping_of}
 use Rattle.p21_lexemes.specs.Lexical.{max_name}
 use Rattle.p21_tree.specs.declared.instance.Mapping.{Mapping}

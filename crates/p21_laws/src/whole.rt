@@ -12,7 +12,7 @@ ghost use Rattle.p21_laws.specs.Instances.{references_of};
 ghost use Rattle.p21_laws.specs.Contents.{AreAmong, IsRead, new_content};
 ghost use Rattle.p21_laws.specs.Kept.{IsKept};
 ghost use Rattle.p21_laws.specs.Schemas.{IsAccepted};
-ghost use Rattle.p21_read.specs.File.{file_of};
+ghost use Rattle.p21_grammar.specs.File.{file_of};
 ghost use Rattle.p21_tree.specs.declared.instance.Instance as tree;
 ghost use Rattle.p21_tree.specs.declared.raw.Raw.{Raw};
 ghost use Rattle.p21_lines.specs.Trees.{canonical, content_tree, instance_tree};

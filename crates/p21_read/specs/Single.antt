@@ -7,7 +7,7 @@ use Rattle.p21_lexemes.specs.Tokens.{Parser, lexemes, finish}
 use Rattle.p21_tree.specs.declared.fault.FileFault.{FileFault}
 use Rattle.p21_tree.specs.declared.instance.Mapping.{Mapping}
 use Rattle.p21_grammar.specs.Grammar.{mapping_form}
-use Rattle.p21_read.specs.File.{tree_of}
+use Rattle.p21_grammar.specs.File.{tree_of}
 
 -- a mapping, and then the end of the text
 unfoldable pub single : Parser Mapping

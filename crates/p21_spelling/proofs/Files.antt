@@ -6,7 +6,7 @@ use Rattle.p21_lexemes.specs.declared.token.TokenKind.{TokenKind}
 use Rattle.p21_lexemes.specs.declared.token.TokenKind.TheVariants as k
 use Rattle.p21_lexemes.specs.Tokens.{lexemes, sees, sees_word, finish, too_many_sections, same_kind}
 use Rattle.p21_lexemes.proofs.Lexemes.{lexemes-end}
-use Rattle.p21_read.specs.File.{section_names, section, data_section, mark, file_end, file, tree_of, file_of}
+use Rattle.p21_grammar.specs.File.{section_names, section, data_section, mark, file_end, file, tree_of, file_of}
 use Rattle.p21_tree.specs.declared.instance.Instance.{Instance}
 use Rattle.p21_tree.specs.declared.raw.Raw.{Raw}
 use Rattle.p21_tree.specs.declared.raw.Section.{Section}

@@ -4,7 +4,7 @@ use Rattle.text_forms.specs.Forms.{pure}
 use Rattle.p21_lexemes.specs.Tokens.{lexemes, finish}
 use Rattle.p21_tree.specs.declared.instance.Mapping.{Mapping}
 use Rattle.p21_grammar.specs.Grammar.{mapping_form}
-use Rattle.p21_read.specs.File.{tree_of}
+use Rattle.p21_grammar.specs.File.{tree_of}
 use Rattle.p21_read.specs.Single.{single, mapping_of}
 use Rattle.p21_spelling.specs.Instances.{mapping_text, is_mapping}
 use Rattle.p21_spelling.specs.Again.{Again}

@@ -11,7 +11,7 @@ use Rattle.p21_lexemes.specs.Tokens as tokens
 use Rattle.p21_tree.specs.declared.fault.FileFault.{FileFault}
 use Rattle.p21_grammar.specs.Grammar.{inner, quoted, name_of, name, leaf, leaf_by, listed, list_of, value_by, value_with, typed_with, nested, deeper, value_at, enclosed_at, value, max_nesting, record_form, records, mapping_form, instance, instances}
 use Rattle.p21_grammar.specs.Header.{header_value_by, header_value_with, header_list, header_value_at, header_value, more_of, header_values, line, entity, one_schema, file_schema, sees_dropped, dropped, all_dropped, header_section}
-use Rattle.p21_read.specs.File.{section_names, section, data_section, mark, file_end, file, tree_of, file_of}
+use Rattle.p21_grammar.specs.File.{section_names, section, data_section, mark, file_end, file, tree_of, file_of}
 use Rattle.p21_grammar.specs.declared.header.Head.{Head}
 use Rattle.p21_tree.specs.declared.header.HeaderValue.{HeaderValue}
 use Rattle.p21_tree.specs.declared.header.HeaderValue.TheVariants as h

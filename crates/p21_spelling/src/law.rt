@@ -5,7 +5,7 @@ ghost use mir.Syntax.{w64};
 ghost use Rattle.std.specs.Fmt.{signed_decimal};
 ghost use Rattle.std.specs.List.{list_all};
 ghost use Rattle.p21_grammar.specs.Grammar.{instance, instances, value_at};
-ghost use Rattle.p21_read.specs.File.{file_of};
+ghost use Rattle.p21_grammar.specs.File.{file_of};
 ghost use Rattle.p21_read.specs.Single.{mapping_of};
 ghost use Rattle.p21_lexemes.specs.Tokens.{Lexemes, lexemes, sees};
 ghost use Rattle.p21_lexemes.specs.declared.token.TokenKind.TheVariants as k;

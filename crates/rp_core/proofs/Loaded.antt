@@ -4,7 +4,7 @@ use Rattle.std.proofs.lemmas.Bool.{cases_Bool}
 use Rattle.ex_types.specs.Checked.{Checked}
 use Rattle.p21_bind.specs.Files.{bound_file}
 use Rattle.p21_bind.specs.OnePass.{found, loaded}
-use Rattle.p21_read.specs.Schemas.{is_of_schema}
+use Rattle.p21_grammar.specs.Schemas.{is_of_schema}
 use Rattle.p21_tree.specs.declared.fault.FileFault.{FileFault}
 use Rattle.p21_tree.specs.declared.fault.InstanceFault.{InstanceFault}
 use Rattle.p21_tree.specs.declared.raw.Raw.{Raw}

@@ -1,7 +1,7 @@
 //! Files that are put into models with their links, and exported.
 
 ghost use Rattle.std.specs.Prelude.{◌≡◌, List, Ok, IfOk, IfSome, option_copied, fold, length, max};
-ghost use Rattle.p21_read.specs.File.{file_of};
+ghost use Rattle.p21_grammar.specs.File.{file_of};
 ghost use Rattle.rp_rows.specs.Contents as contents;
 ghost use Rattle.rp_plain.specs.Meaning.{first_some, schema_of};
 ghost use Rattle.rp_plain.specs.Files as of_files;

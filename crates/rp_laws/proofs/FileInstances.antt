@@ -5,7 +5,7 @@ use Rattle.std.proofs.lemmas.List.Folds.{list_any-append}
 use Rattle.ex_types.specs.Checked.{Checked}
 use Rattle.p21_tree.specs.declared.instance.Instance as tree
 use Rattle.p21_tree.specs.declared.raw.Raw.{Raw}
-use Rattle.p21_read.specs.File.{file_of}
+use Rattle.p21_grammar.specs.File.{file_of}
 use Rattle.p21_instances.specs.Instances as spelled
 use Rattle.p21_instances.specs.Instances.{in_order, is_among}
 use Rattle.p21_instances.proofs.Sets.{list_all-same}

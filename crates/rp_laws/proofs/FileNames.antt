@@ -10,7 +10,7 @@ use Rattle.p21_lexemes.specs.declared.token.TokenKind.TheVariants as k
 use Rattle.p21_lexemes.specs.Tokens.{Lexemes, Parser, sees, word, expect, file_lexemes}
 use Rattle.p21_grammar.specs.Grammar.{name_of, name, mapping_form, instance, instances}
 use Rattle.p21_grammar.specs.Header.{line, header_section}
-use Rattle.p21_read.specs.File.{section, data_section, mark, file_end, file, file_of, tree_of}
+use Rattle.p21_grammar.specs.File.{section, data_section, mark, file_end, file, file_of, tree_of}
 use Rattle.rp_rows.specs.Instances.{max_name}
 
 -- what a parser gives has a property, whatever it reads

@@ -10,8 +10,8 @@ use Rattle.ex_types.specs.Checked.{Checked}
 use Rattle.p21_tree.specs.declared.raw.Raw.{Raw}
 use Rattle.p21_tree.specs.declared.fault.FileFault.{FileFault}
 use Rattle.p21_tree.specs.declared.fault.InstanceFault.{InstanceFault}
-use Rattle.p21_read.specs.File.{file_of}
-use Rattle.p21_read.specs.Schemas.{is_of_schema}
+use Rattle.p21_grammar.specs.File.{file_of}
+use Rattle.p21_grammar.specs.Schemas.{is_of_schema}
 use Rattle.p21_mappings.specs.Contents.{content}
 use Rattle.p21_bind.specs.Files.{bound_file}
 use Rattle.rp_content.specs.declared.content.Content.{Content}

@@ -6,7 +6,7 @@ use Rattle.std.specs.Ordering.{nat_cmp}
 use Rattle.ex_types.specs.Checked.{Checked}
 use Rattle.p21_instances.specs.Instances.{is_among}
 use Rattle.p21_tree.specs.declared.raw.Raw.{Raw}
-use Rattle.p21_read.specs.File.{file_of}
+use Rattle.p21_grammar.specs.File.{file_of}
 use Rattle.p21_tree.specs.declared.instance.Mapping.{Mapping}
 use Rattle.p21_read.specs.Single.{mapping_of}
 use Rattle.p21_mappings.specs.Contents.{header}

@@ -2,8 +2,8 @@ use Rattle.std.proofs.Common.{◌≡◌, true, false, ◌++◌, ◌==◌, [], So
 use Rattle.std.specs.List.{list_all}
 use Rattle.std.specs.Prelude.{IfSome}
 use Rattle.p21_instances.specs.Instances.{has_twice, is_among}
-use Rattle.p21_read.specs.File.{file_of}
-use Rattle.p21_read.specs.Visited.{ShownAll}
+use Rattle.p21_grammar.specs.File.{file_of}
+use Rattle.p21_grammar.specs.Visited.{ShownAll}
 use Rattle.p21_bind.specs.OnePass.{Becomes, loaded}
 use Rattle.p21_mappings.specs.Contents.{content}
 use Rattle.p21_bind.proofs.WholeFiles.{loaded_whole, of_found}

@@ -1,5 +1,5 @@
 use Rattle.std.proofs.Common.{◌≡◌, [], ◌∷◌, Ok, Err, sym, ◌∙◌, ap, subst}
-use Rattle.p21_read.specs.File.{file_of}
+use Rattle.p21_grammar.specs.File.{file_of}
 use Rattle.rp_rows.specs.Contents as contents
 use Rattle.rp_rows.specs.Contents.{link_names}
 use Rattle.rp_plain.specs.Meaning.{first_some}

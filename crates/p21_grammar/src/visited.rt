@@ -6,11 +6,13 @@ ghost use Rattle.p21_lexemes.specs.Tokens.{sees};
 ghost use Rattle.p21_lexemes.specs.declared.token.TokenKind.TheVariants as k;
 ghost use Rattle.p21_tree.specs.declared.instance.Instance as tree;
 ghost use Rattle.p21_grammar.specs.Grammar as grammar;
-ghost use Rattle.p21_read.specs.File.{data_section, file, file_of};
-ghost use Rattle.p21_read.specs.Visited as spec;
+ghost use Rattle.p21_grammar.specs.File.{data_section, file, file_of};
+ghost use Rattle.p21_grammar.specs.Visited as spec;
 
-use crate::file::{file_end, mark, section};
-use p21_grammar::{Head, Read, Source, header_section, instance, line};
+use crate::whole::{file_end, mark, section};
+use crate::grammar::{Read, instance};
+use crate::header::{Head, header_section, line};
+use crate::source::Source;
 use p21_lexemes::{TokenKind, Tokens};
 use p21_tree::{Instance, Raw, Section};
 use plain_data::Rows;
@@ -43,7 +45,7 @@ fn show_all<V: Visitor>(alloc: Global, source: &mut Source<'_>, visitor: &mut V)
 }
 
 /// Shows the instances of a data section, and gives its names.
-#[tactic(auto, unfolding(crate::specs::File::data_section, p21_grammar::specs::Grammar::instances))]
+#[tactic(auto, unfolding(crate::specs::File::data_section, crate::specs::Grammar::instances))]
 fn show_section<'t, V: Visitor>(
     alloc: Global,
     tokens: &mut Tokens<'t>,

@@ -6,7 +6,7 @@ use Rattle.p21_tree.specs.declared.fault.FileFault.{FileFault}
 use Rattle.p21_tree.specs.declared.instance.Instance.{Instance}
 use Rattle.p21_tree.specs.declared.raw.Raw.{Raw}
 use Rattle.p21_tree.specs.declared.raw.Section.{Section}
-use Rattle.p21_read.specs.declared.file.Body.{Body}
+use Rattle.p21_grammar.specs.declared.whole.Body.{Body}
 
 -- what was read, as the rest of it and the instances
 abbrev pub Parts : Type 0 → Type 0

@@ -5,7 +5,7 @@ use Rattle.text_forms.proofs.Repeat.{repeat_turn, repeat_done}
 use Rattle.p21_lexemes.specs.Tokens.{sees}
 use Rattle.p21_lexemes.specs.declared.token.TokenKind.TheVariants as k
 use Rattle.p21_grammar.specs.Grammar as grammar
-use Rattle.p21_read.proofs.visited.show_all.Goals as goal
+use Rattle.p21_grammar.proofs.visited.show_all.Goals as goal
 
 pub instances-init : goal.instances-init
 instances-init g c = λ first xs h. (xs, (h, refl))

@@ -4,7 +4,7 @@ use Rattle.p21_lexemes.specs.Tokens.{sees}
 use Rattle.p21_lexemes.specs.declared.token.TokenKind.TheVariants as k
 use Rattle.p21_tree.specs.declared.instance.Instance as tree
 use Rattle.p21_grammar.specs.Grammar as grammar
-use Rattle.p21_read.proofs.visited.show_all.Given as goal
+use Rattle.p21_grammar.proofs.visited.show_all.Given as goal
 
 abbrev pub invariant-instances : goal.invariant-instances
 invariant-instances g l =

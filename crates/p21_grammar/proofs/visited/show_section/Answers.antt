@@ -6,12 +6,12 @@ use Rattle.p21_lexemes.specs.declared.token.TokenKind.TheVariants as k
 use Rattle.p21_tree.specs.declared.fault.FileFault.{FileFault}
 use Rattle.p21_tree.specs.declared.instance.Instance.{Instance}
 use Rattle.p21_tree.specs.declared.raw.Section.{Section}
-use Rattle.p21_read.specs.declared.file.Body.{Body}
+use Rattle.p21_grammar.specs.declared.whole.Body.{Body}
 use Rattle.p21_grammar.specs.Header.{line}
-use Rattle.p21_read.specs.File.{data_section, section}
+use Rattle.p21_grammar.specs.File.{data_section, section}
 use Rattle.p21_grammar.specs.Grammar.{instances}
-use Rattle.p21_read.specs.Visited.{Shown, of_instances, of_body}
-use Rattle.p21_read.proofs.visited.show_section.Goals as goal
+use Rattle.p21_grammar.specs.Visited.{Shown, of_instances, of_body}
+use Rattle.p21_grammar.proofs.visited.show_section.Goals as goal
 
 -- what follows the front of a data section
 abbrev after : Option Section → Outcome Lexemes FileFault (List Instance) → Outcome Lexemes FileFault Body
