@@ -9,10 +9,10 @@ ghost use Rattle.p21_grammar.specs.Grammar as grammar;
 ghost use Rattle.p21_grammar.specs.File.{data_section, file, file_of};
 ghost use Rattle.p21_grammar.specs.Visited as spec;
 
-use crate::whole::{file_end, mark, section};
 use crate::grammar::{Read, instance};
 use crate::header::{Head, header_section, line};
 use crate::source::Source;
+use crate::whole::{file_end, mark, section};
 use p21_lexemes::{TokenKind, Tokens};
 use p21_tree::{Instance, Raw, Section};
 use plain_data::Rows;
