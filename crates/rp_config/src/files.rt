@@ -76,7 +76,7 @@ fn first_bytes<R: Source>(
     ensures err { IfErr result (λ e. e ≢ Failure.NoMemory → R.read_failures reader.new ≢ R.read_failures reader.old) }
 {
     let mut bytes = Vec::new(alloc);
-    let mut piece = [0; 4096];
+    let mut piece = [0; 65_536];
     while bytes.len() < most {
         let room = piece.len().min(most - bytes.len());
         let Ok(count) = reader.read(&mut piece[..room]) else {
