@@ -9,8 +9,8 @@ use Rattle.p21_mappings.specs.Contents.{content}
 use Rattle.p21_bind.proofs.WholeFiles.{loaded_whole, of_found}
 use Rattle.p21_bind.proofs.loading.load.Goals as goal
 
-pub returns-into_content : goal.returns-into_content
-returns-into_content c =
+pub returns : goal.returns
+returns c =
     let first = c.in_ok-loading.loading in
     let now = c.read_visited.new.visitor in
     let start : Becomes first [] first = record {
