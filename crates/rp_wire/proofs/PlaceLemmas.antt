@@ -1,9 +1,9 @@
 -- The items of a place, one after another.
-use Rattle.std.proofs.Common.{◌≡◌, ◌<◌, ◌≤◌, ◌-◌, ℕ, zero, suc, List, [], ◌∷◌, length, true≢false, false, Option, Some, None, MatchOption, is_some, option_map, option_and_then, refl, ap, sym, ◌∙◌, arith}
+use Rattle.std.proofs.Common.{◌≡◌, ◌<◌, ◌≤◌, ◌-◌, ℕ, zero, suc, List, [], ◌∷◌, length, true≢false, false, Option, Some, None, MatchOption, is_some, option_and_then, refl, ap, sym, ◌∙◌, arith}
 use Rattle.json.specs.Token as spec
 use Rattle.json.specs.Json as json
 use Rattle.json.specs.Json.{Parse, parse_map, after_end_array, items_step, items, value}
-use Rattle.json.proofs.Grammar.{left, Takes, after_end_array-shorter, skip_value-shorter}
+use Rattle.json.proofs.Grammar.{left, Takes, skip_value-shorter}
 use Rattle.serde_json.specs.Data.{Data, Items, no_items, item}
 use Rattle.serde_json.specs.Read.{of_json, of_items, converted}
 use Rattle.serde_json.specs.View.{view}

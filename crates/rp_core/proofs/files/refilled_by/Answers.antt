@@ -1,4 +1,4 @@
-use Rattle.std.proofs.Common.{◌≡◌, Ok, Err, sym, ◌∙◌, ap}
+use Rattle.std.proofs.Common.{sym, ◌∙◌, ap}
 use Rattle.p21_grammar.specs.File.{file_of}
 use Rattle.rp_rows.specs.Contents.{link_names}
 use Rattle.rp_plain.specs.Meaning.{first_some}
