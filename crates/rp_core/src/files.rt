@@ -164,12 +164,7 @@ fn refilled(
 }
 
 /// Why a file and links are refused without a look into the file.
-fn early_fault(
-    asked: &Asking<'_>,
-    key: &Key,
-    file: &Text,
-    links: &[Link],
-) -> Option<Refusal>
+fn early_fault(asked: &Asking<'_>, key: &Key, file: &Text, links: &[Link]) -> Option<Refusal>
     ensures { result ≡ first_some (of_links.no_request links.now ∷ cheap_tests (told asked.now) key.now file.now) }
 {
     match no_request(links) {

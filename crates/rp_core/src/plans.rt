@@ -23,11 +23,7 @@ use rp_plain::messages::{Refusal, Request};
 use std::alloc::Global;
 
 /// The plan of a request on groups, or its refusal.
-fn plan_on_group(
-    alloc: Global,
-    asked: &Asking<'_>,
-    request: Request,
-) -> Result<Plan, Refusal>
+fn plan_on_group(alloc: Global, asked: &Asking<'_>, request: Request) -> Result<Plan, Refusal>
     requires listed { TellsListed (told asked.now) }
     requires on_group { IsOnGroup request }
     ensures { Plans (told asked.now) asked.now.caller.now request result }
