@@ -1,13 +1,14 @@
 //! Files that are put into models with their links, and exported.
 
-ghost use Rattle.std.specs.Prelude.{◌≡◌, List, Ok, IfOk, IfSome, option_copied, fold, length, max};
+ghost use Rattle.std.specs.Prelude.{◌≡◌, ◌∷◌, List, Ok, IfOk, IfSome, option_copied, fold, length, max};
 ghost use Rattle.p21_grammar.specs.File.{file_of};
 ghost use Rattle.rp_rows.specs.Contents as contents;
 ghost use Rattle.rp_plain.specs.Meaning.{first_some, schema_of};
 ghost use Rattle.rp_plain.specs.Files as of_files;
+ghost use Rattle.rp_plain.specs.Links as of_links;
 ghost use Rattle.rp_core.specs.Told.{told};
 ghost use Rattle.rp_core.specs.Named.{TellsNamed};
-ghost use Rattle.rp_core.specs.Files.{cheap_tests, Reads};
+ghost use Rattle.rp_core.specs.Files.{cheap_tests, Reads, Fits, Refills};
 ghost use Rattle.rp_core.specs.Plans.{Plans};
 
 use crate::asked::Asking;
@@ -162,6 +163,77 @@ fn refilled(
     })
 }
 
+/// Why a file and links are refused without a look into the file.
+fn early_fault(asked: &Asking<'_>, key: &Key, file: &Text, links: &[Link]) -> Option<Refusal>
+    ensures { result ≡ first_some (of_links.no_request links.now ∷ cheap_tests (told asked.now) key.now file.now) }
+{
+    match no_request(links) {
+        Some(refusal) => Some(refusal),
+        None => cheap_fault(asked, key, file),
+    }
+}
+
+/// What the file says by the schema of the model, whose instances may refer to these links, or why it is refused.
+fn read_linked(
+    alloc: Global,
+    asked: &Asking<'_>,
+    model: &ModelContent,
+    links: &[Link],
+    file: &Text,
+) -> Result<Content, Refusal>
+    ensures { Reads (of_files.read_for (told asked.now).schemas model.now (contents.link_names links.now) (file_of file.now)) result }
+{
+    let linked = names_of(alloc, links)?;
+    read_for(alloc, asked, model, &linked, file)
+}
+
+/// The links in the order of their names, if a model of this key and schema may have them beside the content.
+fn fit_links(
+    alloc: Global,
+    asked: &Asking<'_>,
+    key: &Key,
+    schema: &Text,
+    links: Rows<Link>,
+    content: &Content,
+) -> Result<Items<Link>, Refusal>
+    requires { TellsNamed (told asked.now) }
+    ensures { Fits (told asked.now) key.now schema.now links content.now result }
+{
+    let many = too_many(content, links.len());
+    let links = in_order(links)?;
+    let fault = link_refusal(alloc, asked, key, schema, links.as_slice(), content)?;
+    match first(&[fault, many]) {
+        Some(refusal) => Err(refusal),
+        None => Ok(links),
+    }
+}
+
+/// What the model of this key holds once what the file says and these links are put into it, or why they are refused.
+fn refilled_by(
+    alloc: Global,
+    asked: &Asking<'_>,
+    key: &Key,
+    model: &ModelContent,
+    file: &Text,
+    links: Rows<Link>,
+) -> Result<ModelContent, Refusal>
+    requires { TellsNamed (told asked.now) }
+    ensures { Refills (told asked.now) key.now model.now links (of_files.read_for (told asked.now).schemas model.now (contents.link_names links) (file_of file.now)) result }
+{
+    let content = match read_linked(alloc, asked, model, links.as_slice(), file) {
+        Ok(content) => content,
+        Err(refusal) => return Err(refusal),
+    };
+    match fit_links(alloc, asked, key, &model.schema, links, &content) {
+        Ok(links) => Ok(refilled(alloc, model, content, links)?),
+        Err(refusal) => {
+            // (A call, since content that goes out of scope is opened here down to its texts.)
+            drop(content);
+            Err(refusal)
+        }
+    }
+}
+
 /// A model's content is replaced by that of a file, and its links by these.
 pub fn plan_put(
     alloc: Global,
@@ -173,35 +245,17 @@ pub fn plan_put(
     requires { TellsNamed (told asked.now) }
     ensures { Plans (told asked.now) asked.now.caller.now (Request.Put key file.now links) result }
 {
-    if let Some(refusal) = no_request(links.as_slice()) {
-        return Err(refusal);
-    }
-    if let Some(refusal) = cheap_fault(asked, &key, file) {
+    if let Some(refusal) = early_fault(asked, &key, file, links.as_slice()) {
         return Err(refusal);
     }
     let Some(model) = asked.content(&key) else {
         return Err(Refusal::NoSuchItem);
     };
-    let linked = names_of(alloc, links.as_slice())?;
-    let content = match read_for(alloc, asked, model, &linked, file) {
-        Ok(content) => content,
+    let holds = match refilled_by(alloc, asked, &key, model, file, links) {
+        Ok(holds) => holds,
         Err(refusal) => return Err(refusal),
     };
-    let many = too_many(&content, links.len());
-    let links = in_order(links)?;
-    let fault = link_refusal(
-        alloc,
-        asked,
-        &key,
-        &model.schema,
-        links.as_slice(),
-        &content,
-    )?;
-    if let Some(refusal) = first(&[fault, many]) {
-        return Err(refusal);
-    }
-    let reply = Reply::Stored(content.instances.len());
-    let holds = refilled(alloc, model, content, links)?;
+    let reply = Reply::Stored(holds.content.instances.len());
     Ok(Plan {
         reply,
         edits: Edits::OfModel(key, Altered::Hold(holds)),

@@ -4,7 +4,7 @@ ghost use Rattle.std.specs.Prelude.{◌≡◌};
 ghost use Rattle.rp_core.specs.Told.{told};
 ghost use Rattle.rp_core.specs.Named.{TellsNamed};
 ghost use Rattle.rp_core.specs.Listed.{TellsListed};
-ghost use Rattle.rp_core.specs.Plans.{Plans};
+ghost use Rattle.rp_core.specs.Plans.{Plans, IsOnGroup};
 
 use crate::asked::Asking;
 use crate::checks::plan_check;
@@ -21,6 +21,26 @@ use crate::populations::{plan_extent, plan_users};
 use crate::single::{plan_add, plan_drop, plan_set};
 use rp_plain::messages::{Refusal, Request};
 use std::alloc::Global;
+
+/// The plan of a request on groups, or its refusal.
+fn plan_on_group(alloc: Global, asked: &Asking<'_>, request: Request) -> Result<Plan, Refusal>
+    requires listed { TellsListed (told asked.now) }
+    requires on_group { IsOnGroup request }
+    ensures { Plans (told asked.now) asked.now.caller.now request result }
+{
+    match request {
+        Request::CreateGroup { name, schema } => plan_create_group(alloc, asked, name, schema),
+        Request::DeleteGroup { name } => plan_delete_group(alloc, asked, name),
+        Request::GrantGroup { name, to } => plan_grant_group(alloc, asked, name, to),
+        Request::RevokeGroup { name, to } => plan_revoke_group(alloc, asked, name, to),
+        Request::Include { group, model } => plan_include(alloc, asked, group, model),
+        Request::Exclude { group, model } => plan_exclude(alloc, asked, group, &model),
+        Request::Members { group } => plan_members(alloc, asked, &group),
+        Request::Extent { group, entity } => plan_extent(alloc, asked, &group, &entity),
+        Request::Users { group, of, role } => plan_users(alloc, asked, &group, &of, &role),
+        _ => unreachable!(),
+    }
+}
 
 /// The request's plan, or its refusal. What was found in the schemas for it is kept with theirs.
 pub fn plan(
@@ -52,16 +72,8 @@ pub fn plan(
         Request::ListItems => plan_list(alloc, asked),
         Request::GrantModel { name, to, level } => plan_grant(alloc, asked, name, to, level),
         Request::RevokeModel { name, to } => plan_revoke(alloc, asked, name, to),
-        Request::CreateGroup { name, schema } => plan_create_group(alloc, asked, name, schema),
-        Request::DeleteGroup { name } => plan_delete_group(alloc, asked, name),
-        Request::GrantGroup { name, to } => plan_grant_group(alloc, asked, name, to),
-        Request::RevokeGroup { name, to } => plan_revoke_group(alloc, asked, name, to),
-        Request::Include { group, model } => plan_include(alloc, asked, group, model),
-        Request::Exclude { group, model } => plan_exclude(alloc, asked, group, &model),
-        Request::Members { group } => plan_members(alloc, asked, &group),
-        Request::Extent { group, entity } => plan_extent(alloc, asked, &group, &entity),
-        Request::Users { group, of, role } => plan_users(alloc, asked, &group, &of, &role),
         Request::Schemas => plan_schemas(alloc, asked),
         Request::CheckSchema { text } => plan_check(alloc, asked, &text),
+        on_group => plan_on_group(alloc, asked, on_group),
     }
 }

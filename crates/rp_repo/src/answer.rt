@@ -85,7 +85,11 @@ fn answer_asked(alloc: Global, repository: &mut Repository<'_>, asked: Asked) ->
     let Asked { caller, request } = asked;
     match partner_of(repository, caller) {
         Some(partner) => answer_turn(alloc, repository, partner, request),
-        None => refused(alloc, Refusal::BadRequest),
+        None => {
+            // (A call, since a request that goes out of scope is opened here for each of its sorts.)
+            drop(request);
+            refused(alloc, Refusal::BadRequest)
+        }
     }
 }
 

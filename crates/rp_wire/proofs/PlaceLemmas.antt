@@ -1,16 +1,16 @@
 -- The items of a place, one after another.
-use Rattle.std.proofs.Common.{◌≡◌, ◌<◌, ◌≤◌, ◌-◌, ℕ, zero, suc, List, [], ◌∷◌, length, true≢false, false, Option, Some, None, MatchOption, is_some, option_map, option_and_then, refl, ap, sym, ◌∙◌, arith}
+use Rattle.std.proofs.Common.{◌≡◌, ◌<◌, ◌≤◌, ◌-◌, ℕ, zero, suc, List, [], ◌∷◌, length, true≢false, false, Option, Some, None, MatchOption, is_some, option_and_then, refl, ap, sym, ◌∙◌, arith}
 use Rattle.json.specs.Token as spec
 use Rattle.json.specs.Json as json
 use Rattle.json.specs.Json.{Parse, parse_map, after_end_array, items_step, items, value}
-use Rattle.json.proofs.Grammar.{left, Takes, after_end_array-shorter, skip_value-shorter}
+use Rattle.json.proofs.Grammar.{left, Takes, skip_value-shorter}
 use Rattle.serde_json.specs.Data.{Data, Items, no_items, item}
 use Rattle.serde_json.specs.Read.{of_json, of_items, converted}
 use Rattle.serde_json.specs.View.{view}
-use Rattle.serde_json.specs.declared.value.Value.{Value}
 use Rattle.shallow_json.specs.Shallow.{plain}
 use Rattle.shallow_json.proofs.Reading.{pick, item_read}
 use Rattle.rp_wire.specs.Asks.{place_of}
+use Rattle.rp_wire.specs.declared.values.ListItem.{ListItem}
 use Rattle.rp_wire.specs.Kept.{items_read, plain_items}
 use Rattle.rp_wire.proofs.ShallowMembers.{as_str-plain, number_of-plain}
 
@@ -71,15 +71,15 @@ read_plain None = refl
 read_plain (Some p) = ap (λ q. Some (q, p.1)) (sym (place_of-plain p.0))
 
 -- what is told of the next item: it stands here, or the list is over
-abbrev NextItem : List spec.Token → List spec.Token → Option Value → Type 0
-NextItem ts r o = MatchOption o (items_read ts ≡ Some (no_items, r)) (λ v. parse_map plain_items (items_read ts) ≡ parse_map (item (view v)) (parse_map plain_items (items_read r)))
+abbrev NextItem : List spec.Token → List spec.Token → Option ListItem → Type 0
+NextItem ts r o = MatchOption o (items_read ts ≡ Some (no_items, r)) (λ next. parse_map plain_items (items_read ts) ≡ parse_map (item (view next.value)) (parse_map plain_items (items_read r)))
 
-pub item_found : (ts r : List spec.Token) (o : Option Value) (v : Value) → o ≡ Some v → NextItem ts r o
-    → parse_map plain_items (items_read ts) ≡ parse_map (item (view v)) (parse_map plain_items (items_read r))
-item_found ts r None v is told = absurd (cc)
-item_found ts r (Some w) v is told = told ∙ ap (λ u. parse_map (item (view u)) (parse_map plain_items (items_read r))) (ap (pick w) is)
+pub item_found : (ts r : List spec.Token) (o : Option ListItem) (next : ListItem) → o ≡ Some next → NextItem ts r o
+    → parse_map plain_items (items_read ts) ≡ parse_map (item (view next.value)) (parse_map plain_items (items_read r))
+item_found ts r None next is told = absurd (cc)
+item_found ts r (Some other) next is told = told ∙ ap (λ u. parse_map (item (view u.value)) (parse_map plain_items (items_read r))) (ap (pick other) is)
 
-pub list_over : (ts r : List spec.Token) (o : Option Value) → is_some o ≡ false → NextItem ts r o → items_read ts ≡ Some (no_items, r)
+pub list_over : (ts r : List spec.Token) (o : Option ListItem) → is_some o ≡ false → NextItem ts r o → items_read ts ≡ Some (no_items, r)
 list_over ts r None is told = told
 list_over ts r (Some w) is told = absurd (true≢false is)
 

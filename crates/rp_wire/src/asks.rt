@@ -63,8 +63,8 @@ fn request_for(word: &str, lists: Lists, members: Members) -> Option<Request>
     ensures { result ≡ request_for word.now lists (members_view members.entries) }
 {
     match word {
-        "put" => put(lists.links, members),
-        "users" => users(lists.place, members),
+        "put" => put(lists.into_links(), members),
+        "users" => users(lists.into_place(), members),
         _ => other_request_for(word, members),
     }
 }

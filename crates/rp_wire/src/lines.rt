@@ -26,12 +26,40 @@ const DEPTH: usize = 126;
 const LONG: usize = 4096;
 
 /// What the lists of a line hold.
-#[derive(Drop)]
 pub(crate) struct Lists {
     /// Those at `links`.
     pub links: Links,
     /// The one at `of`: nothing where it is no place.
     pub place: Option<Place>,
+}
+
+// (By hand, so that links and places are opened here alone and not wherever lists are dropped.)
+impl Drop for Lists {
+    fn drop(self) {
+        let Lists { links, place } = self;
+        drop(links);
+        drop(place);
+    }
+}
+
+impl Lists {
+    ghost use Rattle.std.specs.Prelude.{◌≡◌};
+
+    pub(crate) fn into_links(self) -> Links
+        ensures { result ≡ self.links }
+    {
+        let Lists { links, place } = self;
+        drop(place);
+        links
+    }
+
+    pub(crate) fn into_place(self) -> Option<Place>
+        ensures { result ≡ self.place }
+    {
+        let Lists { links, place } = self;
+        drop(links);
+        place
+    }
 }
 
 /// The members of the object that a line is, with null for each list and each object among them, and

@@ -9,7 +9,7 @@ ghost use Rattle.rp_wire.specs.Asks.{place_of};
 ghost use Rattle.rp_wire.specs.Kept.{with_list, items_read};
 
 use crate::members::{number_of, text_of};
-use crate::values::{ITEM_DEPTH, next_item, read_unless_list};
+use crate::values::{ITEM_DEPTH, ListItem, next_item, read_unless_list};
 use json::Reader;
 use rp_population::Place;
 use serde_json::Value;
@@ -54,12 +54,12 @@ fn read_items(alloc: Global, reader: &mut Reader<'_>) -> Result<Option<Place>, U
     Ok(place_of(owner, name, instance))
 }
 
-fn place_of(owner: Value, name: Value, instance: Value) -> Option<Place>
-    ensures { result ≡ place_of (item (view owner) (item (view name) (item (view instance) no_items))) }
+fn place_of(owner: ListItem, name: ListItem, instance: ListItem) -> Option<Place>
+    ensures { result ≡ place_of (item (view owner.value) (item (view name.value) (item (view instance.value) no_items))) }
 {
-    let instance = number_of(instance)?;
-    let owner = text_of(owner)?;
-    let name = text_of(name)?;
+    let instance = number_of(instance.into_value())?;
+    let owner = text_of(owner.into_value())?;
+    let name = text_of(name.into_value())?;
     Some(Place {
         model: (owner, name),
         instance,

@@ -16,6 +16,30 @@ use std::alloc::Global;
 /// How deep lists and objects may nest in a member's items.
 pub(crate) const ITEM_DEPTH: usize = 125;
 
+/// An item of a list, with null for a list and for an object.
+pub(crate) struct ListItem {
+    pub value: Value,
+}
+
+// (By hand, so that the sorts of a value are opened here alone and not wherever an item is dropped.)
+impl Drop for ListItem {
+    fn drop(self) {
+        let ListItem { value } = self;
+        drop(value);
+    }
+}
+
+impl ListItem {
+    ghost use Rattle.std.specs.Prelude.{◌≡◌};
+
+    pub(crate) fn into_value(self) -> Value
+        ensures { result ≡ self.value }
+    {
+        let ListItem { value } = self;
+        value
+    }
+}
+
 /// Nothing where a list begins, whose opening bracket is taken. Otherwise the next value, or null for
 /// an object.
 pub(crate) fn read_unless_list(
@@ -40,15 +64,17 @@ pub(crate) fn read_unless_list(
 
 /// The next item of a list, or null for a list and for an object; nothing at the list's end, whose
 /// bracket is taken.
-pub(crate) fn next_item(alloc: Global, reader: &mut Reader<'_>) -> Result<Option<Value>, Unread>
-    ensures ok { IfOk result (λ next. MatchOption next (items_read reader.old ≡ Some (no_items, reader.new))
-        (λ v. parse_map plain_items (items_read reader.old)
-        ≡ parse_map (item (view v)) (parse_map plain_items (items_read reader.new)))) }
+pub(crate) fn next_item(alloc: Global, reader: &mut Reader<'_>) -> Result<Option<ListItem>, Unread>
+    ensures ok { IfOk result (λ found. MatchOption found (items_read reader.old ≡ Some (no_items, reader.new))
+        (λ next. parse_map plain_items (items_read reader.old)
+        ≡ parse_map (item (view next.value)) (parse_map plain_items (items_read reader.new)))) }
     ensures shorter { OnOk result (length reader.new < length reader.old) }
     ensures bad { IsErrOf result Unread.Invalid → items_read reader.old ≡ None }
 {
     if reader.take_end_array() {
         return Ok(None);
     }
-    Ok(Some(read_member(alloc, reader, ITEM_DEPTH)?))
+    Ok(Some(ListItem {
+        value: read_member(alloc, reader, ITEM_DEPTH)?,
+    }))
 }

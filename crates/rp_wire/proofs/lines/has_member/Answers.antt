@@ -1,4 +1,4 @@
-use Rattle.std.proofs.Common.{is_some, ap, ◌∙◌}
+use Rattle.std.proofs.Common.{◌∙◌}
 use Rattle.rp_wire.proofs.MemberLemmas.{is_some-lookup}
 use Rattle.rp_wire.proofs.lines.has_member.Goals as goal
 

@@ -1,5 +1,5 @@
-use Rattle.std.proofs.Common.{◌≡◌, false, codes, is_some, option_and_then, option_map, Some, ap, ◌∙◌, arith}
-use Rattle.serde_json.specs.Find.{as_object, get_member}
+use Rattle.std.proofs.Common.{◌≡◌, option_and_then, option_map, Some, ap, ◌∙◌, arith}
+use Rattle.serde_json.specs.Find.{as_object}
 use Rattle.serde_json.specs.Read.{read as read_json}
 use Rattle.serde_json.specs.View.{members_view}
 use Rattle.rp_wire.specs.Kept.{kept}
