@@ -123,7 +123,7 @@ def command_faults(text):
 def requests_of_program():
     """The keys of each request, by what the program reads."""
     source = "".join(read(f"crates/rp_wire/src/{it}.rt") for it in ("asks", "grants", "groups"))
-    functions = dict(re.findall(r'"(\w+)" => (\w+)\((?:[\w.]+, )?members\)', source))
+    functions = dict(re.findall(r'"(\w+)" => (\w+)\((?:[\w.]+(?:\(\))?, )?members\)', source))
     found = {}
     for do, function in functions.items():
         body = source[re.search(rf"^(?:pub\(crate\) )?fn {function}\(", source, re.MULTILINE).start():].split("\n}\n")[0]
