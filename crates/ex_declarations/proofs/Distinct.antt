@@ -67,11 +67,13 @@ rising texts true answer told =
     sorted_from_all_adjacent name_order texts d (λ k within. less _ (answer k d within))
 rising texts false answer told = cc
 
-pub once_distinct_sorted : (names : List Name) (texts sorted : List (Bor (List ℕ))) → bytes_of texts ≡ map (λ n. n.text) names → IsPermutation texts sorted → IsStrictlySortedBy by_bytes sorted → spec.once names ≡ Ok tt
+pub once_distinct : (names : List Name) (texts : List (Bor (List ℕ))) → bytes_of texts ≡ map (λ n. n.text) names → IsDistinct (eq_by_cmp by_bytes) texts → spec.once names ≡ Ok tt
 unfolding spec.once IsNew
+once_distinct names texts same distinct = fresh_each [] texts names same (all_new texts) distinct
+
+pub once_distinct_sorted : (names : List Name) (texts sorted : List (Bor (List ℕ))) → bytes_of texts ≡ map (λ n. n.text) names → IsPermutation texts sorted → IsStrictlySortedBy by_bytes sorted → spec.once names ≡ Ok tt
 once_distinct_sorted names texts sorted same moved ordered =
-    let distinct = IsDistinct-IsPermutation (eq_by_cmp by_bytes) (eq_by_cmp_equiv name_order).symm sorted texts (IsPermutation-sym texts sorted moved) (IsDistinct-from_sorted by_bytes sorted ordered) in
-    fresh_each [] texts names same (all_new texts) distinct
+    once_distinct names texts same (IsDistinct-IsPermutation (eq_by_cmp by_bytes) (eq_by_cmp_equiv name_order).symm sorted texts (IsPermutation-sym texts sorted moved) (IsDistinct-from_sorted by_bytes sorted ordered))
 
 texts_of_each : (names : List (Bor Name)) → map (λ n. n.now.text) names ≡ map (λ n. n.text) (map (λ n. n.now) names)
 texts_of_each [] = refl

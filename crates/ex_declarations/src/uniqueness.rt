@@ -13,7 +13,7 @@ ghost use Rattle.ex_declarations.specs.Steps.{told};
 
 use ex_named::{Binding, NameFault, NameFaultKind};
 use ex_tree::Name;
-use name_tables::NameTable;
+use name_tables::{NameTable, hashes_differ};
 use std::alloc::{AllocError, Global};
 use std::cmp::Ordering;
 use text_forms::Failure;
@@ -74,6 +74,9 @@ fn are_distinct(alloc: Global, names: &[&Name]) -> Result<bool, AllocError>
         return Ok(are_few_distinct(names));
     }
     let mut texts = texts(alloc, names)?;
+    if hashes_differ(alloc, &texts)? {
+        return Ok(true);
+    }
     texts.sort_unstable();
     Ok(are_ascending(&texts))
 }

@@ -4,13 +4,12 @@ use Rattle.std.specs.List.{list_any}
 use Rattle.text_forms.specs.Forms.{◌>>=◌, ◌>>◌, ◌<$>◌, pure}
 use Rattle.ex_tree.specs.declared.kind.TokenKind.{TokenKind}
 use Rattle.ex_tree.specs.declared.kind.TokenKind.TheVariants as k
-use Rattle.ex_tree.specs.declared.expression.Name.{Name}
 use Rattle.ex_tree.specs.declared.expression.BuiltInFunction.{BuiltInFunction}
 use Rattle.ex_tree.specs.declared.expression.BuiltInFunction.TheVariants as f
 use Rattle.ex_tree.specs.declared.expression.UnaryOperator.{UnaryOperator}
 use Rattle.ex_tree.specs.declared.expression.IntervalOperator.{IntervalOperator}
-use Rattle.ex_tree.specs.declared.expression.Interval.{Interval, roll-Interval}
-use Rattle.ex_tree.specs.declared.expression.Query.{Query, roll-Query}
+use Rattle.ex_tree.specs.declared.expression.Interval.{roll-Interval}
+use Rattle.ex_tree.specs.declared.expression.Query.{roll-Query}
 use Rattle.ex_tree.specs.declared.expression.Qualifier.{Qualifier}
 use Rattle.ex_tree.specs.declared.expression.Qualifier.TheVariants as q
 use Rattle.ex_tree.specs.declared.expression.Expression.{Expression}

@@ -1,5 +1,5 @@
 -- Operators and the operands between which they stand (ISO 10303-11:1994, 12.1 to 12.4).
-use Rattle.std.specs.Prelude.{ℕ, Bool, if◌then◌else◌, List, [], ◌∷◌, Option, Some, None, is_some, Ok}
+use Rattle.std.specs.Prelude.{Bool, if◌then◌else◌, List, [], ◌∷◌, Option, Some, None, is_some, Ok}
 use Rattle.text_forms.specs.Forms.{◌>>=◌, ◌<$>◌, pure}
 use Rattle.ex_tree.specs.declared.kind.TokenKind.{TokenKind}
 use Rattle.ex_tree.specs.declared.kind.TokenKind.TheVariants as k

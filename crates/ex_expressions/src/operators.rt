@@ -188,6 +188,10 @@ pub fn chain<'t, F: Form<Cursor<'t>, Tree = Expression>>(
     ensures takes { Takes result cursor.old cursor.new }
 {
     let first = operand.read(alloc, cursor)?;
+    // Most operands stand alone.
+    if !continues(rank, cursor) {
+        return Ok(first);
+    }
     let more = many(alloc, cursor, &OperationForm { rank, operand })?;
     Ok(chained(alloc, first, more)?)
 }

@@ -20,7 +20,8 @@ pub fn tokens(alloc: Global, text: &[u8]) -> Result<TokenList<'_>, Failure<LexFa
     ensures slices { IfOk result (λ t. spec.AreSlices text.now 0 t.lexemes) }
     ensures ascending { IfOk result (λ t. spec.Rise 0 (map (λ l. l.at) t.lexemes)) }
 {
-    let mut found = Vec::new(alloc);
+    // Few texts have more tokens than this: others take room again.
+    let mut found = Vec::with_capacity(alloc, text.len() / 4)?;
     let mut left = text;
     let mut at = 0;
     'tokens: while !left.is_empty() {

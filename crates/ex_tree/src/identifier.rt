@@ -95,11 +95,11 @@ fn short_in_upper_case(bytes: &[u8]) -> Spelling
     requires { length bytes.now ≤ 30 }
     ensures { bytes_in result ≡ map to_ascii_uppercase bytes.now }
 {
-    let mut kept = [0; SHORT];
-    let front = &mut kept[..bytes.len()];
-    front.copy_from_slice(bytes);
-    front.make_ascii_uppercase();
-    Spelling::Short(bytes.len() as u8, kept)
+    let mut field = [0; SHORT];
+    field[..bytes.len()].copy_from_slice(bytes);
+    // Of all places, whose number is known when this is compiled: the zeros behind the bytes stay what they are.
+    field.make_ascii_uppercase();
+    Spelling::Short(bytes.len() as u8, field)
 }
 
 /// Bytes in upper case.

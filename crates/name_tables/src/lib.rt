@@ -8,11 +8,13 @@ use std::alloc::{AllocError, Global};
 use std::collections::BTreeMap;
 use std::marker::Model;
 
+mod differing;
 mod firsts;
 mod hashes;
 mod rows;
 mod sorted;
 
+pub use differing::hashes_differ;
 pub use firsts::{First, FirstRows};
 pub use rows::NameRows;
 pub use sorted::SortedNames;

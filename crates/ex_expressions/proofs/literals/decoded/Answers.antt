@@ -1,5 +1,4 @@
-use Rattle.std.proofs.Common.{◌≡◌, ◌≤◌, ◌∙◌, Some, length, take, rules, arith}
-use Rattle.std.proofs.lemmas.Grind.{common_steps}
+use Rattle.std.proofs.Common.{◌≡◌, ◌≤◌, ◌∙◌, Some, length, take, rules}
 use Rattle.std.specs.String.{string_bytes}
 use Rattle.ex_lex.specs.Strings.{character}
 use Rattle.ex_expressions.proofs.Groups.{read-good}
