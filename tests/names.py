@@ -288,6 +288,23 @@ TWICE = [
      "FUNCTION f (p : INTEGER) : INTEGER; RETURN (f(p)); END_FUNCTION; ENTITY ⟦DeclaredTwice⟧f; END_ENTITY;"),
 ]
 
+# Names enough that they are compared by their hashes, and two more that differ and have one hash.
+MANY = " ".join(f"ENTITY m{number}; END_ENTITY;" for number in range(12))
+ALIKE, ITS_LIKE = "LLLLLLLLLLLLLLLL", "QLJTILEEJNTPQMFJ"
+
+OF_ONE_HASH = [
+    ("many names", MANY + " ENTITY x; END_ENTITY;"),
+    ("one of many names twice", MANY + " ENTITY x; END_ENTITY; ENTITY ⟦DeclaredTwice⟧x; END_ENTITY;"),
+    ("two of many names twice", MANY + " ENTITY x; END_ENTITY; TYPE ⟦DeclaredTwice⟧M7 = INTEGER; END_TYPE; ENTITY ⟦DeclaredTwice⟧x; END_ENTITY;"),
+    ("two names of one hash",
+     f"{MANY} ENTITY {ALIKE}; END_ENTITY; TYPE {ITS_LIKE} = INTEGER; END_TYPE; ENTITY e SUBTYPE OF ({ALIKE}); a : {ITS_LIKE}; END_ENTITY;"),
+    ("two names of one hash, the other way round",
+     f"{MANY} TYPE {ITS_LIKE} = INTEGER; END_TYPE; ENTITY {ALIKE}; END_ENTITY; ENTITY e SUBTYPE OF ({ALIKE}); a : {ITS_LIKE}; END_ENTITY;"),
+    ("the second of two names of one hash twice",
+     f"{MANY} ENTITY {ALIKE}; END_ENTITY; ENTITY {ITS_LIKE}; END_ENTITY; ENTITY ⟦DeclaredTwice⟧{ITS_LIKE}; END_ENTITY;"),
+    ("a name that has the hash of another, and isn't declared", f"{MANY} TYPE {ALIKE} = INTEGER; END_TYPE; ENTITY e; a : ⟦Undeclared⟧{ITS_LIKE}; END_ENTITY;"),
+]
+
 # ---- attributes
 
 # e is below s, r and t, and u below e; a stands in both r and t, b, d and i in r alone
@@ -1038,7 +1055,7 @@ def look(it, name, declarations):
 
 
 def rows(it):
-    for name, declarations in (*TWICE, *SCOPES, *TURNS, *MORE_ITEMS, *CYCLES, *SEVERAL, *LETTERS):
+    for name, declarations in (*TWICE, *OF_ONE_HASH, *SCOPES, *TURNS, *MORE_ITEMS, *CYCLES, *SEVERAL, *LETTERS):
         look(it, name, declarations)
     it.looks(WHOLE)
 
