@@ -164,9 +164,9 @@ fn fitting(
     match value {
         Spelled::Unset | Spelled::Derived => Ok(None),
         Spelled::Reference(name) => reference(alloc, types, *name, &target.base),
-        Spelled::Typed(keyword, value) => {
+        Spelled::Typed(keyword, inner) => {
             let number = types.number(alloc, keyword.as_bytes())?;
-            named(alloc, types, number, value.get(), target)
+            named(alloc, types, number, inner.get(), target)
         }
         Spelled::List(values) => bare_list(alloc, types, values.as_slice(), &target.base),
         _ => bare_token(alloc, types, value, &target.base),

@@ -221,3 +221,33 @@ pub items_at-returns-in-None-clause-rest : goal.items_at-returns-in-None-clause-
 items_at-returns-in-None-clause-rest t c =
     let empty : length c.args.below.now ≡ 0 = search rules in
     always c.elements.result _ (nothing_moved c.args.types.now c.args.below.now c.args.values.now c.args.rest.now (no_levels c.args.below.now empty))
+
+pub each_element-returns-in-None : goal.each_element-returns-in-None
+each_element-returns-in-None t c = grind (arith, common_steps)
+
+pub each_element-values-preserved : goal.each_element-values-preserved
+each_element-values-preserved t c = grind (arith, common_steps)
+
+pub each_element-returns : goal.each_element-returns
+each_element-returns t c = grind (arith, common_steps)
+
+pub elements_at-returns-in-None-clause-taken : goal.elements_at-returns-in-None-clause-taken
+elements_at-returns-in-None-clause-taken t c = grind (arith, common_steps)
+
+pub elements_at-returns-clause-taken : goal.elements_at-returns-clause-taken
+elements_at-returns-clause-taken t c = grind (arith, common_steps)
+
+pub elements_at-returns-clause-rest : goal.elements_at-returns-clause-rest
+elements_at-returns-clause-rest t c = grind (arith, common_steps)
+
+pub list_by-list_at-requires : goal.list_by-list_at-requires
+list_by-list_at-requires t c = grind (arith, common_steps)
+
+pub select_elements-returns-in-None : goal.select_elements-returns-in-None
+select_elements-returns-in-None t c = grind (arith, common_steps)
+
+pub select_elements-values-preserved : goal.select_elements-values-preserved
+select_elements-values-preserved t c = grind (arith, common_steps)
+
+pub select_elements-returns : goal.select_elements-returns
+select_elements-returns t c = grind (arith, common_steps)
