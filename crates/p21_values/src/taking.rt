@@ -11,9 +11,9 @@ ghost use Rattle.p21_values.specs.Deciding as deciding;
 ghost use Rattle.p21_values.specs.Taking as spec;
 
 use crate::alone::{Taken, bare_token, reference, under_name};
-use crate::deciding::{levels_below, rows_of, select_of_lists};
+use crate::deciding::{depth_of, rows_of, select_of_lists};
 use crate::ends::{Base, Target, base_of, inside, target_of};
-use crate::levels::{Candidate, Level, Levels, level_of, only_candidate};
+use crate::levels::{Candidate, Level, Levels, level_of, levels_of, only_candidate};
 use crate::rest::Rest;
 use crate::types::DefinedTypes;
 use p21_tree::Value as Spelled;
@@ -45,7 +45,7 @@ fn levels_at<'s>(
         base: Base::Select(number),
     };
     let first = level_of(alloc, types, slice::from_ref(&select))?;
-    let below = levels_below(alloc, types, values, &first)?;
+    let below = levels_of(alloc, types, &first.targets, depth_of(values))?;
     Ok(Levels { first, below })
 }
 

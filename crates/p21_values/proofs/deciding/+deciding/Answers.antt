@@ -5,7 +5,7 @@ use Rattle.std.specs.List.{flat_map}
 use Rattle.p21_values.specs.Seen.{seen, seen_target}
 use Rattle.p21_values.specs.Taking.{meaning, bare_at, of_list}
 use Rattle.p21_values.specs.Deciding.{takes, takes_each, both, only_candidate, row, rows, AreLevels}
-use Rattle.p21_values.proofs.Decided.{narrowed}
+use Rattle.p21_values.proofs.Decided.{all_true, narrowed}
 use Rattle.p21_values.proofs.Groups.{level_rows, list_answers, no_levels, no_more_rows, on_ok, rows_turn}
 use Rattle.p21_values.proofs.Lists.{list_meaning}
 use Rattle.p21_values.proofs.deciding.+deciding.Goals as goal
@@ -74,3 +74,15 @@ takes_at-returns-clause-rows t c =
     on_ok c.verdicts.result _
     (level_rows types level c.args.below.now c.args.values.now c.args.rows.now.items taken inner c.extend_from_slice.new.self.items c.extend_from_slice-2.new.self.items
     (cc (c.in_ok-extend_from_slice.ensures.items, c.deref-2.ensures.value)) (cc (c.in_ok-extend_from_slice-2.ensures.items, c.deref-3.ensures.value)) row_is inner_is)
+
+pub take_all-both-requires : goal.take_all-both-requires
+take_all-both-requires t c = grind (arith, common_steps)
+
+pub take_all-returns-clause-taken : goal.take_all-returns-clause-taken
+take_all-returns-clause-taken t c = grind (arith, common_steps)
+
+pub take_all-returns-clause-rows : goal.take_all-returns-clause-rows
+take_all-returns-clause-rows t c = grind (arith, common_steps)
+
+pub take_all-values-init : goal.take_all-values-init
+take_all-values-init t c = grind (arith, common_steps, all_true)
