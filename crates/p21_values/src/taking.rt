@@ -152,7 +152,6 @@ pub fn placed(
 
 /// What a type takes.
 #[cycle(taking)]
-#[tactic(auto, unfolding(crate::specs::Taking::meaning))]
 fn fitting(
     alloc: Global,
     types: &DefinedTypes<'_>,

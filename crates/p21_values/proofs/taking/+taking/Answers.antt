@@ -8,11 +8,52 @@ use Rattle.p21_tree.specs.declared.value.Value.TheViews.{size-Value}
 use Rattle.rp_value.specs.declared.value.Value.TheVariants as v
 use Rattle.p21_values.specs.Ends.{base_of}
 use Rattle.p21_values.specs.Seen.{seen, seen_target}
-use Rattle.p21_values.specs.Taking.{meaning, bare_at, of_list, place}
+use Rattle.p21_values.specs.Taking.{meaning, bare_at, named_by, of_list, place, type_named}
 use Rattle.p21_values.specs.Deciding.{AreLevels, IsGroup, StartsWith, asked, element, only_candidate, rows}
 use Rattle.p21_values.proofs.Groups.{base_in, value_at, candidate_element, always, group_there, no_levels, list_at_level, more_end, more_start, nothing_moved, placed_next, rest_ends, rest_starts, this_starts, under_some_name}
 use Rattle.p21_values.proofs.Lists.{list_meaning}
+use Rattle.p21_values.proofs.Meanings.{IsToken, nothing_fits, reference_meaning, token_fits, token_placed, typed_meaning, unset_placed}
 use Rattle.p21_values.proofs.taking.+taking.Goals as goal
+
+pub fitting-returns-in-Unset : goal.fitting-returns-in-Unset
+fitting-returns-in-Unset t c = nothing_fits c.args.types.now c.args.value.now (seen_target c.args.target.now) c.in-Unset.is
+
+pub fitting-returns-in-Reference : goal.fitting-returns-in-Reference
+fitting-returns-in-Reference t c =
+    subst (λ m. IfOk c.reference.result (λ taken. taken ≡ m.fit (seen_target c.args.target.now)))
+    (reference_meaning c.args.types.now c.args.value.now c.in-Reference.name c.in-Reference.is) c.reference.ensures
+
+pub fitting-returns-in_ok-number-in-Typed : goal.fitting-returns-in_ok-number-in-Typed
+fitting-returns-in_ok-number-in-Typed t c =
+    let types = c.args.types.now in
+    let to = seen_target c.args.target.now in
+    let keyword = c.in-Typed.keyword in
+    let number_is : c.in_ok-number-in-Typed.number ≡ type_named types keyword = c.in_ok-number-in-Typed.ensures ∙ ap (type_named types) c.as_bytes.ensures in
+    subst (λ m. IfOk c.named.result (λ taken. taken ≡ m.fit to)) (typed_meaning types c.args.value.now keyword c.in-Typed.inner c.in-Typed.is)
+    (subst (λ y. IfOk c.named.result (λ taken. taken ≡ named_by types (meaning types y) (type_named types keyword) to)) c.get.ensures
+    (subst (λ n. IfOk c.named.result (λ taken. taken ≡ named_by types (meaning types c.get.result.now) n to)) number_is c.named.ensures))
+
+pub fitting-returns-in_default : goal.fitting-returns-in_default
+fitting-returns-in_default t c =
+    let arm = c.in_default in
+    let token : IsToken c.args.value.now =
+    record { unset = arm.not-Unset; derived = arm.not-Derived; reference = arm.not-Reference; list = arm.not-List; typed = arm.not-Typed } in
+    subst (λ o. IfOk c.bare_token.result (λ taken. taken ≡ o)) (token_fits c.args.types.now c.args.value.now (seen_target c.args.target.now) token) c.bare_token.ensures
+
+pub placed-returns-in-Unset : goal.placed-returns-in-Unset
+placed-returns-in-Unset t c = unset_placed c.args.types.now c.args.value.now (seen_target c.args.target.now) c.in-Unset.is
+
+pub placed-returns-in-Reference : goal.placed-returns-in-Reference
+placed-returns-in-Reference t c =
+    subst (λ m. IfOk c.reference.result (λ taken. taken ≡ place m (seen_target c.args.target.now)))
+    (reference_meaning c.args.types.now c.args.value.now c.in-Reference.name c.in-Reference.is) c.reference.ensures
+
+pub placed-returns-in_default : goal.placed-returns-in_default
+placed-returns-in_default t c =
+    let arm = c.in_default in
+    let token : IsToken c.args.value.now =
+    record { unset = arm.not-Unset; derived = arm.not-Derived; reference = arm.not-Reference; list = arm.not-List; typed = arm.not-Typed } in
+    subst (λ o. IfOk c.bare_token.result (λ taken. taken ≡ o)) (token_placed c.args.types.now c.args.value.now (seen_target c.args.target.now) token) c.bare_token.ensures
 
 pub fitting-returns-in-List : goal.fitting-returns-in-List
 fitting-returns-in-List t c =
