@@ -1,4 +1,4 @@
--- What values mean that hold no others, and values under keywords.
+-- What values mean by their form.
 use Rattle.std.proofs.Common.{◌≡◌, ℕ, List, None, Some, ◌⊎◌, inl, inr, refl, sym, ◌∙◌, ap}
 use Rattle.ex_named.specs.declared.declaration.NamedType.{NamedType}
 use Rattle.p21_tree.specs.declared.value.Value as tree
@@ -9,7 +9,8 @@ use Rattle.p21_tree.specs.declared.value.Value.TheViews as views
 use Rattle.rp_value.specs.declared.value.Value.TheVariants as v
 use Rattle.p21_values.specs.Ends.{Target}
 use Rattle.p21_values.specs.Taking.{Meaning, bare_at, layer, meaning, named, place, reference}
-use Rattle.p21_values.specs.Deciding.{alone, alone_by}
+use Rattle.p21_values.specs.declared.levels.Level.{Level}
+use Rattle.p21_values.specs.Deciding.{alone, alone_by, rows, rows_by, rows_of_list}
 
 -- it holds no others, and is no reference
 pub record IsToken (x : tree.Value) : Type 0 where
@@ -69,3 +70,25 @@ module _ (types : List NamedType) where
       let f = tree.out-Value x in
       let is = sym (views.roll-out-Value x) in
       ap (λ g. bare_at types g to.base) (alone_means x f is) ∙ (token_means x f is token to).1 ∙ sym (ap (λ m. place m to) (meant x f is))
+
+  held_means : (x : tree.Value) (f : Value-F tree.Value) → x ≡ views.roll-Value f → (x ≡ t.Unset → ⊥) → (to : Target) → place (means f) to ≡ (means f).fit to
+  held_means x Value-F.Unset is held to = absurd (held (is ∙ t.rolls-Unset))
+  held_means x Value-F.Derived is held to = refl
+  held_means x (Value-F.Integer text) is held to = refl
+  held_means x (Value-F.Real text) is held to = refl
+  held_means x (Value-F.Text text) is held to = refl
+  held_means x (Value-F.Item text) is held to = refl
+  held_means x (Value-F.Binary text) is held to = refl
+  held_means x (Value-F.Reference name) is held to = refl
+  held_means x (Value-F.List xs) is held to = refl
+  held_means x (Value-F.Typed keyword y) is held to = refl
+
+  pub held_placed : (x : tree.Value) (to : Target) → (x ≡ t.Unset → ⊥) → place (meaning types x) to ≡ (meaning types x).fit to
+  held_placed x to held =
+      let f = tree.out-Value x in
+      let is = sym (views.roll-out-Value x) in
+      ap (λ m. place m to) (meant x f is) ∙ held_means x f is held to ∙ sym (ap (λ m. m.fit to) (meant x f is))
+
+  pub list_rows : (levels : List Level) (x : tree.Value) (xs : List tree.Value) → x ≡ t.List xs → rows_of_list types levels xs ≡ rows types levels x
+  list_rows levels x xs is =
+      sym (ap (λ f. rows_by f (rows_of_list types levels)) (ap tree.out-Value (is ∙ sym (t.rolls-List xs)) ∙ views.out-roll-Value (Value-F.List xs)))

@@ -4,11 +4,9 @@ ghost use Rattle.std.specs.Prelude.{◌≡◌, ◌++◌, ◌∷◌, [], map, Som
 ghost use Rattle.std.specs.List.{filter_map};
 ghost use Rattle.std.specs.Option.{option_and_then, option_map};
 ghost use Rattle.std.specs.Str.{str_to_ascii_uppercase};
-ghost use Rattle.name_tables.specs.Names.{place_of};
 ghost use Rattle.p21_escapes.specs.Decoding.{decoded};
 ghost use Rattle.rp_numbers.specs.Spelling.{parse};
 ghost use Rattle.rp_value.specs.declared.value.Value.TheVariants as v;
-ghost use Rattle.p21_tree.specs.declared.value.Value.TheVariants as tree;
 ghost use Rattle.p21_values.specs.Ends as ends;
 ghost use Rattle.p21_values.specs.Seen.{seen};
 ghost use Rattle.p21_values.specs.Tokens.{ok};

@@ -174,7 +174,6 @@ fn takes_named<'s>(
 
 /// Whether the type takes the value, which is not `$`.
 #[cycle(deciding)]
-#[tactic(auto, unfolding(crate::specs::Taking::meaning))]
 fn fits<'s>(
     alloc: Global,
     types: &DefinedTypes<'s>,
@@ -196,7 +195,6 @@ fn fits<'s>(
 
 /// Which of the types take the value. Behind the rows stand then those of the value.
 #[cycle(deciding)]
-#[tactic(auto, unfolding(crate::specs::Taking::meaning))]
 fn takes<'s>(
     alloc: Global,
     types: &DefinedTypes<'s>,

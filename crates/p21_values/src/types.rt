@@ -140,8 +140,8 @@ impl<'s> DefinedTypes<'s> {
         ensures { IfOk result (λ found. found ≡ types.now) }
     {
         let declared = Declared::of(alloc, types)?;
-        let (descent, kept, takers) = selection_of(alloc, &declared)?;
         let (names, items) = names_and_items(alloc, types)?;
+        let (descent, kept, takers) = selection_of(alloc, &declared)?;
         Ok(DefinedTypes {
             declared,
             names,

@@ -10,6 +10,3 @@ returns c = grind (arith, common_steps)
 
 pub returns-then-is_some : goal.returns-then-is_some
 returns-then-is_some c = grind (arith, common_steps)
-
-pub choices-init : goal.choices-init
-choices-init c = grind (arith, common_steps)

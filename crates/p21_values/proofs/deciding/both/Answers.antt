@@ -12,6 +12,3 @@ loop-place-preserved c =
 
 pub returns : goal.returns
 returns c = grind (arith, common_steps)
-
-pub loop-place-init : goal.loop-place-init
-loop-place-init c = grind (arith, common_steps)

@@ -9,10 +9,10 @@ use Rattle.rp_value.specs.declared.value.Value.TheVariants as v
 use Rattle.p21_values.specs.Ends.{base_of}
 use Rattle.p21_values.specs.Seen.{seen, seen_target}
 use Rattle.p21_values.specs.Taking.{meaning, bare_at, named_by, of_list, place, type_named}
-use Rattle.p21_values.specs.Deciding.{AreLevels, IsGroup, StartsWith, asked, element, only_candidate, rows}
+use Rattle.p21_values.specs.Deciding.{AreLevels, IsGroup, StartsWith, asked, element, only_candidate, rows, rows_of_list}
 use Rattle.p21_values.proofs.Groups.{base_in, value_at, candidate_element, always, group_there, no_levels, list_at_level, more_end, more_start, nothing_moved, placed_next, rest_ends, rest_starts, this_starts, under_some_name}
 use Rattle.p21_values.proofs.Lists.{list_meaning}
-use Rattle.p21_values.proofs.Meanings.{IsToken, nothing_fits, reference_meaning, token_fits, token_placed, typed_meaning, unset_placed}
+use Rattle.p21_values.proofs.Meanings.{IsToken, list_rows, nothing_fits, reference_meaning, token_fits, token_placed, typed_meaning, unset_placed}
 use Rattle.p21_values.proofs.taking.+taking.Goals as goal
 
 pub fitting-returns-in-Unset : goal.fitting-returns-in-Unset
@@ -75,6 +75,15 @@ element_at-returns-in-List-clause-taken t c =
     subst (λ m. IfOk c.list_at.result (λ taken. taken ≡ place m (seen_target c.args.target.now))) (sym (list_meaning types c.args.value.now c.in-List.values c.in-List.is))
     (subst (λ vs. IfOk c.list_at.result (λ taken. taken ≡ bare_at types (of_list types (map (meaning types) vs)) (seen c.args.target.now.base)))
     c.as_slice.ensures c.list_at.ensures.taken)
+
+pub element_at-returns-in-List-clause-rest : goal.element_at-returns-in-List-clause-rest
+element_at-returns-in-List-clause-rest t c =
+    let types = c.args.types.now in
+    let levels = c.args.level.now ∷ c.args.below.now in
+    let rest = c.args.rest.now in
+    subst (λ rs. IfOk c.list_at.result (λ taken. IfSome taken (λ v. c.list_at.new.rest ≡ drop (length rs) rest)))
+    (list_rows types levels c.args.value.now c.in-List.values c.in-List.is)
+    (subst (λ vs. IfOk c.list_at.result (λ taken. IfSome taken (λ v. c.list_at.new.rest ≡ drop (length (rows_of_list types levels vs)) rest))) c.as_slice.ensures c.list_at.ensures.rest)
 
 pub elements_at-element_at-requires : goal.elements_at-element_at-requires
 elements_at-element_at-requires t c =
