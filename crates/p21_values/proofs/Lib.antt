@@ -5,6 +5,7 @@ pub mod Decided
 pub mod Groups
 pub mod Steps
 pub mod Lists
+pub mod Meanings
 pub mod Renamed
 pub mod Chosen
 pub mod Firsts

@@ -4,11 +4,9 @@ ghost use Rattle.std.specs.Prelude.{◌≡◌, ◌++◌, ◌∷◌, [], map, Som
 ghost use Rattle.std.specs.List.{filter_map};
 ghost use Rattle.std.specs.Option.{option_and_then, option_map};
 ghost use Rattle.std.specs.Str.{str_to_ascii_uppercase};
-ghost use Rattle.name_tables.specs.Names.{place_of};
 ghost use Rattle.p21_escapes.specs.Decoding.{decoded};
 ghost use Rattle.rp_numbers.specs.Spelling.{parse};
 ghost use Rattle.rp_value.specs.declared.value.Value.TheVariants as v;
-ghost use Rattle.p21_tree.specs.declared.value.Value.TheVariants as tree;
 ghost use Rattle.p21_values.specs.Ends as ends;
 ghost use Rattle.p21_values.specs.Seen.{seen};
 ghost use Rattle.p21_values.specs.Tokens.{ok};
@@ -113,19 +111,6 @@ fn of_binary(alloc: Global, token: &[u8], base: &Base<'_>) -> Taken
     }
 }
 
-/// The item of an enumeration.
-fn item(types: &DefinedTypes<'_>, number: usize, name: &[u8]) -> Option<Value>
-    ensures { result ≡ option_map (v.Item number) (place_of name.now (spec.items types.now number)) }
-{
-    match types.item_place(number, name) {
-        Some(place) => Some(Value::Item {
-            enumeration: number,
-            place,
-        }),
-        None => None,
-    }
-}
-
 /// What an item in upper case is.
 fn of_item(types: &DefinedTypes<'_>, name: &[u8], base: &Base<'_>) -> Option<Value>
     ensures { result ≡ spec.of_item types.now name.now (seen base.now) }
@@ -133,7 +118,13 @@ fn of_item(types: &DefinedTypes<'_>, name: &[u8], base: &Base<'_>) -> Option<Val
     match base {
         Base::Plain(SimpleType::Boolean) => boolean(name).map(Value::Log),
         Base::Plain(SimpleType::Logical) => logical(name).map(Value::Log),
-        Base::Enumeration(number) => item(types, *number, name),
+        Base::Enumeration(number) => match types.item_place(*number, name) {
+            Some(place) => Some(Value::Item {
+                enumeration: *number,
+                place,
+            }),
+            None => None,
+        },
         _ => None,
     }
 }
@@ -287,23 +278,6 @@ fn asked_token(alloc: Global, types: &DefinedTypes<'_>, value: &Spelled<'_>, num
     }
 }
 
-/// What a SELECT takes of an item without a keyword.
-fn select_item(
-    alloc: Global,
-    types: &DefinedTypes<'_>,
-    value: &Spelled<'_>,
-    item: &[u8],
-    number: usize,
-) -> Taken
-    requires { value.now ≡ tree.Item item.now }
-    ensures { IfOk result (λ taken. taken ≡ spec.only (filter_map (spec.by_choice types.now (deciding.alone types.now value.now)) (ends.choices types.now number))) }
-{
-    match types.takers(number) {
-        Some(by_name) => known_item(alloc, types, value, item, by_name),
-        None => asked_token(alloc, types, value, number),
-    }
-}
-
 /// What a SELECT takes of a token without a keyword.
 // Apart, so that the way of all other types is short.
 #[inline(never)]
@@ -316,7 +290,10 @@ fn select_token(
     ensures { IfOk result (λ taken. taken ≡ spec.only (filter_map (spec.by_choice types.now (deciding.alone types.now value.now)) (ends.choices types.now number))) }
 {
     match value {
-        Spelled::Item(item) => select_item(alloc, types, value, item.as_slice(), number),
+        Spelled::Item(item) => match types.takers(number) {
+            Some(by_name) => known_item(alloc, types, value, item.as_slice(), by_name),
+            None => asked_token(alloc, types, value, number),
+        },
         _ => asked_token(alloc, types, value, number),
     }
 }

@@ -82,20 +82,6 @@ fn each_alone<'s>(
     Ok(taken)
 }
 
-fn chooses(
-    alloc: Global,
-    types: &DefinedTypes<'_>,
-    number: usize,
-    base: &Base<'_>,
-) -> Result<bool, AllocError>
-    ensures { IfOk result (λ told. told ≡ spec.chooses types.now number (seen base.now)) }
-{
-    match base {
-        Base::Select(select) => types.chooses(alloc, *select, number),
-        _ => Ok(false),
-    }
-}
-
 /// Whether a value under the name of a type may be of this one.
 fn may_name(
     alloc: Global,
@@ -108,7 +94,10 @@ fn may_name(
     if target.name == Some(number) {
         return Ok(true);
     }
-    chooses(alloc, types, number, &target.base)
+    match target.base {
+        Base::Select(select) => types.chooses(alloc, select, number),
+        _ => Ok(false),
+    }
 }
 
 /// Which types take a value under the name of a type, where that takes it or not.
@@ -140,7 +129,7 @@ fn depth(value: &Spelled<'_>) -> usize {
 
 /// How deep lists stand in the values of a list.
 #[cycle(depth)]
-fn depth_of(values: &[Spelled<'_>]) -> usize {
+pub fn depth_of(values: &[Spelled<'_>]) -> usize {
     let mut deepest = 0;
     'values: for value in values {
         deepest = depth(value).max(deepest);
@@ -164,18 +153,6 @@ pub fn select_of_lists(values: &[Spelled<'_>], target: &Target<'_>) -> Option<us
     }
 }
 
-/// The levels below one that the values of a list need.
-pub fn levels_below<'s>(
-    alloc: Global,
-    types: &DefinedTypes<'s>,
-    values: &[Spelled<'_>],
-    level: &Level<'s>,
-) -> Result<Vec<Level<'s>>, AllocError>
-    ensures { IfOk result (λ below. spec.AreLevels types.now level.now.targets.items below.items) }
-{
-    levels_of(alloc, types, &level.targets, depth_of(values))
-}
-
 /// Which of the types take the value under a keyword, which is the name of this type.
 #[cycle(deciding)]
 #[tactic(auto, using(crate::proofs::Decided::each_named, crate::proofs::Decided::none_named))]
@@ -197,7 +174,6 @@ fn takes_named<'s>(
 
 /// Whether the type takes the value, which is not `$`.
 #[cycle(deciding)]
-#[tactic(auto, unfolding(crate::specs::Taking::meaning))]
 fn fits<'s>(
     alloc: Global,
     types: &DefinedTypes<'s>,
@@ -219,7 +195,6 @@ fn fits<'s>(
 
 /// Which of the types take the value. Behind the rows stand then those of the value.
 #[cycle(deciding)]
-#[tactic(auto, unfolding(crate::specs::Taking::meaning))]
 fn takes<'s>(
     alloc: Global,
     types: &DefinedTypes<'s>,

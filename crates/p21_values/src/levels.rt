@@ -28,11 +28,38 @@ pub struct Candidate {
 }
 
 /// The types of the elements that several types ask for.
-#[derive(Drop)]
 pub struct Level<'s> {
     pub targets: Vec<Target<'s>>,
     /// Of each type that asks the aggregates that a list at it may be of.
     pub groups: Vec<Rows<Candidate>>,
+}
+
+impl Drop for Level<'_> {
+    fn drop(self) {
+        match self {
+            Level { targets, groups } => {
+                drop(targets);
+                drop(groups);
+            }
+        }
+    }
+}
+
+/// What lists at types may be of: what the types ask for, and what the lists in these ask for.
+pub struct Levels<'s> {
+    pub first: Level<'s>,
+    pub below: Vec<Level<'s>>,
+}
+
+impl Drop for Levels<'_> {
+    fn drop(self) {
+        match self {
+            Levels { first, below } => {
+                drop(first);
+                drop(below);
+            }
+        }
+    }
 }
 
 /// Types, each SELECT with a name once; one that has no name, and what is none, as often as it is put.

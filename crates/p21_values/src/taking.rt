@@ -4,15 +4,16 @@ ghost use Rattle.std.specs.Prelude.{◌≡◌, ◌∷◌, [], List, map, length,
 ghost use Rattle.std.specs.List.{flat_map};
 ghost use Rattle.std.specs.Option.{option_map};
 ghost use Rattle.rp_value.specs.declared.value.Value.TheVariants as v;
+ghost use Rattle.p21_values.specs.declared.ends.Base.TheVariants as code;
 ghost use Rattle.p21_values.specs.Ends as ends;
 ghost use Rattle.p21_values.specs.Seen.{seen, seen_target};
 ghost use Rattle.p21_values.specs.Deciding as deciding;
 ghost use Rattle.p21_values.specs.Taking as spec;
 
 use crate::alone::{Taken, bare_token, reference, under_name};
-use crate::deciding::{levels_below, rows_of, select_of_lists};
+use crate::deciding::{depth_of, rows_of, select_of_lists};
 use crate::ends::{Base, Target, base_of, inside, target_of};
-use crate::levels::{Candidate, Level, level_of, only_candidate};
+use crate::levels::{Candidate, Level, Levels, level_of, levels_of, only_candidate};
 use crate::rest::Rest;
 use crate::types::DefinedTypes;
 use p21_tree::Value as Spelled;
@@ -30,27 +31,22 @@ fn aggregate(alloc: Global, kind: AggregateKind, low: i64, items: Option<Items<V
     }
 }
 
-/// A SELECT without a name.
-fn select_target<'s>(number: usize) -> Target<'s>
-    ensures { seen_target result ≡ record { name = None; base = ends.Select number } }
+/// What a list at a SELECT may be of, and the lists in it.
+fn levels_at<'s>(
+    alloc: Global,
+    types: &DefinedTypes<'s>,
+    values: &[Spelled<'_>],
+    number: usize,
+) -> Result<Levels<'s>, AllocError>
+    ensures { IfOk result (λ levels. deciding.AreLevels types.now (record { name = None; base = code.Select number } ∷ []) (levels.first ∷ levels.below.items)) }
 {
-    Target {
+    let select = Target {
         name: None,
         base: Base::Select(number),
-    }
-}
-
-/// What a type that is no SELECT takes of a list.
-#[cycle(taking)]
-fn list(alloc: Global, types: &DefinedTypes<'_>, values: &[Spelled<'_>], base: &Base<'_>) -> Taken
-    ensures { IfOk result (λ taken. taken ≡ spec.of_list types.now (map (spec.meaning types.now) values.now) (seen base.now)) }
-{
-    let Base::Aggregate(kind, low, element) = base else {
-        return Ok(None);
     };
-    let target = target_of(types.types(), element);
-    let items = elements(alloc, types, values, &target)?;
-    aggregate(alloc, *kind, *low, items)
+    let first = level_of(alloc, types, slice::from_ref(&select))?;
+    let below = levels_of(alloc, types, &first.targets, depth_of(values))?;
+    Ok(Levels { first, below })
 }
 
 /// The elements, where the type takes each.
@@ -81,16 +77,10 @@ fn select_elements(
     requires { seen target.now.base ≡ ends.Select number }
     ensures { IfOk result (λ taken. taken ≡ spec.all_there (map (λ m. spec.place m (seen_target target.now)) (map (spec.meaning types.now) values.now))) }
 {
-    let select = select_target(number);
-    let level = level_of(alloc, types, slice::from_ref(&select))?;
-    let below = levels_below(alloc, types, values, &level)?;
-    let Some(group) = level.groups.first() else {
-        return Ok(None);
-    };
+    let levels = levels_at(alloc, types, values, number)?;
     let mut items = Vec::with_capacity(alloc, values.len())?;
     'values: for value in values {
-        let group = group.as_slice();
-        match select_element(alloc, types, value, target, number, group, &level, &below)? {
+        match select_element(alloc, types, value, target, number, &levels)? {
             Some(item) => items.push(item)?,
             None => return Ok(None),
         }
@@ -106,25 +96,14 @@ fn select_element<'s>(
     value: &Spelled<'_>,
     target: &Target<'_>,
     number: usize,
-    group: &[Candidate],
-    level: &Level<'s>,
-    below: &[Level<'s>],
+    levels: &Levels<'s>,
 ) -> Taken
     requires select { seen target.now.base ≡ ends.Select number }
-    requires group { deciding.IsGroup level.now.targets.items group.now (deciding.asked types.now (ends.Select number)) }
-    requires below { deciding.AreLevels types.now level.now.targets.items below.now }
+    requires levels { deciding.AreLevels types.now (record { name = None; base = code.Select number } ∷ []) (levels.now.first ∷ levels.now.below.items) }
     ensures { IfOk result (λ taken. taken ≡ spec.place (spec.meaning types.now value.now) (seen_target target.now)) }
 {
     match value {
-        Spelled::List(values) => list_by(
-            alloc,
-            types,
-            values.as_slice(),
-            number,
-            group,
-            level,
-            below,
-        ),
+        Spelled::List(values) => list_by(alloc, types, values.as_slice(), number, levels),
         _ => placed(alloc, types, value, target),
     }
 }
@@ -173,7 +152,6 @@ pub fn placed(
 
 /// What a type takes.
 #[cycle(taking)]
-#[tactic(auto, unfolding(crate::specs::Taking::meaning))]
 fn fitting(
     alloc: Global,
     types: &DefinedTypes<'_>,
@@ -185,9 +163,9 @@ fn fitting(
     match value {
         Spelled::Unset | Spelled::Derived => Ok(None),
         Spelled::Reference(name) => reference(alloc, types, *name, &target.base),
-        Spelled::Typed(keyword, value) => {
+        Spelled::Typed(keyword, inner) => {
             let number = types.number(alloc, keyword.as_bytes())?;
-            named(alloc, types, number, value.get(), target)
+            named(alloc, types, number, inner.get(), target)
         }
         Spelled::List(values) => bare_list(alloc, types, values.as_slice(), &target.base),
         _ => bare_token(alloc, types, value, &target.base),
@@ -206,7 +184,12 @@ fn bare_list(
 {
     match base {
         Base::Select(number) => select_list(alloc, types, values, *number),
-        _ => list(alloc, types, values, base),
+        Base::Aggregate(kind, low, element) => {
+            let target = target_of(types.types(), element);
+            let items = elements(alloc, types, values, &target)?;
+            aggregate(alloc, *kind, *low, items)
+        }
+        _ => Ok(None),
     }
 }
 
@@ -220,21 +203,8 @@ fn select_list(
 ) -> Taken
     ensures { IfOk result (λ taken. taken ≡ spec.bare_at types.now (spec.of_list types.now (map (spec.meaning types.now) values.now)) (ends.Select number)) }
 {
-    let select = select_target(number);
-    let level = level_of(alloc, types, slice::from_ref(&select))?;
-    let below = levels_below(alloc, types, values, &level)?;
-    let Some(group) = level.groups.first() else {
-        return Ok(None);
-    };
-    list_by(
-        alloc,
-        types,
-        values,
-        number,
-        group.as_slice(),
-        &level,
-        &below,
-    )
+    let levels = levels_at(alloc, types, values, number)?;
+    list_by(alloc, types, values, number, &levels)
 }
 
 /// What a SELECT takes of a list without a keyword, which may be of these aggregates.
@@ -244,18 +214,29 @@ fn list_by<'s>(
     types: &DefinedTypes<'s>,
     values: &[Spelled<'_>],
     number: usize,
-    group: &[Candidate],
-    level: &Level<'s>,
-    below: &[Level<'s>],
+    levels: &Levels<'s>,
 ) -> Taken
-    requires group { deciding.IsGroup level.now.targets.items group.now (deciding.asked types.now (ends.Select number)) }
-    requires below { deciding.AreLevels types.now level.now.targets.items below.now }
+    requires { deciding.AreLevels types.now (record { name = None; base = code.Select number } ∷ []) (levels.now.first ∷ levels.now.below.items) }
     ensures { IfOk result (λ taken. taken ≡ spec.bare_at types.now (spec.of_list types.now (map (spec.meaning types.now) values.now)) (ends.Select number)) }
 {
+    let level = &levels.first;
+    let below = levels.below.as_slice();
+    let Some(group) = level.groups.first() else {
+        return Ok(None);
+    };
     let rows = rows_of(alloc, types, values, level, below)?;
     let base = Base::Select(number);
     let mut rest = Rest::of(&rows);
-    list_at(alloc, types, values, &base, group, level, below, &mut rest)
+    list_at(
+        alloc,
+        types,
+        values,
+        &base,
+        group.as_slice(),
+        level,
+        below,
+        &mut rest,
+    )
 }
 
 /// What a type takes of a list, which may be of these aggregates, by the rows of which types take its elements.
@@ -435,7 +416,7 @@ fn element_at<'s>(
     }
 }
 
-/// What a type takes of the value under a keyword, which is the name of this type.
+/// What a type takes of the value under a keyword, which is the name of this type, or of one that a SELECT chooses from.
 #[cycle(taking)]
 fn named(
     alloc: Global,
@@ -452,21 +433,7 @@ fn named(
     if target.name == Some(number) {
         return fitting(alloc, types, value, &inside(types.types(), number));
     }
-    chosen(alloc, types, number, value, &target.base)
-}
-
-/// What a SELECT takes of the value under the name of a type that it chooses from.
-#[cycle(taking)]
-fn chosen(
-    alloc: Global,
-    types: &DefinedTypes<'_>,
-    number: usize,
-    value: &Spelled<'_>,
-    base: &Base<'_>,
-) -> Taken
-    ensures { IfOk result (λ taken. taken ≡ spec.chosen types.now (spec.meaning types.now value.now) number (seen base.now)) }
-{
-    let Base::Select(select) = base else {
+    let Base::Select(select) = &target.base else {
         return Ok(None);
     };
     if !types.chooses(alloc, *select, number)? {

@@ -88,6 +88,34 @@ fn kept_and_takers<'s>(
     Ok((kept, takers))
 }
 
+/// Which types SELECTs list, with what is kept of what they choose from.
+fn selection_of<'s>(
+    alloc: Global,
+    types: &Declared<'s>,
+) -> Result<(Descent, Kept, Vec<Option<Takers<'s>>>), AllocError>
+    ensures descent { IfOk result (λ found. found.0 ≡ shared.shared types.now) }
+    ensures kept { IfOk result (λ found. kept.IsKept (shared.shared types.now) (sorts.all_sorts types.now) found.1) }
+    ensures takers { IfOk result (λ found. takers.AreAllTakers types.now found.1.items.items found.2.items) }
+{
+    let graph = shared_selection(alloc, types)?;
+    let (kept, takers) = kept_and_takers(alloc, types, &graph)?;
+    let descent = Descent::of(alloc, graph)?;
+    Ok((descent, kept, takers))
+}
+
+/// The names of types, and of each the items that it has as an enumeration.
+fn names_and_items<'s>(
+    alloc: Global,
+    types: &'s [NamedType],
+) -> Result<(NameTable<'s>, Vec<NameTable<'s>>), AllocError>
+    ensures names { IfOk result (λ found. found.0 ≡ map (λ x. x.name.text) types.now) }
+    ensures items { IfOk result (λ found. found.1.items ≡ map (λ x. spec.items_by x.underlying) types.now) }
+{
+    let names = names_of(alloc, types)?;
+    let items = all_items(alloc, types)?;
+    Ok((names, items))
+}
+
 /// The place of a type's item of this name. A number beyond the types has none.
 fn place_at(all: &[NameTable<'_>], number: usize, name: &[u8]) -> Option<usize>
     ensures { result ≡ place_of name.now (slice_index_or all.now number []) }
@@ -112,11 +140,8 @@ impl<'s> DefinedTypes<'s> {
         ensures { IfOk result (λ found. found ≡ types.now) }
     {
         let declared = Declared::of(alloc, types)?;
-        let names = names_of(alloc, types)?;
-        let items = all_items(alloc, types)?;
-        let graph = shared_selection(alloc, &declared)?;
-        let (kept, takers) = kept_and_takers(alloc, &declared, &graph)?;
-        let descent = Descent::of(alloc, graph)?;
+        let (names, items) = names_and_items(alloc, types)?;
+        let (descent, kept, takers) = selection_of(alloc, &declared)?;
         Ok(DefinedTypes {
             declared,
             names,

@@ -25,3 +25,6 @@ loop-number-preserved c =
           (let two : has_two sorts kept (sort_at sorts x) ≡ true = grind (arith, common_steps, c.has_two.ensures, c.as_slice.ensures, c.sort_at.ensures) in
           rw w.kept-is (thin_skip sorts numbers kept i x c.requires within refl c.loop-number.invariant two))
     ]
+
+pub returns : goal.returns
+returns c = grind (arith, common_steps)

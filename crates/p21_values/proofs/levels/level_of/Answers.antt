@@ -16,3 +16,6 @@ loop-target-preserved c =
     let pushed : c.push.new.self.items ≡ before ++ c.in_ok-group_of.field-0 ∷ [] = grind (arith, common_steps) in
     rw (longer, pushed) (groups_more types c.group_of.new.targets (take i ts) before x c.in_ok-group_of.field-0
     (groups_kept types c.loop-target.targets c.group_of.new.targets (take i ts) before c.in_ok-group_of.ensures.kept c.loop-target.invariant) c.in_ok-group_of.ensures.group)
+
+pub returns : goal.returns
+returns c = grind (arith, common_steps)

@@ -8,11 +8,52 @@ use Rattle.p21_tree.specs.declared.value.Value.TheViews.{size-Value}
 use Rattle.rp_value.specs.declared.value.Value.TheVariants as v
 use Rattle.p21_values.specs.Ends.{base_of}
 use Rattle.p21_values.specs.Seen.{seen, seen_target}
-use Rattle.p21_values.specs.Taking.{meaning, bare_at, of_list, place}
-use Rattle.p21_values.specs.Deciding.{AreLevels, IsGroup, StartsWith, asked, element, only_candidate, rows}
+use Rattle.p21_values.specs.Taking.{meaning, bare_at, named_by, of_list, place, type_named}
+use Rattle.p21_values.specs.Deciding.{AreLevels, IsGroup, StartsWith, asked, element, only_candidate, rows, rows_of_list}
 use Rattle.p21_values.proofs.Groups.{base_in, value_at, candidate_element, always, group_there, no_levels, list_at_level, more_end, more_start, nothing_moved, placed_next, rest_ends, rest_starts, this_starts, under_some_name}
 use Rattle.p21_values.proofs.Lists.{list_meaning}
+use Rattle.p21_values.proofs.Meanings.{IsToken, list_rows, nothing_fits, reference_meaning, token_fits, token_placed, typed_meaning, unset_placed}
 use Rattle.p21_values.proofs.taking.+taking.Goals as goal
+
+pub fitting-returns-in-Unset : goal.fitting-returns-in-Unset
+fitting-returns-in-Unset t c = nothing_fits c.args.types.now c.args.value.now (seen_target c.args.target.now) c.in-Unset.is
+
+pub fitting-returns-in-Reference : goal.fitting-returns-in-Reference
+fitting-returns-in-Reference t c =
+    subst (λ m. IfOk c.reference.result (λ taken. taken ≡ m.fit (seen_target c.args.target.now)))
+    (reference_meaning c.args.types.now c.args.value.now c.in-Reference.name c.in-Reference.is) c.reference.ensures
+
+pub fitting-returns-in_ok-number-in-Typed : goal.fitting-returns-in_ok-number-in-Typed
+fitting-returns-in_ok-number-in-Typed t c =
+    let types = c.args.types.now in
+    let to = seen_target c.args.target.now in
+    let keyword = c.in-Typed.keyword in
+    let number_is : c.in_ok-number-in-Typed.number ≡ type_named types keyword = c.in_ok-number-in-Typed.ensures ∙ ap (type_named types) c.as_bytes.ensures in
+    subst (λ m. IfOk c.named.result (λ taken. taken ≡ m.fit to)) (typed_meaning types c.args.value.now keyword c.in-Typed.inner c.in-Typed.is)
+    (subst (λ y. IfOk c.named.result (λ taken. taken ≡ named_by types (meaning types y) (type_named types keyword) to)) c.get.ensures
+    (subst (λ n. IfOk c.named.result (λ taken. taken ≡ named_by types (meaning types c.get.result.now) n to)) number_is c.named.ensures))
+
+pub fitting-returns-in_default : goal.fitting-returns-in_default
+fitting-returns-in_default t c =
+    let arm = c.in_default in
+    let token : IsToken c.args.value.now =
+    record { unset = arm.not-Unset; derived = arm.not-Derived; reference = arm.not-Reference; list = arm.not-List; typed = arm.not-Typed } in
+    subst (λ o. IfOk c.bare_token.result (λ taken. taken ≡ o)) (token_fits c.args.types.now c.args.value.now (seen_target c.args.target.now) token) c.bare_token.ensures
+
+pub placed-returns-in-Unset : goal.placed-returns-in-Unset
+placed-returns-in-Unset t c = unset_placed c.args.types.now c.args.value.now (seen_target c.args.target.now) c.in-Unset.is
+
+pub placed-returns-in-Reference : goal.placed-returns-in-Reference
+placed-returns-in-Reference t c =
+    subst (λ m. IfOk c.reference.result (λ taken. taken ≡ place m (seen_target c.args.target.now)))
+    (reference_meaning c.args.types.now c.args.value.now c.in-Reference.name c.in-Reference.is) c.reference.ensures
+
+pub placed-returns-in_default : goal.placed-returns-in_default
+placed-returns-in_default t c =
+    let arm = c.in_default in
+    let token : IsToken c.args.value.now =
+    record { unset = arm.not-Unset; derived = arm.not-Derived; reference = arm.not-Reference; list = arm.not-List; typed = arm.not-Typed } in
+    subst (λ o. IfOk c.bare_token.result (λ taken. taken ≡ o)) (token_placed c.args.types.now c.args.value.now (seen_target c.args.target.now) token) c.bare_token.ensures
 
 pub fitting-returns-in-List : goal.fitting-returns-in-List
 fitting-returns-in-List t c =
@@ -34,6 +75,15 @@ element_at-returns-in-List-clause-taken t c =
     subst (λ m. IfOk c.list_at.result (λ taken. taken ≡ place m (seen_target c.args.target.now))) (sym (list_meaning types c.args.value.now c.in-List.values c.in-List.is))
     (subst (λ vs. IfOk c.list_at.result (λ taken. taken ≡ bare_at types (of_list types (map (meaning types) vs)) (seen c.args.target.now.base)))
     c.as_slice.ensures c.list_at.ensures.taken)
+
+pub element_at-returns-in-List-clause-rest : goal.element_at-returns-in-List-clause-rest
+element_at-returns-in-List-clause-rest t c =
+    let types = c.args.types.now in
+    let levels = c.args.level.now ∷ c.args.below.now in
+    let rest = c.args.rest.now in
+    subst (λ rs. IfOk c.list_at.result (λ taken. IfSome taken (λ v. c.list_at.new.rest ≡ drop (length rs) rest)))
+    (list_rows types levels c.args.value.now c.in-List.values c.in-List.is)
+    (subst (λ vs. IfOk c.list_at.result (λ taken. IfSome taken (λ v. c.list_at.new.rest ≡ drop (length (rows_of_list types levels vs)) rest))) c.as_slice.ensures c.list_at.ensures.rest)
 
 pub elements_at-element_at-requires : goal.elements_at-element_at-requires
 elements_at-element_at-requires t c =
@@ -221,3 +271,33 @@ pub items_at-returns-in-None-clause-rest : goal.items_at-returns-in-None-clause-
 items_at-returns-in-None-clause-rest t c =
     let empty : length c.args.below.now ≡ 0 = search rules in
     always c.elements.result _ (nothing_moved c.args.types.now c.args.below.now c.args.values.now c.args.rest.now (no_levels c.args.below.now empty))
+
+pub each_element-returns-in-None : goal.each_element-returns-in-None
+each_element-returns-in-None t c = grind (arith, common_steps)
+
+pub each_element-values-preserved : goal.each_element-values-preserved
+each_element-values-preserved t c = grind (arith, common_steps)
+
+pub each_element-returns : goal.each_element-returns
+each_element-returns t c = grind (arith, common_steps)
+
+pub elements_at-returns-in-None-clause-taken : goal.elements_at-returns-in-None-clause-taken
+elements_at-returns-in-None-clause-taken t c = grind (arith, common_steps)
+
+pub elements_at-returns-clause-taken : goal.elements_at-returns-clause-taken
+elements_at-returns-clause-taken t c = grind (arith, common_steps)
+
+pub elements_at-returns-clause-rest : goal.elements_at-returns-clause-rest
+elements_at-returns-clause-rest t c = grind (arith, common_steps)
+
+pub list_by-list_at-requires : goal.list_by-list_at-requires
+list_by-list_at-requires t c = grind (arith, common_steps)
+
+pub select_elements-returns-in-None : goal.select_elements-returns-in-None
+select_elements-returns-in-None t c = grind (arith, common_steps)
+
+pub select_elements-values-preserved : goal.select_elements-values-preserved
+select_elements-values-preserved t c = grind (arith, common_steps)
+
+pub select_elements-returns : goal.select_elements-returns
+select_elements-returns t c = grind (arith, common_steps)

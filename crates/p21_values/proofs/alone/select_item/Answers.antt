@@ -1,8 +1,0 @@
-use Rattle.std.proofs.Common.{◌≡◌, subst, IfOk}
-use Rattle.p21_values.proofs.Firsts.{item_known}
-use Rattle.p21_values.proofs.alone.select_item.Goals as goal
-
-pub returns-in-Some : goal.returns-in-Some
-returns-in-Some c =
-    subst (λ o. IfOk c.known_item.result (λ taken. taken ≡ o))
-    (item_known c.args.types.now c.args.value.now c.args.item.now c.args.number c.in-Some.by_name.now c.requires c.in-Some.ensures) c.known_item.ensures
