@@ -888,16 +888,23 @@ def andor(count):
     return schema(f"ENTITY s SUPERTYPE OF ({names(count, 'e', ' ANDOR ')}); END_ENTITY;\n", each(count, lambda k: entity(f"e{k}", "", "s")))
 
 
+def deep_supertypes(count, opened):
+    """An entity whose direct subtypes stand so deep within one another, each once."""
+    def deep(k):
+        first = k * (DEEP + 1)
+        return each(first + DEEP, lambda n: opened.format(f"e{n}"), first=first) + f"e{first + DEEP}" + ")" * DEEP
+    return schema(f"ENTITY s SUPERTYPE OF ({each(count, deep, ' AND' + chr(10))}); END_ENTITY;\n",
+                  each(count * (DEEP + 1), lambda n: entity(f"e{n}", "", "s")))
+
+
 @family("expressions")
 def deep_andor(count):
-    deep = nested(DEEP, "(e ANDOR ", "e", ")")
-    return schema(f"ENTITY s SUPERTYPE OF (e{each(count, lambda k: f' AND {deep}', chr(10))}); END_ENTITY;\n", entity("e", "", "s"))
+    return deep_supertypes(count, "({} ANDOR ")
 
 
 @family("expressions")
 def deep_oneof(count):
-    deep = nested(DEEP, "ONEOF (e, ", "e", ")")
-    return schema(f"ENTITY s SUPERTYPE OF (e{each(count, lambda k: f' AND {deep}', chr(10))}); END_ENTITY;\n", entity("e", "", "s"))
+    return deep_supertypes(count, "ONEOF ({}, ")
 
 
 # ---- remarks and literals
