@@ -1,4 +1,4 @@
--- How a binary is spelled (ISO 10303-21:2016, 6.4.5): how many bits of its first digit are unused, and then a hexadecimal digit
+-- How a binary is spelled (ISO 10303-21:2002, BINARY): how many bits of its first digit are unused, and then a hexadecimal digit
 -- for each group of four.
 use Rattle.std.specs.Prelude.{ℕ, zero, suc, Bool, false, ◌+◌, ◌%◌, if◌then◌else◌, List, [], ◌∷◌, ◌++◌, length, slice_index, codes}
 

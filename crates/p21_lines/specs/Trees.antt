@@ -1,4 +1,4 @@
--- The tree that canonical text spells for what a model holds (ISO 10303-21:2016, 8.2, 10 and 11): keywords and items in upper
+-- The tree that canonical text spells for what a model holds (ISO 10303-21:2002, clauses 8 to 10): keywords and items in upper
 -- case, as the schema has them; a keyword for each value under the name of a type; one record where the instance has one leaf,
 -- else one for each entity.
 use Rattle.std.specs.Prelude.{ℕ, Bool, false, if◌then◌else◌, List, [], ◌∷◌, length, map, take, drop, None, codes, slice_get, slice_index_or}

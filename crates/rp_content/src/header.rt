@@ -1,4 +1,4 @@
-//! The header of an exchange file (ISO 10303-21:2016, 8.2).
+//! The header of an exchange file (ISO 10303-21:2002, 8.2).
 
 ghost use Rattle.std.specs.Prelude.{◌≡◌, IfOk, OnOk, ◌++◌, ◌∷◌, []};
 ghost use Rattle.rp_value.specs.declared.value.Value.TheVariants as v;

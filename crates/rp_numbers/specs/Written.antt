@@ -1,4 +1,4 @@
--- How an exchange file writes a decimal (ISO 10303-21:2016, 6.4.2): the coefficient, a point, and the exponent unless it is 0.
+-- How an exchange file writes a decimal (ISO 10303-21:2002, REAL): the coefficient, a point, and the exponent unless it is 0.
 use Rattle.std.specs.Prelude.{ℕ, ℤ, pos, zero, List, [], ◌∷◌, ◌++◌}
 use Rattle.std.specs.Fmt.{signed_decimal}
 use Rattle.rp_numbers.specs.Decimals.{Decimal}
