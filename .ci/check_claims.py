@@ -9,7 +9,7 @@ those crates in backticks; all others are inner ones. A promise is a block:
     ### The promise in short
     What holds, in free text.
     - calls: `crate::function`, `crate::Type::method`
-    - edits: `crate/must-fail/name.edit`
+    - edits: `crate/must-fail/name.edit`, `tools/edits/crate/name.edit`
     - tests: `tests/script.py`, `crate test_name`
 
 Its three lists are `none`, or items in backticks with commas between, and may go on over further lines that begin
@@ -18,7 +18,7 @@ with two spaces; a block names at least one call. Other text is free. Refused ar
     a call that is no `pub fn` which other crates can name, nor a method of one of a crate's traits
     an edit or a test that isn't there; a test is a function with #[test], or a script that can be run
     a public call of a public crate that no block names
-    an edit in a must-fail/ that no block names, or that is named twice
+    an edit in a must-fail/ that no block names, and any edit that is named twice
     an inner crate whose calls stand in more than one block
 """
 import collections
@@ -155,7 +155,7 @@ class Repository:
                 self.crates[name] = Crate(folder)
 
     def edits(self):
-        """The edits that the gate tries."""
+        """The edits that each gate tries."""
         crates = os.path.join(TOP, "crates")
         folders = [it for it in sorted(os.listdir(crates)) if os.path.isdir(os.path.join(crates, it, "must-fail"))]
         return [f"{it}/must-fail/{name}" for it in folders for name in sorted(os.listdir(os.path.join(crates, it, "must-fail")))]
@@ -171,9 +171,13 @@ class Repository:
         return None if call in crate.calls or call in crate.trait_methods else "names no public call of its crate"
 
     def edit_fault(self, item):
-        if not re.fullmatch(r"\w+/must-fail/[\w.-]+\.edit", item):
-            return "is no `crate/must-fail/name.edit`"
-        return None if os.path.isfile(os.path.join(TOP, "crates", item)) else "names no must-fail edit"
+        if re.fullmatch(r"\w+/must-fail/[\w.-]+\.edit", item):
+            path = os.path.join(TOP, "crates", item)
+        elif re.fullmatch(r"tools/edits/\w+/[\w.-]+\.edit", item):
+            path = os.path.join(TOP, item)
+        else:
+            return "is no `crate/must-fail/name.edit` and no `tools/edits/crate/name.edit`"
+        return None if os.path.isfile(path) else "names no edit that is there"
 
     def test_fault(self, item):
         found = re.fullmatch(r"(\w+) (\w+)", item)
@@ -271,9 +275,8 @@ def missing_faults(claims, repository):
             if call not in named:
                 yield f"{call}: a public call of a public crate, and no block names it"
     edits = collections.Counter(it for block in claims.blocks for it in block.items("edits"))
-    for edit in repository.edits():
-        if edits[edit] != 1:
-            yield f"crates/{edit}: {f'{edits[edit]} times named' if edits[edit] else 'no block names it'}"
+    yield from (f"crates/{it}: no block names it" for it in repository.edits() if it not in edits)
+    yield from (f"{it}: {count} times named" for it, count in edits.items() if count > 1)
     inner = collections.Counter()
     for block in claims.blocks:
         inner.update({it.split("::")[0] for it in block.items("calls")} - set(claims.public))

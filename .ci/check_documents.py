@@ -29,7 +29,7 @@ MIB = 1024 * 1024
 LIMITS = (
     (r"line over ([\d,]+) MiB", "rp_io/src/chunk.rt", "LINE_LIMIT", MIB),
     (r"(?:a file or a text|is|of at most|At most|file is at most) (?:over )?([\d,]+) MiB", "rp_config/src/files.rt", "FILE_LIMIT", MIB),
-    (r"(?:a file or a text|is|of at most|At most|file is at most) (?:over )?([\d,]+) MiB", "rp_core/src/faults.rt", "FILE_LIMIT", MIB),
+    (r"(?:a file or a text|is|of at most|At most|file is at most) (?:over )?([\d,]+) MiB", "rp_plans/src/faults.rt", "FILE_LIMIT", MIB),
     (r"over ([\d,]+) instances", "rp_rows/src/limits.rt", "MAX_INSTANCES", 1),
     (r"instances or ([\d,]+) links", "rp_rows/src/limits.rt", "MAX_LINKS", 1),
     (r"(?:over|has) ([\d,]+) models", "rp_rows/src/limits.rt", "MAX_MODELS", 1),
@@ -122,7 +122,7 @@ def command_faults(text):
 
 def requests_of_program():
     """The keys of each request, by what the program reads."""
-    source = "".join(read(f"crates/rp_wire/src/{it}.rt") for it in ("asks", "grants", "groups"))
+    source = "".join(read(f"crates/rp_requests/src/{it}.rt") for it in ("asks", "grants", "groups"))
     functions = dict(re.findall(r'"(\w+)" => (\w+)\((?:[\w.]+(?:\(\))?, )?members\)', source))
     found = {}
     for do, function in functions.items():
@@ -159,7 +159,7 @@ def request_faults(text):
 
 
 def codes_of_program():
-    source = read("crates/rp_wire/src/refusals.rt")
+    source = read("crates/rp_replies/src/refusals.rt")
     codes = {int(code): name for code, name in re.findall(r'write_coded\(out, (\d+), "(\w+)"\)', source)}
     codes.update((int(code), name) for code, name in
                  re.findall(r'number_at\(out, "code", (\d+)\)\?;.*?string_at\(out, "name", "(\w+)"\)', source, re.DOTALL))
@@ -186,9 +186,9 @@ def kinds_in(path, functions=""):
 
 def kind_faults(path, text):
     wanted = {
-        "docs/EXCHANGE-FILES.md": kinds_in("crates/rp_wire/src/refusals.rt", "word_of_(?:file|instance)"),
+        "docs/EXCHANGE-FILES.md": kinds_in("crates/rp_replies/src/refusals.rt", "word_of_(?:file|instance)"),
         "docs/EXPRESS-PROFILE.md": kinds_in("crates/ex_check/src/fault.rt"),
-        "docs/REQUESTS.md": kinds_in("crates/rp_wire/src/refusals.rt", "word_of_link"),
+        "docs/REQUESTS.md": kinds_in("crates/rp_replies/src/refusals.rt", "word_of_link"),
     }.get(path)
     if wanted is None:
         return

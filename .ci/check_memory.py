@@ -1,14 +1,17 @@
 #!/usr/bin/env python3
-"""Fails where the code may say that memory is wanting though no growth was refused.
+"""Fails where the code may say that memory is wanting though no growth was refused, or where a growth that is refused may tell
+of what its caller doesn't see.
 
     .ci/check_memory.py                reads crates/*/src
     .ci/check_memory.py --self-test    and then plants such places into copies of sources, each of which has to be found
 
-Want of memory has the words NoMemory, NoRoom, AllocError, AllocFailed and OutOfMemory, `no_memory_line`, strings that say
-'NoMemory' or 'out of memory', and, in functions whose `None` is want of memory, `None`, `.ok()` and `?`. Such a word may
-stand
+What is read of growth stands in growth.py. Want of memory has the words NoMemory, NoRoom, AllocError, AllocFailed and
+OutOfMemory, `no_memory_line`, and strings that say 'NoMemory' or 'out of memory', their escapes read, also where they stand in
+pieces side by side. Such a word may stand
 
-    in a type       in the head of a function, and as in Result<T, AllocError> anywhere
+    in a type       AllocError and AllocFailed: in the head of a function; and as an argument, as in Result<T, AllocError>, in
+                    the type of a variable, a constant, a field and an `impl`, and behind `->`
+    in a `type`     the same behind Result, Option, Vec or a mark
     in a `use`      without another name for it
     in an enum      as the plain name of a variant
     in an `impl From<AllocError>` or `impl From<AllocFailed<T>>`, whose body has to have one
@@ -19,36 +22,25 @@ stand
                     the condition
     in a place of LISTED, which has its reason
 
-and nowhere else: not behind another condition, nor in `ok_or` or `map_err`, a constant, a field or a function of its own.
-So want of memory is always handed on from a call below, and the last calls below are the toolchain's. `is_memory` is not
-to be defined here. Contracts and ghost items are no code.
+and nowhere else: not behind another condition, nor in `ok_or` or `map_err`, a constant, a field or a function of its own, nor
+among the type arguments of an expression or a pattern. So want of memory is always handed on from a call below, and the last
+calls below are the toolchain's. What would give an error without its name is refused too: a `type` that is a bare parameter or
+Self, what is made by `default` or by the number of an error, and fmt::Error, which `format!` hands on as want of memory.
+`is_memory` is not to be defined here. Contracts and ghost items are no code.
 
 This is read and not proved. A growth that is asked for without need isn't seen, nor one of a size that nothing has, nor
-what becomes of an error that is handed on under its own name.
+what becomes of an error that is handed on under its own name, nor a text that is put together of numbers or by several calls,
+nor what `unsafe` makes.
 """
-import os
 import re
 import sys
-from typing import NamedTuple
 
-TOP = os.path.dirname(os.path.dirname(os.path.abspath(__file__)))
+import growth
+from sources import Fault, Listed, Token, Unreadable, code_of, flat, missed, parted, place_of, planted, sources, spelled, without_listed
 
 ERRORS = {"AllocError", "AllocFailed"}
 WORDS = {"NoMemory", "NoRoom", "OutOfMemory", "no_memory_line", *ERRORS}
-STRING_OF_MEMORY = re.compile(r'".*(NoMemory|out of memory).*"', re.DOTALL | re.IGNORECASE)
-
-# The functions of a file that answer this are those whose `None` is want of memory.
-NONE_OF = {"crates/rp_repo/src/answer.rt": "-> Option < Vec < u8 > >"}
-
-
-class Listed(NamedTuple):
-    """A place that has none of the forms above: its file, its function, the code that stands there once, and the reason."""
-
-    file: str
-    function: str
-    code: str
-    reason: str
-
+SAYS_MEMORY = re.compile(r"NoMemory|out of memory", re.IGNORECASE)
 
 LISTED = [
     Listed("crates/ex_kinds/src/data_type.rt", "deeper", "None => Err(AllocError)",
@@ -58,113 +50,9 @@ LISTED = [
            "AllocError is the one error of Vec::extend_from_slice"),
     Listed("crates/rp_server/src/command.rt", "fault_of", "Err(_) => Fault::NoMemory",
            "AllocError is the one error of line_of"),
-    Listed("crates/rp_wire/src/replies.rt", "no_memory_line", r'b"{\"refused\":{\"code\":18,\"name\":\"NoMemory\"}}\n"',
+    Listed("crates/rp_replies/src/replies.rt", "no_memory_line", r'b"{\"refused\":{\"code\":18,\"name\":\"NoMemory\"}}\n"',
            "the reply's bytes, which are had by a word"),
-    Listed("crates/rp_repo/src/answer.rt", "refused", "reply_line(alloc, &Reply::Refused(refusal)).ok()",
-           "AllocError is the one error of reply_line"),
-    Listed("crates/rp_repo/src/answer.rt", "line_of", "reply_line(alloc, pending.reply()).ok()",
-           "AllocError is the one error of reply_line"),
-    Listed("crates/rp_repo/src/run.rt", "serve", "None => write_all(writer, no_memory_line())",
-           "`answer` answers None where memory is wanting alone"),
 ]
-
-
-# ---- tokens
-
-TOKEN = re.compile(
-    r"""(?P<comment>//[^\n]*|/\*.*?\*/)
-      | b?r(?P<h>\#*)".*?"(?P=h) | b?"(?:\\.|[^"\\])*" | b?'(?:\\.[^']*|[^'\\])' | '\w+
-      | \w+
-      | :: | => | -> | == | != | <= | >= | && | \|\| | \.\.=? | \S""",
-    re.DOTALL | re.VERBOSE,
-)
-CLOSED_BY = {"(": ")", "[": "]", "{": "}"}
-
-
-class Token(NamedTuple):
-    """A token and its line. A pair of brackets is one token, with what opens it as its text and what it has inside."""
-
-    text: str
-    line: int
-    inside: list = None
-
-
-class Unreadable(Exception):
-    """Why a source can't be read here."""
-
-
-def plain_tokens(text):
-    """The tokens of a text but its comments."""
-    line, at = 1, 0
-    for found in TOKEN.finditer(text):
-        line += text.count("\n", at, found.start())
-        at = found.start()
-        if not found["comment"]:
-            yield Token(found[0], line)
-
-
-def grouped(tokens, opening=None):
-    """The tokens up to what closes the opening one, or all, with each pair of brackets as one."""
-    found = []
-    for token in tokens:
-        if token.text in CLOSED_BY:
-            found.append(token._replace(inside=grouped(tokens, token)))
-        elif token.text in CLOSED_BY.values():
-            if not opening or CLOSED_BY[opening.text] != token.text:
-                raise Unreadable(f"line {token.line}: '{token.text}' closes nothing")
-            return found
-        else:
-            found.append(token)
-    if opening:
-        raise Unreadable(f"line {opening.line}: '{opening.text}' isn't closed")
-    return found
-
-
-def code_among(tokens):
-    """The tokens without contracts and ghost items."""
-    found, left = [], iter(tokens)
-    for token in left:
-        if token.text == "ghost":
-            next((it for it in left if it.text == ";"), None)
-        elif token.text in ("ensures", "requires"):
-            next((it for it in left if it.text == "{"), None)
-        else:
-            found.append(token if token.inside is None else token._replace(inside=code_among(token.inside)))
-    return found
-
-
-def code_of(text):
-    return code_among(grouped(plain_tokens(text)))
-
-
-def flat(tokens):
-    """All tokens one by one, the brackets too, as text and line. A comma before what closes a pair is left out."""
-    for place, token in enumerate(tokens):
-        if token.text != "," or place + 1 < len(tokens):
-            yield token.text, token.line
-        if token.inside is not None:
-            yield from flat(token.inside)
-            yield CLOSED_BY[token.text], token.line
-
-
-def spelled(tokens):
-    return " ".join(text for text, _ in flat(tokens))
-
-
-def parted(tokens, mark):
-    """What stands between the marks."""
-    parts = [[]]
-    for token in tokens:
-        if token.text == mark:
-            parts.append([])
-        else:
-            parts[-1].append(token)
-    return [part for part in parts if part]
-
-
-def place_of(tokens, start, *wanted):
-    """The place of the first of these tokens from a place on, or the end."""
-    return next((at for at in range(start, len(tokens)) if tokens[at].text in wanted), len(tokens))
 
 
 # ---- the forms
@@ -173,9 +61,75 @@ CONDITION_OF_MEMORY = re.compile(r"\w+ \. is_memory \( \)|\w+ \. kind \( \) == E
 FROM_A_REFUSED_GROWTH = re.compile(r"impl (< .* > )?From < (AllocError|AllocFailed < \w+ >) > for \w+.*")
 BLOCK_WORDS = ("if", "match", "loop", "while", "for", "unsafe")
 
+# What a `type` that has an error among its arguments may begin with.
+OUTER = ("Result", "Option", "Vec", "(", "[", "&")
+
+LITERAL = re.compile(r"""b?(?P<raw>r?)\#*["'](?P<said>.*)["']\#*""", re.DOTALL)
+ESCAPE = re.compile(r"\\(?:x(?P<byte>[0-9A-Fa-f]{2})|u\{(?P<code>[0-9A-Fa-f_]+)\}|(?P<line>\n\s*)|(?P<plain>.))", re.DOTALL)
+BLANKS = {"n": "\n", "r": "\r", "t": "\t", "0": "\0"}
+
+
+def unescaped(found):
+    if found["line"]:
+        return ""
+    number = found["byte"] or (found["code"] or "").replace("_", "")
+    return chr(int(number, 16) % 0x110000) if number else BLANKS.get(found["plain"], found["plain"])
+
+
+def said_by(text):
+    """What a literal of a string, of bytes or of a character says, its escapes read; nothing of any other token."""
+    found = LITERAL.fullmatch(text)
+    if not found:
+        return ""
+    return found["said"] if found["raw"] else ESCAPE.sub(unescaped, found["said"])
+
+
+def is_word(token):
+    return token.text in WORDS or bool(SAYS_MEMORY.search(said_by(token.text)))
+
+
+def has_word(tokens):
+    return any(is_word(it) for it in flat(tokens))
+
+
+def is_said_in_pieces(tokens):
+    """Whether literals that stand side by side say it together, and none alone."""
+    pieces = [said_by(it.text) for it in tokens]
+    return bool(SAYS_MEMORY.search("".join(pieces))) and not any(SAYS_MEMORY.search(it) for it in pieces)
+
+
+def is_argument(tokens, at):
+    """Whether an error stands as an argument of a type."""
+    behind = tokens[at + 1].text if at + 1 < len(tokens) else ""
+    before = tokens[at - 1].text if at else ""
+    return tokens[at].text in ERRORS and (behind == ">" or behind == "<" and before in ("<", ","))
+
+
+def gives_no_name(tokens, at):
+    """Why what stands here may be an error, though it has no name of one."""
+    text, before = tokens[at].text, [it.text for it in tokens[max(at - 2, 0):at]]
+    if (text == "default" or text.endswith("_default")) and before[-1:] in (["::"], ["."]):
+        return "what is made by default may be want of memory"
+    if text == "Error" and before == ["fmt", "::"]:
+        return "`format!` hands fmt::Error on as want of memory"
+    return "the number of an error may be that of want of memory" if text == "from_raw_os_error" else None
+
 
 def is_condition_of_memory(tokens):
     return bool(CONDITION_OF_MEMORY.fullmatch(spelled(tokens)))
+
+
+def parameters_at(tokens, at):
+    """The names of the parameters in angle brackets that begin at a place, and the place behind them."""
+    found, depth = set(), 0
+    while at < len(tokens):
+        depth += {"<": 1, ">": -1}.get(tokens[at].text, 0)
+        if depth == 0:
+            break
+        if depth == 1 and tokens[at].text in ("<", ",") and at + 1 < len(tokens):
+            found.add(tokens[at + 1].text)
+        at += 1
+    return found, at
 
 
 def end_of_body(arms, start):
@@ -190,157 +144,182 @@ def end_of_body(arms, start):
 
 
 class Source:
-    """A file of code, with what is wrong in it, as lines with reasons."""
+    """A file of code, with what is wrong in it."""
 
     def __init__(self, file, text):
         self.file = file
         self.faults = []
-        self.functions = {}
+        self.parameters = set()
+        self.imports = set()
+        self.forms = {"use": self.read_use, "enum": self.read_enum, "struct": self.read_struct, "impl": self.read_impl,
+                      "type": self.read_alias, "const": self.read_constant, "static": self.read_constant, "fn": self.read_function,
+                      "let": self.read_variable, "->": self.read_result, "match": self.read_match, "if": self.read_if}
         try:
             code = code_of(text)
         except Unreadable as why:
-            self.faults.append((0, str(why)))
+            self.fault(Token(""), str(why))
             return
-        self.imports = {word for at, it in enumerate(code) if it.text == "use"
-                        for word, _ in flat(code[at:place_of(code, at, ";")])}
-        self.forms = {"use": self.read_use, "enum": self.read_enum, "impl": self.read_impl, "fn": self.read_function,
-                      "match": self.read_match, "if": self.read_if}
-        self.read(code, None, False)
-        if file in NONE_OF and not any(self.answers_none_for_memory(it) for it in self.functions):
-            self.fault(Token("", 0), "NONE_OF: no function here answers this")
+        self.imports = {word.text for at, it in enumerate(code) if it.text == "use" for word in flat(code[at:place_of(code, at, ";")])}
+        self.read(code, False)
 
     def fault(self, token, why):
-        self.faults.append((token.line, why))
+        self.faults.append(Fault(self.file, token, why))
 
-    # What is read is read for a function, whose name is None outside of all; and as allowed or not, which says whether
-    # it stands where want of memory is handed on.
+    # What is read is read as allowed or not, which says whether it stands where want of memory is handed on.
 
-    def read(self, tokens, function, allowed):
+    def read(self, tokens, allowed):
         """Looks at the tokens of a level, and at all that they have inside."""
         at = 0
         while at < len(tokens):
-            at = self.forms.get(tokens[at].text, self.read_token)(tokens, at, function, allowed)
+            at = self.forms.get(tokens[at].text, self.read_token)(tokens, at, allowed)
 
-    def read_token(self, tokens, at, function, allowed):
+    def read_token(self, tokens, at, allowed):
         token = tokens[at]
         if token.inside is not None:
-            self.read(token.inside, function, allowed)
-        elif not allowed and self.is_word(tokens, at, function) and not self.is_type(tokens, at):
-            self.fault(token, f"{token.text[:60]} is said here, and isn't handed on")
+            if not allowed and is_said_in_pieces(token.inside):
+                self.fault(token, "want of memory is said here in pieces, and isn't handed on")
+            self.read(token.inside, allowed)
+        elif not allowed and (is_word(token) or gives_no_name(tokens, at)):
+            self.fault(token, gives_no_name(tokens, at) or f"{token.text[:60]} is said here, and isn't handed on")
         return at + 1
 
-    def answers_none_for_memory(self, function):
-        head = self.functions.get(function, [])
-        return self.file in NONE_OF and NONE_OF[self.file] in spelled(head[:place_of(head, 0, "{")])
-
-    def is_word(self, tokens, at, function):
-        text = tokens[at].text
-        if text in ("None", "ok", "?") and self.answers_none_for_memory(function):
-            return text != "ok" or at > 0 and tokens[at - 1].text == "."
-        return text in WORDS or bool(STRING_OF_MEMORY.search(text))
-
-    def has_word(self, tokens, function):
-        return any(self.is_word(tokens, at, function) or it.inside is not None and self.has_word(it.inside, function)
-                   for at, it in enumerate(tokens))
-
-    @staticmethod
-    def is_type(tokens, at):
-        """Whether an error stands as an argument of a type."""
-        behind = tokens[at + 1].text if at + 1 < len(tokens) else ""
-        before = tokens[at - 1].text if at else ""
-        return tokens[at].text in ERRORS and (behind == ">" or behind == "<" and before in ("<", ","))
+    def read_types(self, tokens):
+        """Looks at types: an error may be an argument there."""
+        for at, token in enumerate(tokens):
+            if token.inside is not None:
+                self.read_types(token.inside)
+            elif is_word(token) and not is_argument(tokens, at):
+                self.fault(token, f"{token.text} is no argument of a type here")
 
     # ---- items
 
-    def read_use(self, tokens, at, _function, _allowed):
+    def read_use(self, tokens, at, _allowed):
         end = place_of(tokens, at, ";")
         words = list(flat(tokens[at:end]))
-        for (text, line), (behind, _) in zip(words, words[1:]):
-            if text in WORDS and behind == "as":
-                self.faults.append((line, f"{text} gets another name"))
+        for token, behind in zip(words, words[1:]):
+            if token.text in WORDS and behind.text == "as":
+                self.fault(token, f"{token.text} gets another name")
+            if token.text == "Error" and any(it.text == "fmt" for it in words):
+                self.fault(token, "`format!` hands fmt::Error on as want of memory")
         return end
 
-    def read_enum(self, tokens, at, function, allowed):
+    def read_enum(self, tokens, at, _allowed):
         end = place_of(tokens, at, "{", ";")
         for variant in parted(tokens[end].inside, ",") if end < len(tokens) else []:
             if not (len(variant) == 1 and variant[0].text in WORDS):
-                self.read(variant, function, allowed)
+                self.read_types(variant)
         return end + 1
 
-    def read_impl(self, tokens, at, function, _allowed):
-        end = place_of(tokens, at, "{")
-        self.read(tokens[at + 1:end], function, False)
-        body = tokens[end].inside if end < len(tokens) else []
-        converts = bool(FROM_A_REFUSED_GROWTH.fullmatch(spelled(tokens[at:end])))
-        if converts and not any(self.has_word(it.inside, None) for it in body if it.text == "{"):
-            self.fault(tokens[at], "want of memory gets a name that is none of the words")
-        self.read(body, function, converts)
-        return end + 1
-
-    def read_function(self, tokens, at, function, allowed):
+    def read_struct(self, tokens, at, _allowed):
         end = place_of(tokens, at, "{", ";")
-        name = tokens[at + 1].text
-        if not re.fullmatch(r"\w+", name):
+        self.read_types(tokens[at:end + 1])
+        return end + 1
+
+    def read_impl(self, tokens, at, _allowed):
+        end = place_of(tokens, at, "{")
+        converts = bool(FROM_A_REFUSED_GROWTH.fullmatch(spelled(tokens[at:end])))
+        self.read_types(tokens[at + 1:end])
+        body = tokens[end].inside if end < len(tokens) else []
+        if converts and not any(has_word(it.inside) for it in body if it.text == "{"):
+            self.fault(tokens[at], "want of memory gets a name that is none of the words")
+        outer, (self.parameters, _) = self.parameters, parameters_at(tokens, at + 1)
+        self.read(body, converts)
+        self.parameters = outer
+        return end + 1
+
+    def read_alias(self, tokens, at, _allowed):
+        """A `type`. What it is must have a type of its own around its arguments."""
+        end = place_of(tokens, at, ";")
+        own, behind = parameters_at(tokens, at + 2)
+        sign = place_of(tokens, behind, "=", ";")
+        means = tokens[sign + 1:end]
+        self.read_types([*tokens[at + 1:sign], *means])
+        if len(means) == 1 and means[0].text in {"Self", *self.parameters, *own}:
+            self.fault(means[0], f"{means[0].text} gets another name, whatever it is")
+        if means and means[0].text not in OUTER and any(it.text in ERRORS for it in flat(means)) and len(means) > 1:
+            self.fault(means[0], "an error may get another name")
+        return end
+
+    def read_constant(self, tokens, at, allowed):
+        if at + 1 < len(tokens) and tokens[at + 1].text == "fn":
             return at + 1
-        self.functions.setdefault(name, []).extend(tokens[at:end + 1])
-        if name == "is_memory":
+        return self.read_variable(tokens, at, allowed)
+
+    def read_variable(self, tokens, at, allowed):
+        """A variable or a constant up to its value. Its name or pattern isn't allowed, but where it stands."""
+        end = place_of(tokens, at, "=", ";", "{")
+        colon = min(place_of(tokens, at, ":"), end)
+        self.read(tokens[at + 1:colon], allowed)
+        self.read_types(tokens[colon + 1:end])
+        return end
+
+    def read_result(self, tokens, at, _allowed):
+        end = place_of(tokens, at, "{", ";")
+        self.read_types(tokens[at + 1:end])
+        return end
+
+    def read_function(self, tokens, at, allowed):
+        end = place_of(tokens, at, "{", ";")
+        if at + 1 == len(tokens) or not re.fullmatch(r"\w+", tokens[at + 1].text):
+            return at + 1
+        if tokens[at + 1].text == "is_memory":
             self.fault(tokens[at], "is_memory is defined here")
-        for text, line in flat(tokens[at + 2:end]):
-            if text in WORDS - ERRORS:
-                self.faults.append((line, f"{text} in the head of a function"))
+        for token in flat(tokens[at + 2:end]):
+            if token.text in WORDS - ERRORS:
+                self.fault(token, f"{token.text} in the head of a function")
         if end < len(tokens) and tokens[end].text == "{":
-            self.read(tokens[end].inside, name, allowed)
+            self.read(tokens[end].inside, allowed)
         return end + 1
 
     # ---- expressions
 
-    def read_match(self, tokens, at, function, allowed):
+    def read_match(self, tokens, at, allowed):
         end = place_of(tokens, at, "{")
-        self.read(tokens[at + 1:end], function, allowed)
-        arms, start = tokens[end].inside, 0
+        self.read(tokens[at + 1:end], allowed)
+        arms, start = tokens[end].inside if end < len(tokens) else [], 0
         while start < len(arms):
             arrow = place_of(arms, start, "=>")
             guard = min(arrow, place_of(arms, start, "if"))
             behind = end_of_body(arms, arrow + 1)
-            self.read_arm(arms[start:guard], arms[guard + 1:arrow], arms[arrow + 1:behind], function, allowed)
+            self.read_arm(arms[start:guard], arms[guard + 1:arrow], arms[arrow + 1:behind], allowed)
             start = behind + 1 if behind < len(arms) and arms[behind].text == "," else behind
         return end + 1
 
-    def read_arm(self, pattern, guard, body, function, allowed):
+    def read_arm(self, pattern, guard, body, allowed):
         if guard and is_condition_of_memory(guard):
-            self.read(pattern, None, allowed)
-            self.read(body, function, True)
+            self.read(pattern, allowed)
+            self.read(body, True)
         elif guard:
-            self.read(pattern, None, allowed)
-            self.read(guard, function, allowed)
-            self.read(body, function, allowed)
+            self.read(pattern, allowed)
+            self.read(guard, allowed)
+            self.read(body, allowed)
         else:
-            self.read_behind(pattern, body, function, allowed)
+            self.read_behind(pattern, body, allowed)
 
-    def read_if(self, tokens, at, function, allowed):
+    def read_if(self, tokens, at, allowed):
         end = place_of(tokens, at, "{")
         if end == len(tokens):
             return at + 1
         condition, body = tokens[at + 1:end], tokens[end].inside
         if condition and condition[0].text == "let":
             value = place_of(condition, 0, "=")
-            self.read(condition[value:], function, allowed)
-            self.read_behind(condition[1:value], body, function, allowed)
+            self.read(condition[value:], allowed)
+            self.read_behind(condition[1:value], body, allowed)
         elif is_condition_of_memory(condition):
-            self.read(body, function, True)
+            self.read(body, True)
         else:
-            self.read(condition, function, allowed)
-            self.read(body, function, allowed)
+            self.read(condition, allowed)
+            self.read(body, allowed)
         return end + 1
 
-    def read_behind(self, pattern, body, function, allowed):
+    def read_behind(self, pattern, body, allowed):
         """Looks at a pattern and at what is done where it fits."""
         asks = self.asks_for_memory(pattern)
-        if asks and not self.has_word(body, function):
+        if asks and not has_word(body):
             self.fault(pattern[0], "want of memory is answered by none of its words")
         if not asks:
-            self.read(pattern, None, allowed)
-        self.read(body, function, allowed or asks)
+            self.read(pattern, allowed)
+        self.read(body, allowed or asks)
 
     def asks_for_memory(self, pattern):
         """Whether each alternative of a pattern asks for want of memory."""
@@ -348,6 +327,8 @@ class Source:
         return bool(alternatives) and all(self.has_asking_part(it) for it in alternatives)
 
     def has_asking_part(self, alternative):
+        if any(it.text in ("<", ">") for it in alternative):
+            return False
         for at, token in enumerate(alternative):
             if token.text in WORDS and at and alternative[at - 1].text == "::" or token.text in ERRORS & self.imports:
                 return True
@@ -356,50 +337,13 @@ class Source:
         return False
 
 
-# ---- all sources
-
-def lines_listed(source, entry):
-    """The lines of a place of LISTED in its file, or None where it doesn't stand there once."""
-    wanted = [text for text, _ in flat(code_of(entry.code))]
-    there = list(flat(source.functions.get(entry.function, [])))
-    starts = [at for at in range(len(there)) if [text for text, _ in there[at:at + len(wanted)]] == wanted]
-    if len(starts) != 1:
-        return None
-    return {line for _, line in there[starts[0]:starts[0] + len(wanted)]}
-
-
-def faults_in(file, text):
-    """What is wrong in a file, as lines with reasons; what is listed left out."""
-    source = Source(file, text)
-    faults = source.faults
-    for entry in LISTED:
-        if entry.file == file:
-            lines = lines_listed(source, entry)
-            if lines is None:
-                faults.append((0, f"LISTED: this isn't there once, in {entry.function}: {entry.code}"))
-            elif not any(line in lines for line, _ in faults):
-                faults.append((0, f"LISTED: this needs no reason, in {entry.function}: {entry.code}"))
-            else:
-                faults = [it for it in faults if it[0] not in lines]
-    return faults
-
-
-def sources():
-    """The files of code, with their texts."""
-    found = {}
-    for at, _, names in os.walk(os.path.join(TOP, "crates")):
-        folders = os.path.relpath(at, TOP).split(os.sep)
-        for name in names if folders[2:3] == ["src"] else []:
-            if name.endswith(".rt"):
-                with open(os.path.join(at, name), encoding="utf-8") as it:
-                    found["/".join([*folders, name])] = it.read()
-    return dict(sorted(found.items()))
+def faults_in(texts):
+    """What is wrong with want of memory in some files; what is listed left out."""
+    faults = [it for file, text in texts.items() for it in Source(file, text).faults]
+    return without_listed(faults, texts, [it for it in LISTED if it.file in texts])
 
 
 # ---- the self-test
-
-# What is found, at the lines that end by this comment.
-FOUND = "// found"
 
 # Statements that are planted into the first function of a file that has a contract.
 STATEMENTS = {
@@ -432,7 +376,7 @@ STATEMENTS = {
     "by a field": """
     return Pending { reply: Reply::Refused(Refusal::NoMemory), error: AllocError }; // found // found""",
     "by a match of a made error": """
-    match Err::<(), AllocError>(AllocError) { // found
+    match Err::<(), AllocError>(AllocError) { // found // found
         Err(std::alloc::AllocError) => return Err(Failure::NoMemory),
     }""",
     "behind any error": """
@@ -495,6 +439,57 @@ STATEMENTS = {
     match models.len() {
         AllocFailed => Err(Refusal::NoMemory), // found // found
     }""",
+    "by an alias with type arguments": """
+    type Same<T> = T; // found
+    return Err(Same::<AllocError> {}); // found""",
+    "by what a type has": """
+    return Err(<Vec<AllocError> as Unwrap>::It {}); // found
+    return Err(Unwrap::<Result<u8, AllocError>>::It); // found""",
+    "by type arguments": """
+    return Err::<u8, AllocError>(AllocError {}); // found // found
+    return full::<AllocError>(); // found""",
+    "behind a pattern with type arguments": """
+    match call() {
+        Ok::<u8, AllocError>(_) => return Err(AllocError), // found // found
+        (_, Some::<AllocError>(_)) => return Err(AllocError), // found // found
+        found => found,
+    }""",
+    "by a filter": """
+    let bytes = reply_line(alloc, &reply).ok().filter(|bytes| bytes.len() < 4096);
+    match bytes {
+        Some(bytes) => return Ok(bytes),
+        None => return Err(AllocError), // found
+    }
+    return reply_line(alloc, &reply).ok().filter(|bytes| bytes.len() < 4096).ok_or(AllocError); // found""",
+    "by a size, before a call": """
+    let bytes = if kept.len() > 4096 { None } else { answer(alloc, repository, room, kept).ok() };
+    match bytes {
+        Some(bytes) => write_all(writer, &bytes),
+        None => write_all(writer, no_memory_line()), // found
+    }""",
+    "by escapes": r'''
+    return write_all(writer, b"{\"refused\":{\"code\":18,\"name\":\"No\x4demory\"}}\n"); // found
+    let told = "No\u{4d}emory"; // found
+    let told = "No\u{00_004D}emory"; // found
+    let told = b"\x4eo\x4Demory"; // found
+    let told = r"NoMemory"; // found
+    let told = br#"{"name":"NoMemory"}"#; // found
+    let told = b"out\x20of memory"; // found
+    let told = "// found: No\
+        Memory";''',
+    "in pieces": r'''
+    let told = concat!("No", "Memory"); // found
+    let told = [b'N', b'o', b'M', b'e', b'm', b'\x6f', b'r', b'y']; // found
+    let told = ["out ", "of mem", "ory"]; // found''',
+    "by default": """
+    return Err(Default::default()); // found
+    return Err(T::default()); // found
+    return Err(models.first().copied().unwrap_or_default()); // found
+    return models.first().ok_or_else(Refusal::default); // found""",
+    "by an error of formatting": """
+    return Err(fmt::Error); // found""",
+    "by the number of an error": """
+    return Err(io::Error::from_raw_os_error(12)); // found""",
 }
 
 # Items that are planted behind all others.
@@ -516,6 +511,14 @@ ITEMS = {
     "an error that says so of itself": "impl Absent { fn is_memory(&self) -> bool { true } } // found",
     "an error of its own": "struct AllocError; // found",
     "a constant in a type": "impl Why { const NoMemory: usize = 4096; } // found",
+    "an alias of its parameter": "type Same<T> = T; // found",
+    "an alias of a parameter with a default": "pub type Same<T = AllocError> = T; // found",
+    "an associated type that is a parameter": "impl<T> Unwrap for Vec<T> { type It = T; } // found",
+    "an associated type that is Self": "impl<T> Unwrap for T { type It = Self; } // found",
+    "an alias by another": "type Full = Same<AllocError>; // found",
+    "an alias by an associated type": "type Full = <Vec<AllocError> as Unwrap>::It; // found",
+    "an implementation for the error": "impl Made for AllocError { const IT: Self = Self {}; } // found",
+    "an error of formatting": "use std::fmt::{self, Error}; // found",
 }
 
 # Statements and items that are fine.
@@ -536,6 +539,10 @@ FINE_STATEMENTS = """
     }
     let list: Result<Vec<u8>, AllocError> = Vec::with_capacity(alloc, 1);
     let list = list.map_err(Failure::from)?;
+    let grown: Result<_, AllocError> = list.push(1);
+    let call = |n: u8| -> Result<u8, AllocError> { grow(n) };
+    let told = "no memory is free \\\\x4e, and out \\u{6f}f it";
+    let told = ["No", "thing in memory"];
 """
 FINE_ITEMS = """
 use std::alloc::{AllocError, AllocFailed};
@@ -547,10 +554,22 @@ impl<T: Drop> From<AllocFailed<T>> for Why {
 impl From<AllocError> for Why { fn from(_error: AllocError) -> Why { Why::NoMemory } }
 fn call(error: AllocError) -> Result<Option<u8>, AllocError> ensures { IsErrOf result NoMemory } { Err(error) }
 type Told = Result<u8, AllocError>;
+pub type Grown<T> = Result<Option<T>, AllocError>;
+struct Kept { grown: Result<u8, AllocError>, last: Option<AllocFailed<u8>> }
+struct Pair(Result<u8, AllocError>, u8);
+static GROWN: Result<u8, AllocError> = Ok(1);
+impl Iterator for Kept { type Item = Result<u8, AllocError>; }
+impl Default for Kept { fn default() -> Self { Kept::new() } }
 """
 
 # Files into which is planted, since they are of the kinds that there are.
 PLANTED = ["crates/ex_check/src/schema.rt", "crates/ex_named/src/binding.rt", "crates/ex_kinds/src/data_type.rt"]
+
+# Faults beside a listed place, on its line: the file, the place's code, and what stands there then.
+BESIDE = [
+    ("crates/ex_kinds/src/data_type.rt", "None => Err(AllocError),", "None => Err(AllocError), Some(0) => Err(AllocError), // found"),
+    ("crates/rp_server/src/command.rt", "Err(_) => Fault::NoMemory,", "Err(_) => Fault::NoMemory, Ok(_) if full => Fault::NoMemory, // found"),
+]
 
 
 def with_statements(text, statements):
@@ -558,23 +577,23 @@ def with_statements(text, statements):
     return front + body + statements.lstrip("\n") + "\n" + rest
 
 
+def plants(texts):
+    """The plants: what each is, its file, and the file's text."""
+    for file in PLANTED:
+        text = texts[file]
+        yield from ((name, file, with_statements(text, it)) for name, it in STATEMENTS.items())
+        yield from ((name, file, f"{text}\n{it}\n") for name, it in ITEMS.items())
+        yield "what is fine", file, with_statements(text, FINE_STATEMENTS) + FINE_ITEMS
+    for file, code, other in BESIDE:
+        yield f"beside {code}", file, texts[file].replace(code, other)
+
+
 def self_test(texts):
     """Plants each, and answers how many there were and what wasn't found, or was found and is fine."""
     faults, count = [], 0
-    for file in PLANTED:
-        text = texts[file]
-        before = faults_in(file, text)
-        if "\n{\n" not in text:
-            faults.append(f"{file} has no function with a contract")
-        plants = [(name, with_statements(text, it)) for name, it in STATEMENTS.items()]
-        plants += [(name, f"{text}\n{it}\n") for name, it in ITEMS.items()]
-        plants.append(("what is fine", with_statements(text, FINE_STATEMENTS) + FINE_ITEMS))
-        for name, planted in plants:
-            lines = [at for at, line in enumerate(planted.split("\n"), 1) for _ in range(line.count(FOUND))]
-            seen = sorted(line for line, _ in faults_in(file, planted))
-            count += 1
-            if len(seen) != len(before) + len(lines) or any(seen.count(line) < lines.count(line) for line in lines):
-                faults.append(f"self-test: {file}, {name}: lines {seen} are found in place of {lines}")
+    for name, file, text in plants(texts):
+        count += 1
+        faults += missed(f"{file}, {name}", faults_in({file: text}), len(faults_in({file: texts[file]})), text)
     return count, faults
 
 
@@ -582,15 +601,14 @@ def main(words):
     if words not in ([], ["--self-test"]):
         sys.exit("check_memory: --self-test is the one option")
     texts = sources()
-    faults = [f"{file}:{line}: {why}" for file, text in texts.items() for line, why in sorted(faults_in(file, text))]
-    faults += [f"LISTED: there is no file {it.file}" for it in LISTED if it.file not in texts]
-    faults += [f"NONE_OF: there is no file {it}" for it in NONE_OF if it not in texts]
-    told = f"{len(texts)} files, {len(LISTED)} places listed"
+    faults = [*faults_in(texts), *growth.faults_in(texts)]
+    faults += [f"listed: there is no file {it.file}" for it in [*LISTED, *growth.LISTED] if it.file not in texts]
+    told = f"{len(texts)} files, {len(LISTED)} and {len(growth.LISTED)} places listed"
     if words:
-        count, missed = self_test(texts)
-        faults += missed
-        told += f", {count} plants"
-    for fault in faults:
+        for count, faulty in (self_test(texts), growth.self_test(texts)):
+            faults += faulty
+            told += f", {count} plants"
+    for fault in sorted(map(str, faults)):
         print(fault)
     print(f"check_memory: {told}, {len(faults)} faults")
     sys.exit(1 if faults else 0)

@@ -14,6 +14,8 @@ Fenced blocks of a page whose first line has one of these forms make up its exam
 `crates/rp_server/out/rp_server` is the program in that folder too, and `example/` and `tools/ask.py` are those of the
 repository. The examples of a page that lies in `example/` run in a copy of its folder. A command prints nothing on
 standard error and ends with status 0. There has to be at least one example.
+
+Each document that names the toolchain by its sum, as `logic 0123456789abcdef`, names the one that `rt version` prints.
 """
 import os
 import re
@@ -28,6 +30,7 @@ PROGRAM = os.path.join(TOP, "crates/rp_server/out/rp_server")
 PAGES = ("README.md", "docs/REQUESTS.md", "docs/REFUSALS.md", "docs/EXCHANGE-FILES.md", "docs/EXPRESS-PROFILE.md",
          "example/session/README.md")
 BATCH = "rp_server batch --config config.json"
+SUM = re.compile(r"`(logic [0-9a-f]{16})`")
 
 
 class Example(NamedTuple):
@@ -36,6 +39,14 @@ class Example(NamedTuple):
     command: str
     given: str
     output: str
+
+
+def of_page(page):
+    try:
+        with open(os.path.join(TOP, page), encoding="utf-8") as it:
+            return it.read()
+    except OSError as fault:
+        sys.exit(f"check_readme: {fault}")
 
 
 def blocks_of(text):
@@ -106,11 +117,7 @@ def first_difference(seen, wanted):
 
 def run_examples(program, page):
     """Runs the examples of a page in a folder of their own, and gives their number."""
-    try:
-        with open(os.path.join(TOP, page), encoding="utf-8") as it:
-            blocks = [(head.split(), body) for head, body in blocks_of(it.read())]
-    except OSError as fault:
-        sys.exit(f"check_readme: {fault}")
+    blocks = [(head.split(), body) for head, body in blocks_of(of_page(page))]
     examples = examples_of(blocks)
     if not examples:
         sys.exit(f"check_readme: {page} has no example")
@@ -127,11 +134,26 @@ def run_examples(program, page):
     return len(examples)
 
 
+def sums_named():
+    """How often documents name the toolchain, each time by the sum that it has."""
+    try:
+        printed = subprocess.run(["rt", "version"], capture_output=True, text=True, check=True).stdout
+    except (OSError, subprocess.CalledProcessError) as fault:
+        sys.exit(f"check_readme: rt version: {fault}")
+    listed = subprocess.run(["git", "ls-files", "*.md"], cwd=TOP, capture_output=True, text=True, check=True).stdout.split()
+    named = [(page, it) for page in listed for it in SUM.findall(of_page(page))]
+    for page, name in named:
+        if name not in printed:
+            sys.exit(f"check_readme: {page} names {name}, and rt version prints {printed.strip()}")
+    return len(named)
+
+
 def main(words):
     program = os.path.abspath(words[0] if words else PROGRAM)
     if not os.access(program, os.X_OK):
         sys.exit(f"check_readme: there is no program {program}: run rt ci first, or name it")
-    print(f"check_readme: {sum(run_examples(program, page) for page in PAGES)} examples in {len(PAGES)} pages")
+    named = sums_named()
+    print(f"check_readme: {sum(run_examples(program, page) for page in PAGES)} examples in {len(PAGES)} pages, {named} sums of the toolchain")
 
 
 if __name__ == "__main__":

@@ -11,6 +11,7 @@ import json
 import os
 import re
 import select
+import socket
 import subprocess
 import sys
 import time
@@ -726,9 +727,7 @@ def test_lines_in_pieces():
     replies = [OK, named(), BAD_REQUEST]
     expect_replies(b"\n".join(lines) + b"\n", replies)
     with Repository() as folder:
-        words = [Folder.program, "batch", "--config", "config.json"]
-        with subprocess.Popen(words, cwd=folder.folder.name, stdin=subprocess.PIPE, stdout=subprocess.PIPE,
-                              bufsize=0) as process:
+        with folder.start("batch", "--config", "config.json") as process:
             for it, reply in zip(lines, replies):
                 for byte in it + b"\n":
                     process.stdin.write(bytes([byte]))
@@ -745,9 +744,7 @@ def test_each_reply_before_the_next_line():
              (padded(names("ann", "ann", "k"), 4096), named()), (padded(names("ann", "ann", "k"), 12_000), named()),
              (list_of("ann"), listed((b"owner", b"k", b"ann"), (b"owner", b"m", b"ann")))]
     with Repository() as folder:
-        words = [Folder.program, "batch", "--config", "config.json"]
-        with subprocess.Popen(words, cwd=folder.folder.name, stdin=subprocess.PIPE, stdout=subprocess.PIPE,
-                              stderr=subprocess.PIPE, bufsize=0) as process:
+        with folder.start("batch", "--config", "config.json") as process:
             for it, reply in turns:
                 process.stdin.write(it + b"\n")
                 expect_written(process, reply + b"\n")
@@ -767,15 +764,28 @@ def test_any_pieces_give_the_same_bytes():
     wanted = b"\n".join([*FIRST_REPLIES, BAD_REQUEST, FIRST_NAMES, b""])
     for size in (1, 7, 100, 5000):
         with Repository() as folder:
-            words = [Folder.program, "batch", "--config", "config.json"]
-            with subprocess.Popen(words, cwd=folder.folder.name, stdin=subprocess.PIPE, stdout=subprocess.PIPE,
-                                  stderr=subprocess.PIPE, bufsize=0) as process:
+            with folder.start("batch", "--config", "config.json") as process:
                 for at in range(0, len(text), size):
                     process.stdin.write(text[at:at + size])
                     time.sleep(0.0002)
                 output, errors = process.communicate(timeout=60)
         if (process.returncode, output, errors) != (0, wanted, b""):
             raise Wrong(f"in pieces of {size}: status {process.returncode}, {output!r}, {errors!r}")
+
+
+def test_a_read_takes_all_that_it_has_room_for():
+    """Of a socket that keeps messages apart a read takes one message, and what it doesn't ask for is lost: of 64 KiB it asks for all."""
+    text = b"\n".join([*FIRST_LINES, b""])
+    text += padded(names("ann", "ann", "m"), 65_535 - len(text)) + b"\n"
+    wanted = b"\n".join([*FIRST_REPLIES, FIRST_NAMES, b""])
+    with Repository() as folder:
+        ours, theirs = socket.socketpair(socket.AF_UNIX, socket.SOCK_SEQPACKET)
+        with ours, theirs:
+            ours.send(text)
+            ours.shutdown(socket.SHUT_WR)
+            seen = folder.run("batch", "--config", "config.json", stdin=theirs)
+    if seen != (0, wanted, b""):
+        raise Wrong(f"{seen!r}")
 
 
 def padded(text, size):
@@ -871,7 +881,7 @@ def test_command_line_faults():
         [*given, "--listen", "127.0.0.1:0"], ["check"], ["check", "t.exp", "t.exp"], ["serve", *given[1:]],
         ["serve", *given[1:], "--listen", "127.0.0.1:0", "--connections", "1"], ["batch", "-c", "config.json"],
         ["batch", "--conf", "config.json"], ["batch", "--config", "config.json", "--", "x"],
-        ["two", "batch", "--config", "config.json"],
+        ["two", "batch", "--config", "config.json"], [b"b\xff"], [b"\xc3", *given], ["batch", "--config", b"config.json\xff"], ["check", b"\xa0.exp"],
     ]
     with Repository() as folder:
         for words in wrong:
@@ -1093,15 +1103,16 @@ def test_devices_that_fail():
     """An input or output that fails ends the program with status 2 and one line."""
     given = ("batch", "--config", "config.json")
     with Repository() as folder:
-        with open("/dev/full", "wb") as full:
-            status, _, errors = folder.run(*given, text=names("ann", "ann", "m"), stdout=full)
-        expect_fault((status, b"", errors))
-        with open("/dev/full", "wb") as full:
-            status, _, errors = folder.run("check", "t.exp", stdout=full)
-        expect_fault((status, b"", errors))
+        for words in (given, ["check", "t.exp"], ["check", "l.exp"], ["check", "--explain", "t.exp"], ["--help"], ["batch", "--help"], ["--version"]):
+            with open("/dev/full", "wb") as full:
+                status, _, errors = folder.run(*words, text=names("ann", "ann", "m"), stdout=full)
+            try:
+                expect_fault((status, b"", errors), "standard output")
+            except Wrong as fault:
+                raise Wrong(f"{words}: {fault}") from fault
         directory = os.open(folder.folder.name, os.O_RDONLY)
         try:
-            expect_fault(folder.run(*given, stdin=directory))
+            expect_fault(folder.run(*given, stdin=directory), "standard input")
         finally:
             os.close(directory)
         begin, end = os.pipe()
@@ -1110,7 +1121,7 @@ def test_devices_that_fail():
             status, _, errors = folder.run(*given, text=names("ann", "ann", "m"), stdout=end)
         finally:
             os.close(end)
-        expect_fault((status, b"", errors))
+        expect_fault((status, b"", errors), "standard output")
 
 
 if __name__ == "__main__":

@@ -25,6 +25,10 @@ class Wrong(Exception):
     """What was seen isn't what has to be."""
 
 
+class LeftOut(Exception):
+    """A run of the program wants another way than the one in which runs are made here."""
+
+
 def shortened(text):
     return text if len(text) <= 600 else text[:400] + b" .. " + text[-150:]
 
@@ -72,9 +76,12 @@ class Folder:
     """A new folder with these files, in which the program is run."""
 
     program = PROGRAM
+    # what makes runs in the program's stead, if anything does: a function of the folder, the words, the input and the devices
+    stand_in = None
 
     def __init__(self, **files):
         self.folder = tempfile.TemporaryDirectory()
+        self.files = {}
         for name, text in files.items():
             self.write(name, text)
 
@@ -88,16 +95,26 @@ class Folder:
         return os.path.join(self.folder.name, name)
 
     def write(self, name, text):
+        self.files[name] = of_text(text)
         os.makedirs(os.path.dirname(self.path(name)), exist_ok=True)
         with open(self.path(name), "wb") as it:
-            it.write(of_text(text))
+            it.write(self.files[name])
 
     def run(self, *words, text=b"", seconds=SECONDS, **devices):
         """The status, and what was written on standard output and standard error."""
+        if Folder.stand_in:
+            return Folder.stand_in(self, words, text, devices)
         given = {} if "stdin" in devices else {"input": text}
         done = subprocess.run([Folder.program, *words], cwd=self.folder.name, timeout=seconds, check=False,
                               **{"stdout": subprocess.PIPE, "stderr": subprocess.PIPE, **given, **devices})
         return done.returncode, done.stdout, done.stderr
+
+    def start(self, *words):
+        """A run that is talked with through pipes."""
+        if Folder.stand_in:
+            raise LeftOut
+        return subprocess.Popen([Folder.program, *words], cwd=self.folder.name, stdin=subprocess.PIPE, stdout=subprocess.PIPE,
+                                stderr=subprocess.PIPE, bufsize=0)
 
 
 class Checker:

@@ -140,7 +140,7 @@ def check_replies(lines, replies):
 
 # ---- the runs
 
-Run = collections.namedtuple("Run", "status output errors allocations before_input refusals")
+Run = collections.namedtuple("Run", "status output errors allocations before_input refusals asked")
 
 
 def shim_in(folder):
@@ -158,17 +158,21 @@ BATCH = ("batch", "--config", "config.json")
 
 
 def run(program, folder, lines, command=BATCH, **refusal):
-    """One run of the program, in which these allocations are refused."""
+    """One run of the program, in which these allocations are refused. Its input is a file, so that reads cut it at the same bytes
+    each time."""
     begin, end = os.pipe()
     words = {"LD_PRELOAD": os.path.join(folder, "refuse.so"), "REFUSE_REPORT": str(end), **refusal}
     try:
-        done = subprocess.run([program, *command], input=b"\n".join(lines) + b"\n", capture_output=True,
-                              cwd=folder, env=words, pass_fds=[end], timeout=120, check=False)
+        with tempfile.TemporaryFile() as given:
+            given.write(b"\n".join(lines) + b"\n")
+            given.seek(0)
+            done = subprocess.run([program, *command], stdin=given, capture_output=True, cwd=folder, env=words, pass_fds=[end],
+                                  timeout=120, check=False)
     finally:
         os.close(end)
     with os.fdopen(begin, "rb") as it:
         report = it.read().split()
-    if len(report) != 3:
+    if len(report) != 4:
         raise Failure(f"status {done.returncode}: the program did not end by itself, or refuse.c was not loaded")
     return Run(done.returncode, done.stdout, done.stderr, *map(int, report))
 

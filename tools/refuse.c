@@ -4,7 +4,7 @@
    REFUSE_FROM=N   refuses the Nth allocation and all after it
    REFUSE_REPORT=D writes, at the end, one line to the open file descriptor D:
                    allocations, how many of them came before standard input was first read
-                   (-1: it was never read), and how many were refused
+                   (-1: it was never read), how many were refused, and how many bytes all asked for
 
    malloc, calloc, realloc, reallocarray, aligned_alloc, memalign and posix_memalign count. */
 #define _GNU_SOURCE
@@ -22,7 +22,7 @@ static void *(*real_aligned_alloc)(size_t, size_t);
 static ssize_t (*real_read)(int, void *, size_t);
 static void (*real_free)(void *);
 
-static long nth = -1, from = -1, allocations, before_input = -1, refusals;
+static long nth = -1, from = -1, allocations, before_input = -1, refusals, asked;
 static int counting;
 
 /* what dlsym asks for while the real functions are being looked up */
@@ -69,13 +69,14 @@ __attribute__((destructor)) static void end(void) {
   long report = number("REFUSE_REPORT");
   char line[80];
   counting = 0;
-  int length = snprintf(line, sizeof line, "%ld %ld %ld\n", allocations, before_input, refusals);
+  int length = snprintf(line, sizeof line, "%ld %ld %ld %ld\n", allocations, before_input, refusals, asked);
   if (report >= 0 && write((int)report, line, (size_t)length) != length) _exit(99);
 }
 
-static int is_refused(void) {
+static int is_refused(size_t size) {
   if (!counting) return 0;
   allocations++;
+  asked += (long)size;
   if (allocations != nth && (from <= 0 || allocations < from)) return 0;
   refusals++;
   errno = ENOMEM;
@@ -85,13 +86,13 @@ static int is_refused(void) {
 void *malloc(size_t size) {
   find_real();
   if (!real_malloc) return early_calloc(size);
-  return is_refused() ? 0 : real_malloc(size);
+  return is_refused(size) ? 0 : real_malloc(size);
 }
 
 void *calloc(size_t count, size_t size) {
   find_real();
   if (!real_calloc) return early_calloc(count * size);
-  return is_refused() ? 0 : real_calloc(count, size);
+  return is_refused(count * size) ? 0 : real_calloc(count, size);
 }
 
 void *realloc(void *place, size_t size) {
@@ -102,7 +103,7 @@ void *realloc(void *place, size_t size) {
     if (moved) memcpy(moved, place, size < held ? size : held);
     return moved;
   }
-  return is_refused() ? 0 : real_realloc(place, size);
+  return is_refused(size) ? 0 : real_realloc(place, size);
 }
 
 void *reallocarray(void *place, size_t count, size_t size) {
@@ -116,7 +117,7 @@ void *reallocarray(void *place, size_t count, size_t size) {
 
 void *aligned_alloc(size_t alignment, size_t size) {
   find_real();
-  return is_refused() ? 0 : real_aligned_alloc(alignment, size);
+  return is_refused(size) ? 0 : real_aligned_alloc(alignment, size);
 }
 
 void *memalign(size_t alignment, size_t size) {

@@ -1,2 +1,3 @@
 pub mod Reading
 pub mod WholeFiles
+pub mod Ascending

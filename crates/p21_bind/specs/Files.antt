@@ -1,5 +1,6 @@
 -- What a file holds, by the schema that it is of, or the first fault of its instances (ISO 10303-21:2002, clauses 8 to 10).
-use Rattle.std.specs.Prelude.{ℕ, Bool, false, ◌||◌, ◌==◌, List, [], ◌∷◌, ◌++◌, Result, Ok, Err}
+use Rattle.std.specs.Prelude.{ℕ, ◌<◌, Bool, false, ◌||◌, ◌==◌, List, [], ◌∷◌, ◌++◌, Result, Ok, Err}
+use Rattle.std.specs.List.{AllByRecursion}
 use Rattle.ex_types.specs.Checked.{Checked}
 use Rattle.p21_instances.specs.Instances.{names, is_among}
 use Rattle.p21_tree.specs.declared.fault.InstanceFault.{InstanceFault}
@@ -50,3 +51,8 @@ module _ (schema : Checked) where
   -- the content of a model that the file is put into, where these names are linked, or the first fault
   unfoldable pub bound_file : List ℕ → Raw → Result Content InstanceFault
   bound_file linked raw = bound_by raw.header (instances linked raw.instances)
+
+-- each stands before those with greater names
+abbrev pub AreAscending : List Instance → Type 0
+AreAscending [] = Unit {0}
+AreAscending (i ∷ is) = AllByRecursion (λ (j : Instance). i.name < j.name) is × AreAscending is

@@ -1,6 +1,6 @@
 //! A whole file.
 
-ghost use Rattle.std.specs.Prelude.{◌≡◌, ◌++◌, ◌∷◌, ◌==◌, ◌&&◌, ◌||◌, ℕ, [], false, not, reverse, OnOk};
+ghost use Rattle.std.specs.Prelude.{◌≡◌, ◌++◌, ◌∷◌, ◌==◌, ◌&&◌, ◌||◌, ℕ, [], false, not, reverse, OnOk, IfOk};
 ghost use Rattle.std.specs.List.Sorted.{IsPermutation};
 ghost use Rattle.p21_instances.specs.Instances.{is_among};
 ghost use Rattle.p21_instances.specs.Instances as order;
@@ -143,7 +143,8 @@ pub fn bind(
     linked: &[u64],
     raw: Raw<'_>,
 ) -> Result<Content, Failure<InstanceFault>>
-    ensures { Gives (λ content. content) result (spec.bound_file schema.now linked.now raw.entry) }
+    ensures bound { Gives (λ content. content) result (spec.bound_file schema.now linked.now raw.entry) }
+    ensures order { IfOk result (λ content. spec.AreAscending content.instances) }
 {
     let (header, spelled) = parts_of(raw);
     let mut plans = Plans::of(alloc, schema)?;

@@ -4,3 +4,4 @@ pub mod Sets
 pub mod SortedNames
 pub mod Keywords
 pub mod SortedBy
+pub mod ByName

@@ -4,7 +4,7 @@ use Rattle.std.proofs.lemmas.Bool.Decides.{nat_tests}
 use Rattle.std.proofs.lemmas.List.Folds.{list_any-append}
 use Rattle.std.specs.List.{AllByRecursion, list_any}
 use Rattle.ex_types.specs.Checked.{Checked}
-use Rattle.p21_bind.specs.Files.{bound_file, told}
+use Rattle.p21_bind.specs.Files.{AreAscending, bound_file, told}
 use Rattle.p21_mappings.specs.Contents.{header}
 use Rattle.p21_mappings.specs.Instances.{Read, instance}
 use Rattle.p21_bind.specs.Single.{bound_instance}
@@ -30,7 +30,7 @@ use Rattle.p21_laws.proofs.Defaults.{default_fits, default_header, header-defaul
 use Rattle.p21_laws.proofs.Files.{IsSpelled, among_first, among_second, content_spelled, file_said, one_content, parts_of}
 use Rattle.p21_laws.proofs.Order.{OnceBy, Rises, stays}
 use Rattle.p21_laws.specs.Contents.{AreAmong, IsRead, new_content}
-use Rattle.p21_laws.specs.Kept.{AreAscending, IsHeaderOfFile, IsKept, IsOfFile, IsOfText, IsSound}
+use Rattle.p21_laws.specs.Kept.{IsHeaderOfFile, IsKept, IsOfFile, IsOfText, IsSound}
 use Rattle.p21_laws.specs.Instances.{references_of}
 use Rattle.p21_laws.specs.Schemas.{IsAccepted}
 

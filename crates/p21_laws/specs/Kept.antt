@@ -1,8 +1,9 @@
 -- What a model holds, whose header and instances came with files, or by themselves.
-use Rattle.std.specs.Prelude.{◌≡◌, ◌≤◌, ◌<◌, ◌⊎◌, ℕ, Bool, true, List, [], ◌∷◌, ◌++◌, map, Ok}
+use Rattle.std.specs.Prelude.{◌≡◌, ◌≤◌, ◌⊎◌, ℕ, Bool, true, List, [], ◌∷◌, ◌++◌, map, Ok}
 use Rattle.std.specs.List.{AllByRecursion, list_all}
 use Rattle.ex_types.specs.Checked.{Checked}
 use Rattle.p21_mappings.specs.Contents.{header}
+use Rattle.p21_bind.specs.Files.{AreAscending}
 use Rattle.p21_bind.specs.Single.{bound_instance}
 use Rattle.p21_instances.specs.Instances.{is_among}
 use Rattle.p21_grammar.specs.File.{file_of}
@@ -42,11 +43,6 @@ pub record IsOfText (schema : Checked) (i : Instance) : Type 0 where
   pub reads : mapping_of text ≡ Ok mapping
   pub defined : ℕ → Bool
   pub says : bound_instance schema defined i.name mapping ≡ Ok i
-
--- each stands before those with greater names
-abbrev pub AreAscending : List Instance → Type 0
-AreAscending [] = Unit {0}
-AreAscending (i ∷ is) = AllByRecursion (λ (j : Instance). i.name < j.name) is × AreAscending is
 
 -- each name that an instance refers to is one of these instances, or linked
 abbrev pub IsSound : Checked → List ℕ → List Instance → Instance → Type 0

@@ -7,4 +7,6 @@ mod law;
 mod whole;
 
 pub use law::{accepted_types, read_again, taken_again};
-pub use whole::{accepted_schema, content_again, instance_again, kept_again, text_again};
+pub use whole::{
+    accepted_schema, accepted_schemas, content_again, instance_again, kept_again, text_again,
+};

@@ -1,7 +1,7 @@
 //! What was read of an instance, and of a whole file, is read again from what canonical text has for it.
 
 ghost use Rattle.std.specs.Prelude.{◌≡◌, ℕ, Bool, true, false, List, [], Ok, map};
-ghost use Rattle.std.specs.List.{list_all};
+ghost use Rattle.std.specs.List.{list_all, AllByRecursion};
 ghost use Rattle.ex_resolve.specs.Proved.{DeclaresOnce, HasIdentifiers, held_types};
 ghost use Rattle.ex_resolve.specs.Schemas.{Resolved};
 ghost use Rattle.ex_types.specs.Checked.{Checked};
@@ -19,10 +19,29 @@ ghost use Rattle.p21_lines.specs.Trees.{canonical, content_tree, instance_tree};
 ghost use Rattle.rp_content.specs.declared.content.Content.{Content};
 ghost use Rattle.rp_content.specs.declared.instance.Instance.{Instance};
 
+use ex_subtypes::Compiled;
+
 /// A schema whose names are bound is one that the laws below speak of: its premises are what is proved of each.
 pub fn accepted_schema()
     ensures { (s : Resolved) → DeclaresOnce s.schema → IsAcyclic (held_types s.schema.types) → s.supertypes ≡ map (λ e. e.supertypes) s.schema.entities → HasIdentifiers s.schema → IsAccepted s }
 {}
+
+/// So is one that was compiled.
+fn accepted(schema: &Compiled)
+    ensures { IsAccepted schema.now.named }
+{
+    accepted_schema();
+    schema.schema().named().proved();
+}
+
+/// And so are all of these.
+pub fn accepted_schemas(schemas: &[Compiled])
+    ensures { AllByRecursion (λ (schema : Checked). IsAccepted schema.named) schemas.now }
+{
+    for schema in schemas {
+        accepted(schema);
+    }
+}
 
 /// An instance that was read of a mapping refers to names that are defined there. Where those names are
 /// defined, it is read again of the mapping that canonical text has for it.

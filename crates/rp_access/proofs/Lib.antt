@@ -2,3 +2,4 @@ pub mod Names
 pub mod Seeing
 pub mod Counted
 pub mod Marking
+pub mod Places

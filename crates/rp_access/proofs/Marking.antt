@@ -1,5 +1,5 @@
 -- Marks beside models.
-use Rattle.std.proofs.Common.{◌≡◌, ℕ, zero, suc, ◌<◌, Bool, true, false, ◌&&◌, ◌||◌, List, [], ◌∷◌, ◌+◌, ◌≤◌, length, set, get_or, drop, map, replicate, Option, Some, None, is_some, refl, sym, ◌∙◌, ap, arith}
+use Rattle.std.proofs.Common.{◌≡◌, ℕ, zero, suc, ◌<◌, Bool, true, false, ◌&&◌, ◌||◌, List, [], ◌∷◌, ◌+◌, ◌≤◌, length, set, get_or, drop, map, replicate, Option, Some, None, is_some, Result, Ok, Err, OnOk, refl, sym, ◌∙◌, ap, arith}
 use Rattle.std.specs.Prelude.{filter, slice_get, if◌then◌else◌}
 use Rattle.std.specs.List.{find, list_any, AllByRecursion}
 use Rattle.std.specs.declared.cmp.Ordering.{Ordering}
@@ -19,6 +19,11 @@ use Rattle.rp_rows.specs.Sight.{is_granted}
 use Rattle.rp_access.specs.Granted.{shows}
 use Rattle.rp_access.specs.Kept.{marked, unmarked as none_marked}
 use Rattle.rp_access.proofs.Counted.{listed_counts}
+
+-- of a call that succeeds, where one thing makes another
+pub on_ok : {T E P Q : Type 0} (r : Result T E) → OnOk r P → (P → Q) → OnOk r Q
+on_ok (Ok x) p next = next p
+on_ok (Err e) p next = tt
 
 or_false : (t : Bool) → (t || false) ≡ t
 or_false true = refl
@@ -204,12 +209,12 @@ members_count ks m false = none ks ∙ sym (and_false (list_any (λ k. is_row k 
 pub marks_members : (g : GroupRow) (ts : List Bool) (ms : List Model) → marked (any_of (λ k. at_key k (λ m. counts m g)) g.holds.members) ts ms ≡ marked (λ m. counts m g) ts ms
 marks_members g ts ms = marked_alike (any_of (λ k. at_key k (λ m. counts m g)) g.holds.members) (λ m. counts m g) (λ m. members_count g.holds.members m (counts m g) ∙ listed_counts g m) ts ms
 
-drop_more : {X : Type 0} (xs : List X) (i : ℕ) (d : X) → i < length xs → drop i xs ≡ get_or xs i d ∷ drop (suc i) xs
+pub drop_more : {X : Type 0} (xs : List X) (i : ℕ) (d : X) → i < length xs → drop i xs ≡ get_or xs i d ∷ drop (suc i) xs
 drop_more [] i d h = absurd (omega arith)
 drop_more (x ∷ xs) zero d h = refl
 drop_more (x ∷ xs) (suc i) d h = drop_more xs i d (omega arith)
 
-drop_past : {X : Type 0} (xs : List X) (i : ℕ) → length xs ≤ i → drop i xs ≡ []
+pub drop_past : {X : Type 0} (xs : List X) (i : ℕ) → length xs ≤ i → drop i xs ≡ []
 drop_past [] zero h = refl
 drop_past [] (suc i) h = refl
 drop_past (x ∷ xs) zero h = absurd (omega arith)

@@ -1,5 +1,5 @@
 -- The names of groups that partners are granted, as grants and groups change.
-use Rattle.std.proofs.Common.{◌≡◌, Bool, true, false, ◌&&◌, ◌||◌, List, [], ◌∷◌, ◌++◌, Option, Some, None, refl, sym, ◌∙◌, ap}
+use Rattle.std.proofs.Common.{◌≡◌, Bool, true, false, ◌&&◌, ◌||◌, List, [], ◌∷◌, ◌++◌, Option, Some, None, is_some, refl, sym, ◌∙◌, ap, arith}
 use Rattle.std.specs.Prelude.{filter, if◌then◌else◌, option_map, option_to_list}
 use Rattle.std.specs.List.{find, list_any}
 use Rattle.std.specs.Str.{bytes_eq}
@@ -18,14 +18,14 @@ use Rattle.rp_rows.specs.declared.rows.Grant.{Grant}
 use Rattle.rp_rows.specs.declared.rows.Level.{Level}
 use Rattle.rp_rows.specs.declared.rows.Listing.{Listing}
 use Rattle.rp_rows.specs.Rows.{Text, text_cmp, grant_key, Key, key_cmp, same_key, Row, row_key, is_row, GroupRow}
-use Rattle.rp_rows.specs.Sight.{is_grant_to, is_granted}
+use Rattle.rp_rows.specs.Sight.{is_grant_to}
 use Rattle.rp_rows.specs.Alterations.{Holds, altered, grants_of, grant_for}
 use Rattle.rp_rows.proofs.Keys.{key_total, key_at, found_at}
 use Rattle.rp_tables.specs.Entries.{entry_key, is_entry, revalued, without_name}
 use Rattle.rp_tables.specs.Stored.{rewritten}
 use Rattle.rp_tables.proofs.Finding.{entry_at}
 use Rattle.rp_tables.proofs.Changed.{find-kept, find_other, find_same}
-use Rattle.rp_access.specs.Granted.{Names, has_name, value_of, names_at, relisted, KeepsGranted, granted_of, tells, TellsGranted}
+use Rattle.rp_access.specs.Granted.{Names, has_name, value_of, names_at, relisted, is_granted_at, KeepsGranted, granted_of, tells, TellsGranted}
 
 -- ---- names
 
@@ -56,13 +56,31 @@ or_true : (t : Bool) → (t || true) ≡ true
 or_true true = refl
 or_true false = refl
 
--- what is among them stays, but for the name that is taken
-relisted_keeps : (n d : Text) (l : Option Level) (names : List Text) → bytes_eq d n ≡ false → has_name n names ≡ true → has_name n (relisted d l names) ≡ true
-relisted_keeps n d None names other has = has_without n d names other ∙ has
-relisted_keeps n d (Some l) names other has = has_append n (without_name d names) (d ∷ []) ∙ (λ i. has_without n d names other i || has_name n (d ∷ [])) ∙ (λ i. has i || has_name n (d ∷ []))
+-- a name that is taken away is no longer among them
+gone_without : (n : Text) (names : List Text) → has_name n (without_name n names) ≡ false
+gone_without n [] = refl
+gone_without n (m ∷ names) = by (gone_without n names) (bytes_eq m n) refl
+  where
+    by : has_name n (without_name n names) ≡ false → (t : Bool) → bytes_eq m n ≡ t → has_name n (without_name n (m ∷ names)) ≡ false
+    by rest true e = rw e rest
+    by rest false e = rw e (ap (λ t. t || has_name n (without_name n names)) e ∙ rest)
 
-relisted_has : (n : Text) (l : Level) (names : List Text) → has_name n (relisted n (Some l) names) ≡ true
-relisted_has n l names = has_append n (without_name n names) (n ∷ []) ∙ ap (λ t. has_name n (without_name n names) || (t || false)) (itself n) ∙ or_true (has_name n (without_name n names))
+-- other names are among them as before
+relisted_others : (n d : Text) (l : Option Level) (names : List Text) → bytes_eq d n ≡ false → has_name n (relisted d l names) ≡ has_name n names
+relisted_others n d None names other = has_without n d names other
+relisted_others n d (Some l) names other =
+    has_append n (without_name d names) (d ∷ [])
+    ∙ (λ i. has_without n d names other i || (other i || false))
+    ∙ or_false (has_name n names)
+  where
+    or_false : (t : Bool) → (t || false) ≡ t
+    or_false true = refl
+    or_false false = refl
+
+-- and this one exactly where there is a level
+relisted_there : (n : Text) (l : Option Level) (names : List Text) → has_name n (relisted n l names) ≡ is_some l
+relisted_there n None names = gone_without n names
+relisted_there n (Some l) names = has_append n (without_name n names) (n ∷ []) ∙ ap (λ t. has_name n (without_name n names) || (t || false)) (itself n) ∙ or_true (has_name n (without_name n names))
 
 -- ---- keys
 
@@ -122,6 +140,32 @@ drop_keeps q key k p es other = by (is_eq (key_cmp (p, k.0) (q, key.0))) refl
             let one : same_key key k ≡ true = (λ i. bytes_eq (owner i) key.0 && bytes_eq (sym names i) key.1) ∙ (λ i. itself key.0 i && itself key.1 i) in
             absurd (false≢true (sym other ∙ one))
 
+-- the name of the group itself is gone under the partner
+drop_gone : (q : Text) (key : Key) (es : List Names) → has_name key.1 (names_at (q, key.0) (dropped_at (q, key.0) key.1 es)) ≡ false
+drop_gone q key es =
+    let j : Key = (q, key.0) in
+    ap (λ o. has_name key.1 (value_of o)) (find_same key_cmp entry_key key_total j (option_map (revalued (without_name key.1)) (find (is_entry j) es)) es (keyed_option j (without_name key.1) es))
+    ∙ ap (has_name key.1) (value_mapped (without_name key.1) refl (find (is_entry j) es))
+    ∙ gone_without key.1 (names_at j es)
+
+-- and under nobody is it new
+pub drop_fewer : (q : Text) (key : Key) (p : Text) (es : List Names) → has_name key.1 (names_at (p, key.0) es) ≡ false → has_name key.1 (names_at (p, key.0) (dropped_at (q, key.0) key.1 es)) ≡ false
+drop_fewer q key p es none = by (is_eq (key_cmp (p, key.0) (q, key.0))) refl
+  where
+    j : Key
+    j = (q, key.0)
+
+    by : (t : Bool) → is_eq (key_cmp (p, key.0) (q, key.0)) ≡ t → has_name key.1 (names_at (p, key.0) (dropped_at j key.1 es)) ≡ false
+    by true e = ap (λ (i : Key). has_name key.1 (names_at i (dropped_at j key.1 es))) (key_is (p, key.0) j true e refl) ∙ drop_gone q key es
+    by false e =
+        ap (λ o. has_name key.1 (value_of o)) (find_other key_cmp entry_key key_total (p, key.0) j (option_map (revalued (without_name key.1)) (find (is_entry j) es)) es (keyed_option j (without_name key.1) es) e)
+        ∙ none
+
+pub drop_of : (q : Text) (key : Key) (p : Text) (es : List Names) → bytes_eq q p ≡ true → has_name key.1 (names_at (p, key.0) (dropped_at (q, key.0) key.1 es)) ≡ false
+drop_of q key p es same =
+    let who : q ≡ p = (bytes_eq-Decides q p).0 same in
+    ap (λ r. has_name key.1 (names_at (r, key.0) (dropped_at (q, key.0) key.1 es))) (sym who) ∙ drop_gone q key es
+
 -- ---- the rows of groups
 
 same_as : (j k : Key) → same_key k j ≡ is_eq (key_cmp j k)
@@ -136,37 +180,56 @@ held_key k a gs x is = let g : GroupRow = record { owner = k.0; name = k.1; hold
 no_row : (k : Key) (x : GroupRow) → None ≡ Some x → row_key x ≡ k
 no_row k x is = cc
 
+-- the grants on what was looked up
+granted_of_row : (p : Text) (o : Option GroupRow) → list_any (is_grant_to p) (grants_of o) ≡ is_granted_at p o
+granted_of_row p None = refl
+granted_of_row p (Some g) = refl
+
 -- a group that is put keeps its grants
 pub put_keeps : (k : Key) (a : Listing) (es : List Names) (gs : List GroupRow) → KeepsGranted es gs → KeepsGranted es (altered k (Holds (Some a)) gs)
-put_keeps k a es gs kept p j g found granted = by (is_eq (key_cmp j k)) refl
+put_keeps k a es gs kept p j = kept p j ∙ by (is_eq (key_cmp j k)) refl
   where
     row : GroupRow
     row = record { owner = k.0; name = k.1; holds = a; grants = grants_of (find (is_row k) gs) }
 
-    old : (o : Option GroupRow) → find (is_row k) gs ≡ o → list_any (is_grant_to p) (grants_of o) ≡ true → has_name k.1 (names_at (p, k.0) es) ≡ true
-    old None e h = cc
-    old (Some x) e h = kept p k x e h
+    held : (x : GroupRow) → Some row ≡ Some x → row_key x ≡ k
+    held = held_key k a (grants_of (find (is_row k) gs))
 
-    by : (t : Bool) → is_eq (key_cmp j k) ≡ t → has_name j.1 (names_at (p, j.0) es) ≡ true
-    by false e = kept p j g (sym (find_other key_cmp row_key key_total j k (Some row) gs (held_key k a (grants_of (find (is_row k) gs))) e) ∙ found) granted
+    by : (t : Bool) → is_eq (key_cmp j k) ≡ t → is_granted_at p (find (is_row j) gs) ≡ is_granted_at p (find (is_row j) (altered k (Holds (Some a)) gs))
+    by false e = ap (is_granted_at p) (sym (find_other key_cmp row_key key_total j k (Some row) gs held e))
     by true e =
         let at : j ≡ k = key_is j k true e refl in
-        let there : Some row ≡ Some g = sym (find_same key_cmp row_key key_total k (Some row) gs (held_key k a (grants_of (find (is_row k) gs)))) ∙ ap (λ i. find (is_row i) (altered k (Holds (Some a)) gs)) (sym at) ∙ found in
-        let same : row ≡ g = cc in
-        ap (λ (i : Key). has_name i.1 (names_at (p, i.0) es)) at ∙ old (find (is_row k) gs) refl (ap (is_granted p) same ∙ granted)
+        ap (λ i. is_granted_at p (find (is_row i) gs)) at
+        ∙ sym (granted_of_row p (find (is_row k) gs))
+        ∙ ap (is_granted_at p) (sym (find_same key_cmp row_key key_total k (Some row) gs held))
+        ∙ ap (λ i. is_granted_at p (find (is_row i) (altered k (Holds (Some a)) gs))) (sym at)
 
--- of a group that is gone nothing is asked
-pub remove_keeps : (k : Key) (es fs : List Names) (gs : List GroupRow) → KeepsGranted es gs → ((p : Text) (j : Key) → same_key k j ≡ false → has_name j.1 (names_at (p, j.0) fs) ≡ has_name j.1 (names_at (p, j.0) es)) → KeepsGranted fs (altered k (Holds None) gs)
-remove_keeps k es fs gs kept others p j g found granted = by (is_eq (key_cmp j k)) refl
-  where
-    by : (t : Bool) → is_eq (key_cmp j k) ≡ t → has_name j.1 (names_at (p, j.0) fs) ≡ true
-    by false e =
-        others p j (same_as j k ∙ e)
-        ∙ kept p j g (sym (find_other key_cmp row_key key_total j k None gs (no_row k) e) ∙ found) granted
-    by true e =
-        let at : j ≡ k = key_is j k true e refl in
-        let there : None ≡ Some g = sym (find_same key_cmp row_key key_total k None gs (no_row k)) ∙ ap (λ i. find (is_row i) (altered k (Holds None) gs)) (sym at) ∙ found in
-        cc
+-- of a group that is gone the name is with nobody, where it is gone from those who were granted it, and new with none
+module _ (k : Key) (es fs : List Names) (gs : List GroupRow) (kept : KeepsGranted es gs)
+    (others : (p : Text) (j : Key) → same_key k j ≡ false → has_name j.1 (names_at (p, j.0) fs) ≡ has_name j.1 (names_at (p, j.0) es))
+    (fewer : (p : Text) → has_name k.1 (names_at (p, k.0) es) ≡ false → has_name k.1 (names_at (p, k.0) fs) ≡ false)
+    (gone : (p : Text) → list_any (is_grant_to p) (grants_of (find (is_row k) gs)) ≡ true → has_name k.1 (names_at (p, k.0) fs) ≡ false) where
+  with_nobody : (p : Text) → has_name k.1 (names_at (p, k.0) fs) ≡ false
+  with_nobody p = by (list_any (is_grant_to p) (grants_of (find (is_row k) gs))) refl
+    where
+      by : (t : Bool) → list_any (is_grant_to p) (grants_of (find (is_row k) gs)) ≡ t → has_name k.1 (names_at (p, k.0) fs) ≡ false
+      by true e = gone p e
+      by false e = fewer p (kept p k ∙ sym (granted_of_row p (find (is_row k) gs)) ∙ e)
+
+  pub remove_keeps : KeepsGranted fs (altered k (Holds None) gs)
+  remove_keeps p j = by (is_eq (key_cmp j k)) refl
+    where
+      by : (t : Bool) → is_eq (key_cmp j k) ≡ t → has_name j.1 (names_at (p, j.0) fs) ≡ is_granted_at p (find (is_row j) (altered k (Holds None) gs))
+      by false e =
+          others p j (same_as j k ∙ e)
+          ∙ kept p j
+          ∙ ap (is_granted_at p) (sym (find_other key_cmp row_key key_total j k None gs (no_row k) e))
+      by true e =
+          let at : j ≡ k = key_is j k true e refl in
+          ap (λ (i : Key). has_name i.1 (names_at (p, i.0) fs)) at
+          ∙ with_nobody p
+          ∙ ap (is_granted_at p) (sym (find_same key_cmp row_key key_total k None gs (no_row k)))
+          ∙ ap (λ i. is_granted_at p (find (is_row i) (altered k (Holds None) gs))) (sym at)
 
 -- ---- grants
 
@@ -210,6 +273,25 @@ revoked to gs =
     (any_append (is_grant_to to) before [] (none_left to gs (is_before text_cmp grant_key to) (λ x h. is_lt-apart (text_cmp (grant_key x) to) h)) refl)
     (none_left to gs (is_after text_cmp grant_key to) (λ x h. is_gt-apart (text_cmp (grant_key x) to) h))
 
+granted_self : (to : Text) (l : Level) (gs : List Grant) → list_any (is_grant_to to) (with_row text_cmp grant_key to (Some (record { partner = to; level = l })) gs) ≡ true
+granted_self to l gs =
+    let before = filter (is_before text_cmp grant_key to) gs in
+    let after = filter (is_after text_cmp grant_key to) gs in
+    any_left (is_grant_to to) (before ++ record { partner = to; level = l } ∷ []) after (any_last (is_grant_to to) before (record { partner = to; level = l }) (itself to))
+  where
+    any_left : (q : Grant → Bool) (xs ys : List Grant) → list_any q xs ≡ true → list_any q (xs ++ ys) ≡ true
+    any_left q [] ys h = cc
+    any_left q (x ∷ xs) ys h = grind (arith, any_left q xs ys)
+
+    any_last : (q : Grant → Bool) (xs : List Grant) (x : Grant) → q x ≡ true → list_any q (xs ++ x ∷ []) ≡ true
+    any_last q [] x h = ap (λ t. t || false) h
+    any_last q (y ∷ xs) x h = ap (λ t. q y || t) (any_last q xs x h) ∙ or_true (q y)
+
+-- one partner's grant is there exactly where there is a level
+regranted_self : (to : Text) (l : Option Level) (gs : List Grant) → list_any (is_grant_to to) (with_row text_cmp grant_key to (grant_for to l) gs) ≡ is_some l
+regranted_self to None gs = revoked to gs
+regranted_self to (Some l) gs = granted_self to l gs
+
 regranted_key : (k : Key) (gs : List Grant) (rows : List GroupRow) (x : GroupRow) → option_map (λ (y : GroupRow). record y { grants = gs }) (find (is_row k) rows) ≡ Some x → row_key x ≡ k
 regranted_key k gs rows x is = by (find (is_row k) rows) refl is
   where
@@ -220,9 +302,36 @@ regranted_key k gs rows x is = by (find (is_row k) rows) refl is
         let same : z ≡ x = cc in
         ap row_key (sym same) ∙ key_at k y (found_at (is_row k) rows y e)
 
+-- rows of which one has other grants
+module _ (k : Key) (gs : List Grant) (rows : List GroupRow) where
+  abbrev pub changed : Option GroupRow
+  changed = option_map (λ (y : GroupRow). record y { grants = gs }) (find (is_row k) rows)
+
+  abbrev pub regranted_rows : List GroupRow
+  regranted_rows = rewritten k (λ x. record x { grants = gs }) rows
+
+  row_there : find (is_row k) regranted_rows ≡ changed
+  row_there = find_same key_cmp row_key key_total k changed rows (regranted_key k gs rows)
+
+  row_elsewhere : (j : Key) → is_eq (key_cmp j k) ≡ false → find (is_row j) regranted_rows ≡ find (is_row j) rows
+  row_elsewhere j e = find_other key_cmp row_key key_total j k changed rows (regranted_key k gs rows) e
+
+-- where there is no such group, all stays
+pub none_regranted : (k : Key) (gs : List Grant) (es : List Names) (rows : List GroupRow) → find (is_row k) rows ≡ None → KeepsGranted es rows → KeepsGranted es (regranted_rows k gs rows)
+none_regranted k gs es rows none kept p j = kept p j ∙ by (is_eq (key_cmp j k)) refl
+  where
+    by : (t : Bool) → is_eq (key_cmp j k) ≡ t → is_granted_at p (find (is_row j) rows) ≡ is_granted_at p (find (is_row j) (regranted_rows k gs rows))
+    by false e = ap (is_granted_at p) (sym (row_elsewhere k gs rows j e))
+    by true e =
+        let at : j ≡ k = key_is j k true e refl in
+        let left : find (is_row k) (regranted_rows k gs rows) ≡ None = row_there k gs rows ∙ ap (option_map (λ (y : GroupRow). record y { grants = gs })) none in
+        ap (λ i. is_granted_at p (find (is_row i) rows)) at
+        ∙ ap (is_granted_at p) (none ∙ sym left)
+        ∙ ap (λ i. is_granted_at p (find (is_row i) (regranted_rows k gs rows))) (sym at)
+
 -- one partner's grant on the group of a key, and the names under him and its owner
-module _ (k : Key) (to : Text) (l : Option Level) (gs : List Grant) (names : List Text) (es : List Names) (rows : List GroupRow)
-    (grants : gs ≡ with_row text_cmp grant_key to (grant_for to l) (grants_of (find (is_row k) rows))) (listed : names ≡ relisted k.1 l (names_at (to, k.0) es)) (kept : KeepsGranted es rows) where
+module _ (k : Key) (to : Text) (l : Option Level) (gs : List Grant) (names : List Text) (es : List Names) (rows : List GroupRow) (x : GroupRow) (there : find (is_row k) rows ≡ Some x)
+    (grants : gs ≡ with_row text_cmp grant_key to (grant_for to l) x.grants) (listed : names ≡ relisted k.1 l (names_at (to, k.0) es)) (kept : KeepsGranted es rows) where
   abbrev under : Key
   under = (to, k.0)
 
@@ -235,18 +344,19 @@ module _ (k : Key) (to : Text) (l : Option Level) (gs : List Grant) (names : Lis
   elsewhere : (i : Key) → is_eq (key_cmp i under) ≡ false → names_at i fs ≡ names_at i es
   elsewhere i e = ap value_of (find_other key_cmp entry_key key_total i under (Some (record { key = under; value = names })) es (keyed_row under names) e)
 
-  -- a name of another group stays
-  stays : (p : Text) (j : Key) → is_eq (key_cmp j k) ≡ false → has_name j.1 (names_at (p, j.0) es) ≡ true → has_name j.1 (names_at (p, j.0) fs) ≡ true
-  stays p j other has = by (is_eq (key_cmp (p, j.0) under)) refl
+  -- the name of another group stays as it was
+  stays : (p : Text) (j : Key) → is_eq (key_cmp j k) ≡ false → has_name j.1 (names_at (p, j.0) fs) ≡ has_name j.1 (names_at (p, j.0) es)
+  stays p j other = by (is_eq (key_cmp (p, j.0) under)) refl
     where
-      by : (t : Bool) → is_eq (key_cmp (p, j.0) under) ≡ t → has_name j.1 (names_at (p, j.0) fs) ≡ true
-      by false e = ap (has_name j.1) (elsewhere (p, j.0) e) ∙ has
+      by : (t : Bool) → is_eq (key_cmp (p, j.0) under) ≡ t → has_name j.1 (names_at (p, j.0) fs) ≡ has_name j.1 (names_at (p, j.0) es)
+      by false e = ap (has_name j.1) (elsewhere (p, j.0) e)
       by true e =
           let at : (p, j.0) ≡ under = key_is (p, j.0) under true e refl in
           let owner : j.0 ≡ k.0 = ap (λ (i : Key). i.1) at in
           ap (λ (i : Key). has_name j.1 (names_at i fs)) at
           ∙ ap (has_name j.1) (under_is ∙ listed)
-          ∙ relisted_keeps j.1 k.1 l (names_at under es) (apart owner (bytes_eq k.1 j.1) refl) (ap (λ (i : Key). has_name j.1 (names_at i es)) (sym at) ∙ has)
+          ∙ relisted_others j.1 k.1 l (names_at under es) (apart owner (bytes_eq k.1 j.1) refl)
+          ∙ ap (λ (i : Key). has_name j.1 (names_at i es)) (sym at)
         where
           apart : j.0 ≡ k.0 → (t : Bool) → bytes_eq k.1 j.1 ≡ t → t ≡ false
           apart owner false f = refl
@@ -255,27 +365,25 @@ module _ (k : Key) (to : Text) (l : Option Level) (gs : List Grant) (names : Lis
               let one : same_key k j ≡ true = (λ i. bytes_eq (owner i) k.0 && bytes_eq (sym name i) k.1) ∙ (λ i. itself k.0 i && itself k.1 i) in
               absurd (false≢true (sym (same_as j k ∙ other) ∙ one))
 
-  -- who is granted the group finds its name
-  granted_there : (p : Text) (x : GroupRow) → find (is_row k) rows ≡ Some x → list_any (is_grant_to p) gs ≡ true → has_name k.1 (names_at (p, k.0) fs) ≡ true
-  granted_there p x found granted = by (bytes_eq to p) refl
+  -- the name of this one stands with those who are granted it from now on
+  stands : (p : Text) → has_name k.1 (names_at (p, k.0) fs) ≡ list_any (is_grant_to p) gs
+  stands p = by (bytes_eq to p) refl
     where
-      new : (m : Option Level) → l ≡ m → to ≡ p → has_name k.1 (names_at (p, k.0) fs) ≡ true
-      new None e same =
-          let none : list_any (is_grant_to p) gs ≡ false = ap (λ q. list_any (is_grant_to q) gs) (sym same) ∙ ap (list_any (is_grant_to to)) (grants ∙ ap (λ m. with_row text_cmp grant_key to (grant_for to m) (grants_of (find (is_row k) rows))) e) ∙ revoked to (grants_of (find (is_row k) rows)) in
-          absurd (false≢true (sym none ∙ granted))
-      new (Some m) e same =
+      by : (t : Bool) → bytes_eq to p ≡ t → has_name k.1 (names_at (p, k.0) fs) ≡ list_any (is_grant_to p) gs
+      by true e =
+          let same : to ≡ p = (bytes_eq-Decides to p).0 e in
           ap (λ q. has_name k.1 (names_at (q, k.0) fs)) (sym same)
-          ∙ ap (has_name k.1) (under_is ∙ listed ∙ ap (λ o. relisted k.1 o (names_at under es)) e)
-          ∙ relisted_has k.1 m (names_at under es)
-
-      by : (t : Bool) → bytes_eq to p ≡ t → has_name k.1 (names_at (p, k.0) fs) ≡ true
-      by true e = new l refl ((bytes_eq-Decides to p).0 e)
+          ∙ ap (has_name k.1) (under_is ∙ listed)
+          ∙ relisted_there k.1 l (names_at under es)
+          ∙ sym (regranted_self to l x.grants)
+          ∙ ap (list_any (is_grant_to to)) (sym grants)
+          ∙ ap (λ q. list_any (is_grant_to q) gs) same
       by false e =
-          let before : list_any (is_grant_to p) x.grants ≡ true =
-          ap (λ o. list_any (is_grant_to p) (grants_of o)) (sym found)
-          ∙ sym (any-with_row text_cmp grant_key nat_list_cmp_total (is_grant_to p) to (other_partner p to e) (grant_for to l) (grants_of (find (is_row k) rows)) (new_other p to l e))
-          ∙ ap (list_any (is_grant_to p)) (sym grants) ∙ granted in
-          ap (has_name k.1) (elsewhere (p, k.0) (apart (is_eq (key_cmp (p, k.0) under)) refl)) ∙ kept p k x found before
+          ap (has_name k.1) (elsewhere (p, k.0) (apart (is_eq (key_cmp (p, k.0) under)) refl))
+          ∙ kept p k
+          ∙ ap (is_granted_at p) there
+          ∙ sym (any-with_row text_cmp grant_key nat_list_cmp_total (is_grant_to p) to (other_partner p to e) (grant_for to l) x.grants (new_other p to l e))
+          ∙ ap (list_any (is_grant_to p)) (sym grants)
         where
           apart : (t : Bool) → is_eq (key_cmp (p, k.0) under) ≡ t → t ≡ false
           apart false f = refl
@@ -283,25 +391,17 @@ module _ (k : Key) (to : Text) (l : Option Level) (gs : List Grant) (names : Lis
               let who : p ≡ to = ap (λ (i : Key). i.0) (key_is (p, k.0) under true f refl) in
               absurd (false≢true (sym e ∙ (bytes_eq-Decides to p).1 (sym who)))
 
-  pub regrant_keeps : KeepsGranted fs (rewritten k (λ x. record x { grants = gs }) rows)
-  regrant_keeps p j g found granted = by (is_eq (key_cmp j k)) refl
+  pub regrant_keeps : KeepsGranted fs (regranted_rows k gs rows)
+  regrant_keeps p j = by (is_eq (key_cmp j k)) refl
     where
-      changed : Option GroupRow
-      changed = option_map (λ (y : GroupRow). record y { grants = gs }) (find (is_row k) rows)
-
-      there : (o : Option GroupRow) → find (is_row k) rows ≡ o → option_map (λ (y : GroupRow). record y { grants = gs }) o ≡ Some g → has_name k.1 (names_at (p, k.0) fs) ≡ true
-      there None e h = cc
-      there (Some x) e h =
-          let z : GroupRow = record x { grants = gs } in
-          let same : z ≡ g = cc in
-          granted_there p x e (ap (is_granted p) same ∙ granted)
-
-      by : (t : Bool) → is_eq (key_cmp j k) ≡ t → has_name j.1 (names_at (p, j.0) fs) ≡ true
-      by false e = stays p j e (kept p j g (sym (find_other key_cmp row_key key_total j k changed rows (regranted_key k gs rows) e) ∙ found) granted)
+      by : (t : Bool) → is_eq (key_cmp j k) ≡ t → has_name j.1 (names_at (p, j.0) fs) ≡ is_granted_at p (find (is_row j) (regranted_rows k gs rows))
+      by false e = stays p j e ∙ kept p j ∙ ap (is_granted_at p) (sym (row_elsewhere k gs rows j e))
       by true e =
           let at : j ≡ k = key_is j k true e refl in
-          let is : changed ≡ Some g = sym (find_same key_cmp row_key key_total k changed rows (regranted_key k gs rows)) ∙ ap (λ i. find (is_row i) (rewritten k (λ x. record x { grants = gs }) rows)) (sym at) ∙ found in
-          ap (λ (i : Key). has_name i.1 (names_at (p, i.0) fs)) at ∙ there (find (is_row k) rows) refl is
+          ap (λ (i : Key). has_name i.1 (names_at (p, i.0) fs)) at
+          ∙ stands p
+          ∙ ap (is_granted_at p) (ap (option_map (λ (y : GroupRow). record y { grants = gs })) (sym there) ∙ sym (row_there k gs rows))
+          ∙ ap (λ i. is_granted_at p (find (is_row i) (regranted_rows k gs rows))) (sym at)
 
 -- ---- one partner's part
 
@@ -317,7 +417,7 @@ pub tells_whole : (p : Text) (es : List Names) (gs : List GroupRow) → KeepsGra
 tells_whole p es gs kept k g found granted = by (find (is_entry (p, k.0)) es) refl
   where
     has : has_name k.1 (names_at (p, k.0) es) ≡ true
-    has = kept p k g found granted
+    has = kept p k ∙ ap (is_granted_at p) found ∙ granted
 
     his : (x : Names) → is_entry (p, k.0) x ≡ true → bytes_eq x.key.0 p ≡ true
     his x at = ap (λ (i : Key). bytes_eq i.0 p) (entry_at (p, k.0) x at) ∙ itself p

@@ -27,9 +27,14 @@ abbrev pub relisted : Text → Option Level → List Text → List Text
 relisted n None names = without_name n names
 relisted n (Some l) names = without_name n names ++ n ∷ []
 
--- each group that a partner is granted stands under him and its owner
+-- a group that was looked up is granted to the partner
+abbrev pub is_granted_at : Text → Option GroupRow → Bool
+is_granted_at p None = false
+is_granted_at p (Some g) = is_granted p g
+
+-- the names under a partner and an owner are those of the owner's groups that the partner is granted, and no others
 abbrev pub KeepsGranted : List Names → List GroupRow → Type 0
-KeepsGranted es gs = (p : Text) (k : Key) (g : GroupRow) → find (is_row k) gs ≡ Some g → is_granted p g ≡ true → has_name k.1 (names_at (p, k.0) es) ≡ true
+KeepsGranted es gs = (p : Text) (k : Key) → has_name k.1 (names_at (p, k.0) es) ≡ is_granted_at p (find (is_row k) gs)
 
 -- ---- one partner's part
 

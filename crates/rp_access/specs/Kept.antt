@@ -1,5 +1,5 @@
 -- What is kept of groups, and of all that rights are on.
-use Rattle.std.specs.Prelude.{ℕ, Bool, false, ◌||◌, List, [], ◌∷◌}
+use Rattle.std.specs.Prelude.{ℕ, zero, suc, Bool, false, ◌||◌, List, [], ◌∷◌}
 use Rattle.rp_rows.specs.declared.rows.ModelContent.{ModelContent}
 use Rattle.rp_rows.specs.Rows.{Model, GroupRow}
 use Rattle.rp_tables.specs.Stored.{Stored}
@@ -16,6 +16,11 @@ pub record KeptGroups : Type 0 where
 pub record KeptAccess : Type 0 where
   pub models : Stored ModelContent
   pub groups : KeptGroups
+
+-- the marks from a place on, of so many, where those at some places are set
+abbrev pub marks_from : (ℕ → Bool) → ℕ → ℕ → List Bool
+marks_from is_set place zero = []
+marks_from is_set place (suc n) = is_set place ∷ marks_from is_set (suc place) n
 
 -- marks beside models, and a mark at each that passes as well
 abbrev pub marked : (Model → Bool) → List Bool → List Model → List Bool

@@ -1,9 +1,10 @@
 //! Groups, and for each partner the names of those that he is granted.
 
-ghost use Rattle.std.specs.Prelude.{◌≡◌, false, ◌<◌, [], Some, None, OnOk};
-ghost use Rattle.std.specs.List.{find};
+ghost use Rattle.std.specs.Prelude.{◌≡◌, true, false, ◌<◌, [], Some, None, OnOk};
+ghost use Rattle.std.specs.List.{find, list_any};
 ghost use Rattle.rp_rows.specs.Rows.{Text as Bytes, Key as RowKey, is_row, same_key};
 ghost use Rattle.rp_rows.specs.Alterations.{Holds, altered, grant_for};
+ghost use Rattle.rp_rows.specs.Sight.{is_grant_to};
 ghost use Rattle.rp_tables.specs.Stored.{rewritten};
 ghost use Rattle.rp_access.specs.Granted.{granted_of, names_at, has_name, TellsGranted};
 ghost use Rattle.rp_access.specs.Steps.{RegrantFits};
@@ -41,9 +42,11 @@ impl Model for Groups {
     ghost invariant = { λ g. KeepsGranted g.granted.entries g.table.rows };
 }
 
-/// The names of the group are forgotten under all partners who have these grants.
+/// The name of the group is forgotten under all partners who have these grants.
 fn forget(alloc: Global, granted: &mut Keyed<Rows<Text>>, grants: &[Grant], key: &Key)
-    ensures { (p : Bytes) (k : RowKey) → same_key key.now k ≡ false → has_name k.1 (names_at (p, k.0) granted.new.entries) ≡ has_name k.1 (names_at (p, k.0) granted.old.entries) }
+    ensures others { (p : Bytes) (k : RowKey) → same_key key.now k ≡ false → has_name k.1 (names_at (p, k.0) granted.new.entries) ≡ has_name k.1 (names_at (p, k.0) granted.old.entries) }
+    ensures fewer { (p : Bytes) → has_name key.now.1 (names_at (p, key.now.0) granted.old.entries) ≡ false → has_name key.now.1 (names_at (p, key.now.0) granted.new.entries) ≡ false }
+    ensures gone { (p : Bytes) → list_any (is_grant_to p) grants.now ≡ true → has_name key.now.1 (names_at (p, key.now.0) granted.new.entries) ≡ false }
 {
     for grant in grants {
         granted.drop_name(alloc, &grant.partner, &key.0, &key.1);
@@ -139,7 +142,9 @@ impl Groups {
             under,
             names,
         } = regrant;
-        self.granted.put(under, names);
+        if self.table.find(key).is_some() {
+            self.granted.put(under, names);
+        }
         self.table.regrant(key, grants);
     }
 }

@@ -51,7 +51,7 @@ pub fn visible_models<'a>(
     let marks = counted_marks(alloc, models, groups, caller)?;
     let mut seen = Vec::new(alloc);
     for place in 0..models.len() {
-        push_model(caller, &models.row(place), marks[place], &mut seen)?;
+        push_model(caller, &models.row(place), marks.has(place), &mut seen)?;
     }
     Ok(seen)
 }

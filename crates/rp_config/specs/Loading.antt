@@ -1,5 +1,5 @@
 -- What the files of a folder mean.
-use Rattle.std.specs.Prelude.{ℕ, List, [], ◌∷◌, length, take, nat_le, if◌then◌else◌, Option, Some, None, ok_or, option_map, Result, Ok, Err}
+use Rattle.std.specs.Prelude.{◌≡◌, ℕ, List, [], ◌∷◌, length, take, nat_le, if◌then◌else◌, Option, Some, None, ok_or, option_map, Result, Ok, Err}
 use Rattle.rp_io.specs.declared.device.DeviceFault.{DeviceFault}
 use Rattle.ex_check.specs.declared.fault.SchemaFault.{SchemaFault}
 use Rattle.ex_check.specs.Check as check
@@ -10,7 +10,7 @@ use Rattle.rp_config.specs.declared.fault.LoadFault.TheVariants as fault
 use Rattle.rp_config.specs.declared.loading.Loaded.{Loaded}
 use Rattle.rp_config.specs.Configuration.{config_of}
 
--- what each path holds: the bytes of a file, or nothing where none can be read
+-- what each path holds: the bytes of a file, or nothing where none can be opened
 abbrev pub Held : Type 0
 Held = List ℕ → Option (List ℕ)
 
@@ -21,6 +21,14 @@ file_limit = 8388608
 abbrev pub and_then : {A B F : Type 0} → Result A F → (A → Result B F) → Result B F
 and_then (Ok x) next = next x
 and_then (Err fault) next = Err fault
+
+-- what is left to read of a file that was opened: all of it
+abbrev pub opened_of : Option (List ℕ) → Result (Option (List ℕ)) DeviceFault
+opened_of held = ok_or (option_map Some held) (record {})
+
+-- No read of such a reader fails: a failed one would change its count of failures.
+abbrev pub NeverFails : {R : Type 0} → (R → ℕ) → Type 0
+NeverFails {R} failures = (before after : R) → failures after ≡ failures before
 
 -- the first bytes of a file, at most so many
 abbrev pub front_of : ℕ → Option (List ℕ) → Result (List ℕ) DeviceFault

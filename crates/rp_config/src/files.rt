@@ -1,6 +1,7 @@
 //! Files that are read whole, up to a size.
 ghost use Rattle.std.specs.Prelude.{◌≡◌, ◌≢◌, ◌≤◌, List, ℕ, length, take, Option, None, IfErr, IfOk, IfSome, OnOk};
 ghost use Rattle.text_forms.specs.Gives.{Gives};
+ghost use Rattle.rp_config.specs.Loading.{NeverFails};
 ghost use Rattle.rp_config.specs.Loading as spec;
 
 use crate::fault::LoadFault;
@@ -14,25 +15,29 @@ use text_forms::Failure;
 /// The most bytes of a configuration or of a schema's file: 8 MiB.
 pub const FILE_LIMIT: usize = 8_388_608;
 
-/// Files that are read by their paths.
+/// Files that are opened by their paths.
 ///
 /// What this crate promises of files it promises of any folder whose paths hold what is known. Of
 /// [`FromFiles`] this isn't known, but no code here can tell one folder from another.
 pub trait Folder {
+    /// An opened file, of which nothing is read yet.
+    type Opened: Source + Drop;
+
     /// What each path holds, where this is known: the bytes of a file, or nothing where none can be
-    /// read.
+    /// opened.
     ghost files: { Self → Option (List ℕ → Option (List ℕ)) };
 
-    /// The first bytes of the file of this path: as many as are asked for, or all where it has fewer.
-    fn front(&self, alloc: Global, path: &str, most: usize) -> Result<Vec<u8>, Failure<DeviceFault>>
-        ensures bound { IfOk result (λ front. length front.items ≤ most) }
-        ensures bytes { IfSome (files self.now) (λ held. Gives (λ front. front.items) result (spec.front_of most (held path.now))) };
+    /// Opens the file of this path.
+    fn open(&self, path: &str) -> Result<Self::Opened, Failure<DeviceFault>>
+        ensures bytes { IfSome (files self.now) (λ held. Gives (λ opened. Self.Opened.remaining opened) result (spec.opened_of (held path.now))) }
+        // Its reads don't fail, where it is known what the paths hold.
+        ensures sound { IfSome (files self.now) (λ _. NeverFails Self.Opened.read_failures) };
 }
 
 /// The files of `std`, by paths that start at the working directory.
 ///
-/// No contract of `std` says what a path holds, so this isn't known here. It is only promised that no
-/// more bytes are given than were asked for.
+/// No contract of `std` says what a path holds, so this isn't known here, and nothing is said of what
+/// is opened.
 #[derive(Drop)]
 pub struct FromFiles<R> {
     files: R,
@@ -48,16 +53,13 @@ impl<R: Files> FromFiles<R> {
 }
 
 impl<R: Files> Folder for FromFiles<R> {
+    type Opened = FromReader<R::File>;
+
     ghost files = { λ _. None };
 
-    fn front(
-        &self,
-        alloc: Global,
-        path: &str,
-        most: usize,
-    ) -> Result<Vec<u8>, Failure<DeviceFault>> {
+    fn open(&self, path: &str) -> Result<Self::Opened, Failure<DeviceFault>> {
         match File::open(&self.files, path) {
-            Ok(file) => first_bytes(alloc, &mut FromReader::new(file), most),
+            Ok(file) => Ok(FromReader::new(file)),
             Err(error) if error.kind() == ErrorKind::OutOfMemory => Err(Failure::NoMemory),
             Err(_) => Err(Failure::Fault(DeviceFault)),
         }
@@ -90,6 +92,20 @@ fn first_bytes<R: Source>(
     Ok(bytes)
 }
 
+/// The first bytes of the file of this path: as many as are asked for, or all where it has fewer.
+fn front<D: Folder>(
+    alloc: Global,
+    folder: &D,
+    path: &str,
+    most: usize,
+) -> Result<Vec<u8>, Failure<DeviceFault>>
+    ensures bound { IfOk result (λ front. length front.items ≤ most) }
+    ensures bytes { IfSome (D.files folder.now) (λ held. Gives (λ front. front.items) result (spec.front_of most (held path.now))) }
+{
+    let mut opened = folder.open(path)?;
+    first_bytes(alloc, &mut opened, most)
+}
+
 /// All bytes of the file of this path. One that has more than [`FILE_LIMIT`] isn't read to its end.
 pub fn file_bytes<D: Folder>(
     alloc: Global,
@@ -99,7 +115,7 @@ pub fn file_bytes<D: Folder>(
     ensures limit { IfOk result (λ bytes. length bytes.items ≤ FILE_LIMIT) }
     ensures bytes { IfSome (D.files folder.now) (λ held. Gives (λ bytes. bytes.items) result (spec.file_at held path.now)) }
 {
-    let bytes = match folder.front(alloc, path, FILE_LIMIT + 1) {
+    let bytes = match front(alloc, folder, path, FILE_LIMIT + 1) {
         Ok(bytes) => bytes,
         Err(Failure::Fault(_)) => {
             let path = Text::from_str(alloc, path)?;

@@ -1,14 +1,3 @@
-pub mod Looking
-pub mod Firsts
-pub mod Counts
-pub mod Walking
-pub mod SchemaNames
-pub mod Names
-pub mod LinkOrder
 pub mod Repeats
 pub mod Making
 pub mod Preparing
-pub mod Loaded
-pub mod Putting
-pub mod KeptPlaces
-pub mod Telling

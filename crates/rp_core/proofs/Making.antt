@@ -6,22 +6,21 @@ use Rattle.sorted_tables.specs.Table.{with_row, IsAscending}
 use Rattle.sorted_tables.proofs.Searching.{chosen}
 use Rattle.rp_content.specs.declared.instance.Instance.{Instance}
 use Rattle.rp_rows.specs.declared.rows.ModelContent.{ModelContent}
-use Rattle.rp_rows.specs.declared.rows.Level.{Level}
-use Rattle.rp_rows.specs.Rows.{Text, text_cmp, grant_key, Key, key_cmp, Row, row_key, is_row, Model}
+use Rattle.rp_rows.specs.Rows.{Text, Key, key_cmp, row_key, is_row, Model}
 use Rattle.rp_rows.specs.Instances.{with_instance, without_instance}
 use Rattle.rp_rows.specs.Sight.{sees}
-use Rattle.rp_rows.specs.Alterations.{Holds, altered, grants_of, grant_for, granting}
+use Rattle.rp_rows.specs.Alterations.{Holds, altered, grants_of}
 use Rattle.rp_rows.proofs.Keys.{key_at, found_at}
 use Rattle.rp_plain.specs.Plain.{Plain, model_at}
 use Rattle.rp_plain.specs.Edits.{changed}
 use Rattle.rp_plain.specs.Asked.{asked, held}
 use Rattle.rp_plain.specs.Instances.{placing, dropping}
-use Rattle.rp_core.specs.declared.edits.Edits.{Edits}
-use Rattle.rp_core.specs.declared.edits.Edits.TheVariants as edits
-use Rattle.rp_core.specs.Plans.{edits_of, IsSeen}
+use Rattle.rp_plans.specs.declared.edits.Edits.{Edits}
+use Rattle.rp_plans.specs.declared.edits.Edits.TheVariants as edits
+use Rattle.rp_plans.specs.Plans.{edits_of, IsSeen}
 use Rattle.rp_tables.specs.Stored.{rewritten, reheld}
 use Rattle.rp_core.specs.Held.{models_by, groups_by}
-use Rattle.rp_core.proofs.Looking.{seen_found}
+use Rattle.rp_readers.proofs.Looking.{seen_found}
 
 -- what is found and chosen is what was found
 chosen_found : (p : Model → Bool) (m : Model) (o : Option Model) → chosen p o ≡ Some m → o ≡ Some m

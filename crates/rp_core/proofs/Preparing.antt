@@ -24,11 +24,11 @@ use Rattle.rp_plain.specs.Checks as checks
 use Rattle.rp_plain.specs.Step.{meaning, outcome}
 use Rattle.rp_plain.specs.Runs.{is_no_memory}
 use Rattle.rp_plain.specs.Turns.{Turn}
-use Rattle.rp_core.specs.declared.edits.Plan.{Plan}
+use Rattle.rp_plans.specs.declared.edits.Plan.{Plan}
 use Rattle.rp_core.specs.declared.steps.Pending.{Pending}
 use Rattle.rp_core.specs.declared.steps.Steps.{Steps}
 use Rattle.rp_core.specs.declared.steps.Steps.TheVariants.{Nothing}
-use Rattle.rp_core.specs.Plans.{IsAnswer, IsRefusal}
+use Rattle.rp_plans.specs.Plans.{IsAnswer, IsRefusal}
 use Rattle.rp_core.specs.Held.{made_models, made_groups, models_by, groups_by, IsPrepared}
 use Rattle.rp_core.proofs.Making.{made_changed}
 

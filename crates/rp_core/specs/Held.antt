@@ -10,8 +10,8 @@ use Rattle.rp_plain.specs.Runs.{MayReply}
 use Rattle.rp_plain.specs.Turns.{Turn, effect, after}
 use Rattle.rp_access.specs.Kept.{KeptAccess}
 use Rattle.rp_access.specs.Steps.{alteration_of, model_stepped, group_stepped, ModelFits, GroupFits}
-use Rattle.rp_core.specs.declared.edits.Edits.{Edits}
-use Rattle.rp_core.specs.declared.edits.Edits.TheVariants.{Nothing as NoEdit, OfModel as EditModel, OfGroup as EditGroup, Place as PlaceEdit, DropInstance as DropEdit}
+use Rattle.rp_plans.specs.declared.edits.Edits.{Edits}
+use Rattle.rp_plans.specs.declared.edits.Edits.TheVariants.{Nothing as NoEdit, OfModel as EditModel, OfGroup as EditGroup, Place as PlaceEdit, DropInstance as DropEdit}
 use Rattle.rp_core.specs.declared.steps.Steps.{Steps}
 use Rattle.rp_core.specs.declared.steps.Steps.TheVariants.{Nothing, OfModel, OfGroup, Place, DropInstance}
 use Rattle.rp_core.specs.declared.steps.Pending.{Pending}

@@ -1,15 +1,14 @@
 //! What a repository holds, and the two halves of a turn.
 #![tactic(auto, unfolding(crate::specs::Held::Fits))]
 
-use crate::asked::{Asking, place_among};
-use crate::kept::KeptPlans;
 use crate::opening::may_open;
-use crate::plans::plan;
 use crate::steps::{Pending, make_steps};
 use ex_subtypes::Compiled;
 use plain_data::Text;
 use rp_access::Access;
 use rp_plain::messages::{NewFault, Reply, Request};
+use rp_plans::plan;
+use rp_readers::{Asking, KeptPlans, place_among};
 use std::alloc::Global;
 use std::marker::Model;
 
@@ -48,8 +47,8 @@ impl<'s> Holdings<'s> {
     ghost use Rattle.rp_plain.specs.Opening.{new_fault, opened};
     ghost use Rattle.rp_plain.specs.Valid.{IsOrdered};
     ghost use Rattle.rp_core.specs.Held.{partner_at, turn, made, Fits, IsPrepared};
-    ghost use Rattle.rp_core.specs.Named.{AreNamed};
-    ghost use Rattle.rp_core.specs.Listed.{AreListed};
+    ghost use Rattle.rp_readers.specs.Named.{AreNamed};
+    ghost use Rattle.rp_readers.specs.Listed.{AreListed};
 
     /// Nothing but these schemas and partners.
     ///

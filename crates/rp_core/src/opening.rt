@@ -5,10 +5,10 @@ ghost use Rattle.std.specs.List.{list_all};
 ghost use Rattle.rp_rows.specs.Names.{is_name};
 ghost use Rattle.rp_plain.specs.Opening.{new_fault, has_twice as IsTwice};
 
-use crate::schemas::names_of;
 use ex_subtypes::Compiled;
 use plain_data::Text;
 use rp_plain::messages::NewFault;
+use rp_readers::schemas::names_of;
 use rp_rows::names::is_valid_name;
 use std::alloc::{AllocError, Global};
 use std::collections::BTreeSet;

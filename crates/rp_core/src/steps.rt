@@ -8,10 +8,10 @@ ghost use Rattle.rp_core.specs.Held.{made_models, made_groups, models_by, groups
 ghost use Rattle.rp_tables.specs.Named.{IsNamed, HoldsNamed, HasRoomIn};
 ghost use Rattle.rp_tables.specs.Stored.{HasRowAt};
 
-use crate::edits::{Edits, Plan};
 use rp_access::{Access, GroupStep, ModelStep};
 use rp_content::Instance;
 use rp_plain::messages::{Refusal, Reply};
+use rp_plans::{Edits, Plan};
 use rp_rows::rows::{Key, ModelContent};
 use rp_tables::Table;
 use std::alloc::{AllocError, Global};

@@ -8,9 +8,11 @@ use Rattle.p21_tree.specs.declared.raw.Raw.{Raw}
 use Rattle.p21_grammar.specs.File.{file_of}
 use Rattle.p21_instances.specs.Instances as spelled
 use Rattle.p21_instances.specs.Instances.{in_order, is_among}
+use Rattle.p21_instances.proofs.ByName.{below, all-in_order, among_in_order}
 use Rattle.p21_instances.proofs.Sets.{list_all-same}
 use Rattle.p21_mappings.specs.Contents.{content}
 use Rattle.p21_bind.specs.Files.{bound_file}
+use Rattle.p21_bind.proofs.Ascending.{defined_by}
 use Rattle.rp_content.specs.declared.content.Content.{Content}
 use Rattle.rp_content.specs.declared.instance.Instance.{Instance}
 use Rattle.rp_content.specs.declared.link.Link.{Link}
@@ -18,8 +20,7 @@ use Rattle.rp_rows.specs.Contents.{instance_name, names, greatest_name, link_nam
 use Rattle.rp_plain.specs.Instances.{is_defined}
 use Rattle.rp_plain.specs.Links.{linking}
 use Rattle.rp_plain.specs.Valid.{IsInstanceOfFile, IsSound}
-use Rattle.rp_laws.proofs.BoundFiles.{defined_by}
-use Rattle.rp_laws.proofs.ByName.{below, all-in_order, among_in_order, AreWithin, within}
+use Rattle.rp_laws.proofs.ByName.{AreWithin, within}
 
 -- ---- each is of the file
 

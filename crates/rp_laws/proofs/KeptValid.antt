@@ -1,7 +1,8 @@
 -- The edits of each request are fit, and so a step keeps the repository valid.
-use Rattle.std.proofs.Common.{◌≡◌, ℕ, Bool, true, false, ◌||◌, nat_le, nat_lt, inl, inr, List, [], ◌∷◌, length, Option, Some, None, Result, Ok, Err, refl, sym, ◌∙◌, ap, subst, arith}
+use Rattle.std.proofs.Common.{◌≡◌, ◌<◌, ℕ, Bool, true, false, ◌||◌, nat_le, nat_lt, inl, inr, List, [], ◌∷◌, length, Option, Some, None, Result, Ok, Err, refl, sym, ◌∙◌, ap, subst, arith}
 use Rattle.std.specs.Prelude.{filter, if◌then◌else◌}
 use Rattle.std.specs.List.{find, list_any}
+use Rattle.std.specs.Ordering.{is_gt, nat_cmp}
 use Rattle.std.specs.Str.{bytes_eq, str_to_ascii_uppercase}
 use Rattle.std.proofs.lemmas.Bool.{both_ways, false_from_ne_true, or_parts}
 use Rattle.std.proofs.lemmas.Bool.Decides.{nat_tests}
@@ -13,9 +14,12 @@ use Rattle.p21_tree.specs.declared.fault.InstanceFault.{InstanceFault}
 use Rattle.p21_grammar.specs.File.{file_of}
 use Rattle.p21_grammar.specs.Schemas.{is_of_schema}
 use Rattle.p21_mappings.specs.Contents.{content}
-use Rattle.p21_bind.specs.Files.{bound_file}
+use Rattle.p21_bind.specs.Files.{AreAscending, bound_file}
+use Rattle.p21_bind.proofs.Ascending.{bound_ascends, bound_names, defined_by, of_file}
 use Rattle.rp_content.specs.declared.content.Content.{Content}
+use Rattle.rp_content.specs.declared.instance.Instance.{Instance}
 use Rattle.rp_content.specs.declared.link.Link.{Link}
+use Rattle.sorted_tables.specs.Table.{is_after, IsAscending}
 use Rattle.rp_rows.specs.declared.rows.Level.TheVariants.{Read}
 use Rattle.rp_rows.specs.declared.rows.ModelContent.{ModelContent}
 use Rattle.rp_rows.specs.Names.{is_name}
@@ -41,8 +45,8 @@ use Rattle.rp_plain.specs.Instances.{Saying, said, is_absent, instance_in, next_
 use Rattle.rp_plain.specs.Step.{meaning, outcome, answer, next}
 use Rattle.rp_plain.specs.Opening.{new_fault, opened}
 use Rattle.rp_plain.specs.Valid.{IsInstanceOfFile, IsSpelled, IsValidContent, IsValid}
-use Rattle.rp_laws.proofs.ByName.{once-in_order, ordered, within, greatest_from}
-use Rattle.rp_laws.proofs.BoundFiles.{bound_names, bound_refer, bound_once, defined_by, of_file}
+use Rattle.rp_laws.proofs.ByName.{within, greatest_from}
+use Rattle.rp_laws.proofs.BoundFiles.{bound_refer}
 use Rattle.rp_laws.proofs.FileNames.{file_named}
 use Rattle.rp_laws.proofs.FileInstances.{all_spelled, all_sound, in_order_most}
 use Rattle.rp_laws.proofs.Links.{seen_valid, AreTaken, links_taken}
@@ -129,6 +133,16 @@ taken schemas h linked (Ok raw) c e = by (is_of_schema h.schema raw) e
     by true f = taken_by schemas h linked raw c (schema_named schemas h.schema) refl f
     by false f = cc
 
+is_above : (m n : ℕ) → m < n → is_gt (nat_cmp n m) ≡ true
+is_above m n less = grind (arith, nat_tests)
+
+-- each stands before those with greater names
+ascending : (is : List Instance) → AreAscending is → IsAscending nat_cmp instance_name is
+ascending [] order = tt
+ascending (i ∷ is) order = (
+  all_each (λ (j : Instance). i.name < j.name) (λ (j : Instance). is_after nat_cmp instance_name i.name j ≡ true) (λ j less. is_above i.name j.name less) is order.0,
+  ascending is order.1,
+)
 refilled_valid : (schemas : List Checked) (partners : List Text) (k : Key) (h : ModelContent) (file : Text) (links : List Link) (c : Content) → IsTaken schemas h (link_names links) (file_of file) c → AreTaken partners k links c
     → nat_lt max_instances (length c.instances) ≡ false → IsValidContent schemas partners k h → IsValidContent schemas partners k (refilled h (linking links c))
 refilled_valid schemas partners k h file links c t beside few valid =
@@ -137,7 +151,6 @@ refilled_valid schemas partners k h file links c t beside few valid =
     let defined = defined_by linked t.raw in
     let same_names = bound_names t.schema defined (λ n. false) t.raw.instances read.found read.reads in
     let most = in_order_most max_name h.greatest read.found t.raw.instances same_names (file_named file t.raw t.reads) valid.greatest in
-    let once = bound_once t.schema defined (λ n. false) t.raw.instances read.found read.reads in
     let refer = bound_refer t.schema defined (λ n. false) t.raw.instances read.found read.reads in
     let Valid : Content → Type 0 = λ d. bound_file t.schema linked t.raw ≡ Ok d → AreTaken partners k links d → nat_lt max_instances (length d.instances) ≡ false → IsValidContent schemas partners k (refilled h (linking links d)) in
     let held = content t.raw.header read.found in
@@ -147,7 +160,7 @@ refilled_valid schemas partners k h file links c t beside few valid =
       schema = t.schema;
       loaded = t.loaded;
       header = inr (record { file = file; raw = t.raw; reads = t.reads; is = refl });
-      instances = ordered instance_name read.found (once-in_order instance_name read.found once);
+      instances = ascending held.instances (bound_ascends t.schema linked t.raw held says);
       spelled = all_each (IsInstanceOfFile t.schema) (IsSpelled t.schema) (λ i is. inl is) held.instances (all_spelled t.schema file t.raw t.reads linked held says);
       sound = all_sound t.raw links read.found same_names refer;
       few = no_more max_instances (length held.instances) few;

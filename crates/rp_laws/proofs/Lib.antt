@@ -5,6 +5,7 @@ pub mod Own
 pub mod OwnTurns
 pub mod Outside
 pub mod NamedRows
+pub mod Requests
 pub mod AllRuns
 pub mod FileNames
 pub mod BoundValues

@@ -1,23 +1,19 @@
 -- Edits leave the rows of other names.
-use Rattle.std.proofs.Common.{◌≡◌, Bool, true, false, not, ◌&&◌, List, [], ◌∷◌, ◌++◌, is_some, refl, ◌∙◌, ap, append-nil}
+use Rattle.std.proofs.Common.{◌≡◌, Bool, true, false, ◌&&◌, List, [], ◌∷◌, ◌++◌, is_some, refl, ◌∙◌, ap, append-nil}
 use Rattle.std.specs.Prelude.{filter, option_to_list}
-use Rattle.std.specs.List.{find, list_any, AllByRecursion}
+use Rattle.std.specs.List.{find, AllByRecursion}
 use Rattle.std.proofs.lemmas.List.Elements.{filter-append}
 use Rattle.sorted_tables.specs.Table.{is_before, is_after, IsAscending}
 use Rattle.sorted_tables.proofs.Ascending.{passing-split}
 use Rattle.std.proofs.lemmas.Cmp.{tied_itself}
 use Rattle.std.specs.Ordering.{is_eq}
-use Rattle.rp_plain.specs.declared.messages.Request.{Request}
-use Rattle.rp_rows.specs.Rows.{Text, Key, key_cmp, Row, row_key, is_row, Model, GroupRow}
+use Rattle.rp_rows.specs.Rows.{Key, key_cmp, Row, row_key, is_row, Model, GroupRow}
 use Rattle.rp_rows.specs.Alterations.{Alteration, alter, altered}
 use Rattle.rp_plain.specs.Plain.{Plain, Kind}
 use Rattle.rp_plain.specs.Edits.{Edit, EditModel, EditGroup, edited_by, changed, names_of}
-use Rattle.rp_plain.specs.Asked.{asked}
-use Rattle.rp_plain.specs.Step.{answer, next}
 use Rattle.rp_plain.specs.Valid.{IsOrdered}
 use Rattle.rp_rows.proofs.Keys.{key_total, found_at}
 use Rattle.rp_laws.specs.Laws.{names_model, names_group}
-use Rattle.rp_laws.proofs.Sight.{IsIn, all_in}
 use Rattle.rp_laws.proofs.Keeping.{edited_ordered}
 use Rattle.rp_laws.proofs.Outside.{new_owner, unseen_row}
 
@@ -39,10 +35,10 @@ others_altered q k a xs order fails =
     ∙ ap (λ ys. ys ++ filter q after) (filter-append q before (option_to_list row) ∙ ap (λ ys. filter q before ++ ys) gone ∙ append-nil (filter q before))
     ∙ passing-split key_cmp row_key key_total q k xs order (none_passes q k fails xs)
 
-abbrev FailNamed : (Model → Bool) → (GroupRow → Bool) → Kind × Key → Type 0
+abbrev pub FailNamed : (Model → Bool) → (GroupRow → Bool) → Kind × Key → Type 0
 FailNamed p q n = ((x : Model) → names_model x n ≡ true → p x ≡ false) × ((x : GroupRow) → names_group x n ≡ true → q x ≡ false)
 
-others_changed : (p : Model → Bool) (q : GroupRow → Bool) (es : List Edit) (r : Plain) → IsOrdered r → AllByRecursion (FailNamed p q) (names_of es) → (filter p (changed es r).models ≡ filter p r.models) × (filter q (changed es r).groups ≡ filter q r.groups)
+pub others_changed : (p : Model → Bool) (q : GroupRow → Bool) (es : List Edit) (r : Plain) → IsOrdered r → AllByRecursion (FailNamed p q) (names_of es) → (filter p (changed es r).models ≡ filter p r.models) × (filter q (changed es r).groups ≡ filter q r.groups)
 others_changed p q [] r ordered fails = (refl, refl)
 others_changed p q (EditModel k a ∷ es) r ordered fails =
     let rest = others_changed p q es (edited_by (EditModel k a) r) (edited_ordered (EditModel k a) r ordered) fails.1 in
@@ -50,14 +46,3 @@ others_changed p q (EditModel k a ∷ es) r ordered fails =
 others_changed p q (EditGroup k a ∷ es) r ordered fails =
     let rest = others_changed p q es (edited_by (EditGroup k a) r) (edited_ordered (EditGroup k a) r ordered) fails.1 in
     (rest.0, rest.1 ∙ others_altered q k a r.groups ordered.groups fails.0.1)
-
-each_named : (names ns : List (Kind × Key)) → AllByRecursion (IsIn names) ns → AllByRecursion (FailNamed (λ x. not (list_any (names_model x) names)) (λ x. not (list_any (names_group x) names))) ns
-each_named names [] all = tt
-each_named names (n ∷ ns) all = ((λ x e. ap not (all.0 (names_model x) e), λ x e. ap not (all.0 (names_group x) e)), each_named names ns all.1)
-
-pub next_others : (r : Plain) (c : Text) (q : Request) → IsOrdered r → let names = names_of (answer (asked r c) c q).edits in
-    (filter (λ x. not (list_any (names_model x) names)) (next r c q).models ≡ filter (λ x. not (list_any (names_model x) names)) r.models)
-    × (filter (λ x. not (list_any (names_group x) names)) (next r c q).groups ≡ filter (λ x. not (list_any (names_group x) names)) r.groups)
-next_others r c q ordered =
-    let names = names_of (answer (asked r c) c q).edits in
-    others_changed (λ x. not (list_any (names_model x) names)) (λ x. not (list_any (names_group x) names)) (answer (asked r c) c q).edits r ordered (each_named names names (all_in names))

@@ -1,8 +1,9 @@
 -- What a model of a valid repository holds is read again of its canonical text.
 use Rattle.std.proofs.Common.{◌≡◌, ◌≤◌, ◌<◌, ◌⊎◌, inl, inr, ℕ, zero, suc, Bool, true, false, ◌&&◌, List, [], ◌∷◌, ◌++◌, length, map, take, drop, Some, refl, sym, ◌∙◌, ap, subst, arith}
-use Rattle.std.specs.Prelude.{slice_index_or}
-use Rattle.std.specs.List.{AllByRecursion, flat_map, list_all}
+use Rattle.std.specs.Prelude.{slice_index_or, if◌then◌else◌}
+use Rattle.std.specs.List.{AllByRecursion, find, flat_map, list_all}
 use Rattle.std.specs.Ordering.{is_gt, nat_cmp}
+use Rattle.std.specs.Str.{bytes_eq}
 use Rattle.std.proofs.lemmas.Bool.{and_parts}
 use Rattle.std.proofs.lemmas.Bool.Decides.{nat_tests}
 use Rattle.std.proofs.lemmas.List.Folds.{list_all-append}
@@ -16,6 +17,8 @@ use Rattle.p21_laws.proofs.Referred.{names_of, names_rolls, opened_tree}
 use Rattle.p21_laws.specs.Instances as written
 use Rattle.p21_laws.specs.Kept as kept
 use Rattle.p21_laws.specs.Kept.{IsKept}
+use Rattle.p21_laws.specs.Schemas.{IsAccepted}
+use Rattle.p21_bind.specs.Files.{AreAscending}
 use Rattle.p21_tree.specs.declared.value.Value as tree
 use Rattle.p21_tree.specs.declared.value.Value.TheFolds as trees
 use Rattle.p21_lines.specs.Trees.{attribute_at, attribute_tree, instance_tree, leaf_part, mapping, own_parts, record_of, records, value_tree}
@@ -32,6 +35,7 @@ use Rattle.rp_rows.specs.declared.rows.ModelContent.{ModelContent}
 use Rattle.rp_rows.specs.Contents.{greatest_name, instance_name, link_name, link_names, names, referred, references, references_of}
 use Rattle.rp_rows.specs.Instances.{max_name}
 use Rattle.rp_rows.specs.Rows.{Model, row_key}
+use Rattle.rp_plain.specs.Meaning.{schema_name}
 use Rattle.rp_plain.specs.Valid.{IsHeaderOfFile, IsSound, IsSpelled, IsValidContent, IsValidModel}
 use Rattle.rp_laws.proofs.BoundValues.{Passes}
 use Rattle.rp_laws.proofs.ByName.{all_within}
@@ -135,7 +139,7 @@ module _ (schema : Checked) (defined : ℕ → Bool) where
 is_below : (m n : ℕ) → is_gt (nat_cmp n m) ≡ true → m < n
 is_below m n e = grind (arith, nat_tests)
 
-ascends : (is : List Instance) → IsAscending nat_cmp instance_name is → kept.AreAscending is
+ascends : (is : List Instance) → IsAscending nat_cmp instance_name is → AreAscending is
 ascends [] order = tt
 ascends (i ∷ is) order = (
   all_each (λ (j : Instance). is_after nat_cmp instance_name i.name j ≡ true) (λ (j : Instance). i.name < j.name) (λ j e. is_below i.name j.name e) is order.0,
@@ -177,12 +181,25 @@ module _ (schemas : List Checked) (partners : List (List ℕ)) (k : List ℕ × 
         (λ i e. tree_passes schema (spelled.is_among (names h.content.instances ++ link_names h.content.links)) i e) h.content.instances valid.sound;
   }
 
-model_again : (schemas : List Checked) (partners : List (List ℕ)) (m : Model) → IsValidModel schemas partners m → IsModelReadAgain schemas m
-model_again schemas partners m valid schema found accepted =
+abbrev AllAccepted : List Checked → Type 0
+AllAccepted = AllByRecursion (λ (schema : Checked). IsAccepted schema.named)
+
+-- a schema that is found is one of them
+found_accepted : (test : Checked → Bool) (schemas : List Checked) (schema : Checked) → AllAccepted schemas → find test schemas ≡ Some schema → IsAccepted schema.named
+found_accepted test [] schema all found = cc
+found_accepted test (x ∷ xs) schema all found = by (found_accepted test xs schema all.1) (test x) found
+  where
+    by : (find test xs ≡ Some schema → IsAccepted schema.named) → (t : Bool) → (if t then Some x else find test xs) ≡ Some schema → IsAccepted schema.named
+    by rest true e = let same : x ≡ schema = cc in subst (λ (s : Checked). IsAccepted s.named) same all.0
+    by rest false e = rest e
+
+model_again : (schemas : List Checked) (partners : List (List ℕ)) → AllAccepted schemas → (m : Model) → IsValidModel schemas partners m → IsModelReadAgain schemas m
+model_again schemas partners all m valid schema found =
     let content = valid.content in
     let loaded : Some content.schema ≡ Some schema = sym content.loaded ∙ found in
     let same : content.schema ≡ schema = cc in
-    kept_again schema accepted (link_names m.holds.content.links) m.holds.content (is_kept schemas partners (row_key m) m.holds content schema same)
+    kept_again schema (found_accepted (λ s. bytes_eq m.holds.schema (schema_name s)) schemas schema all found) (link_names m.holds.content.links) m.holds.content (is_kept schemas partners (row_key m) m.holds content schema same)
 
-pub text_again : TextAgain
-text_again r valid = all_each (IsValidModel r.schemas r.partners) (IsModelReadAgain r.schemas) (model_again r.schemas r.partners) r.models valid.models
+pub text_again : (schemas : List Checked) → AllAccepted schemas → TextAgain schemas
+text_again schemas all r same valid =
+    all_each (IsValidModel r.schemas r.partners) (IsModelReadAgain r.schemas) (model_again r.schemas r.partners (subst AllAccepted (sym same) all)) r.models valid.models

@@ -1,11 +1,10 @@
 -- A repository is valid if its two tables are; edits that are fit keep it so.
 use Rattle.std.proofs.Common.{◌≡◌, ◌≤◌, true, List, [], ◌∷◌, length, None}
 use Rattle.std.specs.List.{AllByRecursion}
-use Rattle.sorted_tables.specs.Table.{IsAscending}
 use Rattle.ex_types.specs.Checked.{Checked}
 use Rattle.rp_rows.specs.declared.rows.Grant.{Grant}
 use Rattle.rp_rows.specs.declared.rows.Listing.{Listing}
-use Rattle.rp_rows.specs.Rows.{Text, Key, key_cmp}
+use Rattle.rp_rows.specs.Rows.{Text, Key}
 use Rattle.rp_plain.specs.Plain.{Plain}
 use Rattle.rp_plain.specs.Edits.{Edit, EditModel, EditGroup, edited_by, changed}
 use Rattle.rp_plain.specs.Meaning.{has_schema}

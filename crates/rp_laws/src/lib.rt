@@ -3,7 +3,10 @@
 //! Each function has a law as its contract, over the definitions that the repository's own calls cite.
 #![tactic(auto)]
 
-ghost use Rattle.rp_laws.specs.Laws.{KeepsOrder, KeepsValid, OpensValid, ChangesOnlyNamed, OwnTurnReply, OwnTurnPart, OutsideTurnPart, OutsideTurnReach, OneRunReplies, OneRunPart, TwoRuns, TextAgain};
+ghost use Rattle.rp_laws.specs.Laws.{KeepsOrder, KeepsValid, OpensValid, EditsAreSaid, ChangesOnlyNamed, RefusedChangesNothing, OwnTurnReply, OwnTurnPart, OutsideTurnPart, OutsideTurnReach, KeepingOffIsOutside, KeepingOffPart, KeepingOffReach, OneRunReplies, OneRunPart, TwoRuns, TextAgain};
+
+use ex_subtypes::Compiled;
+use p21_laws::accepted_schemas;
 
 /// A step keeps models and groups in order.
 pub fn step_keeps_order()
@@ -16,9 +19,12 @@ pub fn step_keeps_validity()
     ensures opening { OpensValid }
 {}
 
-/// A step changes at most the rows of the names that its edits have.
+/// A step changes at most the rows of the names that the request says, and nothing where it is refused. Each of its edits has
+/// such a name, and gives nobody a level but whom the request grants to.
 pub fn step_changes_named_rows()
-    ensures { ChangesOnlyNamed }
+    ensures rows { ChangesOnlyNamed }
+    ensures refused { RefusedChangesNothing }
+    ensures edits { EditsAreSaid }
 {}
 
 /// A partner's reply, and what he sees after his turn, come from what he sees alone.
@@ -33,6 +39,14 @@ pub fn outside_turn()
     ensures reach { OutsideTurnReach }
 {}
 
+/// A turn of another is outside for a partner whatever it is answered, where the partner reaches no name that its request says,
+/// and it is no grant to him: so it leaves what he sees and what he reaches.
+pub fn request_that_keeps_off()
+    ensures outside { KeepingOffIsOutside }
+    ensures part { KeepingOffPart }
+    ensures reach { KeepingOffReach }
+{}
+
 /// In a run where the others' turns are outside, a partner's replies are those that he gets alone.
 pub fn one_run()
     ensures replies { OneRunReplies }
@@ -44,8 +58,10 @@ pub fn two_runs()
     ensures { TwoRuns }
 {}
 
-/// In a valid repository, what a model holds is read of its canonical text, where the names of its links are
-/// linked, as the same header and instances, by each schema that was accepted.
-pub fn model_text_again()
-    ensures { TextAgain }
-{}
+/// In a valid repository of these schemas, what each model holds is read of its canonical text, where the names of its links
+/// are linked, as the same header and instances.
+pub fn model_text_again(schemas: &[Compiled])
+    ensures { TextAgain schemas.now }
+{
+    accepted_schemas(schemas);
+}

@@ -12,6 +12,7 @@ pub mod Populations
 pub mod Instances
 pub mod Checks
 pub mod Step
+pub mod Changes
 pub mod Opening
 pub mod Valid
 pub mod Runs

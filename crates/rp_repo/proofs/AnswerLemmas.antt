@@ -1,6 +1,6 @@
 -- What is answered to a line is what the line means.
 use Rattle.std.proofs.Common.{◌≡◌, ℕ, suc, ◌<◌, true, false, List, [], length, nat_lt, Option, Some, None, refl, sym, ◌∙◌, ap, subst, arith}
-use Rattle.std.specs.Prelude.{if◌then◌else◌, slice_index_or, IfSome, MatchOption}
+use Rattle.std.specs.Prelude.{if◌then◌else◌, slice_index_or, Result, Ok, Err, IfOk, OnOk, MatchOption}
 use Rattle.std.proofs.lemmas.Bool.Decides.{nat_tests}
 use Rattle.rp_plain.specs.declared.messages.Reply.TheVariants.{Refused}
 use Rattle.rp_plain.specs.declared.messages.Refusal.{Refusal}
@@ -14,8 +14,8 @@ use Rattle.rp_io.specs.declared.chunk.Room.TheVariants as room
 use Rattle.rp_io.specs.Lines.{Holds}
 use Rattle.rp_core.specs.Held.{made, IsPrepared}
 use Rattle.rp_core.specs.declared.steps.Pending.{Pending}
-use Rattle.rp_wire.specs.Asks.{asked_of}
-use Rattle.rp_wire.specs.Replies.{line_of_reply}
+use Rattle.rp_requests.specs.Asks.{asked_of}
+use Rattle.rp_replies.specs.Replies.{line_of_reply}
 use Rattle.rp_repo.specs.LineRuns.{max_line, caller_of, turn_for, refusal_of, meant_for, meant, Answers}
 use Rattle.rp_repo.proofs.Partners.{is_among}
 
@@ -30,10 +30,10 @@ refused_answers r refusal meaning bytes told means is = record {
   is = is;
 }
 
-pub if_refused : {V : Type 0} (items : V → List ℕ) (r : Plain) (refusal : Refusal) (meaning : Effect) (o : Option V) → is_no_memory (Refused refusal) ≡ false → meaning ≡ refusal_of r refusal
-    → IfSome o (λ v. items v ≡ line_of_reply (Refused refusal)) → IfSome o (λ v. Answers r r meaning (items v))
-if_refused items r refusal meaning None told means said = tt
-if_refused items r refusal meaning (Some v) told means said = refused_answers r refusal meaning (items v) told means said
+pub if_refused : {V E : Type 0} (items : V → List ℕ) (r : Plain) (refusal : Refusal) (meaning : Effect) (o : Result V E) → is_no_memory (Refused refusal) ≡ false → meaning ≡ refusal_of r refusal
+    → IfOk o (λ v. items v ≡ line_of_reply (Refused refusal)) → IfOk o (λ v. Answers r r meaning (items v))
+if_refused items r refusal meaning (Err e) told means said = tt
+if_refused items r refusal meaning (Ok v) told means said = refused_answers r refusal meaning (items v) told means said
 
 -- ---- lines
 
@@ -47,16 +47,16 @@ kept_whole r line within =
     let is : nat_lt max_line (length line) ≡ false = grind (arith, nat_tests) in
     ap (λ t. if t then refusal_of r TooLarge else meant_for r BadRequest (turn_for r.partners (asked_of line))) is
 
-pub if_too_large : {V : Type 0} (items : V → List ℕ) (r : Plain) (how : Room) (kept : List ℕ) (o : Option V) → how ≡ room.TooLarge → IfSome o (λ v. items v ≡ line_of_reply (Refused TooLarge))
-    → IfSome o (λ v. (line : List ℕ) → Holds how kept line → Answers r r (meant r line) (items v))
-if_too_large items r how kept None is said = tt
-if_too_large items r how kept (Some v) is said = λ line holds. refused_answers r TooLarge (meant r line) (items v) refl (too_large r line (subst (λ x. Holds x kept line) is holds).1) said
+pub if_too_large : {V E : Type 0} (items : V → List ℕ) (r : Plain) (how : Room) (kept : List ℕ) (o : Result V E) → how ≡ room.TooLarge → IfOk o (λ v. items v ≡ line_of_reply (Refused TooLarge))
+    → IfOk o (λ v. (line : List ℕ) → Holds how kept line → Answers r r (meant r line) (items v))
+if_too_large items r how kept (Err e) is said = tt
+if_too_large items r how kept (Ok v) is said = λ line holds. refused_answers r TooLarge (meant r line) (items v) refl (too_large r line (subst (λ x. Holds x kept line) is holds).1) said
 
-pub if_kept : {V : Type 0} (items : V → List ℕ) (r new : Plain) (how : Room) (kept : List ℕ) (o : Option V) → how ≡ room.Kept
-    → IfSome o (λ v. Answers r new (meant_for r BadRequest (turn_for r.partners (asked_of kept))) (items v))
-    → IfSome o (λ v. (line : List ℕ) → Holds how kept line → Answers r new (meant r line) (items v))
-if_kept items r new how kept None is said = tt
-if_kept items r new how kept (Some v) is said = λ line holds.
+pub if_kept : {V E : Type 0} (items : V → List ℕ) (r new : Plain) (how : Room) (kept : List ℕ) (o : Result V E) → how ≡ room.Kept
+    → IfOk o (λ v. Answers r new (meant_for r BadRequest (turn_for r.partners (asked_of kept))) (items v))
+    → IfOk o (λ v. (line : List ℕ) → Holds how kept line → Answers r new (meant r line) (items v))
+if_kept items r new how kept (Err e) is said = tt
+if_kept items r new how kept (Ok v) is said = λ line holds.
     let held : Holds room.Kept kept line = subst (λ x. Holds x kept line) is holds in
     let means : meant r line ≡ meant_for r BadRequest (turn_for r.partners (asked_of kept)) = kept_whole r line (omega (arith, held.1)) ∙ ap (λ l. meant_for r BadRequest (turn_for r.partners (asked_of l))) (sym held.0) in
     subst (λ m. Answers r new m (items v)) (sym means) said
@@ -70,10 +70,10 @@ if_partner partners name None unknown = ap (λ t. if t then Some name else None)
 if_partner partners name (Some place) there = (there.0, ap (λ t. if t then Some name else None) (is_among partners place name there.0 there.1) ∙ ap Some (sym there.1))
 
 -- what was prepared, and then committed
-pub if_prepared : {V : Type 0} (items : V → List ℕ) (r mid new : Plain) (t : Turn) (pending : Pending) (o : Option V) → IsPrepared r t pending → mid ≡ r
-    → IfSome o (λ v. items v ≡ line_of_reply pending.reply) → IfSome o (λ _. new ≡ made pending.steps mid) → IfSome o (λ v. Answers r new (effect r t) (items v))
-if_prepared items r mid new t pending None prepared same said changed = tt
-if_prepared items r mid new t pending (Some v) prepared same said changed = record {
+pub if_prepared : {V E : Type 0} (items : V → List ℕ) (r mid new : Plain) (t : Turn) (pending : Pending) (o : Result V E) → IsPrepared r t pending → mid ≡ r
+    → IfOk o (λ v. items v ≡ line_of_reply pending.reply) → OnOk o (new ≡ made pending.steps mid) → IfOk o (λ v. Answers r new (effect r t) (items v))
+if_prepared items r mid new t pending (Err e) prepared same said changed = tt
+if_prepared items r mid new t pending (Ok v) prepared same said changed = record {
   reply = pending.reply;
   may = prepared.replies;
   content = changed ∙ ap (made pending.steps) same ∙ prepared.changes;

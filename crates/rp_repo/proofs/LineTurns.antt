@@ -8,8 +8,8 @@ use Rattle.rp_plain.specs.Plain.{Plain}
 use Rattle.rp_plain.specs.Runs.{Effect, is_no_memory, MayReply, left_by}
 use Rattle.rp_plain.specs.Turns.{Turn, Run}
 use Rattle.rp_laws.specs.Laws.{TwoRuns}
-use Rattle.rp_wire.specs.Asks.{asked_of}
-use Rattle.rp_wire.specs.Replies.{line_of_reply}
+use Rattle.rp_requests.specs.Asks.{asked_of}
+use Rattle.rp_replies.specs.Replies.{line_of_reply}
 use Rattle.rp_repo.specs.LineRuns.{max_line, turn_for, refusal_of, meant_for, meant}
 use Rattle.rp_repo.specs.LineLaws.{turn_of, with_turn, with_reply, turns_of, replies_of, LinesAreTurns, TwoInputs}
 use Rattle.rp_repo.proofs.Partners.{next_partners, left_partners}

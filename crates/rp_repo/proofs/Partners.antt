@@ -17,8 +17,8 @@ use Rattle.rp_plain.specs.Turns.{after}
 use Rattle.rp_plain.specs.Valid.{IsValidModel, IsValidGroup, IsValid}
 use Rattle.rp_laws.specs.Laws.{KeepsValid}
 use Rattle.rp_tables.specs.Named.{HoldsNamed}
-use Rattle.rp_core.specs.Named.{AreNamed}
-use Rattle.rp_core.specs.Listed.{HoldsListed, AreListed}
+use Rattle.rp_readers.specs.Named.{AreNamed}
+use Rattle.rp_readers.specs.Listed.{HoldsListed, AreListed}
 use Rattle.rp_core.specs.Held.{Kept, partner_at, turn, made, Fits, IsPrepared}
 use Rattle.rp_core.specs.declared.steps.Pending.{Pending}
 use Rattle.rp_repo.specs.Ready.{IsReady}

@@ -5,7 +5,7 @@ use Rattle.rp_io.specs.Lines.{lines_of, TakesLine}
 use Rattle.rp_io.proofs.KnownLemmas.{Appends-trans}
 use Rattle.rp_plain.specs.Plain.{Plain}
 use Rattle.rp_plain.specs.declared.messages.Reply.{Reply}
-use Rattle.rp_wire.specs.Replies.{line_of_reply}
+use Rattle.rp_replies.specs.Replies.{line_of_reply}
 use Rattle.rp_plain.specs.Runs.{MayReply, left_by}
 use Rattle.rp_repo.specs.LineRuns.{LineRun, meant, text_of, Replies, RepliesInPart, Serves, TakesLines, AreFirstLines}
 

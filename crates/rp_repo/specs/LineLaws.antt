@@ -4,8 +4,8 @@ use Rattle.rp_plain.specs.Plain.{Plain, part}
 use Rattle.rp_plain.specs.Turns.{Turn, Run, OthersOutside, requests_of, replies_to}
 use Rattle.rp_plain.specs.Valid.{IsOrdered}
 use Rattle.rp_plain.specs.declared.messages.Reply.{Reply}
-use Rattle.rp_wire.specs.Asks.{asked_of}
-use Rattle.rp_wire.specs.Replies.{line_of_reply}
+use Rattle.rp_requests.specs.Asks.{asked_of}
+use Rattle.rp_replies.specs.Replies.{line_of_reply}
 use Rattle.rp_repo.specs.LineRuns.{max_line, turn_for, LineRun}
 
 -- the turn that a line asks for; a line that is no partner's request asks for none

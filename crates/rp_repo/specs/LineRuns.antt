@@ -12,9 +12,9 @@ use Rattle.rp_plain.specs.declared.messages.Reply.{Reply}
 use Rattle.rp_plain.specs.declared.messages.Reply.TheVariants.{Refused}
 use Rattle.rp_plain.specs.declared.messages.Refusal.{Refusal}
 use Rattle.rp_plain.specs.declared.messages.Refusal.TheVariants.{BadRequest, TooLarge}
-use Rattle.rp_wire.specs.declared.asks.Asked.{Asked}
-use Rattle.rp_wire.specs.Asks.{asked_of}
-use Rattle.rp_wire.specs.Replies.{line_of_reply}
+use Rattle.rp_requests.specs.declared.asks.Asked.{Asked}
+use Rattle.rp_requests.specs.Asks.{asked_of}
+use Rattle.rp_replies.specs.Replies.{line_of_reply}
 
 -- ---- one line
 

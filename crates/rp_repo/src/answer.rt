@@ -1,10 +1,10 @@
 //! One line, one reply.
-ghost use Rattle.std.specs.Prelude.{◌≡◌, ◌<◌, ℕ, List, length, IfSome, IfNone, IfOk, IsErrOf, MatchOption, Some, None};
+ghost use Rattle.std.specs.Prelude.{◌≡◌, ◌<◌, ℕ, List, length, IfOk, OnOk, OnErr, IsErrOf, MatchOption, Some, None};
 ghost use Rattle.rp_io.specs.Lines.{Holds};
 ghost use Rattle.rp_plain.specs.Turns.{effect};
 ghost use Rattle.rp_core.specs.Held.{partner_at, turn, made};
-ghost use Rattle.rp_wire.specs.Asks.{asked_of};
-ghost use Rattle.rp_wire.specs.Replies.{line_of_reply};
+ghost use Rattle.rp_requests.specs.Asks.{asked_of};
+ghost use Rattle.rp_replies.specs.Replies.{line_of_reply};
 ghost use Rattle.rp_repo.specs.Ready.{IsReady};
 ghost use Rattle.rp_repo.specs.LineRuns.{caller_of, turn_for, meant_for, meant, Answers};
 
@@ -13,13 +13,14 @@ use plain_data::Text;
 use rp_core::Pending;
 use rp_io::Room;
 use rp_plain::messages::{Refusal, Reply, Request};
-use rp_wire::{Asked, Unread, reply_line, request_of};
-use std::alloc::Global;
+use rp_replies::reply_line;
+use rp_requests::{Asked, Unread, request_of};
+use std::alloc::{AllocError, Global};
 
 /// The bytes that a line is let go of with.
 const SMALL: usize = 4096;
 
-/// The reply line of a line, of which this was kept; nothing where memory was refused.
+/// The reply line of a line, of which this was kept, unless memory is wanting.
 ///
 /// The bytes of the reply are made before the change, so that nothing is changed where there are none. The memory of the
 /// line is given back before the request is handled.
@@ -28,22 +29,22 @@ pub fn answer(
     repository: &mut Repository<'_>,
     room: Room,
     kept: Vec<u8>,
-) -> Option<Vec<u8>>
-    ensures made { IfSome result (λ bytes. (line : List ℕ) → Holds room kept.items line →
+) -> Result<Vec<u8>, AllocError>
+    ensures made { IfOk result (λ bytes. (line : List ℕ) → Holds room kept.items line →
         Answers repository.old.content repository.new.content (meant repository.old.content line) bytes.items) }
-    ensures refused { IfNone result (repository.new.content ≡ repository.old.content) }
+    ensures refused { OnErr result (repository.new.content ≡ repository.old.content) }
 {
     match room {
         Room::Kept => answer_kept(alloc, repository, kept),
         Room::TooLarge => refused(alloc, Refusal::TooLarge),
-        Room::NoRoom => None,
+        Room::NoRoom => Err(AllocError),
     }
 }
 
-fn refused(alloc: Global, refusal: Refusal) -> Option<Vec<u8>>
-    ensures { IfSome result (λ bytes. bytes.items ≡ line_of_reply (Reply.Refused refusal)) }
+fn refused(alloc: Global, refusal: Refusal) -> Result<Vec<u8>, AllocError>
+    ensures { IfOk result (λ bytes. bytes.items ≡ line_of_reply (Reply.Refused refusal)) }
 {
-    reply_line(alloc, &Reply::Refused(refusal)).ok()
+    reply_line(alloc, &Reply::Refused(refusal))
 }
 
 /// Lets go of a line. Its block is made small before it is freed: whoever frees a large one has the C library take later ones
@@ -63,24 +64,32 @@ fn request_from(alloc: Global, line: Vec<u8>) -> Result<Asked, Unread>
     asked
 }
 
-fn answer_kept(alloc: Global, repository: &mut Repository<'_>, line: Vec<u8>) -> Option<Vec<u8>>
-    ensures made { IfSome result (λ bytes.
+fn answer_kept(
+    alloc: Global,
+    repository: &mut Repository<'_>,
+    line: Vec<u8>,
+) -> Result<Vec<u8>, AllocError>
+    ensures made { IfOk result (λ bytes.
         let old = repository.old.content in
         Answers old repository.new.content (meant_for old Refusal.BadRequest (turn_for old.partners (asked_of line.items))) bytes.items) }
-    ensures refused { IfNone result (repository.new.content ≡ repository.old.content) }
+    ensures refused { OnErr result (repository.new.content ≡ repository.old.content) }
 {
     match request_from(alloc, line) {
         Ok(asked) => answer_asked(alloc, repository, asked),
         Err(Unread::BadRequest) => refused(alloc, Refusal::BadRequest),
-        Err(Unread::NoMemory) => None,
+        Err(Unread::NoMemory) => Err(AllocError),
     }
 }
 
-fn answer_asked(alloc: Global, repository: &mut Repository<'_>, asked: Asked) -> Option<Vec<u8>>
-    ensures made { IfSome result (λ bytes.
+fn answer_asked(
+    alloc: Global,
+    repository: &mut Repository<'_>,
+    asked: Asked,
+) -> Result<Vec<u8>, AllocError>
+    ensures made { IfOk result (λ bytes.
         let old = repository.old.content in
         Answers old repository.new.content (meant_for old Refusal.BadRequest (turn_for old.partners (Some asked))) bytes.items) }
-    ensures refused { IfNone result (repository.new.content ≡ repository.old.content) }
+    ensures refused { OnErr result (repository.new.content ≡ repository.old.content) }
 {
     let Asked { caller, request } = asked;
     match partner_of(repository, caller) {
@@ -109,12 +118,12 @@ fn answer_turn(
     repository: &mut Repository<'_>,
     partner: Caller,
     request: Request,
-) -> Option<Vec<u8>>
+) -> Result<Vec<u8>, AllocError>
     requires { partner < length repository.old.content.partners }
-    ensures made { IfSome result (λ bytes.
+    ensures made { IfOk result (λ bytes.
         let old = repository.old.content in
         Answers old repository.new.content (effect old (turn old partner request)) bytes.items) }
-    ensures refused { IfNone result (repository.new.content ≡ repository.old.content) }
+    ensures refused { OnErr result (repository.new.content ≡ repository.old.content) }
 {
     let pending = repository.prepare(alloc, partner, request);
     answer_prepared(alloc, repository, pending)
@@ -125,27 +134,13 @@ fn answer_prepared(
     alloc: Global,
     repository: &mut Repository<'_>,
     pending: Pending,
-) -> Option<Vec<u8>>
+) -> Result<Vec<u8>, AllocError>
     requires { IsReady repository.old pending }
-    ensures made { IfSome result (λ bytes. bytes.items ≡ line_of_reply pending.reply) }
-    ensures changed { IfSome result (λ _. repository.new.content ≡ made pending.steps repository.old.content) }
-    ensures refused { IfNone result (repository.new.content ≡ repository.old.content) }
+    ensures made { IfOk result (λ bytes. bytes.items ≡ line_of_reply pending.reply) }
+    ensures changed { OnOk result (repository.new.content ≡ made pending.steps repository.old.content) }
+    ensures refused { OnErr result (repository.new.content ≡ repository.old.content) }
 {
-    let bytes = line_of(alloc, &pending);
-    if bytes.is_some() {
-        let _ = repository.commit(pending);
-    } else {
-        let_go(pending);
-    }
-    bytes
+    let bytes = reply_line(alloc, pending.reply())?;
+    let _ = repository.commit(pending);
+    Ok(bytes)
 }
-
-/// The bytes of the reply.
-fn line_of(alloc: Global, pending: &Pending) -> Option<Vec<u8>>
-    ensures { IfSome result (λ bytes. bytes.items ≡ line_of_reply pending.now.reply) }
-{
-    reply_line(alloc, pending.reply()).ok()
-}
-
-/// A change that isn't made.
-fn let_go(_pending: Pending) {}

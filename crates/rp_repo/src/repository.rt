@@ -3,7 +3,7 @@
 use ex_subtypes::Compiled;
 use plain_data::Text;
 use rp_core::{Holdings, Pending};
-use rp_laws::{one_run, step_keeps_validity};
+use rp_laws::{model_text_again, one_run, step_keeps_validity};
 use rp_plain::messages::{NewFault, Reply, Request};
 use std::alloc::{AllocError, Global};
 use std::marker::Model;
@@ -38,6 +38,7 @@ pub struct Repository<'s> {
 }
 
 impl<'s> Model for Repository<'s> {
+    ghost use Rattle.rp_laws.specs.Laws.{TextAgain};
     ghost use Rattle.rp_plain.specs.Valid.{IsValid};
     ghost use Rattle.rp_core.specs.Held.{Kept};
 
@@ -51,12 +52,13 @@ impl<'s> Model for Repository<'s> {
 
     ghost view = { λ r. r.holdings };
 
-    ghost invariant = { λ r. IsValid r.holdings.content };
+    ghost invariant = { λ r. IsValid r.holdings.content × TextAgain r.holdings.content.schemas };
 }
 
 impl<'s> Repository<'s> {
     ghost use Rattle.std.specs.Prelude.{◌≡◌, ◌≢◌, ◌<◌, ℕ, List, false, length, Some, None, IfOk, IfErr, OnErr, MatchOption};
     ghost use Rattle.std.specs.List.{AllByRecursion};
+    ghost use Rattle.rp_laws.specs.Laws.{IsReadAgainWhole};
     ghost use Rattle.rp_plain.specs.Plain.{part};
     ghost use Rattle.rp_plain.specs.Meaning.{has_text};
     ghost use Rattle.rp_plain.specs.Opening.{new_fault, opened};
@@ -83,13 +85,16 @@ impl<'s> Repository<'s> {
         ensures err { IfErr result (λ fault. fault ≢ NewFault.NoMemory → new_fault schemas.now partners.items ≡ Some fault) }
     {
         step_keeps_validity();
+        model_text_again(schemas);
         let holdings = Holdings::new(alloc, schemas, partners)?;
         Ok(Repository { holdings })
     }
 
-    /// What is held is valid, and in order.
+    /// What is held is valid, and in order; and what each model holds is read again of its canonical text, where the names of
+    /// its links are linked, as the same header and instances.
     pub fn is_valid(&self)
-        ensures { IsValid self.now.content }
+        ensures valid { IsValid self.now.content }
+        ensures again { IsReadAgainWhole self.now.content }
     {
         // A look at the field gives the proof what holds of it.
         let _holdings = &self.holdings;

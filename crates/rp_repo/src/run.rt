@@ -1,15 +1,16 @@
 //! All lines of a reader.
 ghost use Rattle.std.specs.Prelude.{◌≡◌, ◌≢◌, ◌⊎◌, ℕ, List, IfOk, IsErrOf, OnOk, OnErr, is_ok};
 ghost use Rattle.rp_io.specs.Lines.{Holds};
-ghost use Rattle.rp_io.specs.Held.{HasAtLeast};
+ghost use Rattle.rp_io.specs.Reads.{MakesReads};
+ghost use Rattle.rp_io.specs.Held.{chunk_room};
 ghost use Rattle.rp_plain.specs.Valid.{IsValid};
 ghost use Rattle.rp_repo.specs.LineRuns.{max_reads, Serves, IsWholeRun, IsFirstRun, IsCutRun};
 
 use crate::answer::answer;
 use crate::repository::Repository;
 use rp_io::{Chunk, DeviceFault, Room, Sink, Source, Taken, next_line, write_all};
-use rp_wire::no_memory_line;
-use std::alloc::Global;
+use rp_replies::no_memory_line;
+use std::alloc::{AllocError, Global};
 
 /// Why a run ended before its input.
 #[derive(Clone, Copy, PartialEq, Eq)]
@@ -35,8 +36,8 @@ fn serve<W: Sink>(
     ensures err { OnErr result (W.write_failures writer.new ≢ W.write_failures writer.old) }
 {
     match answer(alloc, repository, room, kept) {
-        Some(bytes) => write_all(writer, &bytes),
-        None => write_all(writer, no_memory_line()),
+        Ok(bytes) => write_all(writer, &bytes),
+        Err(AllocError) => write_all(writer, no_memory_line()),
     }
 }
 
@@ -59,7 +60,8 @@ pub fn run_lines<R: Source, W: Sink>(
     ensures first { IsErrOf result RunFault.ReadFault →
         IsFirstRun repository.old.content repository.new.content (R.remaining reader.old) (W.contents writer.old) (W.contents writer.new) }
     ensures read_failed { IsErrOf result RunFault.ReadFault →
-        (R.read_failures reader.new ≢ R.read_failures reader.old) ⊎ HasAtLeast (R.remaining reader.old) max_reads }
+        (R.read_failures reader.new ≢ R.read_failures reader.old)
+        ⊎ MakesReads (R.reads_made reader.old) (R.reads_made reader.new) max_reads chunk_room }
 
     // After a write that failed, they are but for the last.
     ensures cut { IsErrOf result RunFault.WriteFault →

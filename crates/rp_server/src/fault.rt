@@ -1,6 +1,7 @@
 //! Why the program ends with status 2, and the line that it then writes on standard error.
 use plain_data::Text;
 use rp_config::LoadFault;
+use rp_program::{Fault as CommandFault, StartFault};
 use rp_repo::NewFault;
 use std::alloc::{AllocError, AllocFailed};
 use std::fmt;
@@ -15,18 +16,12 @@ pub enum Fault {
     Incomplete,
     /// The command line has a word that isn't UTF-8.
     Words,
-    /// A file gives nothing.
-    Load(LoadFault),
+    /// Memory is wanting for the command line.
+    NoMemory,
     /// The file of this path is no configuration: the place and the key of what is wrong in it.
     Config(Text, String),
-    /// There is no repository of these schemas and partners.
-    New(NewFault),
-    /// Memory is wanting before the first line is read.
-    NoMemory,
-    /// A read of standard input failed.
-    Read,
-    /// A write to standard output failed.
-    Write,
+    /// The command ended so.
+    Command(CommandFault),
 }
 
 impl fmt::Display for Fault {
@@ -37,13 +32,23 @@ impl fmt::Display for Fault {
                 write_usage(f, "batch wants --config FILE, and check wants FILE")
             }
             Fault::Words => f.write_str("the command line isn't UTF-8"),
-            Fault::Load(fault) => write_of_file(f, fault),
-            Fault::Config(path, words) => write_of_config(f, path, words.as_str()),
-            Fault::New(fault) => f.write_str(why_none(*fault)),
             Fault::NoMemory => f.write_str("out of memory"),
-            Fault::Read => f.write_str("standard input can't be read"),
-            Fault::Write => f.write_str("standard output can't be written"),
+            Fault::Config(path, words) => write_of_config(f, path, words.as_str()),
+            Fault::Command(fault) => write_of_command(f, fault),
         }
+    }
+}
+
+/// Writes why a command ended.
+fn write_of_command<W: fmt::Write>(f: &mut fmt::Formatter<W>, fault: &CommandFault) -> fmt::Result {
+    match fault {
+        CommandFault::Start(Failure::Fault(StartFault::Load(fault))) => write_of_file(f, fault),
+        CommandFault::Start(Failure::Fault(StartFault::New(fault))) => f.write_str(why_none(
+            *fault,
+        )),
+        CommandFault::Start(Failure::NoMemory) => f.write_str("out of memory"),
+        CommandFault::Read => f.write_str("standard input can't be read"),
+        CommandFault::Write => f.write_str("standard output can't be written"),
     }
 }
 
@@ -97,18 +102,15 @@ fn why_none(fault: NewFault) -> &'static str {
     }
 }
 
-impl From<NewFault> for Fault {
-    fn from(fault: NewFault) -> Fault {
-        Fault::New(fault)
+impl From<CommandFault> for Fault {
+    fn from(fault: CommandFault) -> Fault {
+        Fault::Command(fault)
     }
 }
 
 impl From<Failure<LoadFault>> for Fault {
     fn from(failure: Failure<LoadFault>) -> Fault {
-        match failure {
-            Failure::NoMemory => Fault::NoMemory,
-            Failure::Fault(fault) => Fault::Load(fault),
-        }
+        Fault::Command(CommandFault::from(failure))
     }
 }
 

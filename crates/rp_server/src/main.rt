@@ -5,29 +5,26 @@ mod command;
 mod fault;
 
 use command::{Asked, asked_of};
-use ex_check::{CheckFault, Verdict, check_compiled, compile_schema, explain_text};
 use fault::Fault;
 use plain_data::Text;
-use rp_config::{FromFiles, LoadFault, Loaded, file_bytes, load_all, wrong_place};
-use rp_repo::{FromReader, Repository, RunFault, ToWriter, run_lines};
-use std::alloc::Global;
+use rp_config::{FromFiles, LoadFault, file_bytes, wrong_place};
+use rp_program::{Done, Fault as CommandFault, StartFault, batch, check, explain, status_of};
+use rp_repo::{FromReader, ToWriter};
 use std::process::ExitCode;
 use std::rt::{Env, Files};
-use std::{env, io, mem};
+use std::{env, io};
 use text_forms::Failure;
 
 fn main(rt: HostRuntime) -> ExitCode {
-    match run(&rt) {
-        Ok(status) => status,
-        Err(fault) => {
-            let _ = eprintln!(rt; "rp_server: {fault}");
-            ExitCode::from(2)
-        }
+    let ended = run(&rt);
+    if let Err(fault) = &ended {
+        let _ = eprintln!(rt; "rp_server: {fault}");
     }
+    ExitCode::from(status_of(&ended))
 }
 
 /// Does what the command line asks for.
-fn run<R: AllocGlobal + Files + Env + Print + Eprint + Input>(rt: &R) -> Result<ExitCode, Fault> {
+fn run<R: AllocGlobal + Files + Env + Print + Eprint + Input>(rt: &R) -> Result<Done, Fault> {
     let alloc = rt.alloc();
     let Ok(args) = env::args(rt) else {
         return Err(Fault::Words);
@@ -35,82 +32,51 @@ fn run<R: AllocGlobal + Files + Env + Print + Eprint + Input>(rt: &R) -> Result<
     let words: Vec<String> = args.collect(alloc)?;
     match asked_of(alloc, words.as_slice())? {
         Asked::Help(text) => match text.print(rt) {
-            Ok(()) => Ok(ExitCode::SUCCESS),
-            Err(_) => Err(Fault::Write),
+            Ok(()) => Ok(Done::Helped),
+            Err(_) => Err(Fault::Command(CommandFault::Write)),
         },
-        Asked::Batch(path) => batch(rt, path),
-        Asked::Check(path) => check(rt, path),
-        Asked::Explain(path) => explain(rt, path),
-    }
-}
-
-/// How large a block may be that the C library's allocator keeps once it is let go, where it has had one of this size back
-/// before.
-const LARGEST_KEPT: usize = 31 << 20;
-
-/// Has the allocator keep the blocks of long lists that are let go. Else it gives each back to the system, and the lists
-/// after it take fresh pages, which cost a twentieth of a check. Nothing but time rests on it.
-fn keep_large_blocks(alloc: Global) {
-    if let Ok(block) = Vec::<u8>::with_capacity(alloc, LARGEST_KEPT) {
-        drop(block);
-    }
-}
-
-/// Tells whether the file of this path is a schema.
-fn check<R: AllocGlobal + Files + Print>(rt: &R, path: &str) -> Result<ExitCode, Fault> {
-    let alloc = rt.alloc();
-    keep_large_blocks(alloc);
-    let text = file_bytes(alloc, &FromFiles::new(rt), path)?;
-    let mut writer = ToWriter::new(io::writer(rt));
-    let compiled = compile_schema(alloc, &text);
-    let checked = check_compiled(alloc, &text, &compiled, &mut writer);
-    // As at the end of `batch`.
-    mem::forget(compiled);
-    status_of(checked)
-}
-
-/// The same, with the lines of the text.
-fn explain<R: AllocGlobal + Files + Print>(rt: &R, path: &str) -> Result<ExitCode, Fault> {
-    let alloc = rt.alloc();
-    let text = file_bytes(alloc, &FromFiles::new(rt), path)?;
-    let mut writer = ToWriter::new(io::writer(rt));
-    status_of(explain_text(alloc, &text, &mut writer))
-}
-
-/// The status of a check.
-fn status_of(done: Result<Verdict, CheckFault>) -> Result<ExitCode, Fault> {
-    match done {
-        Ok(Verdict::Accepted) => Ok(ExitCode::SUCCESS),
-        Ok(Verdict::Refused) => Ok(ExitCode::FAILURE),
-        Err(CheckFault::NoMemory) => Err(Fault::NoMemory),
-        Err(CheckFault::WriteFault) => Err(Fault::Write),
+        Asked::Batch(path) => match batch_of(rt, path) {
+            Ok(done) => Ok(done),
+            Err(fault) => Err(with_place(rt, fault)?),
+        },
+        Asked::Check(path) => Ok(check(
+            alloc,
+            &FromFiles::new(rt),
+            path,
+            &mut ToWriter::new(io::writer(rt)),
+        )?),
+        Asked::Explain(path) => Ok(explain(
+            alloc,
+            &FromFiles::new(rt),
+            path,
+            &mut ToWriter::new(io::writer(rt)),
+        )?),
     }
 }
 
 /// Answers the lines of standard input, by the repository that the configuration in the file of this path tells.
-fn batch<R: AllocGlobal + Files + Print + Input>(rt: &R, path: &str) -> Result<ExitCode, Fault> {
-    let alloc = rt.alloc();
-    let Loaded { partners, schemas } = loaded(rt, path)?;
-    let mut repository = Repository::new(alloc, schemas.as_slice(), partners.into_vec())?;
+fn batch_of<R: AllocGlobal + Files + Print + Input>(
+    rt: &R,
+    path: &str,
+) -> Result<Done, CommandFault> {
     let mut reader = FromReader::new(rt.reader());
     let mut writer = ToWriter::new(io::writer(rt));
-    let ended = run_lines(alloc, &mut repository, &mut reader, &mut writer);
-    // The process ends, and all of its memory goes with it. To give that back value by value would take long.
-    mem::forget(repository);
-    mem::forget(schemas);
-    match ended {
-        Ok(_) => Ok(ExitCode::SUCCESS),
-        Err(RunFault::ReadFault) => Err(Fault::Read),
-        Err(RunFault::WriteFault) => Err(Fault::Write),
-    }
+    batch(
+        rt.alloc(),
+        &FromFiles::new(rt),
+        path,
+        &mut reader,
+        &mut writer,
+    )
 }
 
-/// What the configuration in the file of this path names.
-fn loaded<R: AllocGlobal + Files>(rt: &R, path: &str) -> Result<Loaded, Fault> {
-    match load_all(rt.alloc(), &FromFiles::new(rt), path) {
-        Ok(loaded) => Ok(loaded),
-        Err(Failure::Fault(LoadFault::Config(path))) => Err(config_fault(rt, path)?),
-        Err(failure) => Err(Fault::from(failure)),
+/// The same fault, but of a file that is no configuration what is wrong in it.
+fn with_place<R: AllocGlobal + Files>(rt: &R, fault: CommandFault) -> Result<Fault, Fault> {
+    match fault {
+        CommandFault::Start(Failure::Fault(StartFault::Load(LoadFault::Config(path)))) => {
+            config_fault(rt, path)
+        }
+        fault => Ok(Fault::Command(fault)),
     }
 }
 
@@ -121,6 +87,6 @@ fn config_fault<R: AllocGlobal + Files>(rt: &R, path: Text) -> Result<Fault, Fau
     let bytes = file_bytes(alloc, &FromFiles::new(rt), path.as_str())?;
     match wrong_place(alloc, &bytes)? {
         Some(words) => Ok(Fault::Config(path, words)),
-        None => Ok(Fault::Load(LoadFault::Config(path))),
+        None => Ok(Fault::from(Failure::Fault(LoadFault::Config(path)))),
     }
 }

@@ -21,6 +21,7 @@ struct Pieces<'a> {
     bytes: &'a [u8],
     fails_at: u64,
     reads: u64,
+    room: u64,
     failures: u64,
 }
 
@@ -29,8 +30,11 @@ impl Source for Pieces<'_> {
 
     ghost read_failures = { λ p. p.failures };
 
+    ghost reads_made = { λ p. record { count = p.reads; room = p.room } };
+
     fn read(&mut self, buf: &mut [u8]) -> Result<usize, DeviceFault> {
         self.reads = self.reads.wrapping_add(1);
+        self.room = self.room.wrapping_add(buf.len() as u64);
         if self.reads == self.fails_at {
             self.failures = self.failures.wrapping_add(1);
             return Err(DeviceFault);
@@ -86,6 +90,7 @@ fn run(alloc: Global, read: u64, write: u64) -> Result<(Result<u64, RunFault>, V
         bytes: INPUT,
         fails_at: read,
         reads: 0,
+        room: 0,
         failures: 0,
     };
     let mut writer = Taker {

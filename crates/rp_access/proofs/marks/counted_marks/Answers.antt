@@ -10,18 +10,18 @@ pub loop-names-init : goal.loop-names-init
 loop-names-init c =
     let t : Names → Model → Bool = λ e m. counts_under c.args.caller.now c.args.groups.now.rows e m in
     let ms = c.args.models.now.rows in
-    begin_unmarked t ms c.in_ok-marks.marks.items c.granted_to-granted.result.now (c.in_ok-marks.ensures ∙ ap (λ n. replicate n false) c.len.ensures.len)
+    begin_unmarked t ms c.none-marks.result c.granted_to-granted.result.now (c.none-marks.ensures ∙ ap (λ n. replicate n false) c.len.ensures.len)
 
 pub loop-names-preserved : goal.loop-names-preserved
 loop-names-preserved c =
     let t : Names → Model → Bool = λ e m. counts_under c.args.caller.now c.args.groups.now.rows e m in
     let ms = c.args.models.now.rows in
-    turn t ms (unmarked ms) c.loop-names.marks.items c.mark_names.new.marks.items c.granted_to-granted.result.now c.loop-names.names-index c.names-item.result c.loop-names.invariant c.loop-names-test.true (sym c.names-item.is) (c.mark_names.ensures ∙ ap (λ gs. marked (counts_under c.args.caller.now gs c.names-item.result) c.loop-names.marks.items ms) c.table-in-loop-names.ensures)
+    turn t ms (unmarked ms) c.loop-names.marks c.mark_names.new.marks c.granted_to-granted.result.now c.loop-names.names-index c.names-item.result c.loop-names.invariant c.loop-names-test.true (sym c.names-item.is) (c.in_ok-mark_names.ensures ∙ ap (λ gs. marked (counts_under c.args.caller.now gs c.names-item.result) c.loop-names.marks ms) c.table-in-loop-names.ensures)
 
 pub returns-clause-marks : goal.returns-clause-marks
 returns-clause-marks c =
     let t : Names → Model → Bool = λ e m. counts_under c.args.caller.now c.args.groups.now.rows e m in
     let ms = c.args.models.now.rows in
-    done t ms (unmarked ms) c.loop-names.marks.items c.granted_to-granted.result.now c.loop-names.names-index c.loop-names.invariant c.loop-names-test.false
+    done t ms (unmarked ms) c.loop-names.marks c.granted_to-granted.result.now c.loop-names.names-index c.loop-names.invariant c.loop-names-test.false
     ∙ marked_new (any_of t c.granted_to-granted.result.now) ms
     ∙ ap (λ es. map (any_of t es) ms) c.granted_to-granted.ensures.are

@@ -5,4 +5,4 @@ use Rattle.rp_access.proofs.Marking.{IsMarking}
 use Rattle.rp_access.proofs.marks.counted_marks.Given as goal
 
 abbrev pub invariant-loop-names : goal.invariant-loop-names
-invariant-loop-names l = IsMarking (λ e m. counts_under l.caller l.groups.rows e m) l.models.rows (unmarked l.models.rows) l.marks.items l.granted (drop l.names-index l.granted)
+invariant-loop-names l = IsMarking (λ e m. counts_under l.caller l.groups.rows e m) l.models.rows (unmarked l.models.rows) l.marks l.granted (drop l.names-index l.granted)

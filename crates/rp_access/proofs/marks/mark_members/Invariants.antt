@@ -5,4 +5,4 @@ use Rattle.rp_access.proofs.Marking.{IsMarking, at_key}
 use Rattle.rp_access.proofs.marks.mark_members.Given as goal
 
 abbrev pub invariant-loop-key : goal.invariant-loop-key
-invariant-loop-key l = IsMarking (λ k. at_key k (λ m. counts m (row_of l.group))) l.models.rows l.fn.marks.items l.marks.items l.key-items (drop l.key-index l.key-items)
+invariant-loop-key l = IsMarking (λ k. at_key k (λ m. counts m (row_of l.group))) l.models.rows l.fn.marks l.marks l.key-items (drop l.key-index l.key-items)

@@ -6,4 +6,4 @@ use Rattle.rp_access.proofs.Marking.{IsMarking}
 use Rattle.rp_access.proofs.marks.mark_names.Given as goal
 
 abbrev pub invariant-loop-name : goal.invariant-loop-name
-invariant-loop-name l = IsMarking (λ n m. shows l.caller m (find (is_row (l.names.key.1, n)) l.groups.rows)) l.models.rows l.fn.marks.items l.marks.items l.name-items (drop l.name-index l.name-items)
+invariant-loop-name l = IsMarking (λ n m. shows l.caller m (find (is_row (l.names.key.1, n)) l.groups.rows)) l.models.rows l.fn.marks l.marks l.name-items (drop l.name-index l.name-items)

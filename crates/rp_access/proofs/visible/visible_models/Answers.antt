@@ -1,7 +1,8 @@
-use Rattle.std.proofs.Common.{◌<◌, length, arith}
+use Rattle.std.proofs.Common.{◌<◌, false, length, arith, sym, ◌∙◌, ap, subst}
+use Rattle.std.proofs.lemmas.List.{get_or_default, length-map}
 use Rattle.rp_tables.specs.Stored.{row_of}
 use Rattle.rp_access.specs.Changes.{level_by}
-use Rattle.rp_access.specs.Granted.{granted_of}
+use Rattle.rp_access.specs.Granted.{granted_of, counts_in_any}
 use Rattle.rp_access.specs.Prepared.{seen_of}
 use Rattle.std.specs.Prelude.{map}
 use Rattle.rp_access.proofs.Seeing.{level_marked, seen_more}
@@ -14,7 +15,8 @@ loop-place-preserved c =
     let ms = c.args.models.now.rows in
     let m = row_of c.row.result in
     let es = granted_of who c.args.groups.now.names in
-    let t = c.index.result.now in
+    let t = c.has.result in
     let within : c.loop-place.place < length ms = omega (arith, c.loop-place-test.true, c.len-place-end.ensures.len) in
-    let right = level_marked who gs es ms c.in_ok-marks.marks.items c.loop-place.place m t c.in_ok-marks.ensures.order c.in_ok-marks.ensures.whole c.in_ok-marks.ensures.marks within c.row.ensures c.index.ensures in
+    let marked : c.loop-place.place < length c.in_ok-marks.marks = subst (λ n. c.loop-place.place < n) (sym (ap length c.in_ok-marks.ensures.marks ∙ length-map ms (counts_in_any who gs es))) within in
+    let right = level_marked who gs es ms c.in_ok-marks.marks c.loop-place.place m t c.in_ok-marks.ensures.order c.in_ok-marks.ensures.whole c.in_ok-marks.ensures.marks within c.row.ensures (c.has.ensures ∙ get_or_default c.in_ok-marks.marks c.loop-place.place false t marked) in
     seen_more who gs ms c.loop-place.place m (level_by who m t) (map seen_of c.loop-place.seen.items) (map seen_of c.push_model.new.seen.items) within c.row.ensures right c.loop-place.invariant c.in_ok-push_model.ensures

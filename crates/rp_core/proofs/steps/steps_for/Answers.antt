@@ -2,7 +2,7 @@ use Rattle.std.proofs.Common.{sym, ◌∙◌, ap}
 use Rattle.std.specs.List.{find}
 use Rattle.rp_rows.specs.Rows.{is_row}
 use Rattle.rp_tables.specs.Named.{HoldsNamed}
-use Rattle.rp_core.proofs.Names.{all_found}
+use Rattle.rp_readers.proofs.Names.{all_found}
 use Rattle.rp_core.proofs.steps.steps_for.Goals as goal
 
 pub spare_for-requires : goal.spare_for-requires

@@ -1,5 +1,5 @@
 use Rattle.std.proofs.Common.{List, ℕ, Some, refl, sym, ap, subst}
-use Rattle.std.specs.Prelude.{IfSome, option_map}
+use Rattle.std.specs.Prelude.{IfOk, option_map}
 use Rattle.rp_plain.specs.declared.messages.Refusal.TheVariants.{BadRequest}
 use Rattle.rp_plain.specs.Runs.{Effect}
 use Rattle.rp_plain.specs.Turns.{Turn}
@@ -19,4 +19,4 @@ returns-in-Some-clause-made c =
     let r = c.args.repository.now.content in
     let asked = c.args.asked in
     let turn : List ℕ → Turn = λ p. record { caller = p; request = asked.request } in
-    subst (λ (m : Effect). IfSome c.answer_turn.result (λ bytes. Answers r c.answer_turn.new.repository.content m bytes.items)) (sym (ap (λ o. meant_for r BadRequest (option_map turn o)) c.in-Some.ensures.1)) c.answer_turn.ensures.made
+    subst (λ (m : Effect). IfOk c.answer_turn.result (λ bytes. Answers r c.answer_turn.new.repository.content m bytes.items)) (sym (ap (λ o. meant_for r BadRequest (option_map turn o)) c.in-Some.ensures.1)) c.answer_turn.ensures.made

@@ -1,6 +1,6 @@
 use Rattle.std.proofs.Common.{refl, ap}
 use Rattle.rp_plain.specs.declared.messages.Refusal.TheVariants.{BadRequest}
-use Rattle.rp_wire.specs.Asks.{asked_of}
+use Rattle.rp_requests.specs.Asks.{asked_of}
 use Rattle.rp_repo.specs.LineRuns.{turn_for, meant_for}
 use Rattle.rp_repo.proofs.AnswerLemmas.{if_refused}
 use Rattle.rp_repo.proofs.answer.answer_kept.Goals as goal

@@ -1,7 +1,7 @@
 use Rattle.std.proofs.Common.{◌≡◌, is_ok, true, ◌≢◌, ◌<◌, [], ◌∷◌, ◌++◌, ◌∙◌, arith, length-append}
 use Rattle.rp_io.specs.declared.chunk.Taken.TheVariants.{End}
 use Rattle.rp_io.specs.Held.{turns}
-use Rattle.rp_io.proofs.LineLemmas.{Spends-trans}
+use Rattle.rp_io.proofs.ReadLemmas.{spends_more}
 use Rattle.rp_repo.proofs.RunLemmas.{on_ok, TakesLines-more, AreFirstLines-taken, Replies-more, Replies-cut}
 use Rattle.rp_repo.proofs.run.run_lines.Goals as goal
 
@@ -30,7 +30,7 @@ lines-preserved g c =
         omega (arith, length-append done.0 (taken.0 ∷ []), done.3),
       );
       settled = c.in-Ok.ensures.settled;
-      spends = Spends-trans _ _ _ _ _ _ c.lines.invariant.spends c.in-Ok.ensures.spends;
+      spends = spends_more _ _ _ _ _ _ c.lines.invariant.spends c.in-Ok.ensures.spends;
       same_reader = c.in-Ok.ensures.same ∙ c.lines.invariant.same_reader;
       same_writer = on_ok c.serve.result _ c.serve.ensures.ok ok ∙ c.lines.invariant.same_writer;
       fits = omega (arith, fewer, c.lines.invariant.fits);

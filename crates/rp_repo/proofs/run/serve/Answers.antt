@@ -4,18 +4,18 @@ use Rattle.rp_plain.specs.declared.messages.Refusal.TheVariants.{NoMemory}
 use Rattle.rp_repo.proofs.RunLemmas.{on_ok}
 use Rattle.rp_repo.proofs.run.serve.Goals as goal
 
-pub returns-in-None-clause-served : goal.returns-in-None-clause-served
-returns-in-None-clause-served g c = λ line held. record {
+pub returns-in-Err-clause-served : goal.returns-in-Err-clause-served
+returns-in-Err-clause-served g c = λ line held. record {
   reply = Refused NoMemory;
   may = λ told. absurd (true≢false told);
-  content = c.in-None.ensures.refused;
-  front = rw c.no_memory_line.ensures at c.write_all-in-None.ensures.front;
-  all = λ e. rw c.no_memory_line.ensures at (on_ok c.write_all-in-None.result _ c.write_all-in-None.ensures.ok e);
+  content = c.in-Err.ensures.refused;
+  front = rw c.no_memory_line.ensures at c.write_all-in-Err.ensures.front;
+  all = λ e. rw c.no_memory_line.ensures at (on_ok c.write_all-in-Err.result _ c.write_all-in-Err.ensures.ok e);
 }
 
-pub returns-in-Some-clause-served : goal.returns-in-Some-clause-served
-returns-in-Some-clause-served g c = λ line held.
-    let answers = c.in-Some.ensures.made line held in
+pub returns-in-Ok-clause-served : goal.returns-in-Ok-clause-served
+returns-in-Ok-clause-served g c = λ line held.
+    let answers = c.in-Ok.ensures.made line held in
     record {
       reply = answers.reply;
       may = answers.may;

@@ -6,10 +6,10 @@ use Rattle.rp_rows.specs.Rows.{key_cmp, row_key, Model, GroupRow}
 use Rattle.rp_plain.specs.Plain.{Plain}
 use Rattle.rp_core.specs.Held.{partner_at, turn, made_models, made_groups, models_by, groups_by}
 use Rattle.rp_tables.specs.Named.{HoldsNamed}
-use Rattle.rp_core.specs.Listed.{HoldsListed}
-use Rattle.rp_core.specs.Told.{told}
+use Rattle.rp_readers.specs.Listed.{HoldsListed}
+use Rattle.rp_readers.specs.Told.{told}
 use Rattle.rp_core.proofs.Preparing.{prepared_from, refused_from, wanting}
-use Rattle.rp_core.proofs.Names.{told_named, told_listed}
+use Rattle.rp_readers.proofs.Names.{told_named, told_listed}
 use Rattle.rp_core.proofs.holdings.Holdings.prepare.Goals as goal
 use Rattle.rp_core.proofs.holdings.Holdings.prepare.Goals.{in-Ok-of_plan, in-Err-of_plan}
 

@@ -46,9 +46,9 @@ returns-clause-valid c = c.loop-call.invariant.valid
 pub returns-clause-alone : goal.returns-clause-alone
 returns-clause-alone c = λ partner outside.
     let start = c.args.self.now.content in
-    c.one_run.ensures.replies start c.loop-call.self.content partner (turns_of start c.args.calls.items) c.loop-call.replies.items c.is_valid.ensures.order (whole c) outside
+    c.one_run.ensures.replies start c.loop-call.self.content partner (turns_of start c.args.calls.items) c.loop-call.replies.items c.is_valid.ensures.valid.order (whole c) outside
 
 pub returns-clause-left : goal.returns-clause-left
 returns-clause-left c = λ partner outside.
     let start = c.args.self.now.content in
-    c.one_run.ensures.part start c.loop-call.self.content partner (turns_of start c.args.calls.items) c.loop-call.replies.items c.is_valid.ensures.order (whole c) outside
+    c.one_run.ensures.part start c.loop-call.self.content partner (turns_of start c.args.calls.items) c.loop-call.replies.items c.is_valid.ensures.valid.order (whole c) outside

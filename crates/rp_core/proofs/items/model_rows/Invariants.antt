@@ -1,7 +1,0 @@
-use Rattle.std.proofs.Common.{◌≡◌, take, map}
-use Rattle.rp_access.specs.Prepared.{seen_of}
-use Rattle.rp_core.specs.Told.{model_told}
-use Rattle.rp_core.proofs.items.model_rows.Given as goal
-
-abbrev pub invariant-loop-model : goal.invariant-loop-model
-invariant-loop-model l = l.rows.items ≡ map (λ s. model_told (seen_of s)) (take l.model-index l.seen)

@@ -1,6 +1,0 @@
-use Rattle.std.proofs.Common.{rules}
-use Rattle.rp_core.proofs.Names.{among_names}
-use Rattle.rp_core.proofs.model_names.has_instance.Goals as goal
-
-pub returns : goal.returns
-returns c = rw (← among_names c.args.name c.args.instances.now) (search rules)

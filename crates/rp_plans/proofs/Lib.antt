@@ -1,0 +1,4 @@
+pub mod Firsts
+pub mod LinkOrder
+pub mod Loaded
+pub mod Putting

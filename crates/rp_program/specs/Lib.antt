@@ -1,0 +1,4 @@
+pub mod Starts
+pub mod Runs
+pub mod Checks
+pub mod Statuses

@@ -1,0 +1,69 @@
+//! Why a command ends before its work is done.
+use ex_check::CheckFault;
+use rp_config::LoadFault;
+use rp_repo::NewFault;
+use text_forms::Failure;
+
+/// Why there is nothing to work on.
+#[derive(Drop)]
+pub enum StartFault {
+    /// A file gives nothing.
+    Load(LoadFault),
+    /// There is no repository of these schemas and partners.
+    New(NewFault),
+}
+
+/// Why a command ends before its work is done.
+#[derive(Drop)]
+pub enum Fault {
+    /// There is nothing to work on, or memory is wanting. Nothing was read of the input, nor written.
+    Start(Failure<StartFault>),
+    /// A read of the input failed, or it took too many.
+    Read,
+    /// A write to the output failed.
+    Write,
+}
+
+impl From<Failure<LoadFault>> for Fault {
+    ghost use Rattle.std.specs.Prelude.{◌≡◌};
+    ghost use Rattle.rp_program.specs.declared.fault.Fault.TheVariants.{Start};
+    ghost use Rattle.rp_program.specs.Starts.{load_failure};
+
+    ghost from_gives = { λ failure e. e ≡ Start (load_failure failure) };
+
+    fn from(failure: Failure<LoadFault>) -> Fault {
+        match failure {
+            Failure::Fault(fault) => Fault::Start(Failure::Fault(StartFault::Load(fault))),
+            Failure::NoMemory => Fault::Start(Failure::NoMemory),
+        }
+    }
+}
+
+impl From<NewFault> for Fault {
+    ghost use Rattle.std.specs.Prelude.{◌≡◌};
+    ghost use Rattle.rp_program.specs.declared.fault.Fault.TheVariants.{Start};
+    ghost use Rattle.rp_program.specs.Starts.{new_failure};
+
+    ghost from_gives = { λ fault e. e ≡ Start (new_failure fault) };
+
+    fn from(fault: NewFault) -> Fault {
+        match fault {
+            NewFault::NoMemory => Fault::Start(Failure::NoMemory),
+            _ => Fault::Start(Failure::Fault(StartFault::New(fault))),
+        }
+    }
+}
+
+impl From<CheckFault> for Fault {
+    ghost use Rattle.std.specs.Prelude.{◌≡◌};
+    ghost use Rattle.rp_program.specs.Starts.{check_fault};
+
+    ghost from_gives = { λ fault e. e ≡ check_fault fault };
+
+    fn from(fault: CheckFault) -> Fault {
+        match fault {
+            CheckFault::NoMemory => Fault::Start(Failure::NoMemory),
+            CheckFault::WriteFault => Fault::Write,
+        }
+    }
+}

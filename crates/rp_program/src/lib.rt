@@ -1,0 +1,12 @@
+//! What the program does, over any folder, reader and writer, and the exit status of each way to end.
+#![tactic(auto)]
+
+mod checking;
+mod ending;
+mod fault;
+mod running;
+
+pub use checking::{check, explain};
+pub use ending::{Done, status_of};
+pub use fault::{Fault, StartFault};
+pub use running::batch;

@@ -1,0 +1,87 @@
+-- What a binary search finds among a model's instances.
+use Rattle.std.proofs.Common.{◌≡◌, ℕ, ◌<◌, get_or, Bool, ◌&&◌, ◌||◌, ◌==◌, true, false, is_some, arith, List, [], ◌∷◌, length, Option, Some, None, refl, sym, ◌∙◌, ap, subst}
+use Rattle.std.specs.Prelude.{filter, map, slice_get, if◌then◌else◌}
+use Rattle.std.specs.List.{find, AllByRecursion}
+use Rattle.std.specs.Ordering.{is_eq, nat_cmp}
+use Rattle.std.proofs.lemmas.Bool.Decides.{nat_tests}
+use Rattle.std.proofs.lemmas.Cmp.{nat_cmp_total}
+use Rattle.std.proofs.lemmas.Option.{slice_get_read}
+use Rattle.sorted_tables.specs.Table.{is_at, is_before, IsAscending}
+use Rattle.sorted_tables.proofs.Searching.{at_place, chosen}
+use Rattle.rp_content.specs.declared.instance.Instance.{Instance}
+use Rattle.rp_rows.specs.Rows.{Text, is_row, Model, GroupRow}
+use Rattle.p21_instances.specs.Instances.{is_among}
+use Rattle.rp_rows.specs.Contents.{instance_name, names}
+use Rattle.rp_rows.specs.Instances.{instance_of}
+use Rattle.rp_rows.specs.Sight.{sees, sees_group}
+use Rattle.rp_plain.specs.Plain.{Plain, model_at, group_at}
+use Rattle.rp_plain.specs.Asked.{asked, held}
+use Rattle.rp_tables.specs.Named.{IsNamed, HoldsNamed}
+use Rattle.rp_readers.specs.Named.{AreNamed, TellsNamed}
+use Rattle.rp_rows.specs.Listings.{IsListed}
+use Rattle.rp_readers.specs.Listed.{HoldsListed, AreListed, TellsListed}
+
+-- what is read at a place stands there
+pub got : {X : Type 0} (xs : List X) (i : ℕ) (x : X) → i < length xs → x ≡ get_or xs i x → Some x ≡ slice_get xs i
+got xs i x within read = sym (slice_get_read xs (length xs) i x refl within read)
+
+module _ {X : Type 0} (named : X → ℕ) where
+  -- what stands at the place of a name, if it has that name
+  pub found_named : (name : ℕ) (xs : List X) (i : ℕ) (o : Option X) → IsAscending nat_cmp named xs → i ≡ length (filter (is_before nat_cmp named name) xs) → o ≡ slice_get xs i
+      → chosen (is_at nat_cmp named name) o ≡ find (is_at nat_cmp named name) xs
+  found_named name xs i o order is got =
+      ap (chosen (is_at nat_cmp named name)) (got ∙ ap (slice_get xs) is) ∙ sym (at_place nat_cmp named nat_cmp_total name xs order)
+
+pub all_found : {X : Type 0} (P : X → Type 0) (q : X → Bool) (xs : List X) (x : X) → find q xs ≡ Some x → AllByRecursion P xs → P x
+all_found P q [] x found all = cc
+all_found P q (y ∷ ys) x found all = by (λ f. all_found P q ys x f all.1) (q y) found
+  where
+    by : (find q ys ≡ Some x → P x) → (t : Bool) → (if t then Some y else find q ys) ≡ Some x → P x
+    by rest true f = let same : y ≡ x = cc in subst P same all.0
+    by rest false f = rest f
+
+pub told_named : (r : Plain) (c : Text) → AreNamed r → TellsNamed (asked r c)
+told_named r c all k h = by (model_at r c k) refl
+  where
+    by : (o : Option Model) → model_at r c k ≡ o → held o ≡ Some h → IsNamed h
+    by None seen e = cc
+    by (Some m) seen e =
+        let same : m.holds ≡ h = cc in
+        subst IsNamed same (all_found HoldsNamed (λ m. is_row k m && sees r.groups c m) r.models m seen all)
+
+pub told_listed : (r : Plain) (c : Text) → AreListed r → TellsListed (asked r c)
+told_listed r c all k h = by (group_at r c k) refl
+  where
+    by : (o : Option GroupRow) → group_at r c k ≡ o → held o ≡ Some h → IsListed h
+    by None seen e = cc
+    by (Some g) seen e =
+        let same : g.holds ≡ h = cc in
+        subst IsListed same (all_found HoldsListed (λ g. is_row k g && sees_group c g) r.groups g seen all)
+
+pub same_test : (m k : ℕ) → is_eq (nat_cmp m k) ≡ (m == k)
+same_test m k = grind (arith, nat_tests)
+
+-- a name stands among those of a list exactly if something in it has it
+module _ {X : Type 0} (named : X → ℕ) where
+  pub among_named : (n : ℕ) (xs : List X) → is_some (find (is_at nat_cmp named n) xs) ≡ is_among (map named xs) n
+  among_named n [] = refl
+  among_named n (x ∷ xs) = by (among_named n xs) (is_at nat_cmp named n x) (named x == n) (same_test (named x) n)
+    where
+      by : is_some (find (is_at nat_cmp named n) xs) ≡ is_among (map named xs) n → (t u : Bool) → t ≡ u → is_some (if t then Some x else find (is_at nat_cmp named n) xs) ≡ (u || is_among (map named xs) n)
+      by rest true true e = refl
+      by rest true false e = cc
+      by rest false true e = cc
+      by rest false false e = rest
+
+pub among_names : (n : ℕ) (xs : List Instance) → is_some (instance_of n xs) ≡ is_among (names xs) n
+among_names = among_named instance_name
+
+-- whether what was found at the place of a name has it
+pub found_is : {X : Type 0} (named : X → ℕ) (n : ℕ) (x : X) → is_some (chosen (is_at nat_cmp named n) (Some x)) ≡ (named x == n)
+found_is named n x = by (is_at nat_cmp named n x) (named x == n) (same_test (named x) n)
+  where
+    by : (t u : Bool) → t ≡ u → is_some (if t then Some x else None) ≡ u
+    by true true e = refl
+    by true false e = cc
+    by false true e = cc
+    by false false e = refl

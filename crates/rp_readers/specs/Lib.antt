@@ -1,0 +1,4 @@
+pub mod Told
+pub mod Named
+pub mod Listed
+pub mod Single

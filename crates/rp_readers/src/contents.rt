@@ -1,0 +1,82 @@
+//! What models hold, as it is told: their canonical text, their links, the names of their instances.
+
+ghost use Rattle.std.specs.Prelude.{◌≡◌, map, IfOk};
+ghost use Rattle.rp_plain.specs.Meaning.{schema_of};
+ghost use Rattle.rp_plain.specs.Files as of_files;
+ghost use Rattle.rp_plain.specs.Lists.{named, names_by};
+ghost use Rattle.rp_readers.specs.Told.{told};
+
+use crate::asked::Asking;
+use ex_subtypes::Compiled;
+use p21_write::{type_text, write};
+use plain_data::{Rows, Text};
+use rp_content::{Instance, Link};
+use rp_plain::lists::NamedType;
+use rp_rows::rows::Key;
+use std::alloc::{AllocError, Global};
+
+/// The canonical text of what the model holds, if the partner sees it.
+pub fn text_of(alloc: Global, asked: &Asking<'_>, key: &Key) -> Result<Text, AllocError>
+    ensures { IfOk result (λ text. text ≡ of_files.text_by (schema_of (told asked.now).schemas ((told asked.now).content key.now)) ((told asked.now).content key.now)) }
+{
+    let Some(model) = asked.content(key) else {
+        return Text::from_str(alloc, "");
+    };
+    let Some(schema) = asked.schema_named(&model.schema) else {
+        return Text::from_str(alloc, "");
+    };
+    write(alloc, schema, &model.content)
+}
+
+/// The links of the model, if the partner sees it.
+pub fn links_of<'a>(asked: &Asking<'a>, key: &Key) -> &'a [Link]
+    ensures { result.now ≡ of_files.links_of ((told asked.now).content key.now) }
+{
+    match asked.content(key) {
+        Some(model) => model.content.links.as_slice(),
+        None => &[],
+    }
+}
+
+/// The same links.
+pub fn copies(alloc: Global, links: &[Link]) -> Result<Rows<Link>, AllocError>
+    ensures { IfOk result (λ copies. copies ≡ links.now) }
+{
+    let mut copies = Rows::new(alloc);
+    for link in links {
+        copies.push(link.copy(alloc)?)?;
+    }
+    Ok(copies)
+}
+
+/// The names of the instances, with their types.
+fn named_types(
+    alloc: Global,
+    schema: &Compiled,
+    instances: &[Instance],
+) -> Result<Rows<NamedType>, AllocError>
+    ensures { IfOk result (λ rows. rows ≡ map (named schema.now) instances.now) }
+{
+    let mut rows = Vec::with_capacity(alloc, instances.len())?;
+    for instance in instances {
+        let type_name = type_text(alloc, schema, &instance.types)?;
+        rows.push(NamedType {
+            name: instance.name,
+            type_name,
+        })?;
+    }
+    Ok(Rows::from_vec(rows))
+}
+
+/// The names of the instances of the model, with their types, if the partner sees it.
+pub fn names_of(alloc: Global, asked: &Asking<'_>, key: &Key) -> Result<Rows<NamedType>, AllocError>
+    ensures { IfOk result (λ rows. rows ≡ names_by (schema_of (told asked.now).schemas ((told asked.now).content key.now)) ((told asked.now).content key.now)) }
+{
+    let Some(model) = asked.content(key) else {
+        return Ok(Rows::new(alloc));
+    };
+    let Some(schema) = asked.schema_named(&model.schema) else {
+        return Ok(Rows::new(alloc));
+    };
+    named_types(alloc, schema, model.content.instances.as_slice())
+}

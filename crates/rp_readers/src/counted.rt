@@ -1,0 +1,29 @@
+//! The models that count in groups.
+#![tactic(auto, unfolding(crate::specs::Told::told))]
+
+ghost use Rattle.std.specs.Prelude.{◌≡◌, map, IfOk};
+ghost use Rattle.rp_readers.specs.Listed.{TellsListed, counted_of};
+ghost use Rattle.rp_readers.specs.Told.{told};
+
+use crate::asked::Asking;
+use rp_access::counted_models;
+use rp_rows::rows::{Key, ModelContent};
+use rp_tables::RowRef;
+use std::alloc::{AllocError, Global};
+
+impl<'a> Asking<'a> {
+    /// The models that count in the group, if the partner sees it.
+    pub fn counted(
+        &self,
+        alloc: Global,
+        key: &Key,
+    ) -> Result<Vec<RowRef<'a, ModelContent>>, AllocError>
+        requires { TellsListed (told self.now) }
+        ensures { IfOk result (λ out. map counted_of out.items ≡ (told self.now).counted key.now) }
+    {
+        match self.group(key) {
+            Some(group) => counted_models(alloc, self.models, &group),
+            None => Ok(Vec::new(alloc)),
+        }
+    }
+}

@@ -1,0 +1,89 @@
+//! The names that a reference in a model may have.
+
+ghost use Rattle.std.specs.Prelude.{◌≡◌, filter, length};
+ghost use Rattle.std.specs.Ordering.{is_lt, nat_cmp};
+ghost use Rattle.sorted_tables.specs.Table.{is_before, IsAscending};
+ghost use Rattle.p21_instances.specs.Instances.{is_among};
+ghost use Rattle.rp_rows.specs.Contents.{names, link_name, link_names};
+ghost use Rattle.rp_rows.specs.Instances.{IsInOrder};
+ghost use Rattle.rp_readers.specs.Named.{IsSearchable};
+
+use crate::instances::instance_named;
+use p21_bind::DefinedNames;
+use rp_content::{Content, Instance, Link};
+use std::marker::Model;
+
+/// The names of the instances and the links that a model holds.
+#[derive(Drop)]
+pub struct ModelNames<'a> {
+    content: &'a Content,
+}
+
+impl<'a> Model for ModelNames<'a> {
+    ghost use Rattle.rp_content.specs.declared.content.Content.{Content};
+    ghost use Rattle.rp_readers.specs.Named.{IsSearchable};
+
+    ghost Value = { Content };
+
+    ghost use Rattle.std.specs.Coded.{codes};
+    ghost use Rattle.rp_content.specs.contracts.content.Content as content_type;
+
+    ghost coded = { Prim.hlevel (codes, content_type.the_row.coded) };
+
+    ghost view = { λ n. n.content.now };
+
+    ghost invariant = { λ n. IsSearchable n.content.now };
+}
+
+/// Whether an instance has this name. The others aren't walked over.
+fn has_instance(instances: &[Instance], name: u64) -> bool
+    requires { IsInOrder instances.now }
+    ensures { result ≡ is_among (names instances.now) name }
+{
+    instance_named(instances, name).is_some()
+}
+
+fn is_before_name(name: u64, link: &Link) -> bool
+    ensures { result ≡ is_lt (nat_cmp link.now.name name) }
+{
+    link.name.cmp(&name).is_lt()
+}
+
+/// How many links have a name before this one.
+fn link_place(links: &[Link], name: u64) -> usize
+    requires { IsAscending nat_cmp link_name links.now }
+    ensures { result ≡ length (filter (is_before nat_cmp link_name name) links.now) }
+{
+    links.partition_point(|link| is_before_name(name, link))
+}
+
+/// Whether a link has this name. The others aren't walked over.
+fn has_link(links: &[Link], name: u64) -> bool
+    requires { IsAscending nat_cmp link_name links.now }
+    ensures { result ≡ is_among (link_names links.now) name }
+{
+    match links.get(link_place(links, name)) {
+        Some(link) => link.name == name,
+        None => false,
+    }
+}
+
+impl<'a> ModelNames<'a> {
+    pub fn of(content: &'a Content) -> ModelNames<'a>
+        requires { IsSearchable content.now }
+        ensures { result ≡ content.now }
+    {
+        ModelNames { content }
+    }
+}
+
+impl<'a> DefinedNames for ModelNames<'a> {
+    ghost use Rattle.rp_plain.specs.Instances as of_instances;
+
+    ghost is_defined = { of_instances.is_defined };
+
+    fn has(&self, name: u64) -> bool {
+        has_instance(self.content.instances.as_slice(), name)
+            || has_link(self.content.links.as_slice(), name)
+    }
+}

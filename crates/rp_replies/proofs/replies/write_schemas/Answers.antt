@@ -1,0 +1,19 @@
+use Rattle.std.proofs.Common.{◌≡◌, [], ◌∷◌, ◌++◌, codes, ap, sym, ◌∙◌, append_assoc, rules}
+use Rattle.std.proofs.lemmas.Result.{on_ok_weaker}
+use Rattle.json.specs.Token.{begin_object, end_object, key}
+use Rattle.serde_json.specs.Data.{string}
+use Rattle.rp_replies.specs.Replies.{list_of}
+use Rattle.rp_replies.specs.Tokens.{tokens_of}
+use Rattle.rp_replies.proofs.ListLemmas.{joined}
+use Rattle.rp_replies.proofs.replies.write_schemas.Goals as goal
+
+pub returns-clause-ok : goal.returns-clause-ok
+returns-clause-ok c =
+    let old = c.args.out.now.tokens in
+    let list = tokens_of (list_of string c.args.names.now) in
+    let opened = begin_object ∷ key (codes "ok") ∷ begin_object ∷ [] in
+    let schemas : c.key.new.self.tokens ≡ c.open.new.out.tokens ++ key (codes "schemas") ∷ [] = search rules in
+    let front = begin_object ∷ key (codes "ok") ∷ begin_object ∷ key (codes "schemas") ∷ [] in
+    let listed = joined old front _ list _ (joined old opened _ _ _ c.in_ok-open.ensures.ok schemas) c.in_ok-write_texts.ensures.ok in
+    let ends = sym (append_assoc list (end_object ∷ []) (end_object ∷ [])) in
+    on_ok_weaker c.close.result (λ e. joined old _ _ _ _ listed e ∙ ap (λ ts. old ++ (front ++ ts)) ends) c.close.ensures.ok

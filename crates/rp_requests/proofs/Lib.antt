@@ -1,0 +1,5 @@
+mod KeptLemmas
+mod LinkLemmas
+mod MemberLemmas
+mod PlaceLemmas
+mod ShallowMembers

@@ -1,0 +1,15 @@
+use Rattle.std.proofs.Common.{ap, ◌∙◌}
+use Rattle.serde_json.specs.View.{members_view}
+use Rattle.rp_requests.proofs.MemberLemmas.{without-remove_entry, text_in-without, text_in-lookup}
+use Rattle.rp_requests.specs.Asks.{text_in}
+use Rattle.rp_requests.proofs.members.take_text.Goals as goal
+
+pub returns : goal.returns
+returns c =
+    let es = c.args.members.now.entries in
+    let left = ap members_view c.remove.ensures.entries ∙ without-remove_entry c.args.key.now es in
+    record {
+      text = text_in-lookup c.args.key.now es c.remove.result _ c.remove.ensures.value c.and_then.ensures;
+      rest = left;
+      others = λ other apart. ap (text_in other) left ∙ text_in-without c.args.key.now other (members_view es) apart;
+    }

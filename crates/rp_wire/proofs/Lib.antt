@@ -1,6 +1,0 @@
-mod KeptLemmas
-mod LinkLemmas
-mod ListLemmas
-mod MemberLemmas
-mod PlaceLemmas
-mod ShallowMembers

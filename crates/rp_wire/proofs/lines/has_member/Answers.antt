@@ -1,6 +1,0 @@
-use Rattle.std.proofs.Common.{◌∙◌}
-use Rattle.rp_wire.proofs.MemberLemmas.{is_some-lookup}
-use Rattle.rp_wire.proofs.lines.has_member.Goals as goal
-
-pub returns : goal.returns
-returns c = c.contains_key.ensures ∙ is_some-lookup c.args.name.now c.args.members.now.entries

@@ -1,7 +1,0 @@
-use Rattle.std.proofs.Common.{rules}
-use Rattle.serde_json.proofs.Texts.{print-outline}
-use Rattle.rp_wire.specs.Replies.{reply_data}
-use Rattle.rp_wire.proofs.replies.reply_bytes.Goals as goal
-
-pub returns : goal.returns
-returns c = rw (← print-outline (reply_data c.args.reply.now)) (search rules)

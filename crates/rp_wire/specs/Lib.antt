@@ -1,4 +1,0 @@
-pub mod Asks
-pub mod Kept
-pub mod Replies
-pub mod Tokens
