@@ -1,4 +1,5 @@
 mod Ascii
 mod Decimals
 mod Forms
+mod JoinedNames
 mod Written

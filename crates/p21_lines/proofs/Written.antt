@@ -1,7 +1,6 @@
 -- What is left of a list while it is written.
 use Rattle.std.proofs.Common.{◌≡◌, ℕ, zero, suc, Bool, true, false, List, [], ◌∷◌, ◌++◌, length, map, drop, refl, sym, ◌∙◌, ap, append_assoc, append-nil, ◌<◌, ◌≤◌, ◌+◌, ◌%◌, arith}
 use Rattle.std.specs.Prelude.{codes}
-use Rattle.std.specs.List.{flat_map, join_by}
 use Rattle.p21_spelling.specs.Files.{line, schema_text}
 use Rattle.p21_spelling.specs.Tokens.{enclosed, quoted}
 use Rattle.p21_spelling.specs.Values.{Spelling, more, listed}
@@ -64,9 +63,3 @@ pub binary_written : (old a n f g : List ℕ) (count : ℕ) (first groups : List
     → g ++ 34 ∷ [] ≡ old ++ 34 ∷ (count ∷ (first ++ groups) ++ 34 ∷ [])
 binary_written old a n f g count first groups e1 e2 e3 e4 = rw (e4, e3, e2, e1) (simp append_assoc)
 
--- ---- names that are joined
-
--- the next is the first, or isn't
-abbrev pub joined_left : {A : Type 0} → Bool → (A → List ℕ) → List ℕ → List A → List ℕ
-joined_left true name between xs = join_by name between xs
-joined_left false name between xs = flat_map (λ x. between ++ name x) xs

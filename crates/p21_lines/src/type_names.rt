@@ -6,35 +6,19 @@ ghost use Rattle.p21_lines.specs.Trees as tree;
 ghost use Rattle.p21_lines.specs.Types as spec;
 
 use crate::instance::entity_name;
-use crate::output::Output;
 use ex_named::NamedEntity;
 use ex_subtypes::Compiled;
+use itertools::Itertools;
 use plain_data::Text;
 use rp_content::Types;
 use std::alloc::{AllocError, Global};
-
-/// The bytes of the names of these entities, with one behind each.
-fn joined_len(entities: &[NamedEntity], all: &[usize]) -> usize {
-    let mut len = 0usize;
-    for entity in all {
-        let name = entity_name(entities, *entity);
-        len = len.saturating_add(name.len()).saturating_add(1);
-    }
-    len
-}
 
 /// The names of these entities, joined by `+`.
 fn joined(alloc: Global, entities: &[NamedEntity], all: &[usize]) -> Result<Text, AllocError>
     ensures { IfOk result (λ text. text ≡ join_by (tree.entity_name entities.now) (codes "+") all.now) }
 {
-    let mut out = Output::with_capacity(alloc, joined_len(entities, all))?;
-    for (place, entity) in all.iter().enumerate() {
-        if place > 0 {
-            out.push(b'+')?;
-        }
-        out.push_str(entity_name(entities, *entity))?;
-    }
-    Ok(out.into_text())
+    let mut names = all.iter().map(|entity| entity_name(entities, *entity));
+    Ok(Text::new(names.join(alloc, "+")?))
 }
 
 /// The type of an instance: the name of its leaf, or the names of all its entities in the order in which they stand, joined by `+`.

@@ -200,7 +200,7 @@ fn fit_links(
     ensures { Fits (told asked.now) key.now schema.now links content.now result }
 {
     let many = too_many(content, links.len());
-    let links = in_order(links)?;
+    let links = in_order(alloc, links)?;
     let fault = link_refusal(alloc, asked, key, schema, links.as_slice(), content)?;
     match first(&[fault, many]) {
         Some(refusal) => Err(refusal),

@@ -12,6 +12,7 @@ ghost use Rattle.rp_readers.specs.Named.{TellsNamed};
 ghost use Rattle.rp_plans.specs.Links.{AreInOrder};
 
 use crate::faults::when;
+use itertools::Itertools;
 use p21_bind::{DefinedNames, Names};
 use plain_data::{Items, Rows, Text};
 use rp_content::{Content, Instance, Link};
@@ -53,13 +54,13 @@ pub fn names_of(alloc: Global, links: &[Link]) -> Result<Vec<u64>, AllocError>
 }
 
 /// The links in the order of their names.
-pub fn in_order(links: Rows<Link>) -> Result<Items<Link>, AllocError>
+pub fn in_order(alloc: Global, links: Rows<Link>) -> Result<Items<Link>, AllocError>
     ensures same { IfOk result (λ ordered. ordered ≡ of_links.links_in_order links) }
     ensures order { IfOk result (λ ordered. AreInOrder ordered) }
 {
-    let mut links = links.into_vec();
-    links.sort_by_key(|link| link.name)?;
-    Ok(Items::from_vec(links))
+    let links = links.into_vec().into_iter();
+    let sorted = links.sorted_by_key(alloc, |link| link.name)?;
+    Ok(Items::from_vec(sorted.collect_vec(alloc)?))
 }
 
 /// Whether the name of a link is that of one of the others behind it, all in the order of their names.

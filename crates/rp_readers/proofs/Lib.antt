@@ -6,3 +6,4 @@ pub mod Walking
 pub mod Standing
 pub mod SchemaNames
 pub mod KeptPlaces
+pub mod ListRuns

@@ -5,6 +5,7 @@ ghost use Rattle.rp_plain.specs.Meaning.{schema_name};
 ghost use Rattle.rp_plain.specs.Lists.{schema_names};
 
 use ex_subtypes::Compiled;
+use itertools::Itertools;
 use plain_data::{Rows, Text};
 use std::alloc::{AllocError, Global};
 
@@ -23,7 +24,7 @@ pub fn names_of(alloc: Global, schemas: &[Compiled]) -> Result<Vec<Text>, AllocE
 pub fn sorted_names(alloc: Global, schemas: &[Compiled]) -> Result<Rows<Text>, AllocError>
     ensures { IfOk result (λ names. names ≡ schema_names schemas.now) }
 {
-    let mut names = names_of(alloc, schemas)?;
-    names.sort_unstable_by(|name, other| name.order(other));
-    Ok(Rows::from_vec(names))
+    let names = names_of(alloc, schemas)?.into_iter();
+    let sorted = names.sorted_unstable_by(alloc, |name, other| name.order(other))?;
+    Ok(Rows::from_vec(sorted.collect_vec(alloc)?))
 }
