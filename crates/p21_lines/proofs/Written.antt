@@ -62,4 +62,3 @@ binary_in_parts bits first groups count whole =
 pub binary_written : (old a n f g : List ℕ) (count : ℕ) (first groups : List ℕ) → a ≡ old ++ 34 ∷ [] → n ≡ a ++ count ∷ [] → f ≡ n ++ first → g ≡ f ++ groups
     → g ++ 34 ∷ [] ≡ old ++ 34 ∷ (count ∷ (first ++ groups) ++ 34 ∷ [])
 binary_written old a n f g count first groups e1 e2 e3 e4 = rw (e4, e3, e2, e1) (simp append_assoc)
-

@@ -143,6 +143,7 @@ ascending (i ∷ is) order = (
   all_each (λ (j : Instance). i.name < j.name) (λ (j : Instance). is_after nat_cmp instance_name i.name j ≡ true) (λ j less. is_above i.name j.name less) is order.0,
   ascending is order.1,
 )
+
 refilled_valid : (schemas : List Checked) (partners : List Text) (k : Key) (h : ModelContent) (file : Text) (links : List Link) (c : Content) → IsTaken schemas h (link_names links) (file_of file) c → AreTaken partners k links c
     → nat_lt max_instances (length c.instances) ≡ false → IsValidContent schemas partners k h → IsValidContent schemas partners k (refilled h (linking links c))
 refilled_valid schemas partners k h file links c t beside few valid =

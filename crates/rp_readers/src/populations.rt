@@ -74,11 +74,7 @@ fn has_instance(name: u64, instances: &[Instance]) -> bool
 }
 
 /// Whether the model counts in the group, and has the instance.
-fn counts_with(
-    model: &RowRef<'_, ModelContent>,
-    group: &RowRef<'_, Listing>,
-    instance: u64,
-) -> bool
+fn counts_with(model: &RowRef<'_, ModelContent>, group: &RowRef<'_, Listing>, instance: u64) -> bool
     ensures { result ≡ (sight.counts (row_of model.now) (row_of group.now) && list_any (λ (i : Instance). i.name == instance) model.now.holds.now.content.instances) }
 {
     counts(model, group) && has_instance(instance, model.holds.content.instances.as_slice())

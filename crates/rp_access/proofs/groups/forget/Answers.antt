@@ -37,7 +37,7 @@ loop-grant-preserved c =
       gone = λ p rest some.
           ap (λ fs. has_name key.1 (names_at (p, key.0) fs)) c.drop_name.ensures
           ∙ dropped p key c.grant-item.result es gs (drop (c.loop-grant.grant-index + 1) gs) (is_grant_to p c.grant-item.result) refl
-              (λ none. c.loop-grant.invariant.gone p (ap (list_any (is_grant_to p)) (left_is gs c.loop-grant.grant-index c.grant-item.result c.loop-grant-test.true c.grant-item.is) ∙ none)) rest some;
+          (λ none. c.loop-grant.invariant.gone p (ap (list_any (is_grant_to p)) (left_is gs c.loop-grant.grant-index c.grant-item.result c.loop-grant-test.true c.grant-item.is) ∙ none)) rest some;
     }
 
 pub returns-clause-gone : goal.returns-clause-gone
