@@ -140,7 +140,15 @@ fn answer_prepared(
     ensures changed { OnOk result (repository.new.content ≡ made pending.steps repository.old.content) }
     ensures refused { OnErr result (repository.new.content ≡ repository.old.content) }
 {
-    let bytes = reply_line(alloc, pending.reply())?;
-    let _ = repository.commit(pending);
-    Ok(bytes)
+    match reply_line(alloc, pending.reply()) {
+        Ok(bytes) => {
+            let _ = repository.commit(pending);
+            Ok(bytes)
+        }
+        Err(error) => {
+            // (A call, since what is pending and goes out of scope is opened here down to its texts.)
+            drop(pending);
+            Err(error)
+        }
+    }
 }
