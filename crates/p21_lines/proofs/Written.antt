@@ -1,8 +1,6 @@
 -- What is left of a list while it is written.
 use Rattle.std.proofs.Common.{◌≡◌, ℕ, zero, suc, Bool, true, false, List, [], ◌∷◌, ◌++◌, length, map, drop, refl, sym, ◌∙◌, ap, append_assoc, append-nil, ◌<◌, ◌≤◌, ◌+◌, ◌%◌, arith}
-use Rattle.std.specs.Prelude.{codes}
-use Rattle.p21_spelling.specs.Files.{line, schema_text}
-use Rattle.p21_spelling.specs.Tokens.{enclosed, quoted}
+use Rattle.p21_spelling.specs.Tokens.{enclosed}
 use Rattle.p21_spelling.specs.Values.{Spelling, more, listed}
 use Rattle.p21_lines.specs.Binaries.{digits, unused, binary}
 
