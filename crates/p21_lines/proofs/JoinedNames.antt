@@ -1,5 +1,5 @@
 -- Names that are joined.
-use Rattle.std.proofs.Common.{◌≡◌, ◌++◌, ℕ, List, [], ◌∷◌, refl, ap, map}
+use Rattle.std.proofs.Common.{◌≡◌, ◌++◌, ℕ, List, [], ◌∷◌, refl, map}
 use Rattle.std.specs.List.{join_by, flat_map}
 use Rattle.itertools.specs.Consumer.{joined}
 

@@ -2,8 +2,7 @@
 ghost use Rattle.std.specs.Prelude.{◌≡◌, ◌≢◌, ◌⊎◌, Ok, IfOk, IfSome, IsErrOf};
 ghost use Rattle.text_forms.specs.declared.Failure.{Failure};
 ghost use Rattle.text_forms.specs.Gives.{Fails};
-ghost use Rattle.rp_io.specs.Reads.{MakesReads};
-ghost use Rattle.rp_io.specs.Held.{chunk_room};
+ghost use Rattle.rp_io.specs.Held.{unread, RunsOut};
 ghost use Rattle.rp_repo.specs.LineRuns.{max_reads, IsWholeRun, IsFirstRun, IsCutRun};
 ghost use Rattle.rp_program.specs.declared.fault.StartFault.{StartFault};
 ghost use Rattle.rp_program.specs.Starts.{repository_of, opened_at, IsOpened};
@@ -34,7 +33,7 @@ pub fn batch<D: Folder, R: Source, W: Sink>(
         IsFirstRun old new (R.remaining reader.old) (W.contents writer.old) (W.contents writer.new)) }
     ensures read_failed { IsErrOf result Fault.Read →
         (R.read_failures reader.new ≢ R.read_failures reader.old)
-        ⊎ MakesReads (R.reads_made reader.old) (R.reads_made reader.new) max_reads chunk_room }
+        ⊎ RunsOut (unread max_reads) (R.reads_made reader.old) (R.reads_made reader.new) (R.remaining reader.old) }
 
     // After a write that failed, they are but for the last.
     ensures cut { IsErrOf result Fault.Write → RunsFrom (IsOpened (D.files folder.now) path.now) (λ old new.
@@ -62,7 +61,7 @@ fn run_loaded<R: Source, W: Sink>(
         IsFirstRun old new (R.remaining reader.old) (W.contents writer.old) (W.contents writer.new)) }
     ensures read_failed { IsErrOf result Fault.Read →
         (R.read_failures reader.new ≢ R.read_failures reader.old)
-        ⊎ MakesReads (R.reads_made reader.old) (R.reads_made reader.new) max_reads chunk_room }
+        ⊎ RunsOut (unread max_reads) (R.reads_made reader.old) (R.reads_made reader.new) (R.remaining reader.old) }
     ensures cut { IsErrOf result Fault.Write → RunsFrom (λ r. repository_of loaded ≡ Ok r) (λ old new.
         IsCutRun old new (R.remaining reader.old) (W.contents writer.old) (W.contents writer.new)) }
     ensures write_failed { IsErrOf result Fault.Write → W.write_failures writer.new ≢ W.write_failures writer.old }

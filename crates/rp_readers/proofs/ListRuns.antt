@@ -1,5 +1,5 @@
 -- What an iterator over the elements of a list gives.
-use Rattle.std.proofs.Common.{◌≡◌, true, List, ◌∙◌, ap}
+use Rattle.std.proofs.Common.{◌≡◌, true, ◌∙◌, ap}
 use Rattle.std.specs.Iterator.Runs.{Run, EveryRun, ItemsAre}
 use Rattle.std.specs.Vec.Iter.{into_iter_items, into_iter_steps}
 use Rattle.std.specs.declared.vec.IntoIter.{IntoIter}

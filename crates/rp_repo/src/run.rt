@@ -1,8 +1,7 @@
 //! All lines of a reader.
 ghost use Rattle.std.specs.Prelude.{◌≡◌, ◌≢◌, ◌⊎◌, ℕ, List, IfOk, IsErrOf, OnOk, OnErr, is_ok};
 ghost use Rattle.rp_io.specs.Lines.{Holds};
-ghost use Rattle.rp_io.specs.Reads.{MakesReads};
-ghost use Rattle.rp_io.specs.Held.{chunk_room};
+ghost use Rattle.rp_io.specs.Held.{unread, RunsOut};
 ghost use Rattle.rp_plain.specs.Valid.{IsValid};
 ghost use Rattle.rp_repo.specs.LineRuns.{max_reads, Serves, IsWholeRun, IsFirstRun, IsCutRun};
 
@@ -61,7 +60,7 @@ pub fn run_lines<R: Source, W: Sink>(
         IsFirstRun repository.old.content repository.new.content (R.remaining reader.old) (W.contents writer.old) (W.contents writer.new) }
     ensures read_failed { IsErrOf result RunFault.ReadFault →
         (R.read_failures reader.new ≢ R.read_failures reader.old)
-        ⊎ MakesReads (R.reads_made reader.old) (R.reads_made reader.new) max_reads chunk_room }
+        ⊎ RunsOut (unread max_reads) (R.reads_made reader.old) (R.reads_made reader.new) (R.remaining reader.old) }
 
     // After a write that failed, they are but for the last.
     ensures cut { IsErrOf result RunFault.WriteFault →

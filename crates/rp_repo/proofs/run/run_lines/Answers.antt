@@ -30,7 +30,7 @@ lines-preserved g c =
         omega (arith, length-append done.0 (taken.0 ∷ []), done.3),
       );
       settled = c.in-Ok.ensures.settled;
-      spends = spends_more _ _ _ _ _ _ c.lines.invariant.spends c.in-Ok.ensures.spends;
+      spends = spends_more _ _ _ _ _ _ _ _ _ c.lines.invariant.spends c.in-Ok.ensures.spends;
       same_reader = c.in-Ok.ensures.same ∙ c.lines.invariant.same_reader;
       same_writer = on_ok c.serve.result _ c.serve.ensures.ok ok ∙ c.lines.invariant.same_writer;
       fits = omega (arith, fewer, c.lines.invariant.fits);
