@@ -4,7 +4,7 @@
     bench/all.py [--hostile] [PROGRAM]
 
 It runs the other scripts of this folder one after the other, on PROGRAM or else on the program that was built, and prints what they
-print. `legal.py` is left out where its own program isn't built. The hostile inputs take long, and come with --hostile alone.
+print. The hostile inputs take long, and come with --hostile alone.
 At the end stands the chart: the nanoseconds that each byte takes, of each kind of work at each size.
 """
 import os
@@ -14,7 +14,6 @@ import tempfile
 
 import check
 import kinds
-import legal
 import names
 import run
 from harness import PROGRAM, TOP, Folder, Table
@@ -70,10 +69,7 @@ def measure(folder, program, with_hostile):
     failed = failed or status or within or other
     failed = run_script("single.py", program) or failed
     failed = run_script("groups.py", program) or failed
-    if os.access(legal.PROGRAM, os.X_OK):
-        failed = run_script("legal.py", legal.PROGRAM) or failed
-    else:
-        print(f"bench/legal.py is left out: there is no program {legal.PROGRAM}")
+    failed = run_script("legal.py", program) or failed
     if with_hostile:
         failed = run_script("hostile.py", program) or failed
     show_chart([

@@ -1,23 +1,23 @@
 #!/usr/bin/env python3
-"""Measures how long it takes to decide whether a set of entities is legal.
+"""Measures what instances of sets of entities take, each of which is legal or not.
 
     bench/legal.py [PROGRAM]
 
-Its program is `legal_times`, which compiles a schema and decides each set many times; it is no part of what users run.
-For each schema and set it prints how many entities the schema has, how many names its longest supertype expression,
-how many members the set, and the microseconds of one decision, the least of five means. What is decided is compared. The status
-is 1 where a decision takes a millisecond or more.
+For each schema and set it prints how many entities the schema has, how many names its longest supertype expression, how many
+members the set, and the microseconds that a processor runs the program for a put of a file with one instance of the set; and
+of a legal set those for each of 200 instances more, whose parts stand in other orders: those of many parts are each decided
+anew, and those of few known by then. What is decided is compared. The status is 1 where an instance takes ten milliseconds or more.
 """
-import os
-import subprocess
+import json
+import random
 import sys
 
-from harness import TOP, Table, compare, expect_success, run_bench
+from harness import Session, Table, compare, processor_seconds, request, run_bench
+from make_part21 import FOOTER, HEADER
 
-PROGRAM = os.path.join(TOP, "crates/legal_times/out/legal_times")
-TURNS = 200
-TIMES = 5
-LIMIT = 1000.0
+COUNT = 200
+LIMIT = 10_000.0
+OF_SCHEMA = HEADER.replace("AUTOMOTIVE_DESIGN", "S")
 
 
 def schema(supertypes, expressions):
@@ -76,28 +76,43 @@ def families():
         (range(100), "legal"), (range(4_900, 5_000), "not closed"), ([0, *range(4_901, 5_000)], "legal")]
 
 
-def decided(folder, sets, turns):
-    """What is decided of the sets, and the nanoseconds where turns are asked for."""
-    lines = "".join(" ".join(map(str, numbers)) + "\n" for numbers, _ in sets).encode()
-    done = subprocess.run([folder.program, "measured.exp", str(turns)], cwd=folder.path, input=lines, capture_output=True,
-                          check=False)
-    expect_success(done.returncode)
-    return done.stdout.decode().splitlines()
+def instance(name, numbers):
+    return f"#{name}=({''.join(f'N{number}()' for number in numbers)});\n"
+
+
+def microseconds(session, orders, wanted):
+    """How long a put takes for each instance of a file of instances whose entities stand in these orders."""
+    text = OF_SCHEMA + "".join(instance(k, numbers) for k, numbers in enumerate(orders, 1)) + FOOTER
+    reply = {"ok": {"instances": len(orders)}} if wanted == "legal" else {
+        "refused": {"code": 12, "instance": 1, "kind": "IllegalCombination", "name": "InstanceFault"}}
+    begin = processor_seconds(session.process)
+    told = session.ask(request("put", owner="ann", model="m", file=text))[0]
+    taken = processor_seconds(session.process) - begin
+    compare(told, json.dumps(reply, sort_keys=True, separators=(",", ":")).encode() + b"\n")
+    return taken / len(orders) * 1e6
+
+
+def others(numbers):
+    """The numbers in so many other orders."""
+    draw = random.Random(1)
+    return [draw.sample(numbers, len(numbers)) for _ in range(COUNT)]
 
 
 def measure(folder):
-    table = Table({"schema": "16", "entities": "9,", "names": "7,", "members": "8,", "decided": "13", "microseconds": "13.1f"})
+    table = Table({"schema": "16", "entities": "9,", "names": "7,", "members": "8,", "decided": "12", "one": "9.1f",
+                   "of 200": "9"})
     slowest = 0.0
     for name, text, entities, named, sets in families():
-        folder.write("measured.exp", text)
-        compare(decided(folder, sets, 0), [wanted for _, wanted in sets])
-        runs = [[int(line.split()[-1]) for line in decided(folder, sets, TURNS)] for _ in range(TIMES)]
-        for place, (numbers, wanted) in enumerate(sets):
-            microseconds = min(run[place] for run in runs) / 1e3
-            slowest = max(slowest, microseconds)
-            table.row(name, entities, named, len(numbers), wanted, microseconds)
+        folder.configure(measured=text)
+        with Session(folder) as session:
+            compare(session.ask(request("create_model", name="m", schema="S"))[0], b'{"ok":{}}\n')
+            for numbers, wanted in sets:
+                one = microseconds(session, [list(numbers)], wanted)
+                each = microseconds(session, others(list(numbers)), wanted) if wanted == "legal" else None
+                slowest = max(slowest, one, each or 0.0)
+                table.row(name, entities, named, len(numbers), wanted, one, "" if each is None else f"{each:.1f}")
     return int(slowest >= LIMIT)
 
 
 if __name__ == "__main__":
-    run_bench(measure, sys.argv[1:] or [PROGRAM])
+    run_bench(measure, sys.argv[1:])
