@@ -6,10 +6,10 @@ use Rattle.std.specs.Prelude.{Some}
 use Rattle.std.specs.Str.{bytes_eq}
 use Rattle.lineage.specs.Lineage.{family}
 use Rattle.ex_kinds.specs.Kinds.{Kinds}
-use Rattle.ex_kinds.specs.Leading.{is_marked, leading}
+use Rattle.ex_renamings.specs.Leading.{is_marked, leading}
 use Rattle.ex_kinds.specs.Types.{declared, own, alternative, alternatives, meanings_by, plain}
 use Rattle.ex_kinds.specs.declared.kind.ValueKind.{ValueKind}
-use Rattle.ex_kinds.proofs.Tests.{leading_at}
+use Rattle.ex_renamings.proofs.Marks.{leading_at}
 use Rattle.ex_attributes.specs.Attributes.{Attributes, found_nothing, found_after, found_at}
 use Rattle.ex_attributes.specs.Kept.{found_if, after_own, type_found, IsAlike, IsKept}
 use Rattle.ex_attributes.specs.declared.found.Found.{Found}

@@ -3,7 +3,7 @@ use Rattle.std.specs.Prelude.{◌≡◌, ℕ, Bool, true, false, List}
 use Rattle.std.specs.List.{flat_map}
 use Rattle.lineage.specs.Lineage.{family}
 use Rattle.ex_kinds.specs.Kinds.{Kinds}
-use Rattle.ex_kinds.specs.Leading.{is_marked}
+use Rattle.ex_renamings.specs.Leading.{is_marked}
 use Rattle.ex_kinds.specs.Types.{declared, own, alternatives}
 use Rattle.ex_attributes.specs.Attributes.{Attributes, found_nothing, found_after}
 use Rattle.ex_attributes.specs.declared.found.Found.{Found}

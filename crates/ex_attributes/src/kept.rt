@@ -2,13 +2,14 @@
 
 ghost use Rattle.std.specs.Prelude.{◌≡◌, ℕ, IfOk, IfSome, IsTrue};
 ghost use Rattle.std.specs.Str.{bytes_eq};
-ghost use Rattle.ex_kinds.specs.Leading.{is_marked as is_marked_in};
+ghost use Rattle.ex_renamings.specs.Leading.{is_marked as is_marked_in};
 ghost use Rattle.ex_attributes.specs.Attributes as attributes_spec;
 ghost use Rattle.ex_attributes.specs.Kept as spec;
 
 use crate::attributes::Attributes;
 use crate::found::Found;
-use ex_kinds::{Kinds, Types, is_marked};
+use ex_kinds::{Kinds, Types};
+use ex_renamings::is_marked;
 use plain_data::Text;
 use std::alloc::{AllocError, Global};
 

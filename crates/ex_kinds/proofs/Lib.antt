@@ -1,2 +1,1 @@
-mod Steps
 pub mod Tests

@@ -1,20 +1,15 @@
 -- What is found of all types once tells what values of them may be.
-use Rattle.std.proofs.Common.{◌≡◌, ℕ, zero, suc, ◌+◌, ◌<◌, ◌≤◌, Bool, true, false, not, ◌||◌, ◌&&◌, ◌==◌, nat_lt, List, [], ◌∷◌, ◌++◌, length, map, filter, ◌⊎◌, inl, inr, ⊎_elim, refl, sym, ◌∙◌, ap, arith}
-use Rattle.std.specs.Prelude.{Option, Some, None, slice_get, slice_index_or, if◌then◌else◌}
+use Rattle.std.proofs.Common.{◌≡◌, ℕ, zero, suc, Bool, true, false, ◌||◌, ◌&&◌, List, [], ◌∷◌, ◌++◌, map, filter, refl, sym, ◌∙◌, ap}
+use Rattle.std.specs.Prelude.{Option, Some, None, slice_get, slice_index_or}
 use Rattle.std.specs.List.{list_any, flat_map}
-use Rattle.std.proofs.lemmas.Bool.{cases_Bool}
-use Rattle.std.proofs.lemmas.Bool.Decides.{nat_tests}
-use Rattle.lineage.specs.Lineage.{is_among, supertypes, Reaches, IsAncestor, is_ancestor, family, numbers_from}
-use Rattle.lineage.proofs.Bounded.{any_where, is_member, is_ancestor_exact}
-use Rattle.lineage.proofs.Certain.{both, is_less}
-use Rattle.lineage.proofs.Families.{in_family}
-use Rattle.lineage.proofs.Sets.{either}
+use Rattle.lineage.specs.Lineage.{family}
 use Rattle.ex_kinds.specs.declared.kind.ValueKind.{ValueKind}
 use Rattle.ex_kinds.specs.declared.kind.Sort.{Sort}
 use Rattle.ex_kinds.specs.declared.kind.Sort.TheVariants as k
 use Rattle.ex_kinds.specs.Kinds.{Kinds}
-use Rattle.ex_kinds.specs.Leading.{is_marked, leads, leading}
-use Rattle.ex_kinds.specs.Types.{declared, alternatives, alternative, alternative_at, held, own, stays, declares, has_instance, is_instance, declared_instance, meanings, meanings_by, plain, meeting, some_meaning, some_plain, holding, holds_by, holds_at, kind_holds_instance, type_holds_instance, may_hold_instance, mentioned, defined_of}
+use Rattle.ex_renamings.specs.Leading.{is_marked}
+use Rattle.ex_renamings.proofs.Marks.{any_same, leading_at}
+use Rattle.ex_kinds.specs.Types.{declared, alternatives, alternative, held, own, stays, declares, has_instance, is_instance, declared_instance, meanings, meanings_by, plain, meeting, some_meaning, some_plain, holding, holds_by, holds_at, kind_holds_instance, type_holds_instance, may_hold_instance, mentioned, defined_of}
 
 -- ---- tests on lists
 
@@ -29,10 +24,6 @@ any_append p (x ∷ xs) ys = ap (λ b. p x || b) (any_append p xs ys) ∙ assoc 
 any_flat : {A B : Type 0} → (p : B → Bool) (f : A → List B) (xs : List A) → list_any p (flat_map f xs) ≡ list_any (λ x. list_any p (f x)) xs
 any_flat p f [] = refl
 any_flat p f (x ∷ xs) = any_append p (f x) (flat_map f xs) ∙ ap (λ b. list_any p (f x) || b) (any_flat p f xs)
-
-any_same : {A : Type 0} → (p q : A → Bool) → ((x : A) → p x ≡ q x) → (xs : List A) → list_any p xs ≡ list_any q xs
-any_same p q same [] = refl
-any_same p q same (x ∷ xs) = ap (λ b. b || list_any p xs) (same x) ∙ ap (λ b. q x || b) (any_same p q same xs)
 
 any_kept : {A : Type 0} → (keep p : A → Bool) (xs : List A) → list_any (λ x. keep x && p x) xs ≡ list_any p (filter keep xs)
 any_kept keep p [] = refl
@@ -63,45 +54,6 @@ pub marks_missed : {A B : Type 0} → (f : A → B) (xs : List A) (items : List 
 marks_missed f xs items n x are is missed =
     let same : Some (f x) ≡ None = sym (get_map f xs n x is) ∙ ap (λ l. slice_get l n) (sym are) ∙ missed in
     cc
-
--- ---- marks of a graph
-
-numbered_at : (f : ℕ → Bool) (start count n : ℕ) → is_marked (map f (numbers_from start count)) n ≡ (if nat_lt n count then f (start + n) else false)
-numbered_at f start zero n = grind (arith, nat_tests)
-numbered_at f start (suc count) zero = grind (arith, nat_tests)
-numbered_at f start (suc count) (suc n) =
-    let here : suc start + n ≡ start + suc n = omega arith in
-    let less : nat_lt (suc n) (suc count) ≡ nat_lt n count = grind (arith, nat_tests) in
-    numbered_at f (suc start) count n ∙ rw (here, less) refl
-
-leads_within : (graph : List (List ℕ)) (marks : List Bool) (n : ℕ) → leads graph marks n ≡ true → nat_lt n (length graph) ≡ true
-leads_within graph marks n is =
-    let found = any_where (is_marked marks) (family graph n) is in
-    let a = found.0 in
-    let parts = both (nat_lt a (length graph)) (a == n || is_ancestor graph n a) (sym (in_family graph n a) ∙ found.1.0) in
-    ⊎_elim
-    (λ (same : (a == n) ≡ true). let less = parts.0 in grind (arith, nat_tests))
-    (λ (above : is_ancestor graph n a ≡ true).
-    let way = (is_ancestor_exact graph n a).0 above in
-    let within : n < length graph = starts_within a way.0 way.1 in
-    grind (arith, nat_tests))
-    (either (a == n) (is_ancestor graph n a) parts.1)
-  where
-    starts_within : (a steps : ℕ) → Reaches graph steps n a → n < length graph
-    starts_within a zero there = is_member graph n a there
-    starts_within a (suc steps) there = is_member graph n there.0 there.1.0
-
-pub leading_at : (graph : List (List ℕ)) (marks : List Bool) (n : ℕ) → is_marked (leading graph marks) n ≡ leads graph marks n
-unfolding leading
-leading_at graph marks n =
-    numbered_at (leads graph marks) zero (length graph) n
-    ∙ (elim (nat_lt n (length graph)) as (λ t. nat_lt n (length graph) ≡ t → (if t then leads graph marks (0 + n) else false) ≡ leads graph marks n) [
-      | true ↦ λ within. let same : 0 + n ≡ n = omega arith in rw same refl
-      | false ↦ λ beyond. ⊎_elim
-          (λ (is : leads graph marks n ≡ true). let within = leads_within graph marks n is in absurd cc)
-          (λ (isnt : leads graph marks n ≡ false). sym isnt)
-          (cases_Bool (leads graph marks n))
-    ]) refl
 
 -- ---- of types
 

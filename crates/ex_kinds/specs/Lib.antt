@@ -1,5 +1,4 @@
 pub mod Kinds
-pub mod Leading
 pub mod Faults
 pub mod Types
 pub mod Room

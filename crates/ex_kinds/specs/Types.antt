@@ -1,5 +1,5 @@
 -- What the defined types of a schema stand for, and what a value may be in the end.
-use Rattle.std.specs.Prelude.{ℕ, zero, suc, Bool, true, false, ◌||◌, ◌&&◌, ◌==◌, nat_lt, length, is_some, List, [], ◌∷◌, ◌++◌, map, filter, Option, Some, None, slice_index_or}
+use Rattle.std.specs.Prelude.{ℕ, zero, suc, Bool, true, false, ◌||◌, ◌&&◌, ◌==◌, nat_lt, length, is_some, List, [], ◌∷◌, map, filter, Option, Some, None, slice_index_or}
 use Rattle.std.specs.List.{list_any, flat_map, filter_map}
 use Rattle.ex_named.specs.declared.declaration.NamedType.{NamedType}
 use Rattle.ex_named.specs.declared.declaration.NamedUnderlying.{NamedUnderlying}
@@ -12,7 +12,7 @@ use Rattle.ex_kinds.specs.declared.kind.Sort.TheVariants as k
 use Rattle.ex_kinds.specs.declared.kind.PlainSort.{PlainSort}
 use Rattle.ex_kinds.specs.declared.kind.PlainSort.TheVariants as p
 use Rattle.ex_kinds.specs.Kinds.{Kinds, itself, of_name, of_type, shallower}
-use Rattle.ex_kinds.specs.Leading.{is_marked, leading}
+use Rattle.ex_renamings.specs.Leading.{is_marked, leading}
 
 -- ---- defined types
 

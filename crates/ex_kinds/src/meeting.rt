@@ -6,9 +6,9 @@ ghost use Rattle.ex_kinds.specs.Types as spec;
 
 use crate::kind::{PlainSort, Sort, ValueKind};
 use crate::kinds::Kinds;
-use crate::leading::{Turned, is_marked};
 use crate::list::shallower;
 use crate::types::{alternative, held, is_instance, mentioned};
+use ex_renamings::{Turned, is_marked};
 use plain_data::Rows;
 use std::alloc::{AllocError, Global};
 

@@ -4,17 +4,17 @@ ghost use Rattle.std.specs.Prelude.{◌≡◌, ◌++◌, length, map, IfOk, OnOk
 ghost use Rattle.std.specs.List.{filter_map, flat_map, list_any};
 ghost use Rattle.lineage.specs.Lineage as lineage;
 ghost use Rattle.ex_kinds.specs.Kinds.{of_name};
-ghost use Rattle.ex_kinds.specs.Leading as graphs;
+ghost use Rattle.ex_renamings.specs.Leading as graphs;
 ghost use Rattle.ex_kinds.specs.Types as spec;
 
 use crate::data_type::{kind_of_name, kinds_of, kinds_of_one};
 use crate::kind::{PlainSort, Sort, ValueKind};
 use crate::kinds::Kinds;
-use crate::leading::{Turned, is_marked};
 use crate::meeting::{
     all_holding, any_holds_instance, has_elements, holds_instance, is_value, met, place_of,
 };
 use ex_named::{NamedType, NamedUnderlying, TypeName};
+use ex_renamings::{Turned, is_marked};
 use lineage::family;
 use plain_data::Rows;
 use std::alloc::{AllocError, Global};

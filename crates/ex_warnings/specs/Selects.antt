@@ -1,41 +1,7 @@
--- The types of a schema that are SELECTs.
-use Rattle.std.specs.Prelude.{ℕ, zero, suc, Bool, true, false, List, [], ◌∷◌, length, map, slice_index_or, if◌then◌else◌}
+-- The names of the types of a schema that are SELECTs.
+use Rattle.std.specs.Prelude.{ℕ, zero, suc, List, [], ◌∷◌, if◌then◌else◌}
 use Rattle.ex_named.specs.declared.declaration.NamedType.{NamedType}
-use Rattle.ex_named.specs.declared.declaration.NamedUnderlying.{NamedUnderlying}
-use Rattle.ex_named.specs.declared.declaration.NamedUnderlying.TheVariants as u
-use Rattle.ex_named.specs.declared.expression.NamedDataType.{NamedDataType-F, out-NamedDataType}
-use Rattle.ex_named.specs.declared.reference.TypeName.TheVariants as t
-
--- what a type of this number renames, by what it is declared as
-abbrev pub renamed_by_data : {A : Type 0} → ℕ → NamedDataType-F A → ℕ
-renamed_by_data k (NamedDataType-F.Named (t.Defined j)) = j
-renamed_by_data k _ = k
-
-abbrev pub renamed_by : ℕ → NamedUnderlying → ℕ
-renamed_by k (u.Data declared) = renamed_by_data k (out-NamedDataType declared)
-renamed_by k _ = k
-
--- the type that a type renames; itself, where it renames none
-abbrev pub renamed : List NamedType → ℕ → ℕ
-renamed types k = slice_index_or (map (λ x. renamed_by k x.underlying) types) k k
-
--- so many renamings further
-abbrev pub renamed_times : ℕ → List NamedType → ℕ → ℕ
-renamed_times zero types k = k
-renamed_times (suc n) types k = renamed types (renamed_times n types k)
-
-abbrev pub is_listed : NamedUnderlying → Bool
-is_listed (u.Select members) = true
-is_listed _ = false
-
--- whether a type is declared by its members
-abbrev pub lists_members : List NamedType → ℕ → Bool
-lists_members types k = slice_index_or (map (λ x. is_listed x.underlying) types) k false
-
--- Whether a type is a SELECT: it lists members, or a type does that it renames, through any number of renamings. Where they
--- form no cycle, fewer follow each other than there are types, and beyond the last one a type stays as it is.
-abbrev pub is_select : List NamedType → ℕ → Bool
-is_select types k = lists_members types (renamed_times (length types) types k)
+use Rattle.ex_renamings.specs.Renamings.{is_select}
 
 -- the names of those of a list that are SELECTs, whose first has this number among all
 abbrev pub select_names_from : List NamedType → ℕ → List NamedType → List (List ℕ)

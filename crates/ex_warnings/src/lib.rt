@@ -5,5 +5,4 @@
 mod selects;
 mod warned;
 
-pub use selects::renamed_times;
 pub use warned::warnings;

@@ -1,122 +1,12 @@
-//! The types that are SELECTs.
+//! The names of the types that are SELECTs.
 
-ghost use Rattle.std.specs.Prelude.{◌≡◌, length, map, IfOk};
+ghost use Rattle.std.specs.Prelude.{◌≡◌, IfOk};
 ghost use Rattle.ex_warnings.specs.Selects as spec;
-ghost use Rattle.ex_warnings.specs.Steps.{HasRenamed, target as target_in};
 
-use ex_named::{NamedDataType, NamedType, NamedUnderlying, TypeName};
+use ex_named::NamedType;
+use ex_renamings::Renamings;
 use name_tables::NameTable;
 use std::alloc::{AllocError, Global};
-
-/// The type that a type renames; itself, where it renames none.
-fn renamed(types: &[NamedType], number: usize) -> usize
-    ensures { result ≡ spec.renamed types.now number }
-{
-    match types.get(number) {
-        Some(declared) => renamed_by(number, &declared.underlying),
-        None => number,
-    }
-}
-
-fn renamed_by(number: usize, underlying: &NamedUnderlying) -> usize
-    ensures { result ≡ spec.renamed_by number underlying.now }
-{
-    match underlying {
-        NamedUnderlying::Data(NamedDataType::Named(TypeName::Defined(other))) => *other,
-        _ => number,
-    }
-}
-
-/// What stands in a table at a number; the number itself beyond the end.
-fn target(table: &[usize], number: usize) -> usize
-    ensures { result ≡ target_in table.now number }
-{
-    table.get(number).copied().unwrap_or(number)
-}
-
-/// What each number of the first table has in the second.
-fn joined(alloc: Global, first: &[usize], second: &[usize]) -> Result<Vec<usize>, AllocError>
-    ensures { IfOk result (λ table. table.items ≡ map (target_in second.now) first.now) }
-{
-    let mut table = Vec::with_capacity(alloc, first.len())?;
-    for number in first {
-        table.push(target(second, *number))?;
-    }
-    Ok(table)
-}
-
-/// What each type of a table renames.
-fn all_renamed(
-    alloc: Global,
-    types: &[NamedType],
-    table: &[usize],
-) -> Result<Vec<usize>, AllocError>
-    ensures { IfOk result (λ further. further.items ≡ map (spec.renamed types.now) table.now) }
-{
-    let mut further = Vec::with_capacity(alloc, table.len())?;
-    for number in table {
-        further.push(renamed(types, *number))?;
-    }
-    Ok(further)
-}
-
-/// Of each type itself, which is no renaming further.
-fn all_themselves(alloc: Global, types: &[NamedType]) -> Result<Vec<usize>, AllocError>
-    ensures { IfOk result (λ table. HasRenamed 0 types.now table.items) }
-{
-    let mut table = Vec::with_capacity(alloc, types.len())?;
-    for number in 0..types.len() {
-        table.push(number)?;
-    }
-    Ok(table)
-}
-
-/// Of each type the one that is so many renamings further. By halves: there may be hundreds of thousands in a row.
-pub fn renamed_times(
-    alloc: Global,
-    types: &[NamedType],
-    count: usize,
-) -> Result<Vec<usize>, AllocError>
-    ensures { IfOk result (λ table. HasRenamed count types.now table.items) }
-{
-    if count == 0 {
-        return all_themselves(alloc, types);
-    }
-    let half = renamed_times(alloc, types, count / 2)?;
-    let table = joined(alloc, &half, &half)?;
-    if count % 2 == 0 {
-        Ok(table)
-    } else {
-        all_renamed(alloc, types, &table)
-    }
-}
-
-/// Whether a type lists its members.
-fn lists_members(types: &[NamedType], number: usize) -> bool
-    ensures { result ≡ spec.lists_members types.now number }
-{
-    match types.get(number) {
-        Some(declared) => is_listed(&declared.underlying),
-        None => false,
-    }
-}
-
-fn is_listed(underlying: &NamedUnderlying) -> bool
-    ensures { result ≡ spec.is_listed underlying.now }
-{
-    match underlying {
-        NamedUnderlying::Select(_) => true,
-        NamedUnderlying::Enumeration(_) | NamedUnderlying::Data(_) => false,
-    }
-}
-
-/// Whether a type is a SELECT, given the types at which the renamings end.
-fn is_select(types: &[NamedType], ends: &[usize], number: usize) -> bool
-    requires { HasRenamed (length types.now) types.now ends.now }
-    ensures { result ≡ spec.is_select types.now number }
-{
-    lists_members(types, target(ends, number))
-}
 
 /// The names of the types that are SELECTs.
 #[tactic(auto, unfolding(crate::specs::Selects::select_names))]
@@ -126,10 +16,10 @@ pub(crate) fn select_names<'a>(
 ) -> Result<NameTable<'a>, AllocError>
     ensures { IfOk result (λ names. names ≡ spec.select_names types.now) }
 {
-    let ends = renamed_times(alloc, types, types.len())?;
+    let renamings = Renamings::of(alloc, types)?;
     let mut names = NameTable::new(alloc);
     for (number, declared) in types.iter().enumerate() {
-        if is_select(types, &ends, number) {
+        if renamings.is_select(number) {
             names.push(declared.name.text.as_bytes())?;
         }
     }

@@ -11,7 +11,7 @@ use Rattle.ex_named.specs.declared.declaration.NamedUnderlying.{NamedUnderlying}
 use Rattle.ex_named.specs.declared.declaration.NamedUnderlying.TheVariants as u
 use Rattle.name_tables.specs.Names.{place_of}
 use Rattle.p21_spelling.specs.Tokens.{is_word}
-use Rattle.p21_values.specs.Taking.{items, items_by}
+use Rattle.ex_selects.specs.Items.{items, items_by}
 use Rattle.p21_values.specs.Tokens.{boolean, by_letter, logical}
 use Rattle.p21_lines.specs.Trees.{item_name, items_of, logical_name}
 use Rattle.rp_numbers.specs.declared.Logical.{Logical}

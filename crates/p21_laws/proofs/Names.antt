@@ -12,7 +12,7 @@ use Rattle.lineage.specs.Lineage.{IsAcyclic}
 use Rattle.name_tables.specs.Names.{place_of}
 use Rattle.p21_spelling.proofs.Runs.{first_holds, second_holds}
 use Rattle.p21_spelling.specs.Tokens.{is_word}
-use Rattle.p21_values.specs.Taking.{type_named}
+use Rattle.ex_selects.specs.Items.{type_named}
 use Rattle.p21_lines.specs.Trees.{type_name}
 use Rattle.p21_laws.specs.Types.{AreTypes, AreWords, is_upper_word}
 

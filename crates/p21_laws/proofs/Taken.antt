@@ -8,7 +8,7 @@ use Rattle.std.specs.Str.{str_to_ascii_uppercase}
 use Rattle.ex_named.specs.declared.declaration.NamedType.{NamedType}
 use Rattle.ex_named.specs.declared.expression.NamedDataType.{NamedDataType}
 use Rattle.ex_tree.specs.declared.data_type.SimpleType.TheVariants as simple
-use Rattle.ex_warnings.specs.Selects as selects
+use Rattle.ex_renamings.specs.Renamings as selects
 use Rattle.lineage.specs.Lineage.{family, is_among}
 use Rattle.name_tables.specs.Names.{place_of}
 use Rattle.p21_spelling.proofs.Runs.{both_hold, first_holds, second_holds}
@@ -24,9 +24,10 @@ use Rattle.p21_tree.specs.declared.value.Value as tree
 use Rattle.p21_tree.specs.declared.value.Value.TheFolds.{ind-Value, map-Value}
 use Rattle.p21_tree.specs.declared.value.Value.TheOpen.{Value-F}
 use Rattle.p21_tree.specs.declared.value.Value.TheViews.{roll-Value}
-use Rattle.p21_values.specs.Ends.{Base, Plain, Instance, Aggregate, Enumeration, Select, Nothing, Target, base_of, choices, chooses_instances, inside, selection, target}
+use Rattle.ex_selects.specs.Ends.{Base, Plain, Instance, Aggregate, Enumeration, Select, Nothing, Target, base_of, choices, chooses_instances, inside, selection, target}
 use Rattle.p21_values.specs.Taking as taking
-use Rattle.p21_values.specs.Taking.{Meaning, all_there, bare, bare_at, bound, by_choice, chosen, is_that, items, meaning, named_by, none, of_binary, of_integer, of_item, of_list, of_real, of_text, only, place, reference_at, type_named, with_first}
+use Rattle.p21_values.specs.Taking.{Meaning, all_there, bare, bare_at, bound, by_choice, chosen, is_that, meaning, named_by, none, of_binary, of_integer, of_item, of_list, of_real, of_text, only, place, reference_at, with_first}
+use Rattle.ex_selects.specs.Items.{items, type_named}
 use Rattle.p21_values.specs.Tokens.{bits, boolean, integer, logical, ok}
 use Rattle.p21_lines.specs.Binaries.{binary}
 use Rattle.p21_lines.specs.Trees.{item_name, logical_name, type_name, value_tree}

@@ -8,7 +8,7 @@ use Rattle.ex_resolve.specs.Proved.{count, held_types}
 use Rattle.ex_types.specs.Checked.{type_names}
 use Rattle.lineage.specs.Lineage.{IsAcyclic}
 use Rattle.p21_spelling.specs.Tokens.{is_word}
-use Rattle.p21_values.specs.Taking.{items_by}
+use Rattle.ex_selects.specs.Items.{items_by}
 
 abbrev pub is_upper_word : List ℕ → Bool
 is_upper_word name = is_word name && bytes_eq (str_to_ascii_uppercase name) name

@@ -11,9 +11,10 @@ use Rattle.p21_tree.specs.declared.value.Value as tree
 use Rattle.p21_tree.specs.declared.value.Value.TheFolds as trees
 use Rattle.p21_tree.specs.declared.value.Value.TheOpen.{Value-F}
 use Rattle.p21_tree.specs.declared.value.Value.TheViews as views
-use Rattle.p21_values.specs.Ends.{Base, Aggregate, Select, Target, base_of, choices, inside, target}
+use Rattle.ex_selects.specs.Ends.{Base, Aggregate, Select, Target, base_of, choices, inside, target}
 use Rattle.p21_values.specs.Taking as taking
-use Rattle.p21_values.specs.Taking.{Meaning, all_there, bare_at, by_choice, chosen, is_that, meaning, named_by, of_list, only, place, type_named, with_first}
+use Rattle.p21_values.specs.Taking.{Meaning, all_there, bare_at, by_choice, chosen, is_that, meaning, named_by, of_list, only, place, with_first}
+use Rattle.ex_selects.specs.Items.{type_named}
 use Rattle.rp_value.specs.declared.value.Value.{Value}
 use Rattle.rp_value.specs.declared.value.Value.TheVariants as v
 use Rattle.p21_mappings.specs.declared.read_slot.ReadSlot.{ReadSlot}

@@ -6,7 +6,7 @@ use Rattle.ex_types.specs.Checked.{Checked}
 use Rattle.p21_instances.specs.Instances.{references}
 use Rattle.p21_tree.specs.declared.fault.InstanceFaultKind.TheVariants.{NotDerived}
 use Rattle.p21_tree.specs.declared.value.Value.{Value as Spelled}
-use Rattle.p21_values.specs.Ends.{target}
+use Rattle.ex_selects.specs.Ends.{target}
 use Rattle.p21_values.specs.Taking.{meaning, place}
 use Rattle.rp_value.specs.declared.value.Value.{Value}
 use Rattle.p21_mappings.specs.declared.plan.Leaf.{Leaf}

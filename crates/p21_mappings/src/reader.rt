@@ -6,9 +6,9 @@ ghost use Rattle.std.specs.Str.{str_to_ascii_uppercase};
 ghost use Rattle.p21_mappings.specs.Plans as spec;
 
 use ex_named::NamedEntity;
+use ex_selects::DefinedTypes;
 use ex_subtypes::{Compiled, TypeSet};
 use p21_tree::Keyword;
-use p21_values::DefinedTypes;
 use plain_data::{Rows, Text};
 use std::alloc::{AllocError, Global};
 use std::marker::Model;

@@ -8,11 +8,13 @@ use Rattle.ex_named.specs.declared.declaration.NamedType.{NamedType}
 use Rattle.p21_tree.specs.declared.value.Value as tree
 use Rattle.rp_value.specs.declared.value.Value.{Value}
 use Rattle.rp_value.specs.declared.value.Value.TheVariants as v
-use Rattle.p21_values.specs.declared.ends.Target as code
-use Rattle.p21_values.specs.Ends.{Target, Base, Plain, Instance, Aggregate, Enumeration, Select, Nothing, target, inside}
-use Rattle.p21_values.specs.Seen.{seen_target}
+use Rattle.ex_selects.specs.declared.ends.Target as code
+use Rattle.ex_selects.specs.Ends.{Target, Base, Plain, Instance, Aggregate, Enumeration, Select, Nothing, target, inside}
+use Rattle.ex_selects.specs.Seen.{seen_target}
 use Rattle.p21_values.specs.Taking.{Meaning, place, meaning, only, with_first, all_there, of_list, is_that, named_by, chosen}
-use Rattle.p21_values.specs.Deciding.{takes, takes_each, single, both, at, element, chooses, may_name}
+use Rattle.ex_selects.specs.Kept.{single}
+use Rattle.ex_selects.specs.Levels.{element}
+use Rattle.p21_values.specs.Deciding.{takes, takes_each, both, at, chooses, may_name}
 
 pub mapped : {A B : Type 0} (f : A → B) (o : Option A) → is_some (option_map f o) ≡ is_some o
 mapped f None = refl
@@ -120,20 +122,6 @@ after_group (suc n) (b ∷ bs) =
     ap (λ k. drop k (b ∷ bs)) less ∙ after_group n bs
 
 -- ---- places
-
-pub seen_at : (ts : List code.Target) (place : ℕ) (t : code.Target) → slice_get ts place ≡ Some t → slice_get (map seen_target ts) place ≡ Some (seen_target t)
-seen_at [] place t e = cc
-seen_at (x ∷ ts) zero t e = let same : x ≡ t = cc in ap (λ t. Some (seen_target t)) same
-seen_at (x ∷ ts) (suc place) t e = seen_at ts place t e
-
-pub kept_at : (ds : List Target) (d : Target) (place : ℕ) (t : Target) → slice_get ds place ≡ Some t → slice_get (ds ++ d ∷ []) place ≡ Some t
-kept_at [] d place t e = cc
-kept_at (x ∷ ds) d zero t e = e
-kept_at (x ∷ ds) d (suc place) t e = kept_at ds d place t e
-
-pub new_at : (ds : List Target) (d : Target) → slice_get (ds ++ d ∷ []) (length ds) ≡ Some d
-new_at [] d = refl
-new_at (x ∷ ds) d = new_at ds d
 
 pub at_found : (P : Target → Bool) (ds : List code.Target) (place : ℕ) (t : Target)
     → slice_get (map seen_target ds) place ≡ Some t → at (map (λ d. P (seen_target d)) ds) place ≡ P t

@@ -1,12 +1,9 @@
 pub mod Digits
-pub mod Tables
 pub mod Several
 pub mod Decided
 pub mod Groups
 pub mod Steps
 pub mod Lists
 pub mod Meanings
-pub mod Renamed
 pub mod Chosen
-pub mod Firsts
-pub mod Standing
+pub mod Items

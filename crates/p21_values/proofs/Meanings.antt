@@ -7,9 +7,9 @@ use Rattle.p21_tree.specs.declared.value.Value.TheOpen.{Value-F}
 use Rattle.p21_tree.specs.declared.value.Value.TheVariants as t
 use Rattle.p21_tree.specs.declared.value.Value.TheViews as views
 use Rattle.rp_value.specs.declared.value.Value.TheVariants as v
-use Rattle.p21_values.specs.Ends.{Target}
+use Rattle.ex_selects.specs.Ends.{Target}
 use Rattle.p21_values.specs.Taking.{Meaning, bare_at, layer, meaning, named, place, reference}
-use Rattle.p21_values.specs.declared.levels.Level.{Level}
+use Rattle.ex_selects.specs.declared.levels.Level.{Level}
 use Rattle.p21_values.specs.Deciding.{alone, alone_by, rows, rows_by, rows_of_list}
 
 -- it holds no others, and is no reference

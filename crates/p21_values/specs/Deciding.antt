@@ -1,17 +1,19 @@
 -- Whether types take a value, without the value that they take.
-use Rattle.std.specs.Prelude.{◌≡◌, ⊤, ℕ, Bool, false, ◌&&◌, ◌||◌, List, [], ◌∷◌, ◌++◌, map, filter, take, length, Option, Some, None, is_some, slice_get}
-use Rattle.std.specs.List.{filter_map, flat_map, list_all}
-use Rattle.std.specs.Option.{option_map, option_map_or, option_to_list}
+use Rattle.std.specs.Prelude.{◌≡◌, ℕ, Bool, false, ◌&&◌, ◌||◌, List, [], ◌∷◌, ◌++◌, map, filter, take, length, Option, Some, None, is_some, slice_get}
+use Rattle.std.specs.List.{flat_map, list_all}
+use Rattle.std.specs.Option.{option_map_or}
 use Rattle.ex_named.specs.declared.declaration.NamedType.{NamedType}
 use Rattle.lineage.specs.Lineage.{is_among}
 use Rattle.p21_tree.specs.declared.value.Value as tree
 use Rattle.p21_tree.specs.declared.value.Value.TheOpen.{Value-F}
 use Rattle.rp_value.specs.declared.value.Value.{Value}
-use Rattle.p21_values.specs.declared.ends.Target as code_target
-use Rattle.p21_values.specs.declared.levels.Candidate.{Candidate}
-use Rattle.p21_values.specs.declared.levels.Level.{Level}
-use Rattle.p21_values.specs.Ends.{Base, Aggregate, Select, Target, base_of, target, choices}
-use Rattle.p21_values.specs.Seen.{seen, seen_target}
+use Rattle.ex_selects.specs.declared.sorts.Class.{Class}
+use Rattle.ex_selects.specs.declared.sorts.Class.TheVariants as class
+use Rattle.ex_selects.specs.declared.levels.Candidate.{Candidate}
+use Rattle.ex_selects.specs.declared.levels.Level.{Level}
+use Rattle.ex_selects.specs.Ends.{Base, Select, Target, choices}
+use Rattle.ex_selects.specs.Kept.{single}
+use Rattle.ex_selects.specs.Seen.{seen_target}
 use Rattle.p21_values.specs.Taking.{Meaning, place, meaning, is_that}
 
 abbrev pub takes : Meaning → Target → Bool
@@ -20,11 +22,6 @@ takes m t = is_some (place m t)
 -- whether the type takes each
 abbrev pub takes_each : List Meaning → Target → Bool
 takes_each ms t = list_all (λ m. takes m t) ms
-
--- the one of them, where there is just one
-abbrev pub single : {A : Type 0} → List A → Option A
-single (x ∷ []) = Some x
-single _ = None
 
 -- both, one by one
 abbrev pub both : List Bool → List Bool → List Bool
@@ -35,32 +32,9 @@ both _ _ = []
 abbrev pub at : List Bool → ℕ → Bool
 at bs place = option_map_or (λ b. b) (slice_get bs place) false
 
--- what stands at a place stays there
-abbrev pub Keeps : List code_target.Target → List code_target.Target → Type 0
-Keeps before after = (place : ℕ) (t : Target) → slice_get (map seen_target before) place ≡ Some t → slice_get (map seen_target after) place ≡ Some t
-
--- ---- the aggregates that a list may be of
-
--- by the defined type that it is, where a SELECT chooses it, with the type of its elements
-pub record Asked : Type 0 where
-  pub number : Option ℕ
-  pub target : Target
-
--- these aggregates, with their elements' types among those
-abbrev pub IsGroup : List code_target.Target → List Candidate → List Asked → Type 0
-IsGroup targets [] [] = ⊤
-IsGroup targets (c ∷ group) (a ∷ asked) =
-    (c.number ≡ a.number) × ((slice_get (map seen_target targets) c.place ≡ Some a.target) × IsGroup targets group asked)
-IsGroup targets _ _ = ⊥
-
 -- the only one of a group whose elements' type is taken
 abbrev pub only_candidate : List Candidate → List Bool → Option Candidate
 only_candidate group taken = single (filter (λ c. at taken c.place) group)
-
--- whose elements a further level below these is of
-abbrev pub last_asking : List code_target.Target → List Level → List code_target.Target
-last_asking asking [] = asking
-last_asking asking (level ∷ below) = last_asking level.targets.items below
 
 abbrev pub StartsWith : List Bool → List Bool → Type 0
 StartsWith front rows = take (length front) rows ≡ front
@@ -69,6 +43,14 @@ StartsWith front rows = take (length front) rows ≡ front
 abbrev pub rows_by : Value-F tree.Value → (List tree.Value → List Bool) → List Bool
 rows_by (Value-F.List values) rows = rows values
 rows_by _ rows = []
+
+-- the class of the types that may take a token
+abbrev pub class_by : Value-F tree.Value → Class
+class_by (Value-F.Item token) = class.Items
+class_by _ = class.Plain
+
+abbrev pub class_of : tree.Value → Class
+class_of x = class_by (tree.out-Value x)
 
 module _ (types : List NamedType) where
   -- ---- values that hold no others
@@ -91,36 +73,6 @@ module _ (types : List NamedType) where
   takes_alone x = takes_alone_by (tree.out-Value x) (takes (meaning types x))
 
   -- ---- lists
-
-  -- the type of an aggregate's elements
-  abbrev pub element : Base → Option Target
-  element (Aggregate kind low inner) = Some (target types inner)
-  element _ = None
-
-  abbrev pub asked_at : Base → Option ℕ → Option Asked
-  asked_at base number = option_map (λ t. record { number = number; target = t }) (element base)
-
-  abbrev pub asked_choice : ℕ → Option Asked
-  asked_choice number = asked_at (base_of types number) (Some number)
-
-  -- the aggregates that a list of this type may be of
-  abbrev pub asked : Base → List Asked
-  asked (Select number) = filter_map asked_choice (choices types number)
-  asked base = option_to_list (asked_at base None)
-
-  -- of each of these types its group
-  abbrev pub AreGroups : List code_target.Target → List code_target.Target → List (List Candidate) → Type 0
-  AreGroups targets [] [] = ⊤
-  AreGroups targets (t ∷ ts) (g ∷ gs) = IsGroup targets g (asked (seen t.base)) × AreGroups targets ts gs
-  AreGroups targets _ _ = ⊥
-
-  abbrev pub IsLevel : List code_target.Target → Level → Type 0
-  IsLevel asking level = AreGroups level.targets.items asking level.groups.items
-
-  -- each asks for those of the one above it
-  abbrev pub AreLevels : List code_target.Target → List Level → Type 0
-  AreLevels asking [] = ⊤
-  AreLevels asking (level ∷ below) = IsLevel asking level × AreLevels level.targets.items below
 
   -- which of a level's types take each of the values
   abbrev pub row : Level → List tree.Value → List Bool

@@ -1,9 +1,3 @@
-pub mod Ends
-pub mod Shared
-pub mod Seen
 pub mod Tokens
-pub mod Sorts
-pub mod Kept
 pub mod Taking
-pub mod Takers
 pub mod Deciding

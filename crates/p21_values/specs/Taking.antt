@@ -1,12 +1,10 @@
 -- What a declared type takes of a value as a file spells it (ISO 10303-21:2002, 10.1 and 10.2).
-use Rattle.std.specs.Prelude.{ℕ, Bool, true, false, ◌==◌, if◌then◌else◌, List, [], ◌∷◌, ◌++◌, map, Option, Some, None, slice_get}
+use Rattle.std.specs.Prelude.{ℕ, Bool, true, false, ◌==◌, if◌then◌else◌, List, [], ◌∷◌, ◌++◌, map, Option, Some, None}
 use Rattle.std.specs.List.{filter_map}
-use Rattle.std.specs.Option.{option_map, option_map_or}
+use Rattle.std.specs.Option.{option_map}
 use Rattle.std.specs.Str.{str_to_ascii_uppercase}
 use Rattle.ex_tree.specs.declared.data_type.SimpleType.TheVariants as s
 use Rattle.ex_named.specs.declared.declaration.NamedType.{NamedType}
-use Rattle.ex_named.specs.declared.declaration.NamedUnderlying.{NamedUnderlying}
-use Rattle.ex_named.specs.declared.declaration.NamedUnderlying.TheVariants as u
 use Rattle.ex_named.specs.declared.expression.NamedDataType.{NamedDataType}
 use Rattle.lineage.specs.Lineage.{is_among}
 use Rattle.name_tables.specs.Names.{place_of}
@@ -17,7 +15,8 @@ use Rattle.p21_tree.specs.declared.value.Value.TheOpen.{Value-F}
 use Rattle.rp_numbers.specs.Spelling.{parse}
 use Rattle.rp_value.specs.declared.value.Value.{Value}
 use Rattle.rp_value.specs.declared.value.Value.TheVariants as v
-use Rattle.p21_values.specs.Ends.{Base, Plain, Instance, Aggregate, Enumeration, Select, Target, base_of, target, inside, choices, chooses_instances}
+use Rattle.ex_selects.specs.Items.{items, type_named}
+use Rattle.ex_selects.specs.Ends.{Base, Plain, Instance, Aggregate, Enumeration, Select, Target, base_of, target, inside, choices, chooses_instances}
 use Rattle.p21_values.specs.Tokens.{ok, integer, bits, logical, boolean}
 
 -- A value as it is spelled: whether it is `$`; what a type that is no SELECT takes of it where no keyword stands before it; and what
@@ -53,10 +52,6 @@ abbrev pub of_binary : List ℕ → Base → Option Value
 of_binary token (Plain (s.Binary width)) = Some (v.Bin (bits token))
 of_binary token _ = None
 
-abbrev pub items_by : NamedUnderlying → List (List ℕ)
-items_by (u.Enumeration items) = map (λ i. i.text) items
-items_by _ = []
-
 -- ---- several
 
 -- the one value, where there is just one
@@ -74,14 +69,10 @@ all_there [] = Some []
 all_there (x ∷ xs) = with_first x (all_there xs)
 
 module _ (types : List NamedType) where
-  -- the names of an enumeration's items
-  abbrev pub items : ℕ → List (List ℕ)
-  items number = option_map_or (λ x. items_by x.underlying) (slice_get types number) []
-
   abbrev pub of_item : List ℕ → Base → Option Value
   of_item token (Plain s.Boolean) = option_map v.Log (boolean token)
   of_item token (Plain s.Logical) = option_map v.Log (logical token)
-  of_item token (Enumeration number) = option_map (v.Item number) (place_of token (items number))
+  of_item token (Enumeration number) = option_map (v.Item number) (place_of token (items types number))
   of_item token _ = None
 
   abbrev pub of_list : List Meaning → Base → Option Value
@@ -118,10 +109,6 @@ module _ (types : List NamedType) where
 
   -- ---- with a keyword: the name of the type itself, or of one that a SELECT chooses from
 
-  -- the type of this name, in either case
-  abbrev pub type_named : List ℕ → Option ℕ
-  type_named keyword = place_of (str_to_ascii_uppercase keyword) (map (λ x. x.name.text) types)
-
   abbrev pub is_that : Option ℕ → ℕ → Bool
   is_that None number = false
   is_that (Some k) number = k == number
@@ -136,7 +123,7 @@ module _ (types : List NamedType) where
   named_by m (Some number) t = if is_that t.name number then m.fit (inside types number) else chosen m number t.base
 
   abbrev pub named : List ℕ → Meaning → Meaning
-  named keyword m = record { is_unset = false; plain = λ base. None; fit = named_by m (type_named keyword) }
+  named keyword m = record { is_unset = false; plain = λ base. None; fit = named_by m (type_named types keyword) }
 
   -- ---- any
 

@@ -7,19 +7,15 @@ ghost use Rattle.std.specs.Str.{str_to_ascii_uppercase};
 ghost use Rattle.p21_escapes.specs.Decoding.{decoded};
 ghost use Rattle.rp_numbers.specs.Spelling.{parse};
 ghost use Rattle.rp_value.specs.declared.value.Value.TheVariants as v;
-ghost use Rattle.p21_values.specs.Ends as ends;
-ghost use Rattle.p21_values.specs.Seen.{seen};
+ghost use Rattle.ex_selects.specs.Ends as ends;
+ghost use Rattle.ex_selects.specs.Seen.{seen};
 ghost use Rattle.p21_values.specs.Tokens.{ok};
 ghost use Rattle.p21_values.specs.Deciding as deciding;
-ghost use Rattle.p21_values.specs.Kept as kept;
-ghost use Rattle.p21_values.specs.Takers as takers;
+ghost use Rattle.ex_selects.specs.Takers as takers;
 ghost use Rattle.p21_values.specs.Taking as spec;
 
-use crate::ends::{Base, base_of};
-use crate::sorts::Class;
-use crate::takers::{Takers, taker_at};
 use crate::tokens::{bits, boolean, integer, is_upper_case, logical};
-use crate::types::DefinedTypes;
+use ex_selects::{Base, Class, DefinedTypes, Takers, base_of, taker_at};
 use ex_tree::SimpleType;
 use name_tables::First;
 use p21_strings::decode_string;
@@ -130,11 +126,14 @@ fn of_item(types: &DefinedTypes<'_>, name: &[u8], base: &Base<'_>) -> Option<Val
 }
 
 /// What a SELECT takes of a reference.
-fn selected_reference(alloc: Global, types: &DefinedTypes<'_>, name: u64, number: usize) -> Taken
-    ensures { IfOk result (λ taken. taken ≡ spec.reference_at types.now name (ends.Select number)) }
+fn selected_reference(types: &DefinedTypes<'_>, name: u64, number: usize) -> Option<Value>
+    ensures { result ≡ spec.reference_at types.now name (ends.Select number) }
 {
-    let takes = types.chooses_instances(alloc, number)?;
-    Ok(if takes { Some(Value::Inst(name)) } else { None })
+    if types.chooses_instances(number) {
+        Some(Value::Inst(name))
+    } else {
+        None
+    }
 }
 
 /// What an item in either case is. Most are in upper case, and then no copy is made.
@@ -156,13 +155,13 @@ fn item_in_either_case(
 
 /// What a type takes of a reference.
 #[inline(always)]
-pub fn reference(alloc: Global, types: &DefinedTypes<'_>, name: u64, base: &Base<'_>) -> Taken
-    ensures { IfOk result (λ taken. taken ≡ spec.reference_at types.now name (seen base.now)) }
+pub fn reference(types: &DefinedTypes<'_>, name: u64, base: &Base<'_>) -> Option<Value>
+    ensures { result ≡ spec.reference_at types.now name (seen base.now) }
 {
     match base {
-        Base::Instance => Ok(Some(Value::Inst(name))),
-        Base::Select(number) => selected_reference(alloc, types, name, *number),
-        _ => Ok(None),
+        Base::Instance => Some(Value::Inst(name)),
+        Base::Select(number) => selected_reference(types, name, *number),
+        _ => None,
     }
 }
 
@@ -218,7 +217,7 @@ fn only_token(
 
 /// The class of the types that may take a token.
 fn class_of(value: &Spelled<'_>) -> Class
-    ensures { result ≡ kept.class_of value.now }
+    ensures { result ≡ deciding.class_of value.now }
 {
     match value {
         Spelled::Item(_) => Class::Items,

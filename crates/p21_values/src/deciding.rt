@@ -6,15 +6,15 @@
 
 ghost use Rattle.std.specs.Prelude.{◌≡◌, ◌++◌, ◌∷◌, ◌&&◌, [], List, Bool, Some, None, true, map, length, is_some, slice_get, IfOk, IfSome, OnOk};
 ghost use Rattle.std.specs.List.{flat_map, list_all};
-ghost use Rattle.p21_values.specs.Ends as ends;
-ghost use Rattle.p21_values.specs.Seen.{seen, seen_target};
+ghost use Rattle.ex_selects.specs.Ends as ends;
+ghost use Rattle.ex_selects.specs.Levels.{AreLevels};
+ghost use Rattle.ex_selects.specs.Seen.{seen, seen_target};
 ghost use Rattle.p21_values.specs.Taking as taking;
 ghost use Rattle.p21_values.specs.Deciding as spec;
 
 use crate::alone::{bare_token, reference};
-use crate::ends::{Base, Target, inside};
-use crate::levels::{Candidate, Level, at, level_of, levels_of, only_candidate};
-use crate::types::DefinedTypes;
+use crate::candidates::{at, only_candidate};
+use ex_selects::{Base, Candidate, DefinedTypes, Level, Target, inside, level_of, levels_of};
 use p21_tree::Value as Spelled;
 use plain_data::Rows;
 use std::alloc::{AllocError, Global};
@@ -62,7 +62,7 @@ fn takes_alone<'s>(
     match value {
         Spelled::Unset => Ok(true),
         Spelled::Derived | Spelled::List(_) | Spelled::Typed(_, _) => Ok(false),
-        Spelled::Reference(name) => Ok(reference(alloc, types, *name, &target.base)?.is_some()),
+        Spelled::Reference(name) => Ok(reference(types, *name, &target.base).is_some()),
         _ => Ok(bare_token(alloc, types, value, &target.base)?.is_some()),
     }
 }
@@ -203,7 +203,7 @@ fn takes<'s>(
     levels: &[Level<'s>],
     rows: &mut Vec<bool>,
 ) -> Result<Vec<bool>, AllocError>
-    requires { spec.AreLevels types.now targets.now levels.now }
+    requires { AreLevels types.now targets.now levels.now }
     ensures taken { IfOk result (λ taken. taken.items ≡ map (λ t. spec.takes (taking.meaning types.now value.now) (seen_target t)) targets.now) }
     ensures rows { OnOk result (rows.new.items ≡ rows.old.items ++ spec.rows types.now levels.now value.now) }
 {
@@ -227,7 +227,7 @@ fn takes_list<'s>(
     levels: &[Level<'s>],
     rows: &mut Vec<bool>,
 ) -> Result<Vec<bool>, AllocError>
-    requires { spec.AreLevels types.now targets.now levels.now }
+    requires { AreLevels types.now targets.now levels.now }
     ensures taken { IfOk result (λ taken. taken.items ≡ map (λ t. is_some (taking.bare_at types.now (taking.of_list types.now (map (taking.meaning types.now) values.now)) (seen t.base))) targets.now) }
     ensures rows { OnOk result (rows.new.items ≡ rows.old.items ++ spec.rows_of_list types.now levels.now values.now) }
 {
@@ -250,7 +250,7 @@ fn takes_at<'s>(
     below: &[Level<'s>],
     rows: &mut Vec<bool>,
 ) -> Result<Vec<bool>, AllocError>
-    requires { spec.AreLevels types.now level.now.targets.items below.now }
+    requires { AreLevels types.now level.now.targets.items below.now }
     ensures taken { IfOk result (λ taken. taken.items ≡ map (λ g. is_some (spec.only_candidate g (spec.row types.now level.now values.now))) level.now.groups.items) }
     ensures rows { OnOk result (rows.new.items ≡ rows.old.items ++ spec.rows_of_list types.now (level.now ∷ below.now) values.now) }
 {
@@ -272,7 +272,7 @@ fn take_all<'s>(
     below: &[Level<'s>],
     rows: &mut Vec<bool>,
 ) -> Result<Vec<bool>, AllocError>
-    requires { spec.AreLevels types.now targets.now below.now }
+    requires { AreLevels types.now targets.now below.now }
     ensures taken { IfOk result (λ taken. taken.items ≡ map (λ t. spec.takes_each (map (taking.meaning types.now) values.now) (seen_target t)) targets.now) }
     ensures rows { OnOk result (rows.new.items ≡ rows.old.items ++ flat_map (spec.rows types.now below.now) values.now) }
 {
@@ -292,7 +292,7 @@ pub fn rows_of<'s>(
     level: &Level<'s>,
     below: &[Level<'s>],
 ) -> Result<Vec<bool>, AllocError>
-    requires { spec.AreLevels types.now level.now.targets.items below.now }
+    requires { AreLevels types.now level.now.targets.items below.now }
     ensures { IfOk result (λ rows. rows.items ≡ spec.rows_of_list types.now (level.now ∷ below.now) values.now) }
 {
     let mut rows = Vec::new(alloc);

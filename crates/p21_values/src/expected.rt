@@ -4,10 +4,9 @@ ghost use Rattle.std.specs.Prelude.{◌≡◌, IfOk};
 ghost use Rattle.p21_values.specs.Taking as spec;
 
 use crate::alone::Taken;
-use crate::ends::{Target, target_of};
 use crate::taking::placed;
-use crate::types::DefinedTypes;
 use ex_named::NamedDataType;
+use ex_selects::{DefinedTypes, Target, target_of};
 use p21_tree::Value as Spelled;
 use std::alloc::Global;
 use std::marker::Model;
@@ -19,8 +18,8 @@ pub struct Expected<'s> {
 }
 
 impl<'s> Model for Expected<'s> {
-    ghost use Rattle.p21_values.specs.Ends.{Target};
-    ghost use Rattle.p21_values.specs.Seen.{seen_target};
+    ghost use Rattle.ex_selects.specs.Ends.{Target};
+    ghost use Rattle.ex_selects.specs.Seen.{seen_target};
 
     ghost Value = { Target };
 
@@ -34,7 +33,7 @@ impl<'s> Model for Expected<'s> {
 
 impl<'s> Expected<'s> {
     ghost use Rattle.std.specs.Prelude.{◌≡◌};
-    ghost use Rattle.p21_values.specs.Ends as ends;
+    ghost use Rattle.ex_selects.specs.Ends as ends;
 
     /// What values of this type are read by.
     pub fn of(types: &DefinedTypes<'s>, data_type: &'s NamedDataType) -> Expected<'s>

@@ -2,19 +2,11 @@
 #![tactic(auto)]
 
 mod alone;
+mod candidates;
 mod deciding;
-mod ends;
 mod expected;
-mod items;
-mod kept;
-mod levels;
 mod rest;
-mod selects;
-mod sorts;
-mod takers;
 mod taking;
 mod tokens;
-mod types;
 
 pub use expected::{Expected, bound_by};
-pub use types::DefinedTypes;

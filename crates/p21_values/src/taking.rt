@@ -4,18 +4,21 @@ ghost use Rattle.std.specs.Prelude.{◌≡◌, ◌∷◌, [], List, map, length,
 ghost use Rattle.std.specs.List.{flat_map};
 ghost use Rattle.std.specs.Option.{option_map};
 ghost use Rattle.rp_value.specs.declared.value.Value.TheVariants as v;
-ghost use Rattle.p21_values.specs.declared.ends.Base.TheVariants as code;
-ghost use Rattle.p21_values.specs.Ends as ends;
-ghost use Rattle.p21_values.specs.Seen.{seen, seen_target};
+ghost use Rattle.ex_selects.specs.declared.ends.Base.TheVariants as code;
+ghost use Rattle.ex_selects.specs.Ends as ends;
+ghost use Rattle.ex_selects.specs.Levels.{AreLevels, IsGroup, asked, element};
+ghost use Rattle.ex_selects.specs.Seen.{seen, seen_target};
 ghost use Rattle.p21_values.specs.Deciding as deciding;
 ghost use Rattle.p21_values.specs.Taking as spec;
 
 use crate::alone::{Taken, bare_token, reference, under_name};
+use crate::candidates::only_candidate;
 use crate::deciding::{depth_of, rows_of, select_of_lists};
-use crate::ends::{Base, Target, base_of, inside, target_of};
-use crate::levels::{Candidate, Level, Levels, level_of, levels_of, only_candidate};
 use crate::rest::Rest;
-use crate::types::DefinedTypes;
+use ex_selects::{
+    Base, Candidate, DefinedTypes, Level, Levels, Target, base_of, inside, level_of, levels_of,
+    target_of,
+};
 use p21_tree::Value as Spelled;
 use plain_data::Items;
 use rp_value::{AggregateKind, Value};
@@ -38,7 +41,7 @@ fn levels_at<'s>(
     values: &[Spelled<'_>],
     number: usize,
 ) -> Result<Levels<'s>, AllocError>
-    ensures { IfOk result (λ levels. deciding.AreLevels types.now (record { name = None; base = code.Select number } ∷ []) (levels.first ∷ levels.below.items)) }
+    ensures { IfOk result (λ levels. AreLevels types.now (record { name = None; base = code.Select number } ∷ []) (levels.first ∷ levels.below.items)) }
 {
     let select = Target {
         name: None,
@@ -99,7 +102,7 @@ fn select_element<'s>(
     levels: &Levels<'s>,
 ) -> Taken
     requires select { seen target.now.base ≡ ends.Select number }
-    requires levels { deciding.AreLevels types.now (record { name = None; base = code.Select number } ∷ []) (levels.now.first ∷ levels.now.below.items) }
+    requires levels { AreLevels types.now (record { name = None; base = code.Select number } ∷ []) (levels.now.first ∷ levels.now.below.items) }
     ensures { IfOk result (λ taken. taken ≡ spec.place (spec.meaning types.now value.now) (seen_target target.now)) }
 {
     match value {
@@ -142,7 +145,7 @@ pub fn placed(
 {
     match value {
         Spelled::Unset => Ok(Some(Value::Indet)),
-        Spelled::Reference(name) => reference(alloc, types, *name, &target.base),
+        Spelled::Reference(name) => Ok(reference(types, *name, &target.base)),
         Spelled::Derived | Spelled::Typed(_, _) | Spelled::List(_) => {
             fitting(alloc, types, value, target)
         }
@@ -162,7 +165,7 @@ fn fitting(
 {
     match value {
         Spelled::Unset | Spelled::Derived => Ok(None),
-        Spelled::Reference(name) => reference(alloc, types, *name, &target.base),
+        Spelled::Reference(name) => Ok(reference(types, *name, &target.base)),
         Spelled::Typed(keyword, inner) => {
             let number = types.number(alloc, keyword.as_bytes())?;
             named(alloc, types, number, inner.get(), target)
@@ -216,7 +219,7 @@ fn list_by<'s>(
     number: usize,
     levels: &Levels<'s>,
 ) -> Taken
-    requires { deciding.AreLevels types.now (record { name = None; base = code.Select number } ∷ []) (levels.now.first ∷ levels.now.below.items) }
+    requires { AreLevels types.now (record { name = None; base = code.Select number } ∷ []) (levels.now.first ∷ levels.now.below.items) }
     ensures { IfOk result (λ taken. taken ≡ spec.bare_at types.now (spec.of_list types.now (map (spec.meaning types.now) values.now)) (ends.Select number)) }
 {
     let level = &levels.first;
@@ -251,8 +254,8 @@ fn list_at<'s>(
     below: &[Level<'s>],
     rest: &mut Rest<'_>,
 ) -> Taken
-    requires group { deciding.IsGroup level.now.targets.items group.now (deciding.asked types.now (seen base.now)) }
-    requires below { deciding.AreLevels types.now level.now.targets.items below.now }
+    requires group { IsGroup level.now.targets.items group.now (asked types.now (seen base.now)) }
+    requires below { AreLevels types.now level.now.targets.items below.now }
     requires rows { deciding.StartsWith (deciding.rows_of_list types.now (level.now ∷ below.now) values.now) rest.old }
     ensures taken { IfOk result (λ taken. taken ≡ spec.bare_at types.now (spec.of_list types.now (map (spec.meaning types.now) values.now)) (seen base.now)) }
     ensures rest { IfOk result (λ taken. IfSome taken (λ v. rest.new ≡ drop (length (deciding.rows_of_list types.now (level.now ∷ below.now) values.now)) rest.old)) }
@@ -301,8 +304,8 @@ fn list_of<'s>(
     below: &[Level<'s>],
     rest: &mut Rest<'_>,
 ) -> Taken
-    requires element { deciding.element types.now (seen base.now) ≡ slice_get (map seen_target level.now.targets.items) place }
-    requires below { deciding.AreLevels types.now level.now.targets.items below.now }
+    requires element { element types.now (seen base.now) ≡ slice_get (map seen_target level.now.targets.items) place }
+    requires below { AreLevels types.now level.now.targets.items below.now }
     requires rows { deciding.StartsWith (flat_map (deciding.rows types.now below.now) values.now) rest.old }
     ensures taken { IfOk result (λ taken. taken ≡ spec.of_list types.now (map (spec.meaning types.now) values.now) (seen base.now)) }
     ensures rest { IfOk result (λ taken. IfSome taken (λ v. rest.new ≡ drop (length (flat_map (deciding.rows types.now below.now) values.now)) rest.old)) }
@@ -330,7 +333,7 @@ fn items_at<'s>(
     rest: &mut Rest<'_>,
 ) -> Result<Option<Items<Value>>, AllocError>
     requires place { slice_get level.now.targets.items place ≡ Some target.now }
-    requires below { deciding.AreLevels types.now level.now.targets.items below.now }
+    requires below { AreLevels types.now level.now.targets.items below.now }
     requires rows { deciding.StartsWith (flat_map (deciding.rows types.now below.now) values.now) rest.old }
     ensures taken { IfOk result (λ taken. taken ≡ spec.all_there (map (λ m. spec.place m (seen_target target.now)) (map (spec.meaning types.now) values.now))) }
     ensures rest { IfOk result (λ taken. IfSome taken (λ xs. rest.new ≡ drop (length (flat_map (deciding.rows types.now below.now) values.now)) rest.old)) }
@@ -367,8 +370,8 @@ fn elements_at<'s>(
     below: &[Level<'s>],
     rest: &mut Rest<'_>,
 ) -> Result<Option<Items<Value>>, AllocError>
-    requires group { deciding.IsGroup level.now.targets.items group.now (deciding.asked types.now (seen target.now.base)) }
-    requires below { deciding.AreLevels types.now level.now.targets.items below.now }
+    requires group { IsGroup level.now.targets.items group.now (asked types.now (seen target.now.base)) }
+    requires below { AreLevels types.now level.now.targets.items below.now }
     requires rows { deciding.StartsWith (flat_map (deciding.rows types.now (level.now ∷ below.now)) values.now) rest.old }
     ensures taken { IfOk result (λ taken. taken ≡ spec.all_there (map (λ m. spec.place m (seen_target target.now)) (map (spec.meaning types.now) values.now))) }
     ensures rest { IfOk result (λ taken. IfSome taken (λ xs. rest.new ≡ drop (length (flat_map (deciding.rows types.now (level.now ∷ below.now)) values.now)) rest.old)) }
@@ -395,8 +398,8 @@ fn element_at<'s>(
     below: &[Level<'s>],
     rest: &mut Rest<'_>,
 ) -> Taken
-    requires group { deciding.IsGroup level.now.targets.items group.now (deciding.asked types.now (seen target.now.base)) }
-    requires below { deciding.AreLevels types.now level.now.targets.items below.now }
+    requires group { IsGroup level.now.targets.items group.now (asked types.now (seen target.now.base)) }
+    requires below { AreLevels types.now level.now.targets.items below.now }
     requires rows { deciding.StartsWith (deciding.rows types.now (level.now ∷ below.now) value.now) rest.old }
     ensures taken { IfOk result (λ taken. taken ≡ spec.place (spec.meaning types.now value.now) (seen_target target.now)) }
     ensures rest { IfOk result (λ taken. IfSome taken (λ v. rest.new ≡ drop (length (deciding.rows types.now (level.now ∷ below.now) value.now)) rest.old)) }

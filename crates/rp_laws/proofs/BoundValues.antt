@@ -15,9 +15,10 @@ use Rattle.p21_tree.specs.declared.value.Value as tree
 use Rattle.p21_tree.specs.declared.value.Value.TheFolds as trees
 use Rattle.p21_tree.specs.declared.value.Value.TheOpen.{Value-F}
 use Rattle.p21_tree.specs.declared.value.Value.TheViews as views
-use Rattle.p21_values.specs.Ends.{Base, Plain, Instance, Aggregate, Enumeration, Select, Target, base_of, choices, chooses_instances, inside, target}
+use Rattle.ex_selects.specs.Ends.{Base, Plain, Instance, Aggregate, Enumeration, Select, Target, base_of, choices, chooses_instances, inside, target}
 use Rattle.p21_values.specs.Taking as taking
-use Rattle.p21_values.specs.Taking.{Meaning, all_there, bare_at, bound, by_choice, chosen, is_that, items, meaning, named_by, of_binary, of_integer, of_item, of_list, of_real, of_text, only, place, reference_at, type_named, with_first}
+use Rattle.p21_values.specs.Taking.{Meaning, all_there, bare_at, bound, by_choice, chosen, is_that, meaning, named_by, of_binary, of_integer, of_item, of_list, of_real, of_text, only, place, reference_at, with_first}
+use Rattle.ex_selects.specs.Items.{items, type_named}
 use Rattle.p21_values.specs.Tokens.{bits, boolean, integer, logical, ok}
 use Rattle.rp_numbers.specs.Decimals.{Decimal}
 use Rattle.rp_numbers.specs.Spelling.{parse}

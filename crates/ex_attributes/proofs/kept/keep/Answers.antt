@@ -1,5 +1,5 @@
 use Rattle.std.proofs.Common.{sym, ◌∙◌, ap}
-use Rattle.ex_kinds.specs.Leading.{is_marked, leading}
+use Rattle.ex_renamings.specs.Leading.{is_marked, leading}
 use Rattle.ex_kinds.specs.Types.{alternatives}
 use Rattle.ex_attributes.specs.Kept.{IsKept, found_if, type_found}
 use Rattle.ex_attributes.proofs.Alike.{found_in_type}

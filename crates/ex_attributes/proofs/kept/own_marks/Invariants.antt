@@ -1,5 +1,5 @@
 use Rattle.std.proofs.Common.{◌≡◌, ◌<◌, ℕ, length}
-use Rattle.ex_kinds.specs.Leading.{is_marked}
+use Rattle.ex_renamings.specs.Leading.{is_marked}
 use Rattle.ex_attributes.specs.Kept as spec
 use Rattle.ex_attributes.proofs.kept.own_marks.Given as goal
 

@@ -1,5 +1,5 @@
 use Rattle.std.proofs.Common.{◌≡◌, subst, IfOk}
-use Rattle.p21_values.proofs.Firsts.{item_known}
+use Rattle.p21_values.proofs.Items.{item_known}
 use Rattle.p21_values.proofs.alone.select_token.Goals as goal
 
 pub returns-in-Some : goal.returns-in-Some

@@ -2,9 +2,11 @@ use Rattle.std.proofs.Common.{◌≡◌, ◌<◌, ◌∷◌, ◌++◌, [], map, 
 use Rattle.std.proofs.lemmas.Grind.{common_steps}
 use Rattle.std.specs.Prelude.{is_some}
 use Rattle.std.specs.List.{flat_map}
-use Rattle.p21_values.specs.Seen.{seen, seen_target}
-use Rattle.p21_values.specs.Taking.{meaning, bare_at, named_by, of_list, type_named}
-use Rattle.p21_values.specs.Deciding.{takes, takes_each, at, both, only_candidate, row, rows, rows_of_list, AreLevels}
+use Rattle.ex_selects.specs.Seen.{seen, seen_target}
+use Rattle.p21_values.specs.Taking.{meaning, bare_at, named_by, of_list}
+use Rattle.ex_selects.specs.Items.{type_named}
+use Rattle.p21_values.specs.Deciding.{takes, takes_each, at, both, only_candidate, row, rows, rows_of_list}
+use Rattle.ex_selects.specs.Levels.{AreLevels}
 use Rattle.p21_values.proofs.Decided.{all_true, narrowed}
 use Rattle.p21_values.proofs.Groups.{level_rows, list_answers, no_levels, no_more_rows, on_ok, rows_turn}
 use Rattle.p21_values.proofs.Lists.{list_meaning}

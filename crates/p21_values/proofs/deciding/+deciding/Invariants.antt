@@ -1,6 +1,6 @@
 use Rattle.std.proofs.Common.{◌≡◌, ◌++◌, map, take, drop}
 use Rattle.std.specs.List.{flat_map}
-use Rattle.p21_values.specs.Seen.{seen_target}
+use Rattle.ex_selects.specs.Seen.{seen_target}
 use Rattle.p21_values.specs.Taking.{meaning}
 use Rattle.p21_values.specs.Deciding.{rows, takes_each}
 use Rattle.p21_values.proofs.deciding.+deciding.Given as goal

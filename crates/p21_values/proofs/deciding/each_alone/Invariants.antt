@@ -1,5 +1,5 @@
 use Rattle.std.proofs.Common.{◌≡◌, ◌++◌, map, drop}
-use Rattle.p21_values.specs.Seen.{seen_target}
+use Rattle.ex_selects.specs.Seen.{seen_target}
 use Rattle.p21_values.specs.Deciding.{takes_alone}
 use Rattle.p21_values.proofs.deciding.each_alone.Given as goal
 

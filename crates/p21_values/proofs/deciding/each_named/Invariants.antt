@@ -1,5 +1,5 @@
 use Rattle.std.proofs.Common.{◌≡◌, ◌++◌, ◌&&◌, Some, map, drop}
-use Rattle.p21_values.specs.Seen.{seen_target}
+use Rattle.ex_selects.specs.Seen.{seen_target}
 use Rattle.p21_values.specs.Deciding.{may_name}
 use Rattle.p21_values.proofs.deciding.each_named.Given as goal
 

@@ -6,11 +6,14 @@ use Rattle.std.specs.Option.{option_and_then}
 use denote.Param.Weighed.{most, at_most}
 use Rattle.p21_tree.specs.declared.value.Value.TheViews.{size-Value}
 use Rattle.rp_value.specs.declared.value.Value.TheVariants as v
-use Rattle.p21_values.specs.Ends.{base_of}
-use Rattle.p21_values.specs.Seen.{seen, seen_target}
-use Rattle.p21_values.specs.Taking.{meaning, bare_at, named_by, of_list, place, type_named}
-use Rattle.p21_values.specs.Deciding.{AreLevels, IsGroup, StartsWith, asked, element, only_candidate, rows, rows_of_list}
-use Rattle.p21_values.proofs.Groups.{base_in, value_at, candidate_element, always, group_there, no_levels, list_at_level, more_end, more_start, nothing_moved, placed_next, rest_ends, rest_starts, this_starts, under_some_name}
+use Rattle.ex_selects.specs.Ends.{base_of}
+use Rattle.ex_selects.specs.Seen.{seen, seen_target}
+use Rattle.p21_values.specs.Taking.{meaning, bare_at, named_by, of_list, place}
+use Rattle.ex_selects.specs.Items.{type_named}
+use Rattle.p21_values.specs.Deciding.{StartsWith, only_candidate, rows, rows_of_list}
+use Rattle.ex_selects.specs.Levels.{AreLevels, IsGroup, asked, element}
+use Rattle.p21_values.proofs.Groups.{base_in, value_at, candidate_element, always, no_levels, list_at_level, more_end, more_start, nothing_moved, placed_next, rest_ends, rest_starts, this_starts, under_some_name}
+use Rattle.ex_selects.proofs.Groups.{group_there}
 use Rattle.p21_values.proofs.Lists.{list_meaning}
 use Rattle.p21_values.proofs.Meanings.{IsToken, list_rows, nothing_fits, reference_meaning, token_fits, token_placed, typed_meaning, unset_placed}
 use Rattle.p21_values.proofs.taking.+taking.Goals as goal
@@ -20,8 +23,8 @@ fitting-returns-in-Unset t c = nothing_fits c.args.types.now c.args.value.now (s
 
 pub fitting-returns-in-Reference : goal.fitting-returns-in-Reference
 fitting-returns-in-Reference t c =
-    subst (λ m. IfOk c.reference.result (λ taken. taken ≡ m.fit (seen_target c.args.target.now)))
-    (reference_meaning c.args.types.now c.args.value.now c.in-Reference.name c.in-Reference.is) c.reference.ensures
+    c.reference.ensures
+    ∙ ap (λ m. m.fit (seen_target c.args.target.now)) (reference_meaning c.args.types.now c.args.value.now c.in-Reference.name c.in-Reference.is)
 
 pub fitting-returns-in_ok-number-in-Typed : goal.fitting-returns-in_ok-number-in-Typed
 fitting-returns-in_ok-number-in-Typed t c =
@@ -45,8 +48,8 @@ placed-returns-in-Unset t c = unset_placed c.args.types.now c.args.value.now (se
 
 pub placed-returns-in-Reference : goal.placed-returns-in-Reference
 placed-returns-in-Reference t c =
-    subst (λ m. IfOk c.reference.result (λ taken. taken ≡ place m (seen_target c.args.target.now)))
-    (reference_meaning c.args.types.now c.args.value.now c.in-Reference.name c.in-Reference.is) c.reference.ensures
+    c.reference.ensures
+    ∙ ap (λ m. place m (seen_target c.args.target.now)) (reference_meaning c.args.types.now c.args.value.now c.in-Reference.name c.in-Reference.is)
 
 pub placed-returns-in_default : goal.placed-returns-in_default
 placed-returns-in_default t c =

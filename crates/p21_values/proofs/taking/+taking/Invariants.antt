@@ -1,7 +1,7 @@
 use Rattle.std.proofs.Common.{◌≡◌, ◌∷◌, map, drop, length}
 use Rattle.std.specs.List.{flat_map}
 use Rattle.p21_values.specs.Deciding as deciding
-use Rattle.p21_values.specs.Seen.{seen_target}
+use Rattle.ex_selects.specs.Seen.{seen_target}
 use Rattle.p21_values.specs.Taking as spec
 use Rattle.p21_values.proofs.Several.{among_rest}
 use Rattle.p21_values.proofs.taking.+taking.Given as goal

@@ -1,5 +1,5 @@
 use Rattle.std.proofs.Common.{sym, ◌∙◌, ap}
-use Rattle.ex_kinds.specs.Leading.{is_marked}
+use Rattle.ex_renamings.specs.Leading.{is_marked}
 use Rattle.ex_kinds.specs.Types as spec
 use Rattle.ex_kinds.proofs.Tests.{meaning_of_type, meaning_of_itself}
 use Rattle.ex_kinds.proofs.types.Types.can_be_of.Goals as goal

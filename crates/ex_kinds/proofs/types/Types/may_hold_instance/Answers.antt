@@ -1,6 +1,5 @@
 use Rattle.std.specs.List.{list_any}
-use Rattle.std.proofs.Common.{sym, ◌∙◌, ap}
-use Rattle.ex_kinds.specs.Leading.{is_marked}
+use Rattle.std.proofs.Common.{◌∙◌, ap}
 use Rattle.ex_kinds.specs.Types as spec
 use Rattle.ex_kinds.proofs.Tests.{holds_exact}
 use Rattle.ex_kinds.proofs.types.Types.may_hold_instance.Goals as goal

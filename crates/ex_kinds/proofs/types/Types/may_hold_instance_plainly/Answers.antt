@@ -1,5 +1,4 @@
-use Rattle.std.proofs.Common.{sym, ◌∙◌, ap}
-use Rattle.ex_kinds.specs.Leading.{is_marked}
+use Rattle.std.proofs.Common.{◌∙◌}
 use Rattle.ex_kinds.specs.Types as spec
 use Rattle.ex_kinds.proofs.Tests.{plain_by_meanings, plainly_exact}
 use Rattle.ex_kinds.proofs.types.Types.may_hold_instance_plainly.Goals as goal

@@ -1,0 +1,3 @@
+mod Tables
+mod Steps
+pub mod Marks

@@ -1,0 +1,3 @@
+pub mod Renamings
+pub mod Tables
+pub mod Leading

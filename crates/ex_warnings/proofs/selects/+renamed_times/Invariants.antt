@@ -1,4 +1,0 @@
-use Rattle.ex_warnings.proofs.selects.+renamed_times.Given as goal
-
-abbrev pub decreases-renamed_times : goal.decreases-renamed_times
-decreases-renamed_times l = l.count

@@ -1,6 +1,0 @@
-use Rattle.std.proofs.Common.{◌≡◌, ◌++◌, map, drop}
-use Rattle.ex_warnings.specs.Steps.{target}
-use Rattle.ex_warnings.proofs.selects.joined.Given as goal
-
-abbrev pub invariant-loop-number : goal.invariant-loop-number
-invariant-loop-number l = l.table.items ++ map (target l.second) (drop l.number-index l.first) ≡ map (target l.second) l.first

@@ -1,7 +1,0 @@
-use Rattle.std.proofs.Common.{◌≡◌, ℕ, ◌||◌, drop}
-use Rattle.lineage.specs.Lineage.{is_among}
-use Rattle.p21_values.proofs.kept.add_all.Given as goal
-
-abbrev pub invariant-loop-number : goal.invariant-loop-number
-invariant-loop-number l =
-    (k : ℕ) → (is_among l.found.keys k || is_among (drop l.number-index l.numbers) k) ≡ (is_among l.fn.found.keys k || is_among l.numbers k)

@@ -1,9 +1,0 @@
-use Rattle.std.proofs.Common.{◌≡◌, ℕ, None, length}
-use Rattle.p21_values.specs.Kept.{kept_in}
-use Rattle.p21_values.proofs.kept.nothing_kept.Given as goal
-
-abbrev pub invariant-loop : goal.invariant-loop
-invariant-loop l = record {
-  many : length l.all.items ≡ l.counter;
-  nothing : (n : ℕ) → kept_in l.all.items n ≡ None;
-}

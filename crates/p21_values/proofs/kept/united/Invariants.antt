@@ -1,6 +1,0 @@
-use Rattle.std.proofs.Common.{take}
-use Rattle.p21_values.specs.Kept.{IsUnited}
-use Rattle.p21_values.proofs.kept.united.Given as goal
-
-abbrev pub invariant-loop-member : goal.invariant-loop-member
-invariant-loop-member l = IsUnited l.all (take l.member-index l.members) l.found.keys

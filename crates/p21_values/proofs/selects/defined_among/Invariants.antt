@@ -1,9 +1,0 @@
-use Rattle.std.proofs.Common.{◌≡◌, ◌++◌, map, drop}
-use Rattle.std.specs.List.{filter_map}
-use Rattle.p21_values.specs.Ends as ends
-use Rattle.p21_values.specs.Shared as spec
-use Rattle.p21_values.proofs.selects.defined_among.Given as goal
-
-abbrev pub invariant-loop-name : goal.invariant-loop-name
-invariant-loop-name l =
-    l.found ++ map (spec.unrenamed l.types) (filter_map ends.defined (drop l.name-index l.members)) ≡ map (spec.unrenamed l.types) (filter_map ends.defined l.members)

@@ -1,9 +1,0 @@
-use Rattle.std.proofs.Common.{◌≡◌, ◌++◌, drop}
-use Rattle.lineage.specs.Numbered.{numbered, numbered_from}
-use Rattle.p21_values.specs.Shared as spec
-use Rattle.p21_values.proofs.selects.shared_selection.Given as goal
-
-abbrev pub invariant-loop-number : goal.invariant-loop-number
-invariant-loop-number l =
-    l.graph.items ++ numbered_from (λ number x. spec.chosen_at_once l.types number) l.number (drop l.number l.types)
-    ≡ numbered (λ number x. spec.chosen_at_once l.types number) l.types

@@ -1,7 +1,0 @@
-use Rattle.std.proofs.Common.{◌≡◌, ◌++◌, not, filter, drop}
-use Rattle.ex_warnings.specs.Selects.{is_select}
-use Rattle.p21_values.proofs.selects.without_selects.Given as goal
-
-abbrev pub invariant-loop-number : goal.invariant-loop-number
-invariant-loop-number l =
-    l.found.items ++ filter (λ k. not (is_select l.types k)) (drop l.number-index l.numbers) ≡ filter (λ k. not (is_select l.types k)) l.numbers

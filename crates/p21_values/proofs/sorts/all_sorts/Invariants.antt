@@ -1,8 +1,0 @@
-use Rattle.std.proofs.Common.{◌≡◌, ◌++◌, drop}
-use Rattle.lineage.specs.Numbered.{numbered, numbered_from}
-use Rattle.p21_values.specs.Sorts.{sort_of}
-use Rattle.p21_values.proofs.sorts.all_sorts.Given as goal
-
-abbrev pub invariant-loop-number : goal.invariant-loop-number
-invariant-loop-number l =
-    l.sorts.items ++ numbered_from (λ number x. sort_of l.types number) l.number (drop l.number l.types) ≡ numbered (λ number x. sort_of l.types number) l.types
