@@ -13,7 +13,7 @@ abbrev pub items_by : NamedUnderlying → List (List ℕ)
 items_by (u.Enumeration items) = map (λ i. i.text) items
 items_by _ = []
 
--- the items of BOOLEAN and of LOGICAL, as exchange files spell them (ISO 10303-21:2002, 10.1.5 and 10.1.4)
+-- the items of BOOLEAN and of LOGICAL, as exchange files spell them (ISO 10303-21:2002, 10.1)
 abbrev pub is_boolean : List ℕ → Bool
 is_boolean name = bytes_eq (70 ∷ []) name || bytes_eq (84 ∷ []) name
 

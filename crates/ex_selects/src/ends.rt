@@ -5,7 +5,7 @@ ghost use Rattle.ex_named.specs.declared.expression.NamedDataType.{out-NamedData
 ghost use Rattle.ex_selects.specs.Ends as spec;
 ghost use Rattle.ex_selects.specs.Seen.{seen, seen_target};
 
-use ex_named::{NamedDataType, NamedType, NamedUnderlying, TypeName};
+use ex_named::{NamedDataType, NamedUnderlying, TypeName};
 use ex_renamings::Renamings;
 use ex_tree::SimpleType;
 use rp_value::AggregateKind;

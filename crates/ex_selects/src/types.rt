@@ -18,9 +18,8 @@ use crate::selects::{shared_selection, unrenamed, walked_choices, with_instances
 use crate::sorts::{Class, all_sorts};
 use crate::takers::{Takers, all_takers, takers_at};
 use descent::Descent;
-use ex_named::{NamedDataType, NamedType, NamedUnderlying};
+use ex_named::NamedType;
 use ex_renamings::{Renamings, is_marked};
-use ex_tree::Name;
 use name_tables::NameTable;
 use plain_data::Rows;
 use std::alloc::{AllocError, Global};
