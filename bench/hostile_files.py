@@ -4,6 +4,7 @@ A family writes a file for a number of something, with the word for what is coun
 answered, and the text of its schema where that isn't the common one.
 """
 from itertools import combinations, islice
+from random import Random
 from string import ascii_uppercase
 
 from hostile_lines import answer, each
@@ -162,6 +163,61 @@ def sets_of_types(count):
 def leaves(count):
     """Each instance is of another entity."""
     return file_of(each(count, lambda k: f"#{k + 1}=A{k}();")), put(count), schema_of_parts(plainly, count)
+
+
+# ---- supertype expressions
+
+# Sets are drawn anew for each file, and are the same each time.
+SEED = 1994
+
+
+def schema_of_expression(name, count, expression):
+    """An entity whose supertype expression names all others, its subtypes."""
+    subtypes = each(count, lambda k: f"ENTITY {name(k)} SUBTYPE OF(R);END_ENTITY;")
+    return f"SCHEMA measured;ENTITY R SUPERTYPE OF({expression});END_ENTITY;{subtypes}END_SCHEMA;"
+
+
+def sets_below(name, sets):
+    """Instances of the entity above all and of those of each set."""
+    return "".join(f"#{k + 1}=(R(){''.join(f'{name(one)}()' for one in drawn)});" for k, drawn in enumerate(sets))
+
+
+@family("sets", INSTANCES)
+def pairs_of_a_long_andor(count):
+    """Two of the 100,000 entities of one ANDOR."""
+    draw = Random(SEED)
+    sets = (draw.sample(range(100_000), 2) for _ in range(count))
+    expression = each(100_000, plainly, " ANDOR ")
+    return file_of(sets_below(plainly, sets)), put(count), schema_of_expression(plainly, 100_000, expression)
+
+
+@family("leaves", INSTANCES)
+def leaves_of_a_long_oneof(count):
+    """One of the 100,000 entities of one ONEOF."""
+    draw = Random(SEED)
+    data = each(count, lambda k: f"#{k + 1}={plainly(draw.randrange(100_000))}();")
+    expression = f"ONEOF({each(100_000, plainly, ',')})"
+    return file_of(data), put(count), schema_of_expression(plainly, 100_000, expression)
+
+
+@family("sets", INSTANCES)
+def triples_of_many_oneofs(count):
+    """One of each of three ONEOFs of two, of the 2,000 of an ANDOR."""
+    draw = Random(SEED)
+    sets = ([2 * one + draw.randrange(2) for one in draw.sample(range(2000), 3)] for _ in range(count))
+    expression = each(2000, lambda k: f"ONEOF({plainly(2 * k)},{plainly(2 * k + 1)})", " ANDOR ")
+    return file_of(sets_below(plainly, sets)), put(count), schema_of_expression(plainly, 4000, expression)
+
+
+@family("sets", 35_000)
+def many_of_a_long_andor(count):
+    """Thirty of the 20,000 entities of one ANDOR."""
+    def name(k):
+        return f"{ascii_uppercase[k // 1000]}{k % 1000:03}"
+    draw = Random(SEED)
+    sets = (draw.sample(range(20_000), 30) for _ in range(count))
+    expression = each(20_000, name, " ANDOR ")
+    return file_of(sets_below(name, sets)), put(count), schema_of_expression(name, 20_000, expression)
 
 
 # ---- SELECTs

@@ -7,7 +7,7 @@ use Rattle.lineage.proofs.Bounded.{answer_is}
 use Rattle.lineage.proofs.Left.{within_or, beyond_or}
 use Rattle.lineage.proofs.Families.{is_among-filter, among_numbers}
 use Rattle.ex_subtypes.specs.Legal.{is_beside, is_connected, member, places, steps}
-use Rattle.ex_subtypes.specs.Edges.{HasSameSteps, goes_up}
+use Rattle.ex_subtypes.specs.Edges.{AreBelow, HasSameSteps, goes_up}
 
 -- ---- the steps of a place
 
@@ -67,6 +67,27 @@ pub connected_is : (above : List (List ℕ)) (set : List ℕ) (g : List (List �
     → (nat_lt zero (length set) && list_all (λ place. place == zero || is_among found place) (numbers_from zero (length set))) ≡ is_connected above set
 connected_is above set g found same exact =
     ap (λ b. nat_lt zero (length set) && b) (all_alike (is_among found) (is_ancestor (steps above set) zero) (found_is_reached g (steps above set) same found zero exact) (numbers_from zero (length set)))
+
+-- ---- the members below others
+
+-- the steps down are those to the members directly below
+both_within : (a b x : Bool) → (a && (b && (a && x))) ≡ (a && (b && x))
+both_within true b x = refl
+both_within false b x = refl
+
+module _ (above : List (List ℕ)) (set : List ℕ) (up down : List (List ℕ)) (size : length up ≡ length set)
+    (up_is : (e n : ℕ) → is_among (supertypes up e) n ≡ goes_up above set e n)
+    (down_is : (e n : ℕ) → is_among (supertypes down e) n ≡ (nat_lt e (length up) && is_among (supertypes up n) e)) where
+  pub are_below : AreBelow above set down
+  are_below e n =
+      down_is e n
+      ∙ rw (up_is n e, size) (both_within (nat_lt e (length set)) (nat_lt n (length set)) (is_among (supertypes above (member set n)) (member set e)))
+
+  pub connected_told : (both : List (List ℕ)) (found : List ℕ)
+      → ((e n : ℕ) → is_among (supertypes both e) n ≡ (is_among (supertypes up e) n || is_among (supertypes down e) n))
+      → ((a : ℕ) → (is_among found a ≡ true) ↔ IsAncestor both zero a)
+      → (nat_lt zero (length set) && list_all (λ place. place == zero || is_among found place) (numbers_from zero (length set))) ≡ is_connected above set
+  connected_told both found both_is exact = connected_is above set both found (same_steps above set up down both size up_is down_is both_is) exact
 
 -- ---- the places in turn
 

@@ -20,7 +20,7 @@ use Rattle.ex_subtypes.proofs.Soundness.{saying_roll, sound, sound-join}
 
 -- ---- names that stand once
 
-new_head : (x : ℕ) (xs : List ℕ) → is_distinct (x ∷ xs) ≡ true → (is_among xs x ≡ false) × (is_distinct xs ≡ true)
+pub new_head : (x : ℕ) (xs : List ℕ) → is_distinct (x ∷ xs) ≡ true → (is_among xs x ≡ false) × (is_distinct xs ≡ true)
 new_head x xs e = by_test (is_among xs x) (is_distinct xs) e
   where
     by_test : (a b : Bool) → (if a then false else b) ≡ true → (a ≡ false) × (b ≡ true)
@@ -99,7 +99,7 @@ taken-joined set way (x ∷ xs) e = taken-fold set way (saying x) xs (sound x) e
 abbrev IsTaken : List ℕ → NamedSupertype → Type 0
 IsTaken set x = is_distinct (names x) ≡ true → walked set x ≡ taken set (saying x)
 
-walked_roll : (set : List ℕ) (x : NamedSupertype-F NamedSupertype) → walked set (roll-NamedSupertype x) ≡ walk_layer set (map-NamedSupertype NamedSupertype Choice (walked set) x)
+pub walked_roll : (set : List ℕ) (x : NamedSupertype-F NamedSupertype) → walked set (roll-NamedSupertype x) ≡ walk_layer set (map-NamedSupertype NamedSupertype Choice (walked set) x)
 unfolding walked
 walked_roll set x = fold-roll-NamedSupertype Choice (walk_layer set) x
 

@@ -5,3 +5,8 @@ pub mod Numbers
 pub mod Connected
 pub mod Mentions
 pub mod Readable
+pub mod Placed
+pub mod Tallies
+pub mod Halving
+pub mod Entries
+pub mod Broken

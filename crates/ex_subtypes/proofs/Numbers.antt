@@ -24,7 +24,7 @@ not_above : (a x : ℕ) → x < a → (a == x) ≡ false
 not_above a x h = grind (arith, nat_tests)
 
 module _ (xs : List ℕ) (up : IsStrictlyIncreasing xs) where
-  rises : (i j : ℕ) → i ≤ j → j < length xs → get_or xs i 0 ≤ get_or xs j 0
+  pub rises : (i j : ℕ) → i ≤ j → j < length xs → get_or xs i 0 ≤ get_or xs j 0
   rises i j le within = ⊎_elim
       (λ (same : i ≡ j). rw same (omega arith))
       (λ apart. let less : get_or xs i 0 < get_or xs j 0 = AllPairs-from_increasing xs up i j 0 (omega arith) within in omega arith)

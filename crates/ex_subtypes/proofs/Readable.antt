@@ -122,6 +122,14 @@ pub distinct_at : (entities : List NamedEntity) (k : ℕ) (e : NamedEntity) → 
 distinct_at entities k e all is =
     all_distinct (is_direct_subtype entities k) (constraints_of e) (ap (λ o. list_all (is_readable entities k) (option_map_or constraints_of o [])) (sym is) ∙ all k)
 
+entity_at : (entities : List NamedEntity) (k : ℕ) (d : NamedEntity) → k < length entities → slice_get entities k ≡ Some (get_or entities k d)
+entity_at [] k d within = absurd (omega arith)
+entity_at (e ∷ entities) zero d within = refl
+entity_at (e ∷ entities) (suc k) d within = entity_at entities k d (omega arith)
+
+pub distinct_in : (entities : List NamedEntity) (k : ℕ) (e : NamedEntity) → AreReadable entities → k < length entities → e ≡ get_or entities k e → list_all (λ x. is_distinct (names x)) (constraints_of e) ≡ true
+distinct_in entities k e all within is = distinct_at entities k e all (entity_at entities k e within ∙ ap Some (sym is))
+
 -- ---- one mention more
 
 -- what stands before counts as a set

@@ -1,11 +1,8 @@
 //! What a set of entities takes of a supertype expression.
 
-ghost use Rattle.std.specs.Prelude.{◌≡◌, true, map};
-ghost use Rattle.ex_subtypes.specs.Combinations as spec;
-ghost use Rattle.ex_subtypes.specs.Walks as walks;
-
-use crate::type_set::TypeSet;
-use ex_named::NamedSupertype;
+ghost use Rattle.std.specs.Prelude.{◌≡◌, ◌<◌, ◌^◌};
+ghost use Rattle.ex_subtypes.specs.Legal as legal;
+ghost use Rattle.ex_subtypes.specs.Nodes as spec;
 
 /// What a set takes of an expression.
 #[derive(Clone, Copy)]
@@ -26,60 +23,34 @@ pub enum Connective {
     AndOr,
 }
 
-/// What a set takes of two that are joined, from what it takes of each.
-fn join(way: Connective, first: Choice, second: Choice) -> Choice
-    ensures { result ≡ walks.join_choices way first second }
+/// Whether it is some of the entities, which are no combination.
+pub fn is_neither(choice: Choice) -> bool
+    ensures { result ≡ legal.is_neither choice }
 {
-    match (way, first, second) {
-        (_, Choice::Nothing, Choice::Nothing) => Choice::Nothing,
-        (_, Choice::Neither, _) | (_, _, Choice::Neither) => Choice::Neither,
-        (Connective::OneOf, Choice::Combination, Choice::Combination) => Choice::Neither,
-        (Connective::And, Choice::Nothing, _) | (Connective::And, _, Choice::Nothing) =>
-            Choice::Neither,
-        _ => Choice::Combination,
+    matches!(choice, Choice::Neither)
+}
+
+/// The number of parts of which a combination is taken, with one part more.
+pub fn with_part(count: usize, choice: Choice) -> usize
+    requires { count < 2 ^ 63 }
+    ensures { result ≡ spec.with_part count choice }
+{
+    match choice {
+        Choice::Combination => count + 1,
+        Choice::Nothing | Choice::Neither => count,
     }
 }
 
-/// What the set takes of the expression, by one walk through it.
-#[cycle(walks)]
-fn walked(set: &TypeSet, expression: &NamedSupertype) -> Choice
-    ensures { result ≡ walks.walked set.now expression.now }
+/// What is taken of parts that are joined, where it is a combination of so many of them and nothing of the others.
+pub fn by_count(way: Connective, count: usize, parts: usize) -> Choice
+    ensures { result ≡ spec.by_count way count parts }
 {
-    match expression {
-        NamedSupertype::Entity(entity, _) => {
-            if set.has(*entity) {
-                Choice::Combination
-            } else {
-                Choice::Nothing
-            }
-        }
-        NamedSupertype::OneOf(parts) => joined(set, Connective::OneOf, parts.as_slice()),
-        NamedSupertype::And(parts) => joined(set, Connective::And, parts.as_slice()),
-        NamedSupertype::AndOr(parts) => joined(set, Connective::AndOr, parts.as_slice()),
-    }
-}
-
-/// What the set takes of the expressions, joined one after the other.
-#[cycle(walks)]
-fn joined(set: &TypeSet, way: Connective, parts: &[NamedSupertype]) -> Choice
-    ensures { result ≡ spec.joined Choice.Nothing (walks.join_choices way) (map (walks.walked set.now) parts.now) }
-{
-    if parts.is_empty() {
+    if count == 0 {
         return Choice::Nothing;
     }
-    let mut found = walked(set, &parts[0]);
-    'others: for number in 1..parts.len() {
-        found = join(way, found, walked(set, &parts[number]));
+    match way {
+        Connective::OneOf if 1 < count => Choice::Neither,
+        Connective::And if count < parts => Choice::Neither,
+        _ => Choice::Combination,
     }
-    found
-}
-
-/// What the set takes of the expression, which names no entity twice. Its time is that of one walk
-/// through the expression, with one look into the set for each entity.
-#[tactic(auto, using(crate::proofs::Joins::walked_is))]
-pub fn taken(set: &TypeSet, expression: &NamedSupertype) -> Choice
-    requires { spec.is_distinct (spec.names expression.now) ≡ true }
-    ensures { result ≡ spec.taken set.now (spec.saying expression.now) }
-{
-    walked(set, expression)
 }

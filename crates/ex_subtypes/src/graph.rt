@@ -1,6 +1,6 @@
 //! The steps between the members of a set, which are numbered by their places in it.
 
-ghost use Rattle.std.specs.Prelude.{◌≡◌, ℕ, ◌&&◌, ◌||◌, ◌==◌, nat_lt, length, zero, IfOk};
+ghost use Rattle.std.specs.Prelude.{◌≡◌, ℕ, ◌&&◌, ◌||◌, ◌==◌, nat_lt, length, zero, is_some, IfOk, IfSome};
 ghost use Rattle.std.specs.List.{list_all};
 ghost use Rattle.lineage.specs.Lineage as lineage;
 ghost use Rattle.ex_subtypes.specs.Edges as edges;
@@ -87,20 +87,6 @@ fn all_joined(
     Ok(both)
 }
 
-/// The steps between each member and those beside it.
-fn steps(
-    alloc: Global,
-    entities: &[NamedEntity],
-    set: &TypeSet,
-) -> Result<Vec<Rows<usize>>, AllocError>
-    ensures { IfOk result (λ graph. edges.HasSameSteps graph.items (spec.steps (spec.graph entities.now) set.now)) }
-{
-    let up = steps_up(alloc, entities, set)?;
-    let down = subtypes(alloc, &up)?;
-    let both = all_joined(alloc, &up, &down)?;
-    Ok(both)
-}
-
 fn is_reached(reached: &BTreeSet<usize>, place: usize) -> bool
     ensures { result ≡ (place == zero || lineage.is_among reached.now.keys place) }
 {
@@ -119,15 +105,22 @@ fn are_reached(reached: &BTreeSet<usize>, count: usize) -> bool
     0 < count
 }
 
-/// Whether every member is reached from the first.
-pub fn is_connected(
+/// For each member the places of those directly below it, if every member is reached from the first.
+pub fn connected_below(
     alloc: Global,
     entities: &[NamedEntity],
     set: &TypeSet,
-) -> Result<bool, AllocError>
-    ensures { IfOk result (λ found. found ≡ spec.is_connected (spec.graph entities.now) set.now) }
+) -> Result<Option<Vec<Rows<usize>>>, AllocError>
+    ensures connected { IfOk result (λ below. is_some below ≡ spec.is_connected (spec.graph entities.now) set.now) }
+    ensures below { IfOk result (λ below. IfSome below (λ rows. edges.AreBelow (spec.graph entities.now) set.now rows.items)) }
 {
-    let steps = steps(alloc, entities, set)?;
-    let reached = all_above(alloc, &steps, 0)?;
-    Ok(are_reached(&reached, set.as_slice().len()))
+    let up = steps_up(alloc, entities, set)?;
+    let down = subtypes(alloc, &up)?;
+    let both = all_joined(alloc, &up, &down)?;
+    let reached = all_above(alloc, &both, 0)?;
+    if are_reached(&reached, set.as_slice().len()) {
+        Ok(Some(down))
+    } else {
+        Ok(None)
+    }
 }

@@ -1,19 +1,23 @@
 //! Which sets of entities are legal.
 
-ghost use Rattle.std.specs.Prelude.{◌≡◌, ℕ, true, ◌&&◌, not, IfOk};
+ghost use Rattle.std.specs.Prelude.{◌≡◌, ℕ, ◌&&◌, not, IfOk};
 ghost use Rattle.std.specs.Cmp.Lexicographic.{slice_cmp};
-ghost use Rattle.std.specs.List.{list_all, list_any};
 ghost use Rattle.std.specs.Ordering.{is_lt, nat_cmp};
 ghost use Rattle.lineage.specs.Lineage.{is_among};
-ghost use Rattle.ex_subtypes.specs.Combinations.{is_distinct, names};
+ghost use Rattle.ex_subtypes.specs.Edges as edges;
 ghost use Rattle.ex_subtypes.specs.Legal as spec;
+ghost use Rattle.ex_subtypes.specs.Nodes as nodes;
 
-use crate::choices::{Choice, taken};
+use crate::choices::is_neither;
+use crate::constraints::{Constraint, constraint_at};
 use crate::family::all_supertypes;
-use crate::graph::{is_closed, is_connected};
+use crate::graph::{connected_below, is_closed};
+use crate::places::touched;
 use crate::type_set::TypeSet;
-use ex_named::{NamedEntity, NamedSupertype};
-use lineage::is_in;
+use crate::walks::taken_at;
+use ex_named::NamedEntity;
+use lineage::{is_in, supertypes};
+use plain_data::Rows;
 use std::alloc::{AllocError, Global};
 use std::cmp::Ordering;
 use std::collections::BTreeSet;
@@ -31,34 +35,26 @@ pub enum Illegal {
     Abstract(usize),
 }
 
-/// Whether the set has some of the entities that the expression names, and no combination of them.
-fn breaks_expression(set: &TypeSet, expression: &NamedSupertype) -> bool
-    requires { is_distinct (names expression.now) ≡ true }
-    ensures { result ≡ spec.breaks_expression set.now expression.now }
+/// Whether the set breaks the expression of the entity of this number, where these are the places of the members below it.
+fn breaks(
+    alloc: Global,
+    entities: &[NamedEntity],
+    constraints: &[Option<Constraint>],
+    set: &TypeSet,
+    number: usize,
+    below: &[usize],
+) -> Result<bool, AllocError>
+    requires readable { spec.AreReadable entities.now }
+    requires kept { constraints.now ≡ nodes.all_kept entities.now }
+    requires below { (n : ℕ) → is_among below.now n ≡ edges.is_below (spec.graph entities.now) set.now number n }
+    ensures { IfOk result (λ found. found ≡ spec.breaks entities.now set.now number) }
 {
-    matches!(taken(set, expression), Choice::Neither)
-}
-
-/// Whether the set breaks an expression of the entity.
-fn breaks_one_of(set: &TypeSet, entity: &NamedEntity) -> bool
-    requires { list_all (λ x. is_distinct (names x)) (spec.constraints_of entity.now) ≡ true }
-    ensures { result ≡ list_any (spec.breaks_expression set.now) (spec.constraints_of entity.now) }
-{
-    match &entity.constraint {
-        Some(expression) => breaks_expression(set, expression),
-        None => false,
-    }
-}
-
-/// Whether the set breaks an expression of the entity of this number.
-#[tactic(auto, using(crate::proofs::Readable::distinct_at))]
-fn breaks(entities: &[NamedEntity], set: &TypeSet, number: usize) -> bool
-    requires { spec.AreReadable entities.now }
-    ensures { result ≡ spec.breaks entities.now set.now number }
-{
-    match entities.get(number) {
-        Some(entity) => breaks_one_of(set, entity),
-        None => false,
+    match constraint_at(constraints, number) {
+        Some(constraint) => {
+            let places = touched(alloc, &constraint.places, set.as_slice(), below)?;
+            Ok(is_neither(taken_at(&constraint.node, &places)))
+        }
+        None => Ok(false),
     }
 }
 
@@ -100,18 +96,36 @@ fn earlier(entities: &[NamedEntity], best: Option<usize>, number: usize) -> Opti
     }
 }
 
-/// Of the members of which an expression is broken, the one whose name comes first.
-fn first_broken(entities: &[NamedEntity], set: &TypeSet) -> Option<usize>
-    requires { spec.AreReadable entities.now }
-    ensures { result ≡ spec.first_of entities.now (spec.breaks entities.now set.now) set.now }
+/// Of the members of which an expression is broken, the one whose name comes first. Of each these are the places of the
+/// members directly below it.
+fn first_broken(
+    alloc: Global,
+    entities: &[NamedEntity],
+    constraints: &[Option<Constraint>],
+    set: &TypeSet,
+    below: &[Rows<usize>],
+) -> Result<Option<usize>, AllocError>
+    requires readable { spec.AreReadable entities.now }
+    requires kept { constraints.now ≡ nodes.all_kept entities.now }
+    requires below { edges.AreBelow (spec.graph entities.now) set.now below.now }
+    ensures { IfOk result (λ found. found ≡ spec.first_of entities.now (spec.breaks entities.now set.now) set.now) }
 {
+    let members = set.as_slice();
     let mut best = None;
-    for member in set.as_slice() {
-        if breaks(entities, set, *member) {
-            best = earlier(entities, best, *member);
+    for place in 0..members.len() {
+        let member = members[place];
+        if breaks(
+            alloc,
+            entities,
+            constraints,
+            set,
+            member,
+            supertypes(below, place),
+        )? {
+            best = earlier(entities, best, member);
         }
     }
-    best
+    Ok(best)
 }
 
 /// Of the members that are abstract and not above another, the one whose name comes first.
@@ -144,18 +158,20 @@ fn first_bare(
 pub fn refusal(
     alloc: Global,
     entities: &[NamedEntity],
+    constraints: &[Option<Constraint>],
     set: &TypeSet,
 ) -> Result<Option<Illegal>, AllocError>
-    requires { spec.AreReadable entities.now }
+    requires readable { spec.AreReadable entities.now }
+    requires kept { constraints.now ≡ nodes.all_kept entities.now }
     ensures { IfOk result (λ found. found ≡ spec.refusal entities.now set.now) }
 {
     if !is_closed(entities, set) {
         return Ok(Some(Illegal::NotClosed));
     }
-    if !is_connected(alloc, entities, set)? {
+    let Some(below) = connected_below(alloc, entities, set)? else {
         return Ok(Some(Illegal::NotConnected));
-    }
-    if let Some(entity) = first_broken(entities, set) {
+    };
+    if let Some(entity) = first_broken(alloc, entities, constraints, set, &below)? {
         return Ok(Some(Illegal::Violates(entity)));
     }
     match first_bare(alloc, entities, set)? {

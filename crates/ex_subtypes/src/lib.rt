@@ -3,12 +3,16 @@
 
 mod build;
 mod choices;
+mod constraints;
 mod family;
 mod graph;
 mod legal;
+mod nodes;
+mod places;
 mod schema;
 mod sets;
 mod type_set;
+mod walks;
 
 pub use build::{SubtypeFault, SubtypeFaultKind};
 pub use legal::Illegal;

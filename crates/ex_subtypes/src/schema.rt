@@ -6,6 +6,7 @@ ghost use Rattle.ex_subtypes.specs.Faults as faults;
 ghost use Rattle.ex_subtypes.specs.Legal as spec;
 
 use crate::build::{SubtypeFault, first_fault};
+use crate::constraints::{Constraint, all_constraints};
 use crate::legal::{Illegal, refusal};
 use crate::type_set::TypeSet;
 use ex_types::CheckedSchema;
@@ -17,17 +18,22 @@ use text_forms::Failure;
 #[derive(Drop)]
 pub struct Compiled {
     schema: CheckedSchema,
+    /// Of each entity what is kept of its expression, if it has one.
+    constraints: Vec<Option<Constraint>>,
 }
 
 impl Model for Compiled {
     ghost use Rattle.ex_types.specs.Checked.{Checked};
+    ghost use Rattle.std.specs.Prelude.{◌≡◌};
     ghost use Rattle.ex_subtypes.specs.Legal as spec;
+    ghost use Rattle.ex_subtypes.specs.Nodes as nodes;
 
     ghost Value = { Checked };
 
     ghost view = { λ c. c.schema };
 
-    ghost invariant = { λ c. spec.AreReadable c.schema.named.schema.entities };
+    ghost invariant = { λ c. spec.AreReadable c.schema.named.schema.entities
+        × (c.constraints.items ≡ nodes.all_kept c.schema.named.schema.entities) };
 
     ghost use Rattle.std.specs.Coded.{codes};
     ghost use Rattle.ex_types.specs.contracts.schema.CheckedSchema as checked;
@@ -44,7 +50,11 @@ impl Compiled {
         if let Some(fault) = first_fault(alloc, schema.entities())? {
             return Err(Failure::Fault(fault));
         }
-        Ok(Compiled { schema })
+        let constraints = all_constraints(alloc, schema.entities())?;
+        Ok(Compiled {
+            schema,
+            constraints,
+        })
     }
 
     /// The schema, as it was checked.
@@ -64,10 +74,11 @@ impl Compiled {
     /// Why no instance may have exactly these entities, the first that holds; nothing where one may.
     /// A number beyond the schema is that of an entity without supertypes.
     ///
-    /// Its time is near-linear in the set, its members' supertypes and their expressions.
+    /// Its time is near-linear in the set, its members' supertypes, and the nodes of their expressions at which members
+    /// stand, with those above them.
     pub fn legal(&self, alloc: Global, set: &TypeSet) -> Result<Option<Illegal>, AllocError>
         ensures { IfOk result (λ found. found ≡ spec.refusal self.now.named.schema.entities set.now) }
     {
-        refusal(alloc, self.schema.entities(), set)
+        refusal(alloc, self.schema.entities(), &self.constraints, set)
     }
 }

@@ -1,6 +1,7 @@
 //! Sets of numbers.
 
 ghost use Rattle.std.specs.Prelude.{◌≡◌, ◌||◌, ℕ, IfOk, OnOk};
+ghost use Rattle.std.specs.List.Sorted.{IsStrictlyIncreasing};
 ghost use Rattle.lineage.specs.Lineage.{is_among};
 
 use std::alloc::{AllocError, Global};
@@ -23,4 +24,13 @@ pub fn set_of(alloc: Global, numbers: &[usize]) -> Result<BTreeSet<usize>, Alloc
     let mut found = BTreeSet::new(alloc);
     put_all(&mut found, numbers)?;
     Ok(found)
+}
+
+/// The numbers of a set, in ascending order.
+pub fn ascending(alloc: Global, set: BTreeSet<usize>) -> Result<Vec<usize>, AllocError>
+    ensures same { IfOk result (λ numbers. numbers.items ≡ set.keys) }
+    ensures rising { IfOk result (λ numbers. IsStrictlyIncreasing numbers.items) }
+{
+    let numbers: Vec<usize> = set.into_iter().collect(alloc)?;
+    Ok(numbers)
 }

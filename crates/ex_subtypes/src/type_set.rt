@@ -5,9 +5,8 @@ ghost use Rattle.std.specs.List.Sorted.{IsStrictlyIncreasing};
 ghost use Rattle.lineage.specs.Lineage.{is_among};
 ghost use Rattle.ex_subtypes.specs.Edges.{is_that, stands_at};
 
-use crate::sets::set_of;
+use crate::sets::{ascending, set_of};
 use std::alloc::{AllocError, Global};
-use std::collections::BTreeSet;
 use std::marker::Model;
 
 /// The numbers of entities, strictly ascending.
@@ -25,15 +24,6 @@ impl Model for TypeSet {
     ghost view = { λ set. set.numbers.items };
 
     ghost invariant = { λ set. IsStrictlyIncreasing set.numbers.items };
-}
-
-/// The numbers of a set, in ascending order.
-fn ascending(alloc: Global, set: BTreeSet<usize>) -> Result<Vec<usize>, AllocError>
-    ensures same { IfOk result (λ numbers. numbers.items ≡ set.keys) }
-    ensures rising { IfOk result (λ numbers. IsStrictlyIncreasing numbers.items) }
-{
-    let numbers: Vec<usize> = set.into_iter().collect(alloc)?;
-    Ok(numbers)
 }
 
 impl TypeSet {
