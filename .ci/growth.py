@@ -48,8 +48,8 @@ ONE_MORE = "room for one row more, once a plan has passed its tests"
 LISTED = [
     # what is read once the tests of sight have passed
     Listed(f"{PLANS}single.rt", "plan_add",
-           SEEN + "let name = model.greatest + 1; let instance = said_by(alloc, plans, model, name, text)?", HIS_OWN),
-    Listed(f"{PLANS}single.rt", "plan_set", SEEN + "let instance = said_by(alloc, plans, model, name, text)?", HIS_OWN),
+           SEEN + "let name = model.greatest + 1; let instance = said_by(alloc, layouts, model, name, text)?", HIS_OWN),
+    Listed(f"{PLANS}single.rt", "plan_set", SEEN + "let instance = said_by(alloc, layouts, model, name, text)?", HIS_OWN),
     # what everyone may ask
     Listed(f"{PLANS}lists.rt", "plan_list", "let groups = asked.group_items(alloc)?", "the groups that the caller sees are listed"),
     Listed(f"{PLANS}lists.rt", "plan_list", "models: asked.model_items(alloc)?", "the models that the caller sees are listed"),

@@ -7,11 +7,16 @@ It puts a file like those of a CAD exporter, and asks for so many of each, 10,00
 refused because the model isn't there, then `get`, `add`, `set` and `drop`; and then puts as many links, at most 10,000, into
 another model at once, first where it isn't there. It prints the microseconds that a processor ran the program for each request
 and for each link in the mean, and the same less what the refused ones take.
+
+Then it puts a file of one instance 3,000 times, of one leaf and of several entities, under a schema of one entity, under that of
+the CAD files, and under one of 1,854 entities, and prints the microseconds of each put, and how many times that is what it takes
+under the schema of one entity.
 """
 import os
 import sys
 
 from harness import TOP, Session, Table, compare, processor_seconds, request, run_bench
+from make_express import express
 from make_part21 import FOOTER, HEADER, part21
 
 SCHEMA = os.path.join(TOP, "tests/data/automotive_design.exp")
@@ -21,6 +26,23 @@ NO_SUCH_ITEM = b'{"refused":{"code":7,"name":"NoSuchItem"}}\n'
 # an odd number of steps leads through all names before one comes again
 STEP = 7919
 LINKS = 10_000
+
+PUTS = 3_000
+# as many pieces as a schema of 1 MiB has, of three entities each
+PIECES = 618
+PLAIN = """SCHEMA plain;
+ENTITY point;
+  name : STRING;
+  coordinates : LIST [1:3] OF REAL;
+END_ENTITY;
+END_SCHEMA;
+"""
+# of each schema an instance of one leaf, and one whose entities are all listed
+ALONE = {
+    "PLAIN": ("POINT('',(1.,0.,-1.5))", "(POINT('',(1.,0.,-1.5)))"),
+    "AUTOMOTIVE_DESIGN": ("CARTESIAN_POINT('',(1.,0.,-1.5))", "(LENGTH_UNIT()NAMED_UNIT(*)SI_UNIT(.MILLI.,.METRE.))"),
+    "MEASURED": ("POINT_300('',$,(1.,0.,-1.5))", "(ITEM_300('',$)POINT_300((1.,0.,-1.5)))"),
+}
 
 
 def single(do, model="m", **keys):
@@ -58,6 +80,26 @@ def turns_of(count):
     yield "link", number, [(put_of("n", links), b'{"ok":{"instances":0}}\n')]
 
 
+def measure_puts(folder):
+    """Puts of a file of one instance under each schema."""
+    with open(SCHEMA, encoding="utf-8") as it:
+        folder.configure(plain=PLAIN, automotive_design=it.read(), measured=express(PIECES))
+    table = Table({"schema": "18", "instance": "9", "microseconds": "12.1f", "times": "6.2f"})
+    first = {}
+    with Session(folder) as session:
+        for schema, instances in ALONE.items():
+            compare(session.ask(request("create_model", name=schema, schema=schema))[0], OK)
+            for sort, instance in zip(("leaf", "several"), instances):
+                head = HEADER.replace("AUTOMOTIVE_DESIGN { 1 0 10303 214 1 1 1 1 }", schema)
+                line = single("put", schema, file=f"{head}#1={instance};\n{FOOTER}")
+                compare(session.ask(line)[0], b'{"ok":{"instances":1}}\n')
+                begin = processor_seconds(session.process)
+                for _ in range(PUTS):
+                    compare(session.ask(line)[0], b'{"ok":{"instances":1}}\n')
+                mean = (processor_seconds(session.process) - begin) / PUTS * 1e6
+                table.row(schema.lower(), sort, mean, mean / first.setdefault(sort, mean))
+
+
 def measure(count, folder):
     with open(SCHEMA, encoding="utf-8") as it:
         folder.configure(automotive_design=it.read())
@@ -73,6 +115,7 @@ def measure(count, folder):
             mean = (processor_seconds(session.process) - begin) / number * 1e6
             refused = mean if name == "refused" else refused
             table.row(name, mean, mean - refused)
+    measure_puts(folder)
 
 
 if __name__ == "__main__":

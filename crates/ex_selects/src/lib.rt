@@ -3,6 +3,7 @@
 #![tactic(auto)]
 
 mod ends;
+mod expected;
 mod items;
 mod kept;
 mod levels;
@@ -12,6 +13,7 @@ mod takers;
 mod types;
 
 pub use ends::{Base, Target, base_of, inside, target_of};
+pub use expected::Expected;
 pub use levels::{Candidate, Level, Levels, level_of, levels_of};
 pub use sorts::Class;
 pub use takers::{Takers, taker_at};

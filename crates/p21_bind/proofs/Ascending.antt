@@ -11,10 +11,11 @@ use Rattle.p21_instances.specs.Instances as spelled
 use Rattle.p21_instances.specs.Instances.{in_order, is_among}
 use Rattle.p21_instances.proofs.ByName.{below, AreOnce, once-in_order}
 use Rattle.p21_instances.proofs.SortedBy.{Rises, rises_in_order}
+use Rattle.ex_layouts.specs.Entities.{entity_spelled}
 use Rattle.p21_mappings.specs.Contents.{content}
-use Rattle.p21_mappings.specs.Instances.{Read, and_then, all_there, by_entities, by_entity, by_mapping, by_plan, by_several, counted, each, has_twice, instance, made, part, same_counts}
-use Rattle.p21_mappings.specs.Plans.{entity_named, external, internal}
-use Rattle.p21_mappings.specs.declared.plan.Plan.{Plan}
+use Rattle.p21_mappings.specs.Instances.{Read, and_then, all_there, by_entities, by_entity, by_mapping, by_layout, by_several, counted, each, has_twice, instance, made, part, same_counts}
+use Rattle.p21_mappings.specs.Layouts.{external, internal}
+use Rattle.ex_layouts.specs.declared.layout.Layout.{Layout}
 use Rattle.p21_tree.specs.declared.fault.InstanceFault.{InstanceFault}
 use Rattle.p21_tree.specs.declared.fault.InstanceFaultKind.TheVariants.{Twice}
 use Rattle.p21_tree.specs.declared.header.Header.{Header}
@@ -38,24 +39,24 @@ then_named name true (Err kind) f i named e = cc
 then_named name false o f i named e = cc
 
 module _ (schema : Checked) (is_defined : ℕ → Bool) where
-  plan_named : (name : ℕ) (records : List Record) (o : Option Plan) (i : Instance) → by_plan schema is_defined name records o ≡ Ok i → i.name ≡ name
-  plan_named name records None i e = cc
-  plan_named name records (Some plan) i e = then_named name (same_counts plan.slots records) (each (part schema is_defined) (zip plan.slots records)) (made name plan) i (λ lists. refl) e
+  layout_named : (name : ℕ) (records : List Record) (o : Option Layout) (i : Instance) → by_layout schema is_defined name records o ≡ Ok i → i.name ≡ name
+  layout_named name records None i e = cc
+  layout_named name records (Some layout) i e = then_named name (same_counts layout.slots records) (each (part schema is_defined) (zip layout.slots records)) (made name layout) i (λ lists. refl) e
 
   internal_named : (name : ℕ) (records : List Record) (o : Option ℕ) (i : Instance) → by_entity schema is_defined name records o ≡ Ok i → i.name ≡ name
   internal_named name records None i e = cc
-  internal_named name records (Some entity) i e = plan_named name records (internal schema entity) i e
+  internal_named name records (Some entity) i e = layout_named name records (internal schema entity) i e
 
   external_named : (name : ℕ) (records : List Record) (o : Option (List ℕ)) (i : Instance) → by_entities schema is_defined name records o ≡ Ok i → i.name ≡ name
   external_named name records None i e = cc
-  external_named name records (Some entities) i e = plan_named name records (external schema entities) i e
+  external_named name records (Some entities) i e = layout_named name records (external schema entities) i e
 
   several_named : (name : ℕ) (records : List Record) (i : Instance) → by_several schema is_defined name records ≡ Ok i → i.name ≡ name
   unfolding by_several
-  several_named name records i e = external_named name records (all_there (map (λ r. entity_named schema r.keyword) records)) i e
+  several_named name records i e = external_named name records (all_there (map (λ r. entity_spelled schema r.keyword) records)) i e
 
   mapping_named : (name : ℕ) (mapping : Mapping) (i : Instance) → by_mapping schema is_defined name mapping ≡ Ok i → i.name ≡ name
-  mapping_named name (Internal single) i e = internal_named name (single ∷ []) (entity_named schema single.keyword) i e
+  mapping_named name (Internal single) i e = internal_named name (single ∷ []) (entity_spelled schema single.keyword) i e
   mapping_named name (External records) i e = several_named name records i e
 
   tested : (x : tree.Instance) (i : Instance) (stood twice : Bool) → (if stood || twice then Err Twice else by_mapping schema is_defined x.name x.mapping) ≡ Ok i → (stood ≡ false) × (i.name ≡ x.name)

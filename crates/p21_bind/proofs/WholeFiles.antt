@@ -78,15 +78,15 @@ whole schema p (x ∷ xs) ys all once defined =
     (first_same (one schema any_name no_name x) (apart schema xs) (instances_after schema p no_name xs) ys all (λ zs e. whole schema p xs zs e parts.1 refers.1))
 
 pub loaded_whole : (schema : Checked) (name linked : List ℕ) (first now : Loading) (rest : Raw) (held : Content) (file : Result Raw FileFault)
-    → ShownAll (Becomes first) rest now file → first.plans ≡ schema → is_of_schema name rest ≡ true
+    → ShownAll (Becomes first) rest now file → first.layouts ≡ schema → is_of_schema name rest ≡ true
     → has_twice is_one now.names.items ≡ false → list_all (is_among (now.names.items ++ linked)) now.references.items ≡ true → held ≡ content rest.header now.instances.items
     → loaded schema name linked file ≡ Some held
 unfolding bound_file instances
-loaded_whole schema name linked first now rest held (Err fault) shown plans is once defined made = cc
-loaded_whole schema name linked first now rest held (Ok raw) shown plans is once defined made =
+loaded_whole schema name linked first now rest held (Err fault) shown layouts is once defined made = cc
+loaded_whole schema name linked first now rest held (Ok raw) shown layouts is once defined made =
     let becomes = shown.1 in
     let same : is_of_schema name raw ≡ true = ap (is_of_schema name) shown.0 ∙ is in
-    let all : apart schema raw.instances ≡ Ok now.instances.items = ap (λ s. apart s raw.instances) (sym plans) ∙ becomes.instances in
+    let all : apart schema raw.instances ≡ Ok now.instances.items = ap (λ s. apart s raw.instances) (sym layouts) ∙ becomes.instances in
     let once2 : has_twice is_one (names raw.instances) ≡ false = ap (has_twice is_one) becomes.names ∙ once in
     let defined2 : list_all (is_among (names raw.instances ++ linked)) (all_references raw.instances) ≡ true =
     (λ i. list_all (is_among (becomes.names i ++ linked)) (becomes.references i)) ∙ defined in

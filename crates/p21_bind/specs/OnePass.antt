@@ -31,10 +31,10 @@ all_references = flat_map (λ x. mapping_references x.mapping)
 
 -- The first becomes the second by these instances.
 pub record Becomes (first : Loading) (xs : List tree.Instance) (now : Loading) : Type 0 where
-  pub plans : now.plans ≡ first.plans
+  pub layouts : now.layouts ≡ first.layouts
   pub names : names xs ≡ now.names.items
   pub references : all_references xs ≡ now.references.items
-  pub instances : apart first.plans xs ≡ Ok now.instances.items
+  pub instances : apart first.layouts xs ≡ Ok now.instances.items
 
 -- ---- a whole file
 

@@ -9,8 +9,8 @@ ghost use Rattle.p21_bind.specs.Files as spec;
 ghost use Rattle.p21_mappings.specs.Instances as instances;
 
 use crate::mapped::instance;
-use ex_subtypes::Compiled;
-use p21_mappings::{Defined, DefinedNames, Names, Plans, header_of, in_name_order};
+use ex_layouts::{Layouts, LoadedSchema};
+use p21_mappings::{Defined, DefinedNames, Names, header_of, in_name_order};
 use p21_tree::{Header, Instance as Spelled, InstanceFault, Raw};
 use plain_data::{Items, Rows};
 use rp_content::{Content, Instance};
@@ -21,15 +21,15 @@ use text_forms::Failure;
 /// One instance, whose name stood before or not, or the first that holds of what is wrong with it.
 pub fn one<N: DefinedNames>(
     alloc: Global,
-    plans: &mut Plans<'_>,
+    layouts: &mut Layouts<'_>,
     names: &N,
     stood: bool,
     spelled: &Spelled<'_>,
 ) -> Result<Instance, Failure<InstanceFault>>
-    ensures plans { plans.new ≡ plans.old }
-    ensures made { Gives (λ x. x) result (spec.told spelled.now.name (instances.instance plans.old (N.is_defined names.now) stood spelled.now)) }
+    ensures layouts { layouts.new ≡ layouts.old }
+    ensures made { Gives (λ x. x) result (spec.told spelled.now.name (instances.instance layouts.old (N.is_defined names.now) stood spelled.now)) }
 {
-    match instance(alloc, plans, names, stood, spelled) {
+    match instance(alloc, layouts, names, stood, spelled) {
         Ok(instance) => Ok(instance),
         Err(Failure::NoMemory) => Err(Failure::NoMemory),
         Err(Failure::Fault(kind)) => Err(Failure::Fault(InstanceFault {
@@ -60,13 +60,13 @@ fn note(before: &mut BTreeSet<u64>, are_distinct: bool, name: u64) -> Result<(),
 /// The instances of these, the last of which stands first in the file. Each is dropped as soon as it is read.
 fn all_read(
     alloc: Global,
-    plans: &mut Plans<'_>,
+    layouts: &mut Layouts<'_>,
     names: &Names,
     linked: &Names,
     reversed: Vec<Spelled<'_>>,
 ) -> Result<Vec<Instance>, Failure<InstanceFault>>
     requires { IsPermutation (order.names (reverse reversed.items)) names.now }
-    ensures { Gives (λ xs. xs.items) result (spec.instances_after plans.old (is_among (names.now ++ linked.now)) (λ n. false) (reverse reversed.entry.items)) }
+    ensures { Gives (λ xs. xs.items) result (spec.instances_after layouts.old (is_among (names.now ++ linked.now)) (λ n. false) (reverse reversed.entry.items)) }
 {
     let mut rest = reversed;
     let mut found = Vec::with_capacity(alloc, rest.len())?;
@@ -75,7 +75,7 @@ fn all_read(
     let mut before = BTreeSet::new(alloc);
     'instances: while let Some(spelled) = rest.pop() {
         let stood = stood_before(&before, spelled.name);
-        found.push(one(alloc, plans, &defined, stood, &spelled)?)?;
+        found.push(one(alloc, layouts, &defined, stood, &spelled)?)?;
         note(&mut before, are_distinct, spelled.name)?;
     }
     Ok(found)
@@ -84,17 +84,17 @@ fn all_read(
 /// The instances of a file in its order, or the first fault of the first faulty one.
 fn instances(
     alloc: Global,
-    plans: &mut Plans<'_>,
+    layouts: &mut Layouts<'_>,
     linked: &[u64],
     spelled: Rows<Spelled<'_>>,
 ) -> Result<Vec<Instance>, Failure<InstanceFault>>
-    ensures { Gives (λ xs. xs.items) result (spec.instances plans.old linked.now spelled.entry) }
+    ensures { Gives (λ xs. xs.items) result (spec.instances layouts.old linked.now spelled.entry) }
 {
     let names = Names::of(alloc, spelled.as_slice())?;
     let linked = Names::of_slice(alloc, linked)?;
     let mut reversed = spelled.into_vec();
     reversed.reverse();
-    all_read(alloc, plans, &names, &linked, reversed)
+    all_read(alloc, layouts, &names, &linked, reversed)
 }
 
 /// The header of a file, and its instances.
@@ -113,14 +113,14 @@ fn parts_of(raw: Raw<'_>) -> (Header<'_>, Rows<Spelled<'_>>)
 /// What a model holds that a file of this header and these instances is put into.
 fn content(
     alloc: Global,
-    plans: &mut Plans<'_>,
+    layouts: &mut Layouts<'_>,
     linked: &[u64],
     header: &Header<'_>,
     spelled: Rows<Spelled<'_>>,
 ) -> Result<Content, Failure<InstanceFault>>
-    ensures { Gives (λ content. content) result (spec.bound_by header.now (spec.instances plans.old linked.now spelled.entry)) }
+    ensures { Gives (λ content. content) result (spec.bound_by header.now (spec.instances layouts.old linked.now spelled.entry)) }
 {
-    let found = instances(alloc, plans, linked, spelled)?;
+    let found = instances(alloc, layouts, linked, spelled)?;
     let header = header_of(alloc, header)?;
     let instances = in_name_order(found)?;
     Ok(Content {
@@ -137,9 +137,9 @@ fn content(
 ///
 /// The first fault of the first faulty instance in the file's order; or want of memory.
 #[tactic(auto, unfolding(crate::specs::Files::bound_file))]
-pub fn bind(
+pub fn bind<'s>(
     alloc: Global,
-    schema: &Compiled,
+    schema: &'s LoadedSchema<'s>,
     linked: &[u64],
     raw: Raw<'_>,
 ) -> Result<Content, Failure<InstanceFault>>
@@ -147,6 +147,6 @@ pub fn bind(
     ensures order { IfOk result (λ content. spec.AreAscending content.instances) }
 {
     let (header, spelled) = parts_of(raw);
-    let mut plans = Plans::of(alloc, schema)?;
-    content(alloc, &mut plans, linked, &header, spelled)
+    let mut layouts = Layouts::of(alloc, schema)?;
+    content(alloc, &mut layouts, linked, &header, spelled)
 }

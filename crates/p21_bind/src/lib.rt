@@ -9,5 +9,5 @@ mod single;
 
 pub use file::bind;
 pub use loading::load;
-pub use p21_mappings::{DefinedNames, Names, Plans};
+pub use p21_mappings::{DefinedNames, Names};
 pub use single::bind_instance;

@@ -5,8 +5,8 @@ ghost use Rattle.p21_grammar.specs.File.{file_of};
 ghost use Rattle.p21_bind.specs.OnePass as spec;
 
 use crate::file::one;
-use ex_subtypes::Compiled;
-use p21_mappings::{AnyName, Plans, put_references_of, whole};
+use ex_layouts::{Layouts, LoadedSchema};
+use p21_mappings::{AnyName, put_references_of, whole};
 use p21_read::{Visitor, is_of_schema, read_visited};
 use p21_tree::{Header, Instance as Spelled};
 use rp_content::{Content, Instance};
@@ -15,7 +15,7 @@ use text_forms::Failure;
 
 /// What the instances of a file are that were read so far, as if each name that they refer to were defined.
 pub struct Loading<'s> {
-    plans: Plans<'s>,
+    layouts: Layouts<'s>,
     names: Vec<u64>,
     /// The names that they refer to.
     references: Vec<u64>,
@@ -25,12 +25,12 @@ pub struct Loading<'s> {
 impl<'s> Drop for Loading<'s> {
     fn drop(self) {
         let Loading {
-            plans,
+            layouts,
             names,
             references,
             instances,
         } = self;
-        drop(plans);
+        drop(layouts);
         drop(names);
         drop(references);
         drop(instances);
@@ -41,7 +41,7 @@ impl<'s> Visitor for Loading<'s> {
     ghost becomes = { spec.Becomes };
 
     fn visit(&mut self, alloc: Global, instance: &Spelled<'_>) -> Result<bool, AllocError> {
-        match one(alloc, &mut self.plans, &AnyName, false, instance) {
+        match one(alloc, &mut self.layouts, &AnyName, false, instance) {
             Ok(found) => {
                 self.instances.push(found)?;
                 self.names.push(instance.name)?;
@@ -62,14 +62,18 @@ impl<'s> Loading<'s> {
 
     /// Nothing yet. `bytes` is the length of the file: as most instances take 32 bytes and more, and a reference with what
     /// stands around it 16, the lists seldom grow, and of the room that is left over no page is touched.
-    fn new(alloc: Global, schema: &'s Compiled, bytes: usize) -> Result<Loading<'s>, AllocError>
-        ensures plans { IfOk result (λ l. l.plans ≡ schema.now) }
+    fn new(
+        alloc: Global,
+        schema: &'s LoadedSchema<'s>,
+        bytes: usize,
+    ) -> Result<Loading<'s>, AllocError>
+        ensures layouts { IfOk result (λ l. l.layouts ≡ schema.now) }
         ensures names { IfOk result (λ l. l.names.items ≡ []) }
         ensures references { IfOk result (λ l. l.references.items ≡ []) }
         ensures instances { IfOk result (λ l. l.instances.items ≡ []) }
     {
         Ok(Loading {
-            plans: Plans::of(alloc, schema)?,
+            layouts: Layouts::of(alloc, schema)?,
             names: Vec::with_capacity(alloc, bytes / 32)?,
             references: Vec::with_capacity(alloc, bytes / 16)?,
             instances: Vec::with_capacity(alloc, bytes / 32)?,
@@ -89,12 +93,12 @@ impl<'s> Loading<'s> {
         ensures defined { IfOk result (λ found. IfSome found (λ content. list_all (is_among (self.entry.names.items ++ linked.now)) self.entry.references.items ≡ true)) }
     {
         let Loading {
-            plans,
+            layouts,
             names,
             references,
             instances,
         } = self;
-        drop(plans);
+        drop(layouts);
         whole(alloc, names, references, instances, linked, header)
     }
 }
@@ -106,9 +110,9 @@ impl<'s> Loading<'s> {
 /// # Errors
 ///
 /// Want of memory.
-pub fn load(
+pub fn load<'s>(
     alloc: Global,
-    schema: &Compiled,
+    schema: &'s LoadedSchema<'s>,
     name: &[u8],
     linked: &[u64],
     text: &[u8],

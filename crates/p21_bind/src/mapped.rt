@@ -1,79 +1,86 @@
 //! An instance, from its mapping.
 
-ghost use Rattle.std.specs.Prelude.{◌≡◌, ◌∷◌, [], Some};
+ghost use Rattle.std.specs.Prelude.{◌≡◌, ◌∷◌, []};
+ghost use Rattle.ex_layouts.specs.Entities.{entity_spelled};
+ghost use Rattle.ex_layouts.specs.Layouts.{of_leaf};
 ghost use Rattle.text_forms.specs.Gives.{Gives};
-ghost use Rattle.p21_mappings.specs.Kept as kept;
-ghost use Rattle.p21_mappings.specs.Plans as plans_spec;
 ghost use Rattle.p21_mappings.specs.Instances as spec;
-ghost use Rattle.p21_mappings.specs.ReadSlots as read_spec;
+ghost use Rattle.p21_mappings.specs.Layouts.{internal};
 
-use p21_mappings::{
-    DefinedNames, Leaf, Plans, Reader, Reading, by_parts, internal, values_of_leaf,
-};
+use ex_layouts::{Layout, Layouts, LoadedSchema, legal_leaf};
+use p21_mappings::{DefinedNames, Reading, by_parts, entity_named, values_of_leaf};
 use p21_tree::{Instance as Spelled, InstanceFaultKind, Mapping, Record};
 use rp_content::{Instance, Types};
 use std::alloc::Global;
 use text_forms::Failure;
 
-/// The instance of this part, which is of a leaf.
+/// The instance of this part, which is of an entity and all above it.
+#[tactic(auto, unfolding(p21_mappings::specs::Layouts::internal))]
 fn by_leaf<N: DefinedNames>(
     alloc: Global,
-    reader: &Reader<'_>,
+    schema: &LoadedSchema<'_>,
     names: &N,
     name: u64,
     part: &Record<'_>,
-    leaf: &Leaf<'_>,
+    entity: usize,
+    layout: &Layout<'_>,
 ) -> Reading<Instance>
-    requires { read_spec.AreRead reader.now leaf.now }
-    ensures { Gives (λ x. x) result (spec.by_plan reader.now (N.is_defined names.now) name (part.now ∷ []) (Some (kept.leaf_plan leaf.now))) }
+    requires { layout.now ≡ of_leaf schema.now entity }
+    ensures { Gives (λ x. x) result (spec.by_layout schema.now (N.is_defined names.now) name (part.now ∷ []) (internal schema.now entity)) }
 {
-    if leaf.slots.len() != part.values.len() {
+    if !layout.is_legal {
+        return Err(Failure::Fault(InstanceFaultKind::IllegalCombination));
+    }
+    if layout.slots_of(0).len() != part.values.len() {
         return Err(Failure::Fault(InstanceFaultKind::WrongCount));
     }
-    let values = values_of_leaf(alloc, reader, names, leaf, part)?;
+    let values = values_of_leaf(alloc, schema, names, entity, layout, part)?;
     Ok(Instance {
         name,
-        types: Types::Leaf(leaf.entity),
+        types: Types::Leaf(entity),
         values,
     })
 }
 
-/// The instance of this part, where there can be one of this entity and all above it. Its leaf is kept.
+/// The instance of this part, where there can be one of this entity and all above it. What instances of it have values of is
+/// kept.
+#[tactic(auto, unfolding(p21_mappings::specs::Layouts::internal))]
 fn by_new_leaf<N: DefinedNames>(
     alloc: Global,
-    plans: &mut Plans<'_>,
+    layouts: &mut Layouts<'_>,
     names: &N,
     name: u64,
     part: &Record<'_>,
     entity: usize,
 ) -> Reading<Instance>
-    ensures plans { plans.new ≡ plans.old }
-    ensures made { Gives (λ x. x) result (spec.by_plan plans.old (N.is_defined names.now) name (part.now ∷ []) (plans_spec.internal plans.old entity)) }
+    ensures layouts { layouts.new ≡ layouts.old }
+    ensures made { Gives (λ x. x) result (spec.by_layout layouts.old (N.is_defined names.now) name (part.now ∷ []) (internal layouts.old entity)) }
 {
-    let Some(leaf) = internal(alloc, plans.reader(), entity)? else {
+    let schema = layouts.schema();
+    let Some(layout) = legal_leaf(alloc, schema, entity)? else {
         return Err(Failure::Fault(InstanceFaultKind::IllegalCombination));
     };
-    let instance = by_leaf(alloc, plans.reader(), names, name, part, &leaf)?;
-    plans.keep_leaf(leaf)?;
+    let instance = by_leaf(alloc, schema, names, name, part, entity, &layout)?;
+    layouts.keep_leaf(entity, layout)?;
     Ok(instance)
 }
 
 fn by_entity<N: DefinedNames>(
     alloc: Global,
-    plans: &mut Plans<'_>,
+    layouts: &mut Layouts<'_>,
     names: &N,
     name: u64,
     part: &Record<'_>,
 ) -> Reading<Instance>
-    ensures plans { plans.new ≡ plans.old }
-    ensures made { Gives (λ x. x) result (spec.by_entity plans.old (N.is_defined names.now) name (part.now ∷ []) (plans_spec.entity_named plans.old part.now.keyword)) }
+    ensures layouts { layouts.new ≡ layouts.old }
+    ensures made { Gives (λ x. x) result (spec.by_entity layouts.old (N.is_defined names.now) name (part.now ∷ []) (entity_spelled layouts.old part.now.keyword)) }
 {
-    let Some(entity) = plans.entity_named(alloc, &part.keyword)? else {
+    let Some(entity) = entity_named(alloc, layouts, &part.keyword)? else {
         return Err(Failure::Fault(InstanceFaultKind::UnknownEntity));
     };
-    match plans.leaf(entity) {
-        Some(leaf) => by_leaf(alloc, plans.reader(), names, name, part, leaf),
-        None => by_new_leaf(alloc, plans, names, name, part, entity),
+    match layouts.leaf(entity) {
+        Some(layout) => by_leaf(alloc, layouts.schema(), names, name, part, entity, layout),
+        None => by_new_leaf(alloc, layouts, names, name, part, entity),
     }
 }
 
@@ -81,20 +88,20 @@ fn by_entity<N: DefinedNames>(
 #[tactic(auto, unfolding(p21_mappings::specs::Instances::instance))]
 pub fn instance<N: DefinedNames>(
     alloc: Global,
-    plans: &mut Plans<'_>,
+    layouts: &mut Layouts<'_>,
     names: &N,
     stood: bool,
     spelled: &Spelled<'_>,
 ) -> Reading<Instance>
-    ensures plans { plans.new ≡ plans.old }
-    ensures made { Gives (λ x. x) result (spec.instance plans.old (N.is_defined names.now) stood spelled.now) }
+    ensures layouts { layouts.new ≡ layouts.old }
+    ensures made { Gives (λ x. x) result (spec.instance layouts.old (N.is_defined names.now) stood spelled.now) }
 {
     if stood {
         return Err(Failure::Fault(InstanceFaultKind::Twice));
     }
     let name = spelled.name;
     match &spelled.mapping {
-        Mapping::Internal(part) => by_entity(alloc, plans, names, name, part),
-        Mapping::External(parts) => by_parts(alloc, plans, names, name, parts.as_slice()),
+        Mapping::Internal(part) => by_entity(alloc, layouts, names, name, part),
+        Mapping::External(parts) => by_parts(alloc, layouts, names, name, parts.as_slice()),
     }
 }

@@ -5,14 +5,15 @@ ghost use Rattle.text_forms.specs.Gives.{Gives};
 ghost use Rattle.p21_bind.specs.Single as spec;
 
 use crate::file::one;
-use p21_mappings::{DefinedNames, Plans};
+use ex_layouts::Layouts;
+use p21_mappings::DefinedNames;
 use p21_tree::{Instance as Spelled, InstanceFault, Mapping};
 use rp_content::Instance;
 use std::alloc::Global;
 use text_forms::Failure;
 
-/// The instance of this name that the mapping is by the schema that the plans are of, where a reference may name what is
-/// defined: the instances and links of the model as it was before the request. What was found for it is kept with the plans.
+/// The instance of this name that the mapping is by the schema that the layouts are of, where a reference may name what is
+/// defined: the instances and links of the model as it was before the request. What was found for it is kept with the layouts.
 ///
 /// # Errors
 ///
@@ -20,13 +21,13 @@ use text_forms::Failure;
 #[tactic(auto, unfolding(crate::specs::Single::bound_instance))]
 pub fn bind_instance<N: DefinedNames>(
     alloc: Global,
-    plans: &mut Plans<'_>,
+    layouts: &mut Layouts<'_>,
     name: u64,
     mapping: Mapping<'_>,
     names: &N,
 ) -> Result<Instance, Failure<InstanceFault>>
-    ensures plans { plans.new ≡ plans.old }
-    ensures made { Gives (λ x. x) result (spec.bound_instance plans.old (N.is_defined names.now) name mapping.entry) }
+    ensures layouts { layouts.new ≡ layouts.old }
+    ensures made { Gives (λ x. x) result (spec.bound_instance layouts.old (N.is_defined names.now) name mapping.entry) }
 {
-    one(alloc, plans, names, false, &Spelled { name, mapping })
+    one(alloc, layouts, names, false, &Spelled { name, mapping })
 }

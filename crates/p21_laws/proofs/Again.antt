@@ -8,8 +8,10 @@ use Rattle.ex_slots.specs.Slots.{Slot}
 use Rattle.ex_types.specs.Checked.{Checked}
 use Rattle.lineage.proofs.Certain.{each_passes}
 use Rattle.lineage.specs.Lineage.{is_among}
-use Rattle.p21_mappings.specs.Instances.{all_there, and_then, by_entities, by_entity, by_mapping, by_plan, by_several, counted, each, has_twice, in_places, instance, keywords, made, part, repeats, same_counts}
-use Rattle.p21_mappings.specs.Plans.{entity_named, external, internal, of_leaf, of_several, order_by, place_in, slots_in, types_by}
+use Rattle.p21_mappings.specs.Instances.{all_there, and_then, by_entities, by_entity, by_mapping, by_layout, by_several, counted, each, has_twice, in_places, instance, keywords, made, part, repeats, same_counts}
+use Rattle.ex_layouts.specs.Entities.{entity_spelled}
+use Rattle.ex_layouts.specs.Layouts.{of_leaf, of_several, order_by, place_in, slots_in, types_by}
+use Rattle.p21_mappings.specs.Layouts.{external, internal}
 use Rattle.p21_instances.specs.Instances.{references}
 use Rattle.p21_spelling.proofs.Runs.{first_holds}
 use Rattle.p21_tree.specs.declared.fault.InstanceFaultKind.TheVariants.{Twice}
@@ -41,10 +43,10 @@ module _ (schema : Checked) (accepted : IsAccepted schema.named) (is_defined : �
   abbrev pub refers_all : Record → Bool
   refers_all r = list_all refers r.values
 
-  -- by the slots of a plan, and what it makes of the values
-  by_plan_again : (rs : List Record) (slots : List (List Slot)) (make : List (List Value) → Instance) (lists : List (List Value)) → same_counts slots rs ≡ true → each (part schema is_defined) (zip slots rs) ≡ Ok lists
+  -- by the slots of a layout, and what it makes of the values
+  by_layout_again : (rs : List Record) (slots : List (List Slot)) (make : List (List Value) → Instance) (lists : List (List Value)) → same_counts slots rs ≡ true → each (part schema is_defined) (zip slots rs) ≡ Ok lists
       → counted (same_counts slots rs) (and_then (each (part schema is_defined) (zip slots rs)) (λ lists. Ok (make lists))) ≡ Ok (make lists)
-  by_plan_again rs slots make lists counts all =
+  by_layout_again rs slots make lists counts all =
       ap (λ t. counted t (and_then (each (part schema is_defined) (zip slots rs)) (λ lists. Ok (make lists)))) counts ∙ ap (λ r. and_then r (λ lists. Ok (make lists))) all
 
   -- what the first gives beside what all others do
@@ -80,8 +82,8 @@ module _ (schema : Checked) (accepted : IsAccepted schema.named) (is_defined : �
     unfolding internal
     lone_again =
         ap (by_entity schema is_defined name (lone ∷ [])) (entity_again schema accepted entity is.there)
-        ∙ ap (λ t. by_plan schema is_defined name (lone ∷ []) (if t then Some (of_leaf schema entity) else None)) is.legal
-        ∙ by_plan_again (lone ∷ []) (slots_by schema entity ∷ []) (made name (of_leaf schema entity)) (ws ∷ []) lone_counts lone_parts
+        ∙ ap (λ t. by_layout schema is_defined name (lone ∷ []) (if t then Some (of_leaf schema entity) else None)) is.legal
+        ∙ by_layout_again (lone ∷ []) (slots_by schema entity ∷ []) (made name (of_leaf schema entity)) (ws ∷ []) lone_counts lone_parts
         ∙ ap (λ ws. Ok (record { name = name; types = Leaf entity; values = ws })) (append-nil ws)
 
     leaf_again : by_mapping schema is_defined name (mapping schema (Leaf entity) ws) ≡ Ok (record { name = name; types = Leaf entity; values = ws })
@@ -107,13 +109,13 @@ module _ (schema : Checked) (accepted : IsAccepted schema.named) (is_defined : �
         eq-eqb (length (slots_with schema ns n)) (length (trees_of schema.named.schema.types (slots_with schema ns n) (is.lists n)))
         (as_many_trees schema.named.schema.types Keeps (slots_with schema ns n) (is.lists n) (is.values n there))
 
-    plan_parts : each (part schema is_defined) (zip (slots_in schema ns) (map each_made ns)) ≡ Ok (map is.lists ns)
+    layout_parts : each (part schema is_defined) (zip (slots_in schema ns) (map each_made ns)) ≡ Ok (map is.lists ns)
     unfolding slots_in
-    plan_parts = parts_again (slots_with schema ns) is.lists ns part_again
+    layout_parts = parts_again (slots_with schema ns) is.lists ns part_again
 
-    plan_counts : same_counts (slots_in schema ns) (map each_made ns) ≡ true
+    layout_counts : same_counts (slots_in schema ns) (map each_made ns) ≡ true
     unfolding slots_in
-    plan_counts = counts_again (slots_with schema ns) is.lists ns count_again
+    layout_counts = counts_again (slots_with schema ns) is.lists ns count_again
 
     in_place : (n : ℕ) → is_among ns n ≡ true → slice_index_or (map is.lists ns) (place_in ns n) [] ≡ is.lists n
     unfolding place_in
@@ -131,15 +133,15 @@ module _ (schema : Checked) (accepted : IsAccepted schema.named) (is_defined : �
         ∙ ap (λ (ms : List ℕ). record { name = name; types = Several ms; values = in_places (map (place_in ns) ms) (map is.lists ns) }) is.ordered
         ∙ ap (λ ws. record { name = name; types = Several ns; values = ws }) in_all_places
 
-    found_again : all_there (map (λ r. entity_named schema r.keyword) (map each_made ns)) ≡ Some ns
+    found_again : all_there (map (λ r. entity_spelled schema r.keyword) (map each_made ns)) ≡ Some ns
     found_again = all_found schema each_made ns (λ n there. entity_again schema accepted n (is.there n there))
 
     by_several_again : by_several schema is_defined name (map each_made ns) ≡ Ok (record { name = name; types = Several ns; values = ws })
     unfolding by_several external
     by_several_again =
         ap (by_entities schema is_defined name (map each_made ns)) found_again
-        ∙ ap (λ t. by_plan schema is_defined name (map each_made ns) (if t then Some (of_several schema ns) else None)) is.legal
-        ∙ by_plan_again (map each_made ns) (slots_in schema ns) (made name (of_several schema ns)) (map is.lists ns) plan_counts plan_parts
+        ∙ ap (λ t. by_layout schema is_defined name (map each_made ns) (if t then Some (of_several schema ns) else None)) is.legal
+        ∙ by_layout_again (map each_made ns) (slots_in schema ns) (made name (of_several schema ns)) (map is.lists ns) layout_counts layout_parts
         ∙ ap (λ i. Ok i) made_is
 
     abbrev key : ℕ → List ℕ

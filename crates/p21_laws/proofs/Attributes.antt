@@ -1,5 +1,5 @@
 -- The value of an attribute, and what is written of it.
-use Rattle.std.proofs.Common.{◌≡◌, ◌≤◌, ℕ, zero, suc, Bool, true, false, if◌then◌else◌, List, [], ◌∷◌, length, map, zip, Option, Some, None, Ok, Err, refl, sym, ◌∙◌, ap, subst, arith}
+use Rattle.std.proofs.Common.{◌≡◌, ◌≤◌, ℕ, zero, suc, Bool, true, false, if◌then◌else◌, List, [], ◌∷◌, length, zip, Option, Some, None, Ok, Err, refl, sym, ◌∙◌, ap, subst, arith}
 use Rattle.std.specs.List.{AllByRecursion, list_all}
 use Rattle.ex_named.specs.declared.declaration.NamedType.{NamedType}
 use Rattle.ex_slots.specs.Slots.{Slot}
@@ -15,17 +15,13 @@ use Rattle.p21_tree.specs.declared.value.Value.TheFolds as trees
 use Rattle.p21_tree.specs.declared.value.Value.TheOpen.{Value-F}
 use Rattle.p21_tree.specs.declared.value.Value.TheVariants as t
 use Rattle.p21_values.specs.Taking.{bound}
-use Rattle.p21_lines.specs.Trees.{attribute_at, attribute_tree, attributes, value_tree}
+use Rattle.p21_lines.specs.Trees.{attribute_at, attribute_tree, attributes, marks_of, value_tree}
 use Rattle.rp_value.specs.declared.value.Value.{Value}
 use Rattle.rp_value.specs.declared.value.Value.TheVariants as v
 use Rattle.p21_laws.proofs.Pairs.{AllBoth, numbered_next}
 use Rattle.p21_laws.proofs.Referred.{no_star, refers_again}
 use Rattle.p21_laws.proofs.Taken.{bound_again, bound_levels, bound_spelled}
 use Rattle.p21_laws.specs.Types.{AreTypes}
-
--- which of the slots are derived
-abbrev pub marks_of : List Slot → List Bool
-marks_of ss = map (λ s. s.is_derived) ss
 
 -- what the first gives, and what all others do
 pub split : {B : Type 0} (first : Read B) (others : Read (List B)) (ys : List B) → and_then first (λ y. and_then others (λ zs. Ok (y ∷ zs))) ≡ Ok ys

@@ -6,7 +6,7 @@ use Rattle.std.specs.Str.{bytes_eq, str_to_ascii_uppercase}
 use Rattle.ex_named.specs.declared.declaration.NamedEntity.{NamedEntity}
 use Rattle.ex_types.specs.Checked.{Checked, entity_names}
 use Rattle.name_tables.specs.Names.{place_of}
-use Rattle.p21_mappings.specs.Plans.{entity_named}
+use Rattle.ex_layouts.specs.Entities.{entity_spelled}
 use Rattle.p21_spelling.proofs.Runs.{first_holds, second_holds}
 use Rattle.p21_spelling.specs.Tokens.{is_word}
 use Rattle.p21_lines.specs.Trees.{entity_name}
@@ -21,7 +21,7 @@ abbrev pub IsEntity : Checked → ℕ → Type 0
 IsEntity schema n = (e : NamedEntity) × (slice_get (entities_of schema) n ≡ Some e)
 
 -- the entity that a keyword names is there
-pub entity_there : (schema : Checked) (keyword : List ℕ) (n : ℕ) → entity_named schema keyword ≡ Some n → IsEntity schema n
+pub entity_there : (schema : Checked) (keyword : List ℕ) (n : ℕ) → entity_spelled schema keyword ≡ Some n → IsEntity schema n
 entity_there schema keyword n e =
     let at = place_has (str_to_ascii_uppercase keyword) (entity_names (entities_of schema)) n e in
     let found = given (λ e. e.name.text) (slice_get (entities_of schema) n) (str_to_ascii_uppercase keyword) (sym (slice_get-map (λ e. e.name.text) (entities_of schema) n) ∙ at) in
@@ -49,7 +49,7 @@ module _ (schema : Checked) (accepted : IsAccepted schema.named) (n : ℕ) (is :
   pub entity_upper : str_to_ascii_uppercase (entity_name (entities_of schema) n) ≡ entity_name (entities_of schema) n
   entity_upper = ap str_to_ascii_uppercase written_name ∙ upper ∙ sym written_name
 
-  pub entity_again : entity_named schema (entity_name (entities_of schema) n) ≡ Some n
+  pub entity_again : entity_spelled schema (entity_name (entities_of schema) n) ≡ Some n
   entity_again =
       ap (λ k. place_of k (entity_names (entities_of schema))) (ap str_to_ascii_uppercase written_name ∙ upper)
       ∙ placed_once name (entity_names (entities_of schema)) n (accepted.once name) name_at
@@ -57,5 +57,5 @@ module _ (schema : Checked) (accepted : IsAccepted schema.named) (n : ℕ) (is :
 -- two entities have two names
 pub entities_apart : (schema : Checked) → IsAccepted schema.named → (n m : ℕ) → IsEntity schema n → IsEntity schema m → entity_name (entities_of schema) n ≡ entity_name (entities_of schema) m → n ≡ m
 entities_apart schema accepted n m is_n is_m same =
-    let both : Some n ≡ Some m = sym (entity_again schema accepted n is_n) ∙ ap (entity_named schema) same ∙ entity_again schema accepted m is_m in
+    let both : Some n ≡ Some m = sym (entity_again schema accepted n is_n) ∙ ap (entity_spelled schema) same ∙ entity_again schema accepted m is_m in
     cc

@@ -12,8 +12,10 @@ use Rattle.ex_subtypes.specs.declared.legal.Illegal.TheVariants.{NotClosed, NotC
 use Rattle.ex_types.specs.Checked.{Checked, entity_names}
 use Rattle.lineage.proofs.Sets.{either}
 use Rattle.lineage.specs.Lineage.{is_among}
-use Rattle.p21_mappings.specs.Instances.{Read, all_there, and_then, by_entities, by_entity, by_mapping, by_plan, by_several, counted, each, has_twice, in_places, instance, keywords, made, part, repeats, same_counts, value}
-use Rattle.p21_mappings.specs.Plans.{ascending, entity_named, external, in_name_order, internal, is_legal, leaf, line_of, name_rank, of_leaf, of_several, order_by, place_in, slots_in, types_by}
+use Rattle.p21_mappings.specs.Instances.{Read, all_there, and_then, by_entities, by_entity, by_mapping, by_layout, by_several, counted, each, has_twice, in_places, instance, keywords, made, part, repeats, same_counts, value}
+use Rattle.ex_layouts.specs.Entities.{ascending, entity_spelled, is_legal, line_of, name_rank}
+use Rattle.ex_layouts.specs.Layouts.{in_name_order, leaf, of_leaf, of_several, order_by, place_in, slots_in, types_by}
+use Rattle.p21_mappings.specs.Layouts.{external, internal}
 use Rattle.p21_spelling.proofs.Runs.{first_holds, second_holds}
 use Rattle.p21_tree.specs.declared.fault.InstanceFaultKind.TheVariants.{Twice}
 use Rattle.p21_tree.specs.declared.instance.Instance as tree
@@ -28,7 +30,7 @@ use Rattle.p21_laws.proofs.Entities.{IsEntity, entities_of, entity_there}
 use Rattle.p21_laws.proofs.Keywords.{Names, itself, keywords_stand, numbers_found, once_read}
 use Rattle.p21_laws.proofs.Order.{OnceBy, any_in_order, once_in_order, order_again}
 use Rattle.p21_laws.proofs.Pairs.{AllBoth, as_many, at_place, both_flat}
-use Rattle.p21_laws.proofs.Plans.{derived_same, leaf_is, legal_same, line_same, no_leaf_same}
+use Rattle.p21_laws.proofs.Layouts.{derived_same, leaf_is, legal_same, line_same, no_leaf_same}
 use Rattle.p21_laws.proofs.Sets.{AreSame}
 use Rattle.p21_laws.proofs.Shapes.{OfLeaf, OfTypes, slots_by, slots_with}
 use Rattle.p21_laws.specs.Instances.{parts}
@@ -63,22 +65,22 @@ module _ (schema : Checked) (accepted : IsAccepted schema.named) (is_defined : �
   abbrev AllValues : List Record → Type 0
   AllValues rs = AllByRecursion (λ r. AllByRecursion Q r.values) rs
 
-  -- by the slots of a plan, and what it makes of the values
-  record Planned (rs : List Record) (slots : List (List Slot)) (make : List (List Value) → Instance) (i : Instance) : Type 0 where
+  -- by the slots of a layout, and what it makes of the values
+  record LaidOut (rs : List Record) (slots : List (List Slot)) (make : List (List Value) → Instance) (i : Instance) : Type 0 where
     counts : same_counts slots rs ≡ true
     lists : List (List Value)
     parts : each (part schema is_defined) (zip slots rs) ≡ Ok lists
     is : make lists ≡ i
 
-  planned_by : (rs : List Record) (slots : List (List Slot)) (make : List (List Value) → Instance) (i : Instance) (test : Bool) (r : Read (List (List Value))) → same_counts slots rs ≡ test
-      → each (part schema is_defined) (zip slots rs) ≡ r → counted test (and_then r (λ lists. Ok (make lists))) ≡ Ok i → Planned rs slots make i
-  planned_by rs slots make i true (Ok lists) counts parts e = record { counts = counts; lists = lists; parts = parts; is = cc }
-  planned_by rs slots make i true (Err kind) counts parts e = cc
-  planned_by rs slots make i false r counts parts e = cc
+  laid_out_by : (rs : List Record) (slots : List (List Slot)) (make : List (List Value) → Instance) (i : Instance) (test : Bool) (r : Read (List (List Value))) → same_counts slots rs ≡ test
+      → each (part schema is_defined) (zip slots rs) ≡ r → counted test (and_then r (λ lists. Ok (make lists))) ≡ Ok i → LaidOut rs slots make i
+  laid_out_by rs slots make i true (Ok lists) counts parts e = record { counts = counts; lists = lists; parts = parts; is = cc }
+  laid_out_by rs slots make i true (Err kind) counts parts e = cc
+  laid_out_by rs slots make i false r counts parts e = cc
 
-  planned : (rs : List Record) (slots : List (List Slot)) (make : List (List Value) → Instance) (i : Instance)
-      → counted (same_counts slots rs) (and_then (each (part schema is_defined) (zip slots rs)) (λ lists. Ok (make lists))) ≡ Ok i → Planned rs slots make i
-  planned rs slots make i e = planned_by rs slots make i (same_counts slots rs) (each (part schema is_defined) (zip slots rs)) refl refl e
+  laid_out : (rs : List Record) (slots : List (List Slot)) (make : List (List Value) → Instance) (i : Instance)
+      → counted (same_counts slots rs) (and_then (each (part schema is_defined) (zip slots rs)) (λ lists. Ok (make lists))) ≡ Ok i → LaidOut rs slots make i
+  laid_out rs slots make i e = laid_out_by rs slots make i (same_counts slots rs) (each (part schema is_defined) (zip slots rs)) refl refl e
 
   parts_read : (f : ℕ → List Slot) (ns : List ℕ) (rs : List Record) (lists : List (List Value)) → length ns ≡ length rs → same_counts (map f ns) rs ≡ true
       → each (part schema is_defined) (zip (map f ns) rs) ≡ Ok lists → AllValues rs → AllBoth (λ n ws. AllBoth P (f n) ws) ns lists
@@ -105,13 +107,13 @@ module _ (schema : Checked) (accepted : IsAccepted schema.named) (is_defined : �
   of_one entity there legal (ws ∷ more ∷ others) p = absurd p.1
 
   read_leaf : (name : ℕ) (r : Record) (i : Instance) (entity : ℕ) → IsEntity schema entity → (legal : Bool) → is_legal schema (line_of schema entity) ≡ legal
-      → by_plan schema is_defined name (r ∷ []) (if legal then Some (of_leaf schema entity) else None) ≡ Ok i → AllByRecursion Q r.values → Is name i
+      → by_layout schema is_defined name (r ∷ []) (if legal then Some (of_leaf schema entity) else None) ≡ Ok i → AllByRecursion Q r.values → Is name i
   read_leaf name r i entity there true legal e q =
-      let p = planned (r ∷ []) (slots_by schema entity ∷ []) (made name (of_leaf schema entity)) i e in
+      let p = laid_out (r ∷ []) (slots_by schema entity ∷ []) (made name (of_leaf schema entity)) i e in
       subst (Is name) p.is (refl, of_one entity there legal p.lists (parts_read (slots_by schema) (entity ∷ []) (r ∷ []) p.lists refl p.counts p.parts (q, tt)))
   read_leaf name r i entity there false legal e q = cc
 
-  read_entity : (name : ℕ) (r : Record) (i : Instance) (o : Option ℕ) → entity_named schema r.keyword ≡ o → by_entity schema is_defined name (r ∷ []) o ≡ Ok i → AllByRecursion Q r.values → Is name i
+  read_entity : (name : ℕ) (r : Record) (i : Instance) (o : Option ℕ) → entity_spelled schema r.keyword ≡ o → by_entity schema is_defined name (r ∷ []) o ≡ Ok i → AllByRecursion Q r.values → Is name i
   unfolding internal
   read_entity name r i None is e q = cc
   read_entity name r i (Some entity) is e q = read_leaf name r i entity (entity_there schema r.keyword entity is) (is_legal schema (line_of schema entity)) refl e q
@@ -159,16 +161,16 @@ module _ (schema : Checked) (accepted : IsAccepted schema.named) (is_defined : �
         }
 
   read_several : (name : ℕ) (rs : List Record) (i : Instance) (ns : List ℕ) → AllBoth (Names schema) ns rs → OnceBy itself ns → (legal : Bool) → is_legal schema ns ≡ legal
-      → by_plan schema is_defined name rs (if legal then Some (of_several schema ns) else None) ≡ Ok i → AllValues rs → Is name i
+      → by_layout schema is_defined name rs (if legal then Some (of_several schema ns) else None) ≡ Ok i → AllValues rs → Is name i
   unfolding slots_in
   read_several name rs i ns named once true legal e q =
-      let p = planned rs (slots_in schema ns) (made name (of_several schema ns)) i e in
+      let p = laid_out rs (slots_in schema ns) (made name (of_several schema ns)) i e in
       let there : (n : ℕ) → is_among ns n ≡ true → IsEntity schema n = λ n in_ns. names_there schema ns rs named n in_ns in
       subst (Is name) p.is
       (refl, by_order ns p.lists there once legal (parts_read (slots_with schema ns) ns rs p.lists (as_many (Names schema) ns rs named) p.counts p.parts q) (leaf schema ns) refl)
   read_several name rs i ns named once false legal e q = cc
 
-  read_entities : (name : ℕ) (rs : List Record) (i : Instance) (o : Option (List ℕ)) → all_there (map (λ r. entity_named schema r.keyword) rs) ≡ o → repeats [] (keywords rs) ≡ false
+  read_entities : (name : ℕ) (rs : List Record) (i : Instance) (o : Option (List ℕ)) → all_there (map (λ r. entity_spelled schema r.keyword) rs) ≡ o → repeats [] (keywords rs) ≡ false
       → by_entities schema is_defined name rs o ≡ Ok i → AllValues rs → Is name i
   unfolding external
   read_entities name rs i None is once e q = cc
@@ -178,8 +180,8 @@ module _ (schema : Checked) (accepted : IsAccepted schema.named) (is_defined : �
 
   read_mapping : (name : ℕ) (m : Mapping) (i : Instance) → has_twice m ≡ false → by_mapping schema is_defined name m ≡ Ok i → AllValues (parts m) → Is name i
   unfolding by_several
-  read_mapping name (Internal r) i once e q = read_entity name r i (entity_named schema r.keyword) refl e q.0
-  read_mapping name (External rs) i once e q = read_entities name rs i (all_there (map (λ r. entity_named schema r.keyword) rs)) refl once e q
+  read_mapping name (Internal r) i once e q = read_entity name r i (entity_spelled schema r.keyword) refl e q.0
+  read_mapping name (External rs) i once e q = read_entities name rs i (all_there (map (λ r. entity_spelled schema r.keyword) rs)) refl once e q
 
   read_by_test : (stood twice : Bool) (x : tree.Instance) (i : Instance) → has_twice x.mapping ≡ twice → (if stood || twice then Err Twice else by_mapping schema is_defined x.name x.mapping) ≡ Ok i → AllValues (parts x.mapping) → (stood ≡ false) × Is x.name i
   read_by_test true twice x i is e q = cc

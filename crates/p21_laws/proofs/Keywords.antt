@@ -10,7 +10,7 @@ use Rattle.lineage.proofs.Sets.{either}
 use Rattle.lineage.specs.Lineage.{is_among}
 use Rattle.name_tables.specs.Names.{place_of}
 use Rattle.p21_mappings.specs.Instances.{all_there, keywords, repeats, with_first}
-use Rattle.p21_mappings.specs.Plans.{entity_named}
+use Rattle.ex_layouts.specs.Entities.{entity_spelled}
 use Rattle.p21_tree.specs.declared.instance.Record.{Record}
 use Rattle.p21_laws.proofs.Names.{place_has}
 use Rattle.p21_laws.proofs.Order.{OnceBy, neither}
@@ -108,12 +108,12 @@ split (Some n) (Some rest) ns e = (n, (rest, (refl, (refl, cc))))
 
 module _ (schema : Checked) where
   abbrev pub Names : ℕ → Record → Type 0
-  Names n r = entity_named schema r.keyword ≡ Some n
+  Names n r = entity_spelled schema r.keyword ≡ Some n
 
-  pub numbers_found : (rs : List Record) (ns : List ℕ) → all_there (map (λ r. entity_named schema r.keyword) rs) ≡ Some ns → AllBoth Names ns rs
+  pub numbers_found : (rs : List Record) (ns : List ℕ) → all_there (map (λ r. entity_spelled schema r.keyword) rs) ≡ Some ns → AllBoth Names ns rs
   numbers_found [] ns e = let same : [] ≡ ns = cc in subst (λ ns. AllBoth Names ns []) same tt
   numbers_found (r ∷ rs) ns e =
-      let s = split (entity_named schema r.keyword) (all_there (map (λ r. entity_named schema r.keyword) rs)) ns e in
+      let s = split (entity_spelled schema r.keyword) (all_there (map (λ r. entity_spelled schema r.keyword) rs)) ns e in
       subst (λ ns. AllBoth Names ns (r ∷ rs)) s.1.1.1.1 (s.1.1.0, numbers_found rs s.1.0 s.1.1.1.0)
 
   pub keywords_stand : (ns : List ℕ) (rs : List Record) → AllBoth Names ns rs → AllBoth (Stands (entity_names schema.named.schema.entities)) ns (keywords rs)
@@ -122,8 +122,8 @@ module _ (schema : Checked) where
   keywords_stand (n ∷ ns) [] p = absurd p
   keywords_stand (n ∷ ns) (r ∷ rs) p = (p.0, keywords_stand ns rs p.1)
 
-  pub all_found : (made : ℕ → Record) (ns : List ℕ) → ((n : ℕ) → is_among ns n ≡ true → Names n (made n)) → all_there (map (λ r. entity_named schema r.keyword) (map made ns)) ≡ Some ns
+  pub all_found : (made : ℕ → Record) (ns : List ℕ) → ((n : ℕ) → is_among ns n ≡ true → Names n (made n)) → all_there (map (λ r. entity_spelled schema r.keyword) (map made ns)) ≡ Some ns
   all_found made [] each = refl
   all_found made (n ∷ ns) each =
-      ap (λ o. with_first o (all_there (map (λ r. entity_named schema r.keyword) (map made ns)))) (each n (here n ns))
+      ap (λ o. with_first o (all_there (map (λ r. entity_spelled schema r.keyword) (map made ns)))) (each n (here n ns))
       ∙ ap (with_first (Some n)) (all_found made ns (λ m there. each m (behind n m ns there)))

@@ -15,7 +15,7 @@ pub mod Referred
 mod Entities
 mod Keywords
 pub mod Attributes
-mod Plans
+mod Layouts
 mod Shapes
 mod Instances
 mod Again

@@ -1,24 +1,24 @@
 -- What an instance is that was read, and the records that are written of it.
-use Rattle.std.proofs.Common.{◌≡◌, ℕ, zero, suc, Bool, true, false, ◌&&◌, nat_lt, List, [], ◌∷◌, ◌++◌, length, map, take, drop, Option, Some, None, unwrap_or, refl, sym, ◌∙◌, ap, drop_at, take_at}
+use Rattle.std.proofs.Common.{◌≡◌, ℕ, zero, suc, Bool, true, false, ◌&&◌, nat_lt, List, [], ◌∷◌, ◌++◌, length, map, take, drop, None, refl, sym, ◌∙◌, ap, drop_at, take_at}
 use Rattle.std.proofs.lemmas.List.Folds.{list_all-map}
 use Rattle.std.specs.List.{flat_map, list_all}
-use Rattle.std.specs.Option.{option_map_or}
 use Rattle.ex_slots.specs.Slots.{Slot, slots, slots_of}
 use Rattle.ex_types.specs.Checked.{Checked}
-use Rattle.lineage.specs.Lineage.{is_among, line}
+use Rattle.lineage.specs.Lineage.{is_among}
 use Rattle.lineage.specs.Numbered.{numbered}
-use Rattle.p21_mappings.specs.Plans.{in_name_order, is_legal, leaf, line_of}
+use Rattle.ex_layouts.specs.Entities.{is_legal, line_of}
+use Rattle.ex_layouts.specs.Layouts.{in_name_order, leaf, slots_in}
 use Rattle.p21_tree.specs.declared.instance.Record.{Record}
-use Rattle.p21_lines.specs.Trees.{attributes, entity_name, leaf_part, mapping, own_part, own_parts, record_of, records}
+use Rattle.p21_lines.specs.Trees.{attributes, entity_name, leaf_part, mapping, marks_of, own_part, own_parts, record_of, records}
 use Rattle.rp_content.specs.declared.instance.Types.{Types}
 use Rattle.rp_content.specs.declared.instance.Types.TheVariants.{Leaf, Several}
 use Rattle.rp_value.specs.declared.value.Value.{Value}
-use Rattle.p21_laws.proofs.Attributes.{attributes_are, marks_of, trees_of}
+use Rattle.p21_laws.proofs.Attributes.{attributes_are, trees_of}
 use Rattle.p21_laws.proofs.Entities.{IsEntity, entities_of}
 use Rattle.p21_laws.proofs.Keywords.{itself}
 use Rattle.p21_laws.proofs.Order.{OnceBy}
 use Rattle.p21_laws.proofs.Pairs.{AllBoth, as_many, numbered_next}
-use Rattle.p21_laws.proofs.Plans.{derived_among}
+use Rattle.p21_laws.proofs.Layouts.{derived_among}
 use Rattle.p21_laws.proofs.Sets.{all_pass, behind, here}
 use Rattle.p21_laws.specs.Instances.{parts}
 
@@ -56,15 +56,10 @@ module _ (schema : Checked) (P : Slot → Value → Type 0) where
 
 -- ---- the record of a leaf
 
-lines_agree : (o : Option (List ℕ)) → option_map_or (λ all. all) o [] ≡ unwrap_or o []
-lines_agree None = refl
-lines_agree (Some l) = refl
-
 module _ (schema : Checked) (P : Slot → Value → Type 0) where
   pub leaf_record : (entity : ℕ) (ws : List Value) → AllBoth P (slots_by schema entity) ws → record_of schema (leaf_part schema entity) ws ≡ record_by schema entity (slots_by schema entity) ws
   leaf_record entity ws p =
-      ap (λ (xs : List ℕ). record_of schema (own_part (slots (entities_of schema) xs ∷ []) zero entity) ws) (lines_agree (line schema.named.supertypes entity))
-      ∙ ap (λ xs. record { keyword = entity_name (entities_of schema) entity; values = xs }) (attributes_are schema.named.schema.types P (slots_by schema entity) ws p)
+      ap (λ xs. record { keyword = entity_name (entities_of schema) entity; values = xs }) (attributes_are schema.named.schema.types P (slots_by schema entity) ws p)
 
   -- ---- the records of several entities
 
@@ -93,6 +88,7 @@ module _ (schema : Checked) (P : Slot → Value → Type 0) where
     made n = record_by schema n (slots_with schema all n) (is.lists n)
 
     pub several_records : records schema (own_parts schema all) ws ≡ map made all
+    unfolding slots_in
     several_records =
         ap (λ ps. records schema ps ws) (parts_are (slots_with schema all) all)
         ∙ ap (records schema (map (λ n. own_part (slots_with schema all n ∷ []) zero n) all)) is.joined

@@ -19,23 +19,23 @@ ghost use Rattle.p21_lines.specs.Trees.{canonical, content_tree, instance_tree};
 ghost use Rattle.rp_content.specs.declared.content.Content.{Content};
 ghost use Rattle.rp_content.specs.declared.instance.Instance.{Instance};
 
-use ex_subtypes::Compiled;
+use ex_layouts::LoadedSchema;
 
 /// A schema whose names are bound is one that the laws below speak of: its premises are what is proved of each.
 pub fn accepted_schema()
     ensures { (s : Resolved) → DeclaresOnce s.schema → IsAcyclic (held_types s.schema.types) → s.supertypes ≡ map (λ e. e.supertypes) s.schema.entities → HasIdentifiers s.schema → IsAccepted s }
 {}
 
-/// So is one that was compiled.
-fn accepted(schema: &Compiled)
+/// So is one that was loaded.
+fn accepted(schema: &LoadedSchema<'_>)
     ensures { IsAccepted schema.now.named }
 {
     accepted_schema();
-    schema.schema().named().proved();
+    schema.checked().named().proved();
 }
 
 /// And so are all of these.
-pub fn accepted_schemas(schemas: &[Compiled])
+pub fn accepted_schemas(schemas: &[LoadedSchema<'_>])
     ensures { AllByRecursion (λ (schema : Checked). IsAccepted schema.named) schemas.now }
 {
     for schema in schemas {

@@ -2,4 +2,5 @@ mod Ascii
 mod Decimals
 mod Forms
 mod JoinedNames
+mod Marks
 mod Written

@@ -3,16 +3,16 @@
 -- else one for each entity.
 use Rattle.std.specs.Prelude.{ℕ, Bool, false, if◌then◌else◌, List, [], ◌∷◌, length, map, take, drop, None, codes, slice_get, slice_index_or}
 use Rattle.std.specs.Fmt.{signed_decimal}
-use Rattle.std.specs.List.{flat_map}
 use Rattle.std.specs.Option.{option_map_or}
 use Rattle.ex_named.specs.declared.declaration.NamedEntity.{NamedEntity}
 use Rattle.ex_named.specs.declared.declaration.NamedType.{NamedType}
 use Rattle.ex_named.specs.declared.declaration.NamedUnderlying.{NamedUnderlying}
 use Rattle.ex_named.specs.declared.declaration.NamedUnderlying.TheVariants as u
-use Rattle.ex_slots.specs.Slots.{Slot, slots, slots_of, is_derived, derived_by}
+use Rattle.ex_layouts.specs.Entities.{entities}
+use Rattle.ex_layouts.specs.Layouts.{leaf_slots, slots_in}
+use Rattle.ex_slots.specs.Slots.{Slot}
 use Rattle.ex_tree.specs.declared.expression.Name.{Name}
 use Rattle.ex_types.specs.Checked.{Checked}
-use Rattle.lineage.specs.Lineage.{line}
 use Rattle.lineage.specs.Numbered.{numbered}
 use Rattle.p21_escapes.specs.Encoding.{encoded}
 use Rattle.p21_tree.specs.declared.header.Header as spelled_header
@@ -27,7 +27,6 @@ use Rattle.p21_tree.specs.declared.value.Value as tree
 use Rattle.p21_tree.specs.declared.value.Value.TheVariants as t
 use Rattle.p21_spelling.specs.Files.{file_text}
 use Rattle.p21_lines.specs.Binaries.{binary}
-use Rattle.p21_lines.specs.declared.parts.Part.{Part}
 use Rattle.rp_content.specs.declared.content.Content.{Content}
 use Rattle.rp_content.specs.declared.header.Header.{Header}
 use Rattle.rp_content.specs.declared.instance.Instance.{Instance}
@@ -102,41 +101,41 @@ attribute_at types marks place value = attribute_tree types (slice_index_or mark
 abbrev pub attributes : List NamedType → List Bool → List Value → List tree.Value
 attributes types marks values = numbered (attribute_at types marks) values
 
+-- ---- the parts of an instance
+
+-- an entity, and which of the attributes that it writes are derived
+pub record Part : Type 0 where
+  pub entity : ℕ
+  pub marks : List Bool
+
+abbrev pub marks_of : List Slot → List Bool
+marks_of slots = map (λ s. s.is_derived) slots
+
+abbrev pub part : ℕ → List Slot → Part
+part entity slots = record { entity = entity; marks = marks_of slots }
+
 -- an entity with what its place has of these lists
 abbrev pub own_part : List (List Slot) → ℕ → ℕ → Part
-own_part each place entity = record { entity = entity; marks = map (λ s. s.is_derived) (slice_index_or each place []) }
+own_part each place entity = part entity (slice_index_or each place [])
 
 -- ---- what a schema says
 
 module _ (schema : Checked) where
-  abbrev pub entities : List NamedEntity
-  entities = schema.named.schema.entities
-
   abbrev pub types : List NamedType
   types = schema.named.schema.types
 
-  -- an entity and those above it, in the order in which files write their values
-  abbrev pub line_of : ℕ → List ℕ
-  line_of leaf = option_map_or (λ all. all) (line schema.named.supertypes leaf) []
-
-  -- which of a leaf's attributes are derived
-  abbrev pub leaf_marks : ℕ → List Bool
-  leaf_marks leaf = map (λ s. s.is_derived) (slots entities (line_of leaf))
-
+  -- a leaf with its attributes and those of the entities above it
   abbrev pub leaf_part : ℕ → Part
-  leaf_part leaf = record { entity = leaf; marks = leaf_marks leaf }
+  leaf_part leaf = part leaf (leaf_slots schema leaf)
 
   -- of each entity its own attributes, in an instance of these entities
-  abbrev pub own_slots : List ℕ → List (List Slot)
-  own_slots all = map (slots_of entities (is_derived (flat_map (derived_by entities) all))) all
-
   abbrev pub own_parts : List ℕ → List Part
-  own_parts all = numbered (own_part (own_slots all)) all
+  own_parts all = numbered (own_part (slots_in schema all)) all
 
   -- ---- instances
 
   abbrev pub record_of : Part → List Value → Record
-  record_of part values = record { keyword = entity_name entities part.entity; values = attributes types part.marks values }
+  record_of part values = record { keyword = entity_name (entities schema) part.entity; values = attributes types part.marks values }
 
   -- of each part with its own values
   abbrev pub records : List Part → List Value → List Record

@@ -6,8 +6,8 @@ ghost use Rattle.p21_lines.specs.Trees as tree;
 ghost use Rattle.p21_lines.specs.Types as spec;
 
 use crate::instance::entity_name;
+use ex_layouts::LoadedSchema;
 use ex_named::NamedEntity;
-use ex_subtypes::Compiled;
 use itertools::Itertools;
 use plain_data::Text;
 use rp_content::Types;
@@ -22,10 +22,14 @@ fn joined(alloc: Global, entities: &[NamedEntity], all: &[usize]) -> Result<Text
 }
 
 /// The type of an instance: the name of its leaf, or the names of all its entities in the order in which they stand, joined by `+`.
-pub fn type_text(alloc: Global, schema: &Compiled, types: &Types) -> Result<Text, AllocError>
+pub fn type_text(
+    alloc: Global,
+    schema: &LoadedSchema<'_>,
+    types: &Types,
+) -> Result<Text, AllocError>
     ensures { IfOk result (λ text. text ≡ spec.type_text schema.now types.now) }
 {
-    let entities = schema.schema().entities();
+    let entities = schema.entities();
     match types {
         Types::Leaf(leaf) => Text::from_str(alloc, entity_name(entities, *leaf)),
         Types::Several(all) => joined(alloc, entities, all.as_slice()),

@@ -10,6 +10,7 @@ use crate::binary::write_binary;
 use crate::output::Output;
 use crate::tokens::{write_decimal, write_integer, write_item, write_name, write_string};
 use ex_named::{NamedType, NamedUnderlying};
+use ex_slots::Slot;
 use rp_numbers::Logical;
 use rp_value::Value;
 use std::alloc::AllocError;
@@ -111,11 +112,15 @@ fn write_next(
     write_value(out, types, value)
 }
 
-/// Whether a place is marked; none is beyond the end.
-fn is_marked(marks: &[bool], place: usize) -> bool
-    ensures { result ≡ slice_index_or marks.now place false }
+/// Whether the attribute in this place is derived; none is beyond the last.
+#[tactic(auto, using(crate::proofs::Marks::marked, crate::proofs::Marks::unmarked))]
+fn is_derived_at(slots: &[Slot<'_>], place: usize) -> bool
+    ensures { result ≡ slice_index_or (spec.marks_of slots.now) place false }
 {
-    marks.get(place).copied().unwrap_or(false)
+    match slots.get(place) {
+        Some(slot) => slot.is_derived(),
+        None => false,
+    }
 }
 
 /// The value of an attribute, or `*` if it is derived.
@@ -149,18 +154,18 @@ fn write_next_attribute(
     write_attribute(out, types, is_derived, value)
 }
 
-/// The values of attributes in parentheses, with commas between; `marks` says which are derived.
+/// The values of attributes in parentheses, with commas between.
 pub(crate) fn write_attributes(
     out: &mut Output,
     types: &[NamedType],
-    marks: &[bool],
+    slots: &[Slot<'_>],
     values: &[Value],
 ) -> Result<(), AllocError>
-    ensures { OnOk result (out.new ≡ out.old ++ enclosed (spelled.listed (map spelled.spelling (spec.attributes types.now marks.now values.now)))) }
+    ensures { OnOk result (out.new ≡ out.old ++ enclosed (spelled.listed (map spelled.spelling (spec.attributes types.now (spec.marks_of slots.now) values.now)))) }
 {
     out.push(b'(')?;
     for (number, value) in values.iter().enumerate() {
-        let is_derived = is_marked(marks, number);
+        let is_derived = is_derived_at(slots, number);
         write_next_attribute(out, types, number == 0, is_derived, value)?;
     }
     out.push(b')')

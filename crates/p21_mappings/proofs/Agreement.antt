@@ -1,6 +1,7 @@
 -- Of what is defined, those names alone play a part for an instance that it refers to.
 use Rattle.std.proofs.Common.{◌≡◌, ℕ, Bool, List, [], ◌∷◌, ◌++◌, Option, None, Some, refl}
 use Rattle.std.specs.List.{AllByRecursion, flat_map, list_all, zip}
+use Rattle.ex_layouts.specs.declared.layout.Layout.{Layout}
 use Rattle.ex_slots.specs.Slots.{Slot}
 use Rattle.ex_types.specs.Checked.{Checked}
 use Rattle.p21_instances.specs.Instances.{references}
@@ -9,8 +10,7 @@ use Rattle.p21_tree.specs.declared.instance.Mapping.{Mapping}
 use Rattle.p21_tree.specs.declared.instance.Mapping.TheVariants.{Internal, External}
 use Rattle.p21_tree.specs.declared.instance.Record.{Record}
 use Rattle.p21_tree.specs.declared.value.Value.{Value as Spelled}
-use Rattle.p21_mappings.specs.declared.plan.Plan.{Plan}
-use Rattle.p21_mappings.specs.Instances.{Read, each, value, part, by_plan, by_entity, by_entities, by_several, by_mapping, instance}
+use Rattle.p21_mappings.specs.Instances.{Read, each, value, part, by_layout, by_entity, by_entities, by_several, by_mapping, instance}
 use Rattle.p21_mappings.specs.Referred.{part_references, mapping_references}
 
 each_same : {A B : Type 0} (f g : A → Read B) (xs : List A) → AllByRecursion (λ x. f x ≡ g x) xs → each f xs ≡ each g xs
@@ -49,17 +49,17 @@ module _ (schema : Checked) (p q : ℕ → Bool) where
   parts_same (s ∷ ss) (r ∷ rs) all =
       rw (values_same s r.values (left (part_references r) (flat_map part_references rs) all), parts_same ss rs (right (part_references r) (flat_map part_references rs) all)) refl
 
-  by_plan_same : (name : ℕ) (rs : List Record) (plan : Option Plan) → Agree (flat_map part_references rs) → by_plan schema p name rs plan ≡ by_plan schema q name rs plan
-  by_plan_same name rs None all = refl
-  by_plan_same name rs (Some plan) all = rw (parts_same plan.slots rs all) refl
+  by_layout_same : (name : ℕ) (rs : List Record) (layout : Option Layout) → Agree (flat_map part_references rs) → by_layout schema p name rs layout ≡ by_layout schema q name rs layout
+  by_layout_same name rs None all = refl
+  by_layout_same name rs (Some layout) all = rw (parts_same layout.slots rs all) refl
 
   by_entity_same : (name : ℕ) (rs : List Record) (entity : Option ℕ) → Agree (flat_map part_references rs) → by_entity schema p name rs entity ≡ by_entity schema q name rs entity
   by_entity_same name rs None all = refl
-  by_entity_same name rs (Some entity) all = by_plan_same name rs _ all
+  by_entity_same name rs (Some entity) all = by_layout_same name rs _ all
 
   by_entities_same : (name : ℕ) (rs : List Record) (entities : Option (List ℕ)) → Agree (flat_map part_references rs) → by_entities schema p name rs entities ≡ by_entities schema q name rs entities
   by_entities_same name rs None all = refl
-  by_entities_same name rs (Some entities) all = by_plan_same name rs _ all
+  by_entities_same name rs (Some entities) all = by_layout_same name rs _ all
 
   mapping_same : (name : ℕ) (m : Mapping) → Agree (mapping_references m) → by_mapping schema p name m ≡ by_mapping schema q name m
   unfolding by_several

@@ -1,4 +1,3 @@
-pub mod Ascending
 pub mod References
 pub mod Stars
 pub mod Slots

@@ -3,6 +3,7 @@ use Rattle.std.proofs.Common.{◌≡◌, ℕ, Bool, true, false, if◌then◌els
 use Rattle.std.proofs.lemmas.Bool.{cases_Bool}
 use Rattle.std.specs.List.{filter_map, list_all, list_any}
 use Rattle.ex_named.specs.declared.declaration.NamedType.{NamedType}
+use Rattle.ex_layouts.specs.declared.read_slot.ReadSlot.{ReadSlot}
 use Rattle.ex_types.specs.Checked.{Checked}
 use Rattle.lineage.specs.Lineage.{is_among}
 use Rattle.p21_instances.specs.Instances.{references}
@@ -17,7 +18,6 @@ use Rattle.p21_values.specs.Taking.{Meaning, all_there, bare_at, by_choice, chos
 use Rattle.ex_selects.specs.Items.{type_named}
 use Rattle.rp_value.specs.declared.value.Value.{Value}
 use Rattle.rp_value.specs.declared.value.Value.TheVariants as v
-use Rattle.p21_mappings.specs.declared.read_slot.ReadSlot.{ReadSlot}
 use Rattle.p21_mappings.specs.Instances.{star_layer, has_star}
 use Rattle.p21_mappings.specs.ReadSlots.{slot_value}
 

@@ -5,6 +5,8 @@ use Rattle.std.specs.List.{flat_map, list_all, list_any, zip}
 use Rattle.std.specs.Option.{option_map}
 use Rattle.std.specs.Str.{str_to_ascii_uppercase}
 use Rattle.ex_slots.specs.Slots.{Slot}
+use Rattle.ex_layouts.specs.declared.layout.Layout.{Layout}
+use Rattle.ex_layouts.specs.Entities.{entity_spelled}
 use Rattle.ex_types.specs.Checked.{Checked}
 use Rattle.name_tables.specs.Names.{place_of}
 use Rattle.p21_instances.specs.Instances.{references}
@@ -21,8 +23,7 @@ use Rattle.p21_values.specs.Taking.{bound}
 use Rattle.rp_content.specs.declared.instance.Instance.{Instance}
 use Rattle.rp_value.specs.declared.value.Value.{Value}
 use Rattle.rp_value.specs.declared.value.Value.TheVariants as v
-use Rattle.p21_mappings.specs.declared.plan.Plan.{Plan}
-use Rattle.p21_mappings.specs.Plans.{entity_named, internal, external}
+use Rattle.p21_mappings.specs.Layouts.{internal, external}
 
 abbrev pub Read : Type 0 → Type 0
 Read A = Result A InstanceFaultKind
@@ -90,12 +91,12 @@ numbers_in = option_map (λ v. v.items)
 abbrev pub same_counts : List (List Slot) → List Record → Bool
 same_counts slots records = list_all (λ p. length p.0 == length p.1.values) (zip slots records)
 
--- the values of the parts, which stand in the file's order, as the plan has them
+-- the values of the parts, which stand in the file's order, as the layout has them
 abbrev pub in_places : List ℕ → List (List Value) → List Value
 in_places places lists = flat_map (λ place. slice_index_or lists place []) places
 
-abbrev pub made : ℕ → Plan → List (List Value) → Instance
-made name plan lists = record { name = name; types = plan.types; values = in_places plan.places lists }
+abbrev pub made : ℕ → Layout → List (List Value) → Instance
+made name layout lists = record { name = name; types = layout.types; values = in_places layout.places lists }
 
 abbrev pub counted : {A : Type 0} → Bool → Read A → Read A
 counted fits read = if fits then read else Err WrongCount
@@ -123,25 +124,25 @@ module _ (schema : Checked) (is_defined : ℕ → Bool) where
   abbrev pub part : List Slot × Record → Read (List Value)
   part p = each value (zip p.0 p.1.values)
 
-  abbrev pub by_plan : ℕ → List Record → Option Plan → Read Instance
-  by_plan name records None = Err IllegalCombination
-  by_plan name records (Some plan) =
-      counted (same_counts plan.slots records) (and_then (each part (zip plan.slots records)) (λ lists. Ok (made name plan lists)))
+  abbrev pub by_layout : ℕ → List Record → Option Layout → Read Instance
+  by_layout name records None = Err IllegalCombination
+  by_layout name records (Some layout) =
+      counted (same_counts layout.slots records) (and_then (each part (zip layout.slots records)) (λ lists. Ok (made name layout lists)))
 
   abbrev pub by_entity : ℕ → List Record → Option ℕ → Read Instance
   by_entity name records None = Err UnknownEntity
-  by_entity name records (Some entity) = by_plan name records (internal schema entity)
+  by_entity name records (Some entity) = by_layout name records (internal schema entity)
 
   abbrev pub by_entities : ℕ → List Record → Option (List ℕ) → Read Instance
   by_entities name records None = Err UnknownEntity
-  by_entities name records (Some entities) = by_plan name records (external schema entities)
+  by_entities name records (Some entities) = by_layout name records (external schema entities)
 
   -- the instance of an external mapping of these parts
   unfoldable pub by_several : ℕ → List Record → Read Instance
-  by_several name records = by_entities name records (all_there (map (λ r. entity_named schema r.keyword) records))
+  by_several name records = by_entities name records (all_there (map (λ r. entity_spelled schema r.keyword) records))
 
   abbrev pub by_mapping : ℕ → Mapping → Read Instance
-  by_mapping name (Internal single) = by_entity name (single ∷ []) (entity_named schema single.keyword)
+  by_mapping name (Internal single) = by_entity name (single ∷ []) (entity_spelled schema single.keyword)
   by_mapping name (External records) = by_several name records
 
   -- an instance whose name stood before or not

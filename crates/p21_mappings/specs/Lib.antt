@@ -1,6 +1,5 @@
-pub mod Plans
+pub mod Layouts
 pub mod Instances
 pub mod ReadSlots
-pub mod Kept
 pub mod Contents
 pub mod Referred

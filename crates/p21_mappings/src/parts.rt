@@ -3,28 +3,36 @@
 ghost use Rattle.std.specs.Prelude.{◌≡◌, ◌&&◌, ◌++◌, ◌∷◌, [], true, if◌then◌else◌, length, map, slice_index_or, Some, Err, IfOk, OnOk};
 ghost use Rattle.std.specs.List.{flat_map, zip};
 ghost use Rattle.std.specs.Str.{str_to_ascii_uppercase};
+ghost use Rattle.ex_layouts.specs.Entities.{entity_spelled};
+ghost use Rattle.ex_layouts.specs.Layouts.{legal, leaf_slots, of_leaf, AreRead};
 ghost use Rattle.name_tables.specs.Names.{place_of};
 ghost use Rattle.p21_instances.specs.Instances.{is_among};
 ghost use Rattle.p21_tree.specs.declared.fault.InstanceFaultKind.TheVariants.{Twice};
 ghost use Rattle.text_forms.specs.Gives.{Gives};
-ghost use Rattle.p21_mappings.specs.Plans as plans_spec;
+ghost use Rattle.p21_mappings.specs.Layouts.{external};
 ghost use Rattle.p21_mappings.specs.Instances as spec;
 ghost use Rattle.p21_mappings.specs.ReadSlots as read_spec;
 
 use crate::names::DefinedNames;
-use crate::plan::{Leaf, Plan, external};
-use crate::plans::Plans;
-use crate::read_slot::read_slots;
-use crate::reader::{Reader, in_upper_case};
 use crate::value::{Reading, part_values};
+use ex_layouts::{Layout, Layouts, LoadedSchema, ReadSlot, legal_several};
 use ex_slots::Slot;
 use name_tables::NameTable;
-use p21_tree::{InstanceFaultKind, Record};
+use p21_tree::{InstanceFaultKind, Keyword, Record};
 use plain_data::{Items, Rows, Text};
 use rp_content::Instance;
 use rp_value::Value;
 use std::alloc::{AllocError, Global};
 use text_forms::Failure;
+
+/// A keyword in upper case.
+fn in_upper_case(alloc: Global, keyword: &Keyword<'_>) -> Result<Text, AllocError>
+    ensures { IfOk result (λ upper. upper ≡ str_to_ascii_uppercase keyword.now) }
+{
+    let mut upper = Text::from_str(alloc, keyword.as_str())?;
+    upper.make_ascii_uppercase();
+    Ok(upper)
+}
 
 /// The keywords of parts in upper case.
 fn keywords(alloc: Global, parts: &[Record<'_>]) -> Result<Vec<Text>, AllocError>
@@ -59,18 +67,33 @@ fn has_twice(alloc: Global, parts: &[Record<'_>]) -> Result<bool, AllocError>
     repeats(alloc, &keywords)
 }
 
+/// The entity that the keyword names, in either case.
+pub fn entity_named(
+    alloc: Global,
+    layouts: &mut Layouts<'_>,
+    keyword: &Keyword<'_>,
+) -> Result<Option<usize>, AllocError>
+    ensures same { layouts.new ≡ layouts.old }
+    ensures entity { IfOk result (λ entity. entity ≡ entity_spelled layouts.old keyword.now) }
+{
+    match layouts.known_entity(keyword.as_bytes()) {
+        Some(entity) => Ok(Some(entity)),
+        None => layouts.entity_spelled(alloc, keyword.as_str()),
+    }
+}
+
 /// The entities of parts, where each keyword is the name of one.
 fn entities_of(
     alloc: Global,
-    plans: &mut Plans<'_>,
+    layouts: &mut Layouts<'_>,
     parts: &[Record<'_>],
 ) -> Result<Option<Vec<usize>>, AllocError>
-    ensures plans { plans.new ≡ plans.old }
-    ensures found { IfOk result (λ found. spec.numbers_in found ≡ spec.all_there (map (λ r. plans_spec.entity_named plans.old r.keyword) parts.now)) }
+    ensures same { layouts.new ≡ layouts.old }
+    ensures found { IfOk result (λ found. spec.numbers_in found ≡ spec.all_there (map (λ r. entity_spelled layouts.old r.keyword) parts.now)) }
 {
     let mut entities = Vec::with_capacity(alloc, parts.len())?;
     for part in parts {
-        match plans.entity_named(alloc, &part.keyword)? {
+        match entity_named(alloc, layouts, &part.keyword)? {
             Some(entity) => entities.push(entity)?,
             None => return Ok(None),
         }
@@ -95,42 +118,41 @@ fn same_counts(mut slots: &[Rows<Slot<'_>>], mut parts: &[Record<'_>]) -> bool
     true
 }
 
-/// The values of a part, or what is wrong with the first that is faulty.
-fn values_of_part<'s, N: DefinedNames>(
-    alloc: Global,
-    reader: &Reader<'s>,
-    names: &N,
-    slots: &[Slot<'s>],
-    part: &Record<'_>,
-) -> Reading<Items<Value>>
-    ensures { Gives (λ xs. xs) result (spec.part reader.now (N.is_defined names.now) (slots.now, part.now)) }
-{
-    let found = read_slots(alloc, reader, slots)?;
-    let slots = found.as_slice();
-    let values = part.values.as_slice();
-    part_values(alloc, reader, names, slots, values)
-}
-
 /// The values of all parts, or what is wrong with the first that is faulty.
-fn all_values<'s, N: DefinedNames>(
+fn all_values<N: DefinedNames>(
     alloc: Global,
-    reader: &Reader<'s>,
+    schema: &LoadedSchema<'_>,
     names: &N,
-    mut slots: &[Rows<Slot<'s>>],
+    mut slots: &[Rows<ReadSlot<'_>>],
     mut parts: &[Record<'_>],
 ) -> Reading<Rows<Items<Value>>>
-    ensures { Gives (λ lists. lists) result (spec.each (spec.part reader.now (N.is_defined names.now)) (zip slots.entry.now parts.entry.now)) }
+    ensures { Gives (λ lists. lists) result (spec.each (read_spec.record_values schema.now (N.is_defined names.now)) (zip slots.entry.now parts.entry.now)) }
 {
     let mut lists = Rows::new(alloc);
     'parts: while let [first, more_slots @ ..] = slots {
         let [part, more_parts @ ..] = parts else {
             break;
         };
-        lists.push(values_of_part(alloc, reader, names, first.as_slice(), part)?)?;
+        let values = part.values.as_slice();
+        lists.push(part_values(alloc, schema, names, first.as_slice(), values)?)?;
         slots = more_slots;
         parts = more_parts;
     }
     Ok(lists)
+}
+
+/// The same, by what the instances of these entities have values of.
+fn values_by<N: DefinedNames>(
+    alloc: Global,
+    schema: &LoadedSchema<'_>,
+    names: &N,
+    layout: &Layout<'_>,
+    parts: &[Record<'_>],
+) -> Reading<Rows<Items<Value>>>
+    requires { AreRead schema.now layout.now }
+    ensures { Gives (λ lists. lists) result (spec.each (spec.part schema.now (N.is_defined names.now)) (zip layout.now.slots parts.now)) }
+{
+    all_values(alloc, schema, names, layout.read_slots.as_slice(), parts)
 }
 
 fn list_at(lists: &[Items<Value>], place: usize) -> &[Value]
@@ -170,13 +192,13 @@ fn in_places(
 fn made(
     alloc: Global,
     name: u64,
-    plan: &Plan<'_>,
+    layout: &Layout<'_>,
     lists: &[Items<Value>],
 ) -> Result<Instance, AllocError>
-    ensures { IfOk result (λ instance. instance ≡ spec.made name plan.now lists.now) }
+    ensures { IfOk result (λ instance. instance ≡ spec.made name layout.now lists.now) }
 {
-    let types = plan.types.copy(alloc)?;
-    let values = in_places(alloc, plan.places.as_slice(), lists)?;
+    let types = layout.types.copy(alloc)?;
+    let values = in_places(alloc, layout.places.as_slice(), lists)?;
     Ok(Instance {
         name,
         types,
@@ -184,93 +206,100 @@ fn made(
     })
 }
 
-/// The instance of these parts, by the plan for their entities.
-fn by_plan<'s, N: DefinedNames>(
+/// The instance of these parts, by what the instances of their entities have values of.
+fn by_layout<N: DefinedNames>(
     alloc: Global,
-    reader: &Reader<'s>,
+    schema: &LoadedSchema<'_>,
     names: &N,
     name: u64,
     parts: &[Record<'_>],
-    plan: &Plan<'s>,
+    layout: &Layout<'_>,
 ) -> Reading<Instance>
-    ensures { Gives (λ x. x) result (spec.by_plan reader.now (N.is_defined names.now) name parts.now (Some plan.now)) }
+    requires { AreRead schema.now layout.now }
+    ensures { Gives (λ x. x) result (spec.by_layout schema.now (N.is_defined names.now) name parts.now (legal layout.now)) }
 {
-    if !same_counts(plan.slots.as_slice(), parts) {
+    if !layout.is_legal {
+        return Err(Failure::Fault(InstanceFaultKind::IllegalCombination));
+    }
+    if !same_counts(layout.slots.as_slice(), parts) {
         return Err(Failure::Fault(InstanceFaultKind::WrongCount));
     }
-    let lists = all_values(alloc, reader, names, plan.slots.as_slice(), parts)?;
-    Ok(made(alloc, name, plan, lists.as_slice())?)
+    let lists = values_by(alloc, schema, names, layout, parts)?;
+    Ok(made(alloc, name, layout, lists.as_slice())?)
 }
 
-/// The instance of these parts, where there can be one of their entities. Its plan is kept.
-fn by_new_plan<N: DefinedNames>(
+/// The instance of these parts, where there can be one of their entities. What instances of them have values of is kept.
+#[tactic(auto, unfolding(crate::specs::Layouts::external))]
+fn by_new_layout<N: DefinedNames>(
     alloc: Global,
-    plans: &mut Plans<'_>,
+    layouts: &mut Layouts<'_>,
     names: &N,
     name: u64,
     parts: &[Record<'_>],
-    entities: Vec<usize>,
+    entities: &[usize],
 ) -> Reading<Instance>
-    ensures plans { plans.new ≡ plans.old }
-    ensures made { Gives (λ x. x) result (spec.by_plan plans.old (N.is_defined names.now) name parts.now (plans_spec.external plans.old entities.items)) }
+    ensures same { layouts.new ≡ layouts.old }
+    ensures made { Gives (λ x. x) result (spec.by_layout layouts.old (N.is_defined names.now) name parts.now (external layouts.old entities.now)) }
 {
-    let Some(plan) = external(alloc, plans.reader(), &entities)? else {
+    let schema = layouts.schema();
+    let Some(layout) = legal_several(alloc, schema, entities)? else {
         return Err(Failure::Fault(InstanceFaultKind::IllegalCombination));
     };
-    let instance = by_plan(alloc, plans.reader(), names, name, parts, &plan)?;
-    plans.keep_combination(entities, plan)?;
+    let instance = by_layout(alloc, schema, names, name, parts, &layout)?;
+    layouts.keep_several(layout)?;
     Ok(instance)
 }
 
-#[tactic(auto, unfolding(crate::specs::Instances::by_several))]
+#[tactic(auto, unfolding(crate::specs::Instances::by_several, crate::specs::Layouts::external))]
 fn by_entities<N: DefinedNames>(
     alloc: Global,
-    plans: &mut Plans<'_>,
+    layouts: &mut Layouts<'_>,
     names: &N,
     name: u64,
     parts: &[Record<'_>],
 ) -> Reading<Instance>
-    ensures plans { plans.new ≡ plans.old }
-    ensures made { Gives (λ x. x) result (spec.by_several plans.old (N.is_defined names.now) name parts.now) }
+    ensures same { layouts.new ≡ layouts.old }
+    ensures made { Gives (λ x. x) result (spec.by_several layouts.old (N.is_defined names.now) name parts.now) }
 {
-    let Some(entities) = entities_of(alloc, plans, parts)? else {
+    let Some(entities) = entities_of(alloc, layouts, parts)? else {
         return Err(Failure::Fault(InstanceFaultKind::UnknownEntity));
     };
-    match plans.combination(&entities) {
-        Some(plan) => by_plan(alloc, plans.reader(), names, name, parts, plan),
-        None => by_new_plan(alloc, plans, names, name, parts, entities),
+    match layouts.several(&entities) {
+        Some(layout) => by_layout(alloc, layouts.schema(), names, name, parts, layout),
+        None => by_new_layout(alloc, layouts, names, name, parts, &entities),
     }
 }
 
 /// The instance of these parts, of which no two may be of one type, or the first that holds of what is wrong with them.
 pub fn by_parts<N: DefinedNames>(
     alloc: Global,
-    plans: &mut Plans<'_>,
+    layouts: &mut Layouts<'_>,
     names: &N,
     name: u64,
     parts: &[Record<'_>],
 ) -> Reading<Instance>
-    ensures plans { plans.new ≡ plans.old }
-    ensures made { Gives (λ x. x) result (if spec.repeats [] (spec.keywords parts.now) then Err Twice else spec.by_several plans.old (N.is_defined names.now) name parts.now) }
+    ensures same { layouts.new ≡ layouts.old }
+    ensures made { Gives (λ x. x) result (if spec.repeats [] (spec.keywords parts.now) then Err Twice else spec.by_several layouts.old (N.is_defined names.now) name parts.now) }
 {
     if has_twice(alloc, parts)? {
         return Err(Failure::Fault(InstanceFaultKind::Twice));
     }
-    by_entities(alloc, plans, names, name, parts)
+    by_entities(alloc, layouts, names, name, parts)
 }
 
-/// The values of a part that is of a leaf, or what is wrong with the first that is faulty.
+/// The values of a part that is of an entity and all above it, or what is wrong with the first that is faulty.
 pub fn values_of_leaf<N: DefinedNames>(
     alloc: Global,
-    reader: &Reader<'_>,
+    schema: &LoadedSchema<'_>,
     names: &N,
-    leaf: &Leaf<'_>,
+    entity: usize,
+    layout: &Layout<'_>,
     part: &Record<'_>,
 ) -> Reading<Items<Value>>
-    requires { read_spec.AreRead reader.now leaf.now }
-    ensures { Gives (λ xs. xs) result (spec.part reader.now (N.is_defined names.now) (leaf.now.slots, part.now)) }
+    requires { layout.now ≡ of_leaf schema.now entity }
+    ensures { Gives (λ xs. xs) result (spec.part schema.now (N.is_defined names.now) (leaf_slots schema.now entity, part.now)) }
 {
-    let slots = leaf.read_slots.as_slice();
+    let slots = layout.read_slots_of(0);
     let values = part.values.as_slice();
-    part_values(alloc, reader, names, slots, values)
+    part_values(alloc, schema, names, slots, values)
 }

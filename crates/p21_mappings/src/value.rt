@@ -9,8 +9,7 @@ ghost use Rattle.p21_mappings.specs.Instances as spec;
 ghost use Rattle.p21_mappings.specs.ReadSlots as read_spec;
 
 use crate::names::DefinedNames;
-use crate::read_slot::ReadSlot;
-use crate::reader::Reader;
+use ex_layouts::{LoadedSchema, ReadSlot};
 use p21_tree::{InstanceFaultKind, Value as Spelled};
 use p21_values::bound_by;
 use plain_data::Items;
@@ -117,18 +116,18 @@ fn derived_value(value: &Spelled<'_>) -> Reading<Value>
 /// The value of a slot, or the first that holds of what is wrong with it.
 fn slot_value<N: DefinedNames>(
     alloc: Global,
-    reader: &Reader<'_>,
+    schema: &LoadedSchema<'_>,
     names: &N,
     slot: &ReadSlot<'_>,
     value: &Spelled<'_>,
 ) -> Reading<Value>
-    ensures { Gives (λ x. x) result (read_spec.slot_value reader.now (N.is_defined names.now) (slot.now, value.now)) }
+    ensures { Gives (λ x. x) result (read_spec.slot_value schema.now (N.is_defined names.now) (slot.now, value.now)) }
 {
     if slot.is_derived {
         return derived_value(value);
     }
     // No type takes a value with a `*`.
-    let Some(found) = bound_by(alloc, reader.types(), &slot.expected, value)? else {
+    let Some(found) = bound_by(alloc, schema.defined_types(), &slot.expected, value)? else {
         return Err(Failure::Fault(misplaced(value)));
     };
     if is_defined(names, value) {
@@ -141,19 +140,19 @@ fn slot_value<N: DefinedNames>(
 /// The values of a part of a mapping, or what is wrong with the first that is faulty.
 pub fn part_values<N: DefinedNames>(
     alloc: Global,
-    reader: &Reader<'_>,
+    schema: &LoadedSchema<'_>,
     names: &N,
     mut slots: &[ReadSlot<'_>],
     mut values: &[Spelled<'_>],
 ) -> Reading<Items<Value>>
-    ensures { Gives (λ xs. xs) result (spec.each (read_spec.slot_value reader.now (N.is_defined names.now)) (zip slots.entry.now values.entry.now)) }
+    ensures { Gives (λ xs. xs) result (spec.each (read_spec.slot_value schema.now (N.is_defined names.now)) (zip slots.entry.now values.entry.now)) }
 {
     let mut found = Vec::with_capacity(alloc, slots.len())?;
     'values: while let [slot, more_slots @ ..] = slots {
         let [value, more_values @ ..] = values else {
             break;
         };
-        found.push(slot_value(alloc, reader, names, slot, value)?)?;
+        found.push(slot_value(alloc, schema, names, slot, value)?)?;
         slots = more_slots;
         values = more_values;
     }

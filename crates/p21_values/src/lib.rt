@@ -9,4 +9,4 @@ mod rest;
 mod taking;
 mod tokens;
 
-pub use expected::{Expected, bound_by};
+pub use expected::bound_by;

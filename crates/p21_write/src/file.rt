@@ -5,8 +5,7 @@ ghost use Rattle.p21_spelling.specs.Files as spelled;
 ghost use Rattle.p21_escapes.specs.Encoding.{encoded};
 ghost use Rattle.p21_lines.specs.Trees as spec;
 
-use ex_subtypes::Compiled;
-use ex_types::CheckedSchema;
+use ex_layouts::LoadedSchema;
 use p21_lines::{Output, write_lines, write_string, write_values};
 use plain_data::Text;
 use rp_content::{Content, Header, Instance};
@@ -51,10 +50,10 @@ fn write_header(out: &mut Output, header: &Header, schema: &str) -> Result<(), A
 }
 
 /// The section of the data.
-fn write_data(
+fn write_data<'s>(
     alloc: Global,
     out: &mut Output,
-    schema: &CheckedSchema,
+    schema: &'s LoadedSchema<'s>,
     instances: &[Instance],
 ) -> Result<(), AllocError>
     ensures { OnOk result (out.new ≡ out.old ++ spelled.data_text None (map (spec.instance_tree schema.now) instances.now)) }
@@ -68,13 +67,16 @@ fn write_data(
 ///
 /// Its time is that of the text, and of the entities of each instance.
 #[tactic(auto, unfolding(p21_lines::specs::Trees::canonical))]
-pub fn write(alloc: Global, schema: &Compiled, content: &Content) -> Result<Text, AllocError>
+pub fn write<'s>(
+    alloc: Global,
+    schema: &'s LoadedSchema<'s>,
+    content: &Content,
+) -> Result<Text, AllocError>
     ensures { IfOk result (λ text. text ≡ spec.canonical schema.now content.now) }
 {
-    let schema = schema.schema();
     let mut out = Output::new(alloc);
     write_word(&mut out, "ISO-10303-21")?;
-    write_header(&mut out, &content.header, schema.name())?;
+    write_header(&mut out, &content.header, schema.checked().name())?;
     write_data(alloc, &mut out, schema, content.instances.as_slice())?;
     write_word(&mut out, "END-ISO-10303-21")?;
     Ok(out.into_text())

@@ -4,22 +4,22 @@ ghost use Rattle.std.specs.Prelude.{◌≡◌, IfOk};
 ghost use Rattle.p21_spelling.specs.Instances as spelled;
 ghost use Rattle.p21_lines.specs.Trees as spec;
 
-use ex_subtypes::Compiled;
-use p21_lines::{Leaves, Output, write_entity_instance};
+use ex_layouts::Layouts;
+use p21_lines::{Output, write_entity_instance};
 use plain_data::Text;
 use rp_content::Instance;
 use std::alloc::{AllocError, Global};
 
-/// The canonical text of one instance: its line, without the line feed.
+/// The canonical text of one instance: its line, without the line feed. What instances of its entities have values of is kept.
 pub fn write_instance(
     alloc: Global,
-    schema: &Compiled,
+    layouts: &mut Layouts<'_>,
     instance: &Instance,
 ) -> Result<Text, AllocError>
-    ensures { IfOk result (λ text. text ≡ spelled.instance_text (spec.instance_tree schema.now instance.now)) }
+    ensures layouts { layouts.new ≡ layouts.old }
+    ensures text { IfOk result (λ text. text ≡ spelled.instance_text (spec.instance_tree layouts.old instance.now)) }
 {
     let mut out = Output::new(alloc);
-    let mut leaves = Leaves::new(alloc, schema.schema());
-    write_entity_instance(alloc, &mut out, &mut leaves, instance)?;
+    write_entity_instance(alloc, &mut out, layouts, instance)?;
     Ok(out.into_text())
 }

@@ -3,20 +3,20 @@
 
 use crate::opening::may_open;
 use crate::steps::{Pending, make_steps};
-use ex_subtypes::Compiled;
+use ex_layouts::LoadedSchema;
 use plain_data::Text;
 use rp_access::Access;
 use rp_plain::messages::{NewFault, Reply, Request};
 use rp_plans::plan;
-use rp_readers::{Asking, KeptPlans, place_among};
+use rp_readers::{Asking, KeptLayouts, place_among};
 use std::alloc::Global;
 use std::marker::Model;
 
 /// What a repository holds, in memory.
 #[derive(Drop)]
 pub struct Holdings<'s> {
-    schemas: &'s [Compiled],
-    plans: KeptPlans<'s>,
+    schemas: &'s [LoadedSchema<'s>],
+    layouts: KeptLayouts<'s>,
     partners: Vec<Text>,
     access: Access,
 }
@@ -28,7 +28,7 @@ impl<'s> Model for Holdings<'s> {
     ghost Value = { Kept };
 
     ghost use Rattle.std.specs.Coded.{codes};
-    ghost use Rattle.ex_subtypes.specs.contracts.schema.Compiled as schema_type;
+    ghost use Rattle.ex_types.specs.contracts.schema.CheckedSchema as schema_type;
     ghost use Rattle.rp_rows.specs.contracts.rows.ModelContent as content_type;
 
     ghost coded = { Prim.hlevel (codes, schema_type.the_row.coded, content_type.the_row.coded) };
@@ -38,7 +38,7 @@ impl<'s> Model for Holdings<'s> {
       access = h.access;
     } };
 
-    ghost invariant = { λ h. h.plans ≡ h.schemas.now };
+    ghost invariant = { λ h. h.layouts ≡ h.schemas.now };
 }
 
 impl<'s> Holdings<'s> {
@@ -57,7 +57,7 @@ impl<'s> Holdings<'s> {
     /// The first that holds of `TwoSchemas`, `TwoPartners`, `BadName` and `TooMany`; or `NoMemory`.
     pub fn new(
         alloc: Global,
-        schemas: &'s [Compiled],
+        schemas: &'s [LoadedSchema<'s>],
         partners: Vec<Text>,
     ) -> Result<Holdings<'s>, NewFault>
         ensures ok { IfOk result (λ _. new_fault schemas.now partners.items ≡ None) }
@@ -67,7 +67,7 @@ impl<'s> Holdings<'s> {
         may_open(alloc, schemas, &partners)?;
         Ok(Holdings {
             schemas,
-            plans: KeptPlans::of(alloc, schemas)?,
+            layouts: KeptLayouts::of(alloc, schemas)?,
             partners,
             access: Access::new(alloc),
         })
@@ -100,7 +100,7 @@ impl<'s> Holdings<'s> {
             groups: self.access.groups(),
             caller: &self.partners[place],
         };
-        match plan(alloc, &asked, &mut self.plans, request) {
+        match plan(alloc, &asked, &mut self.layouts, request) {
             Err(refusal) => Pending::refused(refusal),
             Ok(plan) => match Pending::of_plan(alloc, &mut self.access, plan) {
                 Ok(pending) => pending,

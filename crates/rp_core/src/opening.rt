@@ -5,7 +5,7 @@ ghost use Rattle.std.specs.List.{list_all};
 ghost use Rattle.rp_rows.specs.Names.{is_name};
 ghost use Rattle.rp_plain.specs.Opening.{new_fault, has_twice as IsTwice};
 
-use ex_subtypes::Compiled;
+use ex_layouts::LoadedSchema;
 use plain_data::Text;
 use rp_plain::messages::NewFault;
 use rp_readers::schemas::names_of;
@@ -23,7 +23,11 @@ const MAX_PARTNERS: usize = 1_000;
 /// # Errors
 ///
 /// The first that holds of `TwoSchemas`, `TwoPartners`, `BadName` and `TooMany`; or `NoMemory`.
-pub fn may_open(alloc: Global, schemas: &[Compiled], partners: &[Text]) -> Result<(), NewFault>
+pub fn may_open(
+    alloc: Global,
+    schemas: &[LoadedSchema<'_>],
+    partners: &[Text],
+) -> Result<(), NewFault>
     ensures ok { IfOk result (λ _. new_fault schemas.now partners.now ≡ None) }
     ensures err { IfErr result (λ fault. fault ≢ NewFault.NoMemory → new_fault schemas.now partners.now ≡ Some fault) }
 {

@@ -4,9 +4,10 @@ use Rattle.std.specs.Prelude.{if◌then◌else◌, map, slice_index_or}
 use Rattle.std.specs.List.{AllByRecursion, list_all, zip}
 use Rattle.ex_slots.specs.Slots.{Slot}
 use Rattle.ex_types.specs.Checked.{Checked}
-use Rattle.p21_mappings.specs.Instances.{Read, and_then, each, has_star, is_left_out, has_twice, same_counts, in_places, made, counted, misplaced, derived_value, all_there, defined, value, part, by_plan, by_entity, by_entities, by_several, by_mapping, instance}
-use Rattle.p21_mappings.specs.Plans.{entity_named, internal, external}
-use Rattle.p21_mappings.specs.declared.plan.Plan.{Plan}
+use Rattle.p21_mappings.specs.Instances.{Read, and_then, each, has_star, is_left_out, has_twice, same_counts, in_places, made, counted, misplaced, derived_value, all_there, defined, value, part, by_layout, by_entity, by_entities, by_several, by_mapping, instance}
+use Rattle.ex_layouts.specs.Entities.{entity_spelled}
+use Rattle.p21_mappings.specs.Layouts.{internal, external}
+use Rattle.ex_layouts.specs.declared.layout.Layout.{Layout}
 use Rattle.p21_instances.specs.Instances as spelled
 use Rattle.p21_tree.specs.declared.fault.InstanceFaultKind.TheVariants.{Twice, NotDerived}
 use Rattle.p21_tree.specs.declared.instance.Instance as tree
@@ -86,35 +87,35 @@ module _ (schema : Checked) (is_defined : ℕ → Bool) where
     pub name_is : i.name ≡ name
     pub references : list_all is_defined (references_of i) ≡ true
 
-  made_bound : (name : ℕ) (plan : Plan) (fits : Bool) (o : Read (List (List Value))) (i : Instance) → ((lists : List (List Value)) → o ≡ Ok lists → AllByRecursion AllPass lists)
-      → counted fits (and_then o (λ lists. Ok (made name plan lists))) ≡ Ok i → IsBound name i
-  made_bound name plan true (Ok lists) i all e =
-      let same : made name plan lists ≡ i = cc in
-      let values = in_places plan.places lists in
-      subst (IsBound name) same (record { name_is = refl; references = values_pass is_defined values (places_pass plan.places lists (all lists refl)) })
-  made_bound name plan true (Err kind) i all e = cc
-  made_bound name plan false o i all e = cc
+  made_bound : (name : ℕ) (layout : Layout) (fits : Bool) (o : Read (List (List Value))) (i : Instance) → ((lists : List (List Value)) → o ≡ Ok lists → AllByRecursion AllPass lists)
+      → counted fits (and_then o (λ lists. Ok (made name layout lists))) ≡ Ok i → IsBound name i
+  made_bound name layout true (Ok lists) i all e =
+      let same : made name layout lists ≡ i = cc in
+      let values = in_places layout.places lists in
+      subst (IsBound name) same (record { name_is = refl; references = values_pass is_defined values (places_pass layout.places lists (all lists refl)) })
+  made_bound name layout true (Err kind) i all e = cc
+  made_bound name layout false o i all e = cc
 
-  plan_bound : (name : ℕ) (records : List Record) (o : Option Plan) (i : Instance) → by_plan schema is_defined name records o ≡ Ok i → IsBound name i
-  plan_bound name records None i e = cc
-  plan_bound name records (Some plan) i e =
-      let pairs = zip plan.slots records in
-      made_bound name plan (same_counts plan.slots records) (each (part schema is_defined) pairs) i (λ lists f. each_gives (part schema is_defined) AllPass part_passes pairs lists f) e
+  layout_bound : (name : ℕ) (records : List Record) (o : Option Layout) (i : Instance) → by_layout schema is_defined name records o ≡ Ok i → IsBound name i
+  layout_bound name records None i e = cc
+  layout_bound name records (Some layout) i e =
+      let pairs = zip layout.slots records in
+      made_bound name layout (same_counts layout.slots records) (each (part schema is_defined) pairs) i (λ lists f. each_gives (part schema is_defined) AllPass part_passes pairs lists f) e
 
   entity_bound : (name : ℕ) (records : List Record) (o : Option ℕ) (i : Instance) → by_entity schema is_defined name records o ≡ Ok i → IsBound name i
   entity_bound name records None i e = cc
-  entity_bound name records (Some entity) i e = plan_bound name records (internal schema entity) i e
+  entity_bound name records (Some entity) i e = layout_bound name records (internal schema entity) i e
 
   entities_bound : (name : ℕ) (records : List Record) (o : Option (List ℕ)) (i : Instance) → by_entities schema is_defined name records o ≡ Ok i → IsBound name i
   entities_bound name records None i e = cc
-  entities_bound name records (Some entities) i e = plan_bound name records (external schema entities) i e
+  entities_bound name records (Some entities) i e = layout_bound name records (external schema entities) i e
 
   several_bound : (name : ℕ) (records : List Record) (i : Instance) → by_several schema is_defined name records ≡ Ok i → IsBound name i
   unfolding by_several
-  several_bound name records i e = entities_bound name records (all_there (map (λ r. entity_named schema r.keyword) records)) i e
+  several_bound name records i e = entities_bound name records (all_there (map (λ r. entity_spelled schema r.keyword) records)) i e
 
   mapping_bound : (name : ℕ) (mapping : Mapping) (i : Instance) → by_mapping schema is_defined name mapping ≡ Ok i → IsBound name i
-  mapping_bound name (Internal single) i e = entity_bound name (single ∷ []) (entity_named schema single.keyword) i e
+  mapping_bound name (Internal single) i e = entity_bound name (single ∷ []) (entity_spelled schema single.keyword) i e
   mapping_bound name (External records) i e = several_bound name records i e
 
   tested : (x : tree.Instance) (i : Instance) (stood twice : Bool) → (if stood || twice then Err Twice else by_mapping schema is_defined x.name x.mapping) ≡ Ok i → (stood ≡ false) × IsBound x.name i

@@ -5,7 +5,7 @@
 
 ghost use Rattle.rp_laws.specs.Laws.{KeepsOrder, KeepsValid, OpensValid, EditsAreSaid, ChangesOnlyNamed, RefusedChangesNothing, OwnTurnReply, OwnTurnPart, OutsideTurnPart, OutsideTurnReach, KeepingOffIsOutside, KeepingOffPart, KeepingOffReach, OneRunReplies, OneRunPart, TwoRuns, TextAgain};
 
-use ex_subtypes::Compiled;
+use ex_layouts::LoadedSchema;
 use p21_laws::accepted_schemas;
 
 /// A step keeps models and groups in order.
@@ -60,7 +60,7 @@ pub fn two_runs()
 
 /// In a valid repository of these schemas, what each model holds is read of its canonical text, where the names of its links
 /// are linked, as the same header and instances.
-pub fn model_text_again(schemas: &[Compiled])
+pub fn model_text_again(schemas: &[LoadedSchema<'_>])
     ensures { TextAgain schemas.now }
 {
     accepted_schemas(schemas);

@@ -41,7 +41,7 @@ fn told_of_schema(alloc: Global, compiled: &Compiled) -> Result<Reply, AllocErro
 }
 
 /// What there is to tell of an EXPRESS text.
-pub fn plan_check(alloc: Global, asked: &Asking<'_>, text: &Text) -> Result<Plan, Refusal>
+pub fn plan_check(alloc: Global, asked: &Asking<'_, '_>, text: &Text) -> Result<Plan, Refusal>
     ensures { Plans (told asked.now) asked.now.caller.now (Request.CheckSchema text.now) result }
 {
     if let Some(refusal) = too_large(text) {

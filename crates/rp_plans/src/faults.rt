@@ -65,7 +65,7 @@ pub fn key_fault(key: &Key) -> Option<Refusal>
 }
 
 /// Of the name of no partner.
-pub fn is_no_partner(asked: &Asking<'_>, name: &Text) -> Option<Refusal>
+pub fn is_no_partner(asked: &Asking<'_, '_>, name: &Text) -> Option<Refusal>
     ensures { result ≡ meaning.is_no_partner (told asked.now) name.now }
 {
     when(!asked.has_partner(name), Refusal::UnknownPartner)

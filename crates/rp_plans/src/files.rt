@@ -14,7 +14,7 @@ ghost use Rattle.rp_plans.specs.Plans.{Plans};
 use crate::edits::{Edits, Plan};
 use crate::faults::{first, is_no_partner, key_fault, lacks, too_large, unseen, when};
 use crate::links::{in_order, link_refusal, names_of, no_request};
-use ex_subtypes::Compiled;
+use ex_layouts::LoadedSchema;
 use p21_bind::{bind, load};
 use p21_read::{is_of_schema, read_raw};
 use p21_tree::Raw;
@@ -30,7 +30,7 @@ use std::alloc::{AllocError, Global};
 use text_forms::Failure;
 
 /// Why a request that puts a text into a model is refused without a look into the text.
-pub fn cheap_fault(asked: &Asking<'_>, key: &Key, file: &Text) -> Option<Refusal>
+pub fn cheap_fault(asked: &Asking<'_, '_>, key: &Key, file: &Text) -> Option<Refusal>
     ensures { result ≡ first_some (cheap_tests (told asked.now) key.now file.now) }
 {
     first(&[
@@ -42,9 +42,9 @@ pub fn cheap_fault(asked: &Asking<'_>, key: &Key, file: &Text) -> Option<Refusal
 }
 
 /// What a file that reads says by the schema, or its first faulty instance.
-fn bound(
+fn bound<'s>(
     alloc: Global,
-    schema: Option<&Compiled>,
+    schema: Option<&'s LoadedSchema<'s>>,
     linked: &[u64],
     raw: Raw<'_>,
 ) -> Result<Content, Refusal>
@@ -64,7 +64,7 @@ fn bound(
 #[tactic(auto, using(crate::proofs::Loaded::read_loaded))]
 fn loaded(
     alloc: Global,
-    asked: &Asking<'_>,
+    asked: &Asking<'_, '_>,
     model: &ModelContent,
     linked: &[u64],
     file: &Text,
@@ -86,7 +86,7 @@ fn loaded(
 /// What the file says by the schema of the model that it is for, where these names are linked, or why it is refused.
 fn read_for(
     alloc: Global,
-    asked: &Asking<'_>,
+    asked: &Asking<'_, '_>,
     model: &ModelContent,
     linked: &[u64],
     file: &Text,
@@ -164,7 +164,7 @@ fn refilled(
 }
 
 /// Why a file and links are refused without a look into the file.
-fn early_fault(asked: &Asking<'_>, key: &Key, file: &Text, links: &[Link]) -> Option<Refusal>
+fn early_fault(asked: &Asking<'_, '_>, key: &Key, file: &Text, links: &[Link]) -> Option<Refusal>
     ensures { result ≡ first_some (of_links.no_request links.now ∷ cheap_tests (told asked.now) key.now file.now) }
 {
     match no_request(links) {
@@ -176,7 +176,7 @@ fn early_fault(asked: &Asking<'_>, key: &Key, file: &Text, links: &[Link]) -> Op
 /// What the file says by the schema of the model, whose instances may refer to these links, or why it is refused.
 fn read_linked(
     alloc: Global,
-    asked: &Asking<'_>,
+    asked: &Asking<'_, '_>,
     model: &ModelContent,
     links: &[Link],
     file: &Text,
@@ -190,7 +190,7 @@ fn read_linked(
 /// The links in the order of their names, if a model of this key and schema may have them beside the content.
 fn fit_links(
     alloc: Global,
-    asked: &Asking<'_>,
+    asked: &Asking<'_, '_>,
     key: &Key,
     schema: &Text,
     links: Rows<Link>,
@@ -211,7 +211,7 @@ fn fit_links(
 /// What the model of this key holds once what the file says and these links are put into it, or why they are refused.
 fn refilled_by(
     alloc: Global,
-    asked: &Asking<'_>,
+    asked: &Asking<'_, '_>,
     key: &Key,
     model: &ModelContent,
     file: &Text,
@@ -237,7 +237,7 @@ fn refilled_by(
 /// A model's content is replaced by that of a file, and its links by these.
 pub fn plan_put(
     alloc: Global,
-    asked: &Asking<'_>,
+    asked: &Asking<'_, '_>,
     key: Key,
     file: &Text,
     links: Rows<Link>,
@@ -260,7 +260,7 @@ pub fn plan_put(
 }
 
 /// Of a model whose links aren't asked for.
-fn has_links(linked: bool, asked: &Asking<'_>, key: &Key) -> Option<Refusal>
+fn has_links(linked: bool, asked: &Asking<'_, '_>, key: &Key) -> Option<Refusal>
     ensures { result ≡ of_files.has_links linked ((told asked.now).content key.now) }
 {
     when(!linked && links_of(asked, key).len() > 0, Refusal::HasLinks)
@@ -280,7 +280,7 @@ fn exported(alloc: Global, linked: bool, file: Text, links: &[Link]) -> Result<R
 /// The canonical text of what a model holds, with its links if they are asked for.
 pub fn plan_export(
     alloc: Global,
-    asked: &Asking<'_>,
+    asked: &Asking<'_, '_>,
     key: &Key,
     linked: bool,
 ) -> Result<Plan, Refusal>

@@ -16,7 +16,7 @@ use std::alloc::Global;
 /// A partner's level on a model of the caller's.
 pub fn plan_grant(
     alloc: Global,
-    asked: &Asking<'_>,
+    asked: &Asking<'_, '_>,
     name: Text,
     to: Text,
     level: Level,
@@ -44,7 +44,12 @@ pub fn plan_grant(
 }
 
 /// No level of a partner on a model of the caller's.
-pub fn plan_revoke(alloc: Global, asked: &Asking<'_>, name: Text, to: Text) -> Result<Plan, Refusal>
+pub fn plan_revoke(
+    alloc: Global,
+    asked: &Asking<'_, '_>,
+    name: Text,
+    to: Text,
+) -> Result<Plan, Refusal>
     ensures { Plans (told asked.now) asked.now.caller.now (Request.RevokeModel name to) result }
 {
     let tests = [

@@ -17,7 +17,7 @@ use std::alloc::Global;
 /// A group of the caller's, without members.
 pub fn plan_create_group(
     alloc: Global,
-    asked: &Asking<'_>,
+    asked: &Asking<'_, '_>,
     name: Text,
     mut schema: Text,
 ) -> Result<Plan, Refusal>
@@ -45,7 +45,7 @@ pub fn plan_create_group(
 }
 
 /// A group of the caller's is gone, with its grants.
-pub fn plan_delete_group(alloc: Global, asked: &Asking<'_>, name: Text) -> Result<Plan, Refusal>
+pub fn plan_delete_group(alloc: Global, asked: &Asking<'_, '_>, name: Text) -> Result<Plan, Refusal>
     ensures { Plans (told asked.now) asked.now.caller.now (Request.DeleteGroup name) result }
 {
     let tests = [name_fault(&name), unseen(asked.own_group_right(&name))];
@@ -62,7 +62,7 @@ pub fn plan_delete_group(alloc: Global, asked: &Asking<'_>, name: Text) -> Resul
 /// A partner may read a group of the caller's.
 pub fn plan_grant_group(
     alloc: Global,
-    asked: &Asking<'_>,
+    asked: &Asking<'_, '_>,
     name: Text,
     to: Text,
 ) -> Result<Plan, Refusal>
@@ -91,7 +91,7 @@ pub fn plan_grant_group(
 /// A partner may not read a group of the caller's.
 pub fn plan_revoke_group(
     alloc: Global,
-    asked: &Asking<'_>,
+    asked: &Asking<'_, '_>,
     name: Text,
     to: Text,
 ) -> Result<Plan, Refusal>

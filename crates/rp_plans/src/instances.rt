@@ -10,8 +10,8 @@ use crate::edits::{Edits, Plan};
 use crate::faults::{first, is_no_partner, key_fault, unseen, when};
 use rp_content::Instance;
 use rp_plain::messages::{Refusal, Reply, Request};
-use rp_readers::Asking;
-use rp_readers::instances::{instance_in, line_by, schema_of};
+use rp_readers::instances::{instance_in, line_of};
+use rp_readers::{Asking, KeptLayouts};
 use rp_rows::rows::Key;
 use std::alloc::Global;
 
@@ -23,9 +23,17 @@ pub fn is_absent(found: Option<&Instance>) -> Option<Refusal>
 }
 
 /// One instance of a model, as canonical text has it.
-pub fn plan_get(alloc: Global, asked: &Asking<'_>, key: &Key, name: u64) -> Result<Plan, Refusal>
-    requires { TellsNamed (told asked.now) }
-    ensures { Plans (told asked.now) asked.now.caller.now (Request.Get key.now name) result }
+pub fn plan_get(
+    alloc: Global,
+    asked: &Asking<'_, '_>,
+    layouts: &mut KeptLayouts<'_>,
+    key: &Key,
+    name: u64,
+) -> Result<Plan, Refusal>
+    requires named { TellsNamed (told asked.now) }
+    requires schemas { layouts.old ≡ (told asked.now).schemas }
+    ensures layouts { layouts.new ≡ layouts.old }
+    ensures planned { Plans (told asked.now) asked.now.caller.now (Request.Get key.now name) result }
 {
     let found = instance_in(asked, key, name);
     let tests = [
@@ -38,7 +46,7 @@ pub fn plan_get(alloc: Global, asked: &Asking<'_>, key: &Key, name: u64) -> Resu
         return Err(refusal);
     }
     Ok(Plan {
-        reply: Reply::Line(line_by(alloc, schema_of(asked, key), found)?),
+        reply: Reply::Line(line_of(alloc, asked, layouts, key, found)?),
         edits: Edits::Nothing,
     })
 }

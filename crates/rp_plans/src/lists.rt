@@ -12,7 +12,7 @@ use rp_rows::rows::Key;
 use std::alloc::Global;
 
 /// The names of a model's instances, with their types.
-pub fn plan_names(alloc: Global, asked: &Asking<'_>, key: &Key) -> Result<Plan, Refusal>
+pub fn plan_names(alloc: Global, asked: &Asking<'_, '_>, key: &Key) -> Result<Plan, Refusal>
     ensures { Plans (told asked.now) asked.now.caller.now (Request.Names key.now) result }
 {
     let tests = [
@@ -30,7 +30,7 @@ pub fn plan_names(alloc: Global, asked: &Asking<'_>, key: &Key) -> Result<Plan, 
 }
 
 /// The groups and the models that the caller sees.
-pub fn plan_list(alloc: Global, asked: &Asking<'_>) -> Result<Plan, Refusal>
+pub fn plan_list(alloc: Global, asked: &Asking<'_, '_>) -> Result<Plan, Refusal>
     ensures { Plans (told asked.now) asked.now.caller.now Request.ListItems result }
 {
     let groups = asked.group_items(alloc)?;
@@ -44,7 +44,7 @@ pub fn plan_list(alloc: Global, asked: &Asking<'_>) -> Result<Plan, Refusal>
 }
 
 /// The names of the schemas.
-pub fn plan_schemas(alloc: Global, asked: &Asking<'_>) -> Result<Plan, Refusal>
+pub fn plan_schemas(alloc: Global, asked: &Asking<'_, '_>) -> Result<Plan, Refusal>
     ensures { Plans (told asked.now) asked.now.caller.now Request.Schemas result }
 {
     Ok(Plan {

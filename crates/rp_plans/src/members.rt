@@ -55,7 +55,7 @@ fn is_of_other(model: Option<&ModelContent>, group: Option<&Listing>) -> Option<
 }
 
 /// Why a model isn't included in a group of the caller's.
-fn include_fault(asked: &Asking<'_>, group: &Text, model: &Key) -> Option<Refusal>
+fn include_fault(asked: &Asking<'_, '_>, group: &Text, model: &Key) -> Option<Refusal>
     ensures { result ≡ first_some (of_groups.include (told asked.now) asked.now.caller.now group.now model.now).tests }
 {
     let listing = asked.own_listing(group);
@@ -75,7 +75,7 @@ fn include_fault(asked: &Asking<'_>, group: &Text, model: &Key) -> Option<Refusa
 /// A group of the caller's lists a model.
 pub fn plan_include(
     alloc: Global,
-    asked: &Asking<'_>,
+    asked: &Asking<'_, '_>,
     group: Text,
     model: Key,
 ) -> Result<Plan, Refusal>
@@ -100,7 +100,7 @@ pub fn plan_include(
 /// A group of the caller's doesn't list a model.
 pub fn plan_exclude(
     alloc: Global,
-    asked: &Asking<'_>,
+    asked: &Asking<'_, '_>,
     group: Text,
     model: &Key,
 ) -> Result<Plan, Refusal>
@@ -130,7 +130,7 @@ pub fn plan_exclude(
 }
 
 /// The models that a group lists, and which of them count.
-pub fn plan_members(alloc: Global, asked: &Asking<'_>, group: &Key) -> Result<Plan, Refusal>
+pub fn plan_members(alloc: Global, asked: &Asking<'_, '_>, group: &Key) -> Result<Plan, Refusal>
     ensures { Plans (told asked.now) asked.now.caller.now (Request.Members group.now) result }
 {
     let tests = [

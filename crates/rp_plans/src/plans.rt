@@ -18,11 +18,11 @@ use crate::models::{plan_create, plan_delete};
 use crate::populations::{plan_extent, plan_users};
 use crate::single::{plan_add, plan_drop, plan_set};
 use rp_plain::messages::{Refusal, Request};
-use rp_readers::{Asking, KeptPlans};
+use rp_readers::{Asking, KeptLayouts};
 use std::alloc::Global;
 
 /// The plan of a request on groups, or its refusal.
-fn plan_on_group(alloc: Global, asked: &Asking<'_>, request: Request) -> Result<Plan, Refusal>
+fn plan_on_group(alloc: Global, asked: &Asking<'_, '_>, request: Request) -> Result<Plan, Refusal>
     requires listed { TellsListed (told asked.now) }
     requires on_group { IsOnGroup request }
     ensures { Plans (told asked.now) asked.now.caller.now request result }
@@ -44,14 +44,14 @@ fn plan_on_group(alloc: Global, asked: &Asking<'_>, request: Request) -> Result<
 /// The request's plan, or its refusal. What was found in the schemas for it is kept with theirs.
 pub fn plan(
     alloc: Global,
-    asked: &Asking<'_>,
-    plans: &mut KeptPlans<'_>,
+    asked: &Asking<'_, '_>,
+    layouts: &mut KeptLayouts<'_>,
     request: Request,
 ) -> Result<Plan, Refusal>
     requires named { TellsNamed (told asked.now) }
     requires listed { TellsListed (told asked.now) }
-    requires schemas { plans.old ≡ (told asked.now).schemas }
-    ensures plans { plans.new ≡ plans.old }
+    requires schemas { layouts.old ≡ (told asked.now).schemas }
+    ensures layouts { layouts.new ≡ layouts.old }
     ensures planned { Plans (told asked.now) asked.now.caller.now request result }
 {
     match request {
@@ -60,13 +60,13 @@ pub fn plan(
         Request::Put { model, file, links } => plan_put(alloc, asked, model, &file, links),
         Request::Export { model, links } => plan_export(alloc, asked, &model, links),
         Request::Names { model } => plan_names(alloc, asked, &model),
-        Request::Get { model, instance } => plan_get(alloc, asked, &model, instance),
-        Request::Add { model, text } => plan_add(alloc, asked, plans, model, &text),
+        Request::Get { model, instance } => plan_get(alloc, asked, layouts, &model, instance),
+        Request::Add { model, text } => plan_add(alloc, asked, layouts, model, &text),
         Request::Set {
             model,
             instance,
             text,
-        } => plan_set(alloc, asked, plans, model, instance, &text),
+        } => plan_set(alloc, asked, layouts, model, instance, &text),
         Request::DropInstance { model, instance } => plan_drop(asked, model, instance),
         Request::ListItems => plan_list(alloc, asked),
         Request::GrantModel { name, to, level } => plan_grant(alloc, asked, name, to, level),

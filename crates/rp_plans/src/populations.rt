@@ -17,7 +17,7 @@ use std::alloc::Global;
 /// The instances of an entity in a group's population.
 pub fn plan_extent(
     alloc: Global,
-    asked: &Asking<'_>,
+    asked: &Asking<'_, '_>,
     group: &Key,
     entity: &Text,
 ) -> Result<Plan, Refusal>
@@ -43,7 +43,7 @@ pub fn plan_extent(
 /// The instances of a group's population that use one of them.
 pub fn plan_users(
     alloc: Global,
-    asked: &Asking<'_>,
+    asked: &Asking<'_, '_>,
     group: &Key,
     place: &Place,
     role: &Text,

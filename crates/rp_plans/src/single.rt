@@ -17,7 +17,7 @@ use plain_data::Text;
 use rp_content::Instance;
 use rp_plain::messages::{Refusal, Reply, Request};
 use rp_readers::instances::{instance_in, instance_named};
-use rp_readers::{Asking, KeptPlans, ModelNames};
+use rp_readers::{Asking, KeptLayouts, ModelNames};
 use rp_rows::limits::{MAX_INSTANCES, MAX_NAME};
 use rp_rows::rows::{Key, ModelContent, Right};
 use rp_store::is_used;
@@ -27,14 +27,14 @@ use text_forms::Failure;
 /// The instance of this name that the text is by the model's schema, or why it is refused.
 fn said_by(
     alloc: Global,
-    plans: &mut KeptPlans<'_>,
+    layouts: &mut KeptLayouts<'_>,
     model: &ModelContent,
     name: u64,
     text: &Text,
 ) -> Result<Instance, Refusal>
     requires { IsSearchable model.now.content }
-    ensures plans { plans.new ≡ plans.old }
-    ensures said { Says (of_instances.said_by plans.old model.now name (mapping_of text.now)) result }
+    ensures layouts { layouts.new ≡ layouts.old }
+    ensures said { Says (of_instances.said_by layouts.old model.now name (mapping_of text.now)) result }
 {
     let mapping = match read_instance(alloc, text.as_bytes()) {
         Ok(mapping) => mapping,
@@ -42,7 +42,7 @@ fn said_by(
         Err(Failure::NoMemory) => return Err(AllocError.into()),
     };
     let names = ModelNames::of(&model.content);
-    plans.bound(alloc, &model.schema, &names, name, mapping)
+    layouts.bound(alloc, &model.schema, &names, name, mapping)
 }
 
 /// Of a model that has all instances that it may, or whose last name is used.
@@ -58,14 +58,14 @@ fn is_full(model: &ModelContent) -> Option<Refusal>
 /// One instance more of a model.
 pub fn plan_add(
     alloc: Global,
-    asked: &Asking<'_>,
-    plans: &mut KeptPlans<'_>,
+    asked: &Asking<'_, '_>,
+    layouts: &mut KeptLayouts<'_>,
     key: Key,
     text: &Text,
 ) -> Result<Plan, Refusal>
     requires named { TellsNamed (told asked.now) }
-    requires schemas { plans.old ≡ (told asked.now).schemas }
-    ensures plans { plans.new ≡ plans.old }
+    requires schemas { layouts.old ≡ (told asked.now).schemas }
+    ensures layouts { layouts.new ≡ layouts.old }
     ensures planned { Plans (told asked.now) asked.now.caller.now (Request.Add key text.now) result }
 {
     if let Some(refusal) = cheap_fault(asked, &key, text) {
@@ -75,7 +75,7 @@ pub fn plan_add(
         return Err(Refusal::NoSuchItem);
     };
     let name = model.greatest + 1;
-    let instance = said_by(alloc, plans, model, name, text)?;
+    let instance = said_by(alloc, layouts, model, name, text)?;
     match is_full(model) {
         Some(refusal) => Err(refusal),
         None => Ok(Plan {
@@ -88,15 +88,15 @@ pub fn plan_add(
 /// Another instance in place of the one of its name.
 pub fn plan_set(
     alloc: Global,
-    asked: &Asking<'_>,
-    plans: &mut KeptPlans<'_>,
+    asked: &Asking<'_, '_>,
+    layouts: &mut KeptLayouts<'_>,
     key: Key,
     name: u64,
     text: &Text,
 ) -> Result<Plan, Refusal>
     requires named { TellsNamed (told asked.now) }
-    requires schemas { plans.old ≡ (told asked.now).schemas }
-    ensures plans { plans.new ≡ plans.old }
+    requires schemas { layouts.old ≡ (told asked.now).schemas }
+    ensures layouts { layouts.new ≡ layouts.old }
     ensures planned { Plans (told asked.now) asked.now.caller.now (Request.Set key name text.now) result }
 {
     if let Some(refusal) = cheap_fault(asked, &key, text) {
@@ -105,7 +105,7 @@ pub fn plan_set(
     let Some(model) = asked.content(&key) else {
         return Err(Refusal::NoSuchItem);
     };
-    let instance = said_by(alloc, plans, model, name, text)?;
+    let instance = said_by(alloc, layouts, model, name, text)?;
     match is_absent(instance_named(model.content.instances.as_slice(), name)) {
         Some(refusal) => Err(refusal),
         None => Ok(Plan {
@@ -116,7 +116,7 @@ pub fn plan_set(
 }
 
 /// Of an instance that another one of the model refers to, if the partner sees the model.
-fn is_needed(asked: &Asking<'_>, key: &Key, name: u64) -> Option<Refusal>
+fn is_needed(asked: &Asking<'_, '_>, key: &Key, name: u64) -> Option<Refusal>
     ensures { result ≡ of_instances.is_needed name ((told asked.now).content key.now) }
 {
     match asked.content(key) {
@@ -129,7 +129,7 @@ fn is_needed(asked: &Asking<'_>, key: &Key, name: u64) -> Option<Refusal>
 }
 
 /// A model without the instance of this name.
-pub fn plan_drop(asked: &Asking<'_>, key: Key, name: u64) -> Result<Plan, Refusal>
+pub fn plan_drop(asked: &Asking<'_, '_>, key: Key, name: u64) -> Result<Plan, Refusal>
     requires { TellsNamed (told asked.now) }
     ensures { Plans (told asked.now) asked.now.caller.now (Request.DropInstance key name) result }
 {

@@ -3,6 +3,7 @@ use Rattle.std.proofs.Common.{◌≡◌, ℕ, Bool, true, false, List, [], ◌�
 use Rattle.std.proofs.lemmas.List.{map-append}
 use Rattle.std.proofs.lemmas.List.Folds.{flat_map-map}
 use Rattle.std.specs.List.{flat_map, zip}
+use Rattle.ex_layouts.specs.Entities.{entities_of, line_of}
 use Rattle.ex_slots.specs.Slots.{Slot, slots}
 use Rattle.ex_types.specs.Checked.{Checked}
 use Rattle.lineage.specs.Lineage.{is_among}
@@ -18,7 +19,6 @@ use Rattle.rp_population.specs.declared.place.Place.{Place}
 use Rattle.rp_population.specs.declared.roles.Role.{Role}
 use Rattle.rp_population.specs.declared.roles.Role.TheVariants.{Every, Of}
 use Rattle.rp_population.specs.Populations.{Counted, Placed, placed, places, stands_for}
-use Rattle.rp_population.specs.Entities.{line_of, entities_of}
 use Rattle.rp_population.specs.Uses.{is_attribute, references_in, as_user, users_in}
 use Rattle.rp_population.specs.Found.{AreNames, told_at, told_by, marked, is_slot_of, place_in, references_by}
 

@@ -2,6 +2,7 @@
 use Rattle.std.specs.Prelude.{◌≡◌, ℕ, Bool, false, ◌&&◌, ◌||◌, List, [], ◌∷◌, map, Option, Some, None, if◌then◌else◌}
 use Rattle.std.specs.List.{flat_map, list_any}
 use Rattle.std.specs.Str.{bytes_eq}
+use Rattle.ex_layouts.specs.Entities.{entities_of, line_of}
 use Rattle.ex_slots.specs.Slots.{Slot, slots}
 use Rattle.ex_types.specs.Checked.{Checked}
 use Rattle.lineage.specs.Lineage.{is_among}
@@ -14,7 +15,6 @@ use Rattle.rp_population.specs.declared.place.Place.{Place}
 use Rattle.rp_population.specs.declared.roles.Role.{Role}
 use Rattle.rp_population.specs.declared.roles.Role.TheVariants.{Every, Of}
 use Rattle.rp_population.specs.Populations.{same_place, links_to}
-use Rattle.rp_population.specs.Entities.{line_of, entities_of}
 
 abbrev pub place_in : List ℕ × List ℕ → Instance → Place
 place_in model i = record { model = model; instance = i.name }

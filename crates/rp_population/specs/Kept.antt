@@ -1,10 +1,10 @@
 -- What was found for some instances, and is kept for those that follow.
 use Rattle.std.specs.Prelude.{◌≡◌, ℕ, List, Option, IfSome, slice_get}
+use Rattle.ex_layouts.specs.Entities.{line_of}
 use Rattle.ex_types.specs.Checked.{Checked}
 use Rattle.rp_population.specs.declared.extents.Told.{Told}
 use Rattle.rp_population.specs.declared.plans.Plan.{Plan}
 use Rattle.rp_population.specs.declared.roles.Role.{Role}
-use Rattle.rp_population.specs.Entities.{line_of}
 use Rattle.rp_population.specs.Found.{is_sought, marks_by}
 
 module _ (schema : Checked) where

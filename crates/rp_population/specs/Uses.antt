@@ -2,6 +2,7 @@
 use Rattle.std.specs.Prelude.{ℕ, Bool, ◌&&◌, ◌==◌, List, [], ◌∷◌, map, filter, Option, Some, None, option_map, if◌then◌else◌}
 use Rattle.std.specs.List.{flat_map, zip, slice_split}
 use Rattle.std.specs.Str.{bytes_eq}
+use Rattle.ex_layouts.specs.Entities.{entities_of, entity_named, line_of}
 use Rattle.ex_slots.specs.Slots.{Slot, slots}
 use Rattle.ex_types.specs.Checked.{Checked}
 use Rattle.lineage.specs.Lineage.{is_among}
@@ -12,7 +13,7 @@ use Rattle.rp_population.specs.declared.place.Place.{Place}
 use Rattle.rp_population.specs.declared.roles.Role.{Role}
 use Rattle.rp_population.specs.declared.roles.Role.TheVariants.{Every, Of}
 use Rattle.rp_population.specs.Populations.{Placed, stands_for}
-use Rattle.rp_population.specs.Entities.{line_of, entities_of, is_of, entity_named}
+use Rattle.rp_population.specs.Entities.{is_of}
 
 abbrev pub is_full_stop : ℕ → Bool
 is_full_stop byte = byte == 46

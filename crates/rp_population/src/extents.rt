@@ -58,9 +58,9 @@ impl<'s> Model for Extent<'s> {
 
 impl<'s> Extent<'s> {
     ghost use Rattle.std.specs.Prelude.{◌≡◌, ◌++◌, IfOk, IfSome, OnOk, filter, map};
-    ghost use Rattle.std.specs.Str.{str_to_ascii_uppercase};
     ghost use Rattle.rp_population.specs.Populations.{places, placed_all};
-    ghost use Rattle.rp_population.specs.Entities as entities;
+    ghost use Rattle.ex_layouts.specs.Entities.{entities_of, entity_spelled, line_of};
+    ghost use Rattle.rp_population.specs.Entities.{extent_of};
     ghost use Rattle.rp_population.specs.Found as spec;
 
     /// The instances of the entity of this name, in either case; none where the schema has no such entity.
@@ -69,7 +69,7 @@ impl<'s> Extent<'s> {
         schema: &'s CheckedSchema,
         name: &Text,
     ) -> Result<Extent<'s>, AllocError>
-        ensures { IfOk result (λ e. e ≡ record { schema = schema.now; entity = entities.entity_named schema.now (str_to_ascii_uppercase name.now) }) }
+        ensures { IfOk result (λ e. e ≡ record { schema = schema.now; entity = entity_spelled schema.now name.now }) }
     {
         let mut upper = name.copy(alloc)?;
         upper.make_ascii_uppercase();
@@ -83,7 +83,7 @@ impl<'s> Extent<'s> {
 
     /// Whether the instances of a leaf are of the entity, if it was told before.
     fn known(&self, leaf: usize) -> Option<bool>
-        ensures { IfSome result (λ is_of. is_of ≡ spec.is_sought self.now.entity (entities.line_of self.now.schema leaf)) }
+        ensures { IfSome result (λ is_of. is_of ≡ spec.is_sought self.now.entity (line_of self.now.schema leaf)) }
     {
         let place = self.places.get(&leaf).copied()?;
         match self.told.get(place) {
@@ -95,7 +95,7 @@ impl<'s> Extent<'s> {
     /// Whether the instances of a leaf are of the entity.
     fn is_leaf_of(&mut self, alloc: Global, leaf: usize) -> Result<bool, AllocError>
         ensures same { self.new ≡ self.old }
-        ensures told { IfOk result (λ is_of. is_of ≡ spec.is_sought self.old.entity (entities.line_of self.old.schema leaf)) }
+        ensures told { IfOk result (λ is_of. is_of ≡ spec.is_sought self.old.entity (line_of self.old.schema leaf)) }
     {
         if let Some(is_of) = self.known(leaf) {
             return Ok(is_of);
@@ -110,7 +110,7 @@ impl<'s> Extent<'s> {
     /// Whether an instance of these entities is of the entity.
     fn is_of(&mut self, alloc: Global, types: &Types) -> Result<bool, AllocError>
         ensures same { self.new ≡ self.old }
-        ensures told { IfOk result (λ is_of. is_of ≡ spec.is_sought self.old.entity (entities.entities_of self.old.schema types.now)) }
+        ensures told { IfOk result (λ is_of. is_of ≡ spec.is_sought self.old.entity (entities_of self.old.schema types.now)) }
     {
         match types {
             Types::Leaf(leaf) => self.is_leaf_of(alloc, *leaf),
@@ -146,7 +146,7 @@ impl<'s> Extent<'s> {
         content: &Content,
     ) -> Result<(), AllocError>
         ensures same { self.new ≡ self.old }
-        ensures places { OnOk result (found.new.items ≡ found.old.items ++ places (entities.extent_of self.old.schema self.old.entity (placed_all (record { model = model.now; content = content.now })))) }
+        ensures places { OnOk result (found.new.items ≡ found.old.items ++ places (extent_of self.old.schema self.old.entity (placed_all (record { model = model.now; content = content.now })))) }
     {
         self.push_all(alloc, found, model, content.instances.as_slice())
     }

@@ -3,7 +3,7 @@
 ghost use Rattle.std.specs.Prelude.{◌≡◌, ◌&&◌, ℕ, List, map, IfOk, IfSome, IsTrue};
 ghost use Rattle.std.specs.Str.{bytes_eq};
 ghost use Rattle.lineage.specs.Lineage.{is_among};
-ghost use Rattle.rp_population.specs.Entities as entities;
+ghost use Rattle.ex_layouts.specs.Entities as entities;
 ghost use Rattle.rp_population.specs.Found as spec;
 
 use crate::roles::{Role, role_of};

@@ -4,7 +4,6 @@ ghost use Rattle.std.specs.Prelude.{◌≡◌, List, ℕ, map, IfOk};
 ghost use Rattle.std.specs.List.{slice_split};
 ghost use Rattle.std.specs.Borrow.{Bor};
 ghost use Rattle.rp_population.specs.Uses as spec;
-ghost use Rattle.rp_population.specs.Entities as entities;
 
 use ex_types::CheckedSchema;
 use plain_data::Text;

@@ -2,6 +2,7 @@
 use ex_check::CheckFault;
 use rp_config::LoadFault;
 use rp_repo::NewFault;
+use std::alloc::AllocError;
 use text_forms::Failure;
 
 /// Why there is nothing to work on.
@@ -51,6 +52,18 @@ impl From<NewFault> for Fault {
             NewFault::NoMemory => Fault::Start(Failure::NoMemory),
             _ => Fault::Start(Failure::Fault(StartFault::New(fault))),
         }
+    }
+}
+
+impl From<AllocError> for Fault {
+    ghost use Rattle.std.specs.Prelude.{◌≡◌};
+    ghost use Rattle.text_forms.specs.declared.Failure.TheVariants.{NoMemory};
+    ghost use Rattle.rp_program.specs.declared.fault.Fault.TheVariants.{Start};
+
+    ghost from_gives = { λ error e. e ≡ Start NoMemory };
+
+    fn from(_error: AllocError) -> Fault {
+        Fault::Start(Failure::NoMemory)
     }
 }
 

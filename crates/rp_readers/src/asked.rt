@@ -7,7 +7,7 @@ ghost use Rattle.rp_plain.specs.Meaning.{has_text, has_schema as HasSchema, sche
 ghost use Rattle.rp_tables.specs.Stored.{row_of};
 ghost use Rattle.rp_readers.specs.Told.{plain_of, told};
 
-use ex_subtypes::Compiled;
+use ex_layouts::LoadedSchema;
 use plain_data::Text;
 use rp_access::{Groups, at_least, level};
 use rp_rows::rows::{Key, ModelContent, Right};
@@ -15,8 +15,8 @@ use rp_tables::{RowRef, Table};
 
 /// What a repository holds, as one partner asks it.
 #[derive(Clone, Copy)]
-pub struct Asking<'a> {
-    pub schemas: &'a [Compiled],
+pub struct Asking<'a, 's> {
+    pub schemas: &'s [LoadedSchema<'s>],
     pub partners: &'a [Text],
     pub models: &'a Table<ModelContent>,
     pub groups: &'a Groups,
@@ -29,21 +29,21 @@ fn has(texts: &[Text], text: &Text) -> bool
     texts.iter().any(|other| text.is(other))
 }
 
-fn is_loaded(schemas: &[Compiled], name: &Text) -> bool
+fn is_loaded(schemas: &[LoadedSchema<'_>], name: &Text) -> bool
     ensures { result ≡ HasSchema schemas.now name.now }
 {
     schemas
         .iter()
-        .any(|compiled| name.as_str() == compiled.schema().name())
+        .any(|schema| name.as_str() == schema.checked().name())
 }
 
 /// The schema of this name.
-fn named<'a>(schemas: &'a [Compiled], name: &Text) -> Option<&'a Compiled>
+fn named<'s>(schemas: &'s [LoadedSchema<'s>], name: &Text) -> Option<&'s LoadedSchema<'s>>
     ensures { option_copied result ≡ SchemaNamed schemas.now name.now }
 {
     schemas
         .iter()
-        .find(|compiled| name.as_str() == compiled.schema().name())
+        .find(|schema| name.as_str() == schema.checked().name())
 }
 
 /// Where the text stands among the texts.
@@ -59,7 +59,7 @@ pub fn place_among(texts: &[Text], text: &Text) -> Option<usize>
     None
 }
 
-impl<'a> Asking<'a> {
+impl<'a, 's> Asking<'a, 's> {
     /// Whether a schema has this name, as it is written.
     pub fn has_schema(&self, name: &Text) -> bool
         ensures { result ≡ HasSchema (told self.now).schemas name.now }
@@ -68,7 +68,7 @@ impl<'a> Asking<'a> {
     }
 
     /// The schema of this name, as it is written.
-    pub fn schema_named(&self, name: &Text) -> Option<&'a Compiled>
+    pub fn schema_named(&self, name: &Text) -> Option<&'s LoadedSchema<'s>>
         ensures { option_copied result ≡ SchemaNamed (told self.now).schemas name.now }
     {
         named(self.schemas, name)

@@ -7,7 +7,7 @@ ghost use Rattle.rp_plain.specs.Lists.{named, names_by};
 ghost use Rattle.rp_readers.specs.Told.{told};
 
 use crate::asked::Asking;
-use ex_subtypes::Compiled;
+use ex_layouts::LoadedSchema;
 use p21_write::{type_text, write};
 use plain_data::{Rows, Text};
 use rp_content::{Instance, Link};
@@ -16,7 +16,7 @@ use rp_rows::rows::Key;
 use std::alloc::{AllocError, Global};
 
 /// The canonical text of what the model holds, if the partner sees it.
-pub fn text_of(alloc: Global, asked: &Asking<'_>, key: &Key) -> Result<Text, AllocError>
+pub fn text_of(alloc: Global, asked: &Asking<'_, '_>, key: &Key) -> Result<Text, AllocError>
     ensures { IfOk result (λ text. text ≡ of_files.text_by (schema_of (told asked.now).schemas ((told asked.now).content key.now)) ((told asked.now).content key.now)) }
 {
     let Some(model) = asked.content(key) else {
@@ -29,7 +29,7 @@ pub fn text_of(alloc: Global, asked: &Asking<'_>, key: &Key) -> Result<Text, All
 }
 
 /// The links of the model, if the partner sees it.
-pub fn links_of<'a>(asked: &Asking<'a>, key: &Key) -> &'a [Link]
+pub fn links_of<'a>(asked: &Asking<'a, '_>, key: &Key) -> &'a [Link]
     ensures { result.now ≡ of_files.links_of ((told asked.now).content key.now) }
 {
     match asked.content(key) {
@@ -52,7 +52,7 @@ pub fn copies(alloc: Global, links: &[Link]) -> Result<Rows<Link>, AllocError>
 /// The names of the instances, with their types.
 fn named_types(
     alloc: Global,
-    schema: &Compiled,
+    schema: &LoadedSchema<'_>,
     instances: &[Instance],
 ) -> Result<Rows<NamedType>, AllocError>
     ensures { IfOk result (λ rows. rows ≡ map (named schema.now) instances.now) }
@@ -69,7 +69,11 @@ fn named_types(
 }
 
 /// The names of the instances of the model, with their types, if the partner sees it.
-pub fn names_of(alloc: Global, asked: &Asking<'_>, key: &Key) -> Result<Rows<NamedType>, AllocError>
+pub fn names_of(
+    alloc: Global,
+    asked: &Asking<'_, '_>,
+    key: &Key,
+) -> Result<Rows<NamedType>, AllocError>
     ensures { IfOk result (λ rows. rows ≡ names_by (schema_of (told asked.now).schemas ((told asked.now).content key.now)) ((told asked.now).content key.now)) }
 {
     let Some(model) = asked.content(key) else {

@@ -11,7 +11,7 @@ use rp_rows::rows::{Key, ModelContent};
 use rp_tables::RowRef;
 use std::alloc::{AllocError, Global};
 
-impl<'a> Asking<'a> {
+impl<'a, 's> Asking<'a, 's> {
     /// The models that count in the group, if the partner sees it.
     pub fn counted(
         &self,

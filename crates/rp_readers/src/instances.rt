@@ -11,8 +11,7 @@ ghost use Rattle.rp_readers.specs.Told.{told};
 ghost use Rattle.rp_readers.specs.Named.{TellsNamed};
 
 use crate::asked::Asking;
-use ex_subtypes::Compiled;
-use p21_write::write_instance;
+use crate::kept::KeptLayouts;
 use plain_data::Text;
 use rp_content::Instance;
 use rp_rows::rows::Key;
@@ -56,7 +55,7 @@ pub fn instance_named(instances: &[Instance], name: u64) -> Option<&Instance>
 }
 
 /// The instance of this name in the model, if the partner sees it.
-pub fn instance_in<'a>(asked: &Asking<'a>, key: &Key, name: u64) -> Option<&'a Instance>
+pub fn instance_in<'a>(asked: &Asking<'a, '_>, key: &Key, name: u64) -> Option<&'a Instance>
     requires { TellsNamed (told asked.now) }
     ensures { option_copied result ≡ of_instances.instance_in ((told asked.now).content key.now) name }
 {
@@ -66,29 +65,24 @@ pub fn instance_in<'a>(asked: &Asking<'a>, key: &Key, name: u64) -> Option<&'a I
     }
 }
 
-/// The schema of the model, if the partner sees it.
-pub fn schema_of<'a>(asked: &Asking<'a>, key: &Key) -> Option<&'a Compiled>
-    ensures { option_copied result ≡ meaning.schema_of (told asked.now).schemas ((told asked.now).content key.now) }
-{
-    match asked.content(key) {
-        Some(model) => asked.schema_named(&model.schema),
-        None => None,
-    }
-}
-
-/// The line of the instance in canonical text.
-pub fn line_by(
+/// The line of an instance of the model in canonical text, if the partner sees the model. What instances of its entities have
+/// values of is kept.
+pub fn line_of(
     alloc: Global,
-    schema: Option<&Compiled>,
+    asked: &Asking<'_, '_>,
+    layouts: &mut KeptLayouts<'_>,
+    key: &Key,
     found: Option<&Instance>,
 ) -> Result<Text, AllocError>
-    ensures { IfOk result (λ text. text ≡ of_instances.line_by (option_copied schema.entry) (option_copied found.entry)) }
+    requires { layouts.old ≡ (told asked.now).schemas }
+    ensures schemas { layouts.new ≡ layouts.old }
+    ensures text { IfOk result (λ text. text ≡ of_instances.line_by (meaning.schema_of (told asked.now).schemas ((told asked.now).content key.now)) (option_copied found.entry)) }
 {
-    let Some(schema) = schema else {
+    let Some(model) = asked.content(key) else {
         return Text::from_str(alloc, "");
     };
     let Some(instance) = found else {
         return Text::from_str(alloc, "");
     };
-    write_instance(alloc, schema, instance)
+    layouts.line(alloc, &model.schema, instance)
 }

@@ -52,7 +52,7 @@ fn group_rows(alloc: Global, seen: &[Seen<'_, Listing>]) -> Result<Rows<Item>, A
     Ok(Rows::from_vec(rows))
 }
 
-impl<'a> Asking<'a> {
+impl<'a, 's> Asking<'a, 's> {
     /// The names of the schemas, in byte order.
     pub fn schema_names(&self, alloc: Global) -> Result<Rows<Text>, AllocError>
         ensures { IfOk result (λ names. names ≡ schema_names (told self.now).schemas) }

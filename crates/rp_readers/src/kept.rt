@@ -1,6 +1,6 @@
 //! What binding found in the schemas of a repository, kept from one request to the next.
 
-ghost use Rattle.std.specs.Prelude.{◌≡◌, ◌<◌, length, Some, IfSome};
+ghost use Rattle.std.specs.Prelude.{◌≡◌, ◌<◌, length, Some, IfOk, IfSome};
 ghost use Rattle.std.specs.List.{position};
 ghost use Rattle.std.specs.Str.{bytes_eq};
 ghost use Rattle.rp_plain.specs.Instances as of_instances;
@@ -8,9 +8,10 @@ ghost use Rattle.rp_plain.specs.Meaning.{schema_name};
 ghost use Rattle.rp_readers.specs.Single.{Says};
 
 use crate::model_names::ModelNames;
-use ex_subtypes::Compiled;
-use p21_bind::{Plans, bind_instance};
+use ex_layouts::{Layouts, LoadedSchema};
+use p21_bind::bind_instance;
 use p21_read::Mapping;
+use p21_write::write_instance;
 use plain_data::Text;
 use rp_content::Instance;
 use rp_plain::messages::Refusal;
@@ -20,18 +21,18 @@ use text_forms::Failure;
 
 /// The schemas of a repository, each with what was found in it for some instances. No reply tells what is kept.
 #[derive(Drop)]
-pub struct KeptPlans<'s> {
+pub struct KeptLayouts<'s> {
     /// Of each schema.
-    plans: Vec<Plans<'s>>,
+    layouts: Vec<Layouts<'s>>,
 }
 
-impl<'s> Model for KeptPlans<'s> {
+impl<'s> Model for KeptLayouts<'s> {
     ghost use Rattle.std.specs.Prelude.{List};
     ghost use Rattle.ex_types.specs.Checked.{Checked};
 
     ghost Value = { List Checked };
 
-    ghost view = { λ k. k.plans.items };
+    ghost view = { λ k. k.layouts.items };
 
     ghost use Rattle.std.specs.Coded.{codes};
     ghost use Rattle.ex_types.specs.contracts.schema.CheckedSchema as checked;
@@ -40,48 +41,58 @@ impl<'s> Model for KeptPlans<'s> {
 }
 
 /// Where the schema of this name stands first.
-fn place_named(plans: &[Plans<'_>], name: &Text) -> Option<usize>
-    ensures place { result ≡ position (λ schema. bytes_eq name.now (schema_name schema)) plans.now }
-    ensures within { IfSome result (λ place. place < length plans.now) }
+fn place_named(layouts: &[Layouts<'_>], name: &Text) -> Option<usize>
+    ensures place { result ≡ position (λ schema. bytes_eq name.now (schema_name schema)) layouts.now }
+    ensures within { IfSome result (λ place. place < length layouts.now) }
 {
-    plans
-        .iter()
-        .position(|plans| name.as_str() == plans.schema().schema().name())
+    layouts.iter().position(|layouts| name.as_str() == layouts.schema().checked().name())
 }
 
 /// The instance of this name that the mapping is by the schema, or its first fault.
 fn bound_by(
     alloc: Global,
-    plans: &mut Plans<'_>,
+    layouts: &mut Layouts<'_>,
     names: &ModelNames<'_>,
     name: u64,
     mapping: Mapping<'_>,
 ) -> Result<Instance, Refusal>
-    ensures plans { plans.new ≡ plans.old }
-    ensures said { Says (of_instances.bound_by (Some plans.old) (of_instances.is_defined names.now) name mapping.entry) result }
+    ensures layouts { layouts.new ≡ layouts.old }
+    ensures said { Says (of_instances.bound_by (Some layouts.old) (of_instances.is_defined names.now) name mapping.entry) result }
 {
-    match bind_instance(alloc, plans, name, mapping, names) {
+    match bind_instance(alloc, layouts, name, mapping, names) {
         Ok(instance) => Ok(instance),
         Err(Failure::Fault(fault)) => Err(Refusal::InstanceFault(fault)),
         Err(Failure::NoMemory) => Err(AllocError.into()),
     }
 }
 
-impl<'s> KeptPlans<'s> {
-    ghost use Rattle.std.specs.Prelude.{◌≡◌, IfOk};
+/// The line of an instance in canonical text, by the schema.
+fn line_by(
+    alloc: Global,
+    layouts: &mut Layouts<'_>,
+    instance: &Instance,
+) -> Result<Text, AllocError>
+    ensures layouts { layouts.new ≡ layouts.old }
+    ensures text { IfOk result (λ text. text ≡ of_instances.line_by (Some layouts.old) (Some instance.now)) }
+{
+    write_instance(alloc, layouts, instance)
+}
+
+impl<'s> KeptLayouts<'s> {
+    ghost use Rattle.std.specs.Prelude.{◌≡◌, Some, IfOk};
     ghost use Rattle.rp_plain.specs.Instances as of_instances;
     ghost use Rattle.rp_plain.specs.Meaning.{schema_named};
     ghost use Rattle.rp_readers.specs.Single.{Says};
 
     /// Those of the schemas.
-    pub fn of(alloc: Global, schemas: &'s [Compiled]) -> Result<KeptPlans<'s>, AllocError>
+    pub fn of(alloc: Global, schemas: &'s [LoadedSchema<'s>]) -> Result<KeptLayouts<'s>, AllocError>
         ensures { IfOk result (λ kept. kept ≡ schemas.now) }
     {
-        let mut plans = Vec::with_capacity(alloc, schemas.len())?;
+        let mut layouts = Vec::with_capacity(alloc, schemas.len())?;
         for schema in schemas {
-            plans.push(Plans::of(alloc, schema)?)?;
+            layouts.push(Layouts::of(alloc, schema)?)?;
         }
-        Ok(KeptPlans { plans })
+        Ok(KeptLayouts { layouts })
     }
 
     /// The instance of this name that the mapping is by the schema of that name, or its first fault.
@@ -96,9 +107,25 @@ impl<'s> KeptPlans<'s> {
         ensures schemas { self.new ≡ self.old }
         ensures said { Says (of_instances.bound_by (schema_named self.old schema.now) (of_instances.is_defined names.now) name mapping.entry) result }
     {
-        match place_named(&self.plans, schema) {
-            Some(place) => bound_by(alloc, &mut self.plans[place], names, name, mapping),
+        match place_named(&self.layouts, schema) {
+            Some(place) => bound_by(alloc, &mut self.layouts[place], names, name, mapping),
             None => Err(Refusal::UnknownSchema),
+        }
+    }
+
+    /// The line of an instance in canonical text, by the schema of that name.
+    pub fn line(
+        &mut self,
+        alloc: Global,
+        schema: &Text,
+        instance: &Instance,
+    ) -> Result<Text, AllocError>
+        ensures schemas { self.new ≡ self.old }
+        ensures text { IfOk result (λ text. text ≡ of_instances.line_by (schema_named self.old schema.now) (Some instance.now)) }
+    {
+        match place_named(&self.layouts, schema) {
+            Some(place) => line_by(alloc, &mut self.layouts[place], instance),
+            None => Text::from_str(alloc, ""),
         }
     }
 }

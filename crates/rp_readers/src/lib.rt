@@ -16,5 +16,5 @@ pub mod populations;
 pub mod schemas;
 
 pub use asked::{Asking, place_among};
-pub use kept::KeptPlans;
+pub use kept::KeptLayouts;
 pub use model_names::ModelNames;

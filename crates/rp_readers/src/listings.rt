@@ -32,7 +32,7 @@ fn told_members(alloc: Global, members: &[Listed<'_>]) -> Result<Rows<Member>, A
     Ok(Rows::from_vec(rows))
 }
 
-impl<'a> Asking<'a> {
+impl<'a, 's> Asking<'a, 's> {
     /// The group of this owner and name, if the partner sees it.
     fn group_of(&self, owner: &Text, name: &Text) -> Option<RowRef<'a, Listing>>
         ensures { option_map row_of result ≡ group_at (plain_of self.now) self.now.caller.now (owner.now, name.now) }

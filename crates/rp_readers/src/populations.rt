@@ -12,7 +12,7 @@ ghost use Rattle.rp_readers.specs.Listed.{counted_of};
 ghost use Rattle.rp_readers.specs.Told.{told};
 
 use crate::asked::Asking;
-use ex_subtypes::Compiled;
+use ex_layouts::LoadedSchema;
 use plain_data::{Rows, Text};
 use rp_access::counts;
 use rp_content::Instance;
@@ -22,7 +22,7 @@ use rp_tables::RowRef;
 use std::alloc::{AllocError, Global};
 
 /// The schema of the group, if the partner sees it.
-pub fn group_schema<'a>(asked: &Asking<'a>, key: &Key) -> Option<&'a Compiled>
+pub fn group_schema<'s>(asked: &Asking<'_, 's>, key: &Key) -> Option<&'s LoadedSchema<'s>>
     ensures { option_copied result ≡ of_populations.group_schema (told asked.now).schemas ((told asked.now).listing key.now) }
 {
     match asked.listing(key) {
@@ -52,7 +52,7 @@ fn extent_in(
 /// The instances of an entity in models of this schema.
 pub fn extent_by(
     alloc: Global,
-    schema: Option<&Compiled>,
+    schema: Option<&LoadedSchema<'_>>,
     entity: &Text,
     counted: &[RowRef<'_, ModelContent>],
 ) -> Result<Rows<Place>, AllocError>
@@ -61,7 +61,7 @@ pub fn extent_by(
     let Some(schema) = schema else {
         return Ok(Rows::new(alloc));
     };
-    let extent = Extent::of(alloc, schema.schema(), entity)?;
+    let extent = Extent::of(alloc, schema.checked(), entity)?;
     extent_in(alloc, extent, counted)
 }
 
@@ -82,7 +82,7 @@ fn counts_with(model: &RowRef<'_, ModelContent>, group: &RowRef<'_, Listing>, in
 
 /// Whether an instance of the group's population stands at the place, if the partner sees the group. No list of the
 /// population is made for it.
-pub fn has_place(asked: &Asking<'_>, group: &Key, place: &Place) -> bool
+pub fn has_place(asked: &Asking<'_, '_>, group: &Key, place: &Place) -> bool
     ensures { result ≡ HasPlace (population ((told asked.now).counted group.now)) place.now }
 {
     let Some(group) = asked.group(group) else {
@@ -113,7 +113,7 @@ fn users_in(
 /// The users of an instance in models of this schema.
 pub fn users_by(
     alloc: Global,
-    schema: Option<&Compiled>,
+    schema: Option<&LoadedSchema<'_>>,
     role: &Text,
     place: &Place,
     counted: &[RowRef<'_, ModelContent>],
@@ -123,6 +123,6 @@ pub fn users_by(
     let Some(schema) = schema else {
         return Ok(Rows::new(alloc));
     };
-    let users = Users::of(alloc, schema.schema(), role, place)?;
+    let users = Users::of(alloc, schema.checked(), role, place)?;
     users_in(alloc, users, counted)
 }

@@ -8,6 +8,7 @@ pub mod repository;
 pub mod run;
 
 pub use ex_check::SchemaFault;
+pub use ex_layouts::LoadedSchema;
 pub use ex_subtypes::Compiled;
 pub use plain_data::{Rows, Text};
 pub use repository::{Call, Caller, Repository};

@@ -1,6 +1,6 @@
 //! The repository, whose requests are turns of its partners.
 
-use ex_subtypes::Compiled;
+use ex_layouts::LoadedSchema;
 use plain_data::Text;
 use rp_core::{Holdings, Pending};
 use rp_laws::{model_text_again, one_run, step_keeps_validity};
@@ -45,7 +45,7 @@ impl<'s> Model for Repository<'s> {
     ghost Value = { Kept };
 
     ghost use Rattle.std.specs.Coded.{codes};
-    ghost use Rattle.ex_subtypes.specs.contracts.schema.Compiled as schema_type;
+    ghost use Rattle.ex_types.specs.contracts.schema.CheckedSchema as schema_type;
     ghost use Rattle.rp_rows.specs.contracts.rows.ModelContent as content_type;
 
     ghost coded = { Prim.hlevel (codes, schema_type.the_row.coded, content_type.the_row.coded) };
@@ -76,7 +76,7 @@ impl<'s> Repository<'s> {
     /// The first that holds of `TwoSchemas`, `TwoPartners`, `BadName` and `TooMany`; or `NoMemory`.
     pub fn new(
         alloc: Global,
-        schemas: &'s [Compiled],
+        schemas: &'s [LoadedSchema<'s>],
         partners: Vec<Text>,
     ) -> Result<Repository<'s>, NewFault>
         ensures ok { IfOk result (λ _. new_fault schemas.now partners.items ≡ None) }

@@ -2,7 +2,7 @@
 ghost use Rattle.std.specs.Prelude.{None};
 
 use ex_check::compile_schema;
-use rp_repo::{Compiled, DeviceFault, Repository, RunFault, Sink, Source, Text, run_lines};
+use rp_repo::{DeviceFault, LoadedSchema, Repository, RunFault, Sink, Source, Text, run_lines};
 use std::alloc::Global;
 use std::test::*;
 
@@ -72,7 +72,7 @@ impl Sink for Taker {
     }
 }
 
-fn repository(alloc: Global, schemas: &[Compiled]) -> Result<Repository<'_>, Fail> {
+fn repository<'s>(alloc: Global, schemas: &'s [LoadedSchema<'s>]) -> Result<Repository<'s>, Fail> {
     let partners = vec![in alloc;
         Text::from_str(alloc, "ann")?,
         Text::from_str(alloc, "bob")?,
@@ -101,7 +101,8 @@ fn run(alloc: Global, read: u64, write: u64) -> Result<(Result<u64, RunFault>, V
     };
     let schema = compile_schema(alloc, SCHEMA).ok().ok_or("a schema")?;
     let schemas = vec![in alloc; schema]?;
-    let mut repository = repository(alloc, &schemas)?;
+    let loaded = LoadedSchema::all(alloc, &schemas)?.leak();
+    let mut repository = repository(alloc, loaded)?;
     let ended = run_lines(alloc, &mut repository, &mut reader, &mut writer);
     Ok((ended, writer.bytes))
 }

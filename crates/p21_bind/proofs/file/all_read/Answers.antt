@@ -17,12 +17,12 @@ instances-init c =
     let names_once : has_twice is_one c.args.names.now ≡ false → has_twice is_one (names (reverse c.args.reversed.items)) ≡ false =
     once_in_any_order (names (reverse c.args.reversed.items)) c.args.names.now c.requires in
     record {
-      plans = refl;
+      layouts = refl;
       once = λ d. names_once (none_left (has_twice is_one c.args.names.now) (sym d ∙ c.are_distinct-are_distinct.ensures));
       read =
           (λ i. spec.behind (c.in_ok-found.ensures.items i)
-          (spec.instances_after c.args.plans.now defined (is_among (c.new-before.ensures.empty i)) (reverse c.args.reversed.items)))
-          ∙ none_behind (spec.instances_after c.args.plans.now defined (λ n. false) (reverse c.args.reversed.items));
+          (spec.instances_after c.args.layouts.now defined (is_among (c.new-before.ensures.empty i)) (reverse c.args.reversed.items)))
+          ∙ none_behind (spec.instances_after c.args.layouts.now defined (λ n. false) (reverse c.args.reversed.items));
     }
 
 pub instances-preserved : goal.instances-preserved
@@ -33,13 +33,13 @@ instances-preserved c =
     let defined = is_among (c.args.names.now ++ c.args.linked.now) in
     let once : c.are_distinct-are_distinct.result ≡ true → has_twice is_one (s.name ∷ names (reverse left)) ≡ false =
     λ d. sym (ap (λ xs. has_twice is_one (names xs)) (first_is rest left s c.in-Some.ensures.items)) ∙ c.instances.invariant.once d in
-    let read : spec.one c.args.plans.now defined (is_among c.instances.before.keys) s ≡ Ok c.in_ok-one.field-0 =
-    (λ i. spec.told s.name (instances.instance (sym c.instances.invariant.plans i) (is_among (sym c.of-defined.ensures i)) (sym c.stood_before-stood.ensures i) s)) ∙ c.in_ok-one.ensures.made in
+    let read : spec.one c.args.layouts.now defined (is_among c.instances.before.keys) s ≡ Ok c.in_ok-one.field-0 =
+    (λ i. spec.told s.name (instances.instance (sym c.instances.invariant.layouts i) (is_among (sym c.of-defined.ensures i)) (sym c.stood_before-stood.ensures i) s)) ∙ c.in_ok-one.ensures.made in
     record {
-      plans = c.one.ensures.plans ∙ c.instances.invariant.plans;
+      layouts = c.one.ensures.layouts ∙ c.instances.invariant.layouts;
       once = λ d. (neither (list_any (is_one s.name) (names (reverse left))) (has_twice is_one (names (reverse left))) (once d)).1;
       read =
-          read_on c.args.plans.now defined (is_among c.instances.before.keys) (is_among c.note.new.before.keys)
+          read_on c.args.layouts.now defined (is_among c.instances.before.keys) (is_among c.note.new.before.keys)
           c.instances.found.items c.push.new.self.items rest left s c.in_ok-one.field-0
           c.in-Some.ensures.items read c.in_ok-push.ensures.items
           (λ n there. c.in_ok-note.ensures n ∙ noted c.are_distinct-are_distinct.result s.name (names (reverse left)) once n there (is_among c.instances.before.keys n))

@@ -9,9 +9,9 @@ decreases-instances l = length l.rest.items
 
 abbrev pub invariant-instances : goal.invariant-instances
 invariant-instances l = record {
-  plans : l.plans ≡ l.fn.plans;
+  layouts : l.layouts ≡ l.fn.layouts;
   once : l.are_distinct ≡ true → has_twice is_one (names (reverse l.rest.items)) ≡ false;
   read :
-      spec.behind l.found.items (spec.instances_after l.fn.plans (is_among (l.names ++ l.linked)) (is_among l.before.keys) (reverse l.rest.items))
-      ≡ spec.instances_after l.fn.plans (is_among (l.names ++ l.linked)) (λ n. false) (reverse l.fn.reversed.items);
+      spec.behind l.found.items (spec.instances_after l.fn.layouts (is_among (l.names ++ l.linked)) (is_among l.before.keys) (reverse l.rest.items))
+      ≡ spec.instances_after l.fn.layouts (is_among (l.names ++ l.linked)) (λ n. false) (reverse l.fn.reversed.items);
 }

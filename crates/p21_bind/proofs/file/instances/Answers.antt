@@ -15,7 +15,7 @@ all_read-requires c =
 pub returns : goal.returns
 unfolding spec.instances
 returns c =
-    let schema = c.args.plans.now in
+    let schema = c.args.layouts.now in
     let xs = c.args.spelled in
     let turned = ap reverse c.reverse.ensures.items ∙ reverse-reverse c.into_vec-reversed.result.items ∙ c.into_vec-reversed.ensures in
     let same = subst (λ ys. IsPermutation (names ys) c.in_ok-names.names) c.as_slice.ensures c.in_ok-names.ensures in

@@ -14,7 +14,7 @@ returns c =
     let first = c.in_ok-loading.loading in
     let now = c.read_visited.new.visitor in
     let start : Becomes first [] first = record {
-      plans = refl;
+      layouts = refl;
       names = sym c.in_ok-loading.ensures.names;
       references = sym c.in_ok-loading.ensures.references;
       instances = ap Ok (sym c.in_ok-loading.ensures.instances);
@@ -25,5 +25,5 @@ returns c =
     (λ held. list_all (is_among (now.names.items ++ c.args.linked.now)) now.references.items ≡ true)
     (λ held. loaded c.args.schema.now c.args.name.now c.args.linked.now (file_of c.args.text.now) ≡ Some held)
     (λ held made once defined. loaded_whole c.args.schema.now c.args.name.now c.args.linked.now first now c.in-Some.raw held (file_of c.args.text.now) shown
-    c.in_ok-loading.ensures.plans (sym c.in_ok-is_of_schema.ensures ∙ c.if-not-branch.false) once defined made)
+    c.in_ok-loading.ensures.layouts (sym c.in_ok-is_of_schema.ensures ∙ c.if-not-branch.false) once defined made)
     c.into_content.ensures.content c.into_content.ensures.once c.into_content.ensures.defined

@@ -7,5 +7,5 @@ use Rattle.p21_lines.proofs.value.write_attributes.Given as goal
 
 abbrev pub invariant-loop-number : goal.invariant-loop-number
 invariant-loop-number l =
-    l.out ++ left (l.number == 0) (map spelled.spelling (numbered_from (spec.attribute_at l.types l.marks) l.number (drop l.number l.values)))
-    ≡ l.fn.out ++ 40 ∷ spelled.listed (map spelled.spelling (spec.attributes l.types l.marks l.values))
+    l.out ++ left (l.number == 0) (map spelled.spelling (numbered_from (spec.attribute_at l.types (spec.marks_of l.slots)) l.number (drop l.number l.values)))
+    ≡ l.fn.out ++ 40 ∷ spelled.listed (map spelled.spelling (spec.attributes l.types (spec.marks_of l.slots) l.values))

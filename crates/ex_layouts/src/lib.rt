@@ -1,0 +1,15 @@
+//! What a schema knows of its instances, found once when it is loaded and lent from then on: the entities of an instance, its
+//! attributes and what their declared types come to, in the order of its values (ISO 10303-11:1994, 9.2).
+#![tactic(auto)]
+
+mod alike;
+mod hints;
+mod layout;
+mod layouts;
+mod loaded;
+mod read_slot;
+
+pub use layout::{Layout, layout_of, legal_leaf, legal_several};
+pub use layouts::Layouts;
+pub use loaded::LoadedSchema;
+pub use read_slot::ReadSlot;

@@ -1,6 +1,0 @@
-use Rattle.std.proofs.Common.{◌≡◌, ◌++◌, map, drop}
-use Rattle.p21_mappings.specs.Plans as spec
-use Rattle.p21_mappings.proofs.plan.places_in.Given as goal
-
-abbrev pub invariant-loop-entity : goal.invariant-loop-entity
-invariant-loop-entity l = l.places.items ++ map (spec.place_in l.numbers) (drop l.entity-index l.order) ≡ map (spec.place_in l.numbers) l.order

@@ -1,0 +1,28 @@
+use Rattle.std.proofs.Common.{◌≡◌, ◌<◌, ℕ, Bool, Option, Some, None, IfSome, List, length, get_or, sym, subst, ◌∙◌, ap}
+use Rattle.std.specs.List.{find}
+use Rattle.std.specs.Str.{bytes_eq}
+use Rattle.ex_types.specs.Checked.{Checked}
+use Rattle.rp_plain.specs.Meaning.{schema_name, schema_named}
+use Rattle.rp_plain.specs.Instances.{bound_by, is_defined}
+use Rattle.rp_readers.specs.Single.{Says}
+use Rattle.rp_readers.proofs.KeptPlaces.{found_at, found_nowhere}
+use Rattle.rp_readers.proofs.kept.KeptLayouts.bound.Goals as goal
+
+pub returns-in-None-clause-said : goal.returns-in-None-clause-said
+returns-in-None-clause-said c = λ unlike.
+    let p : Checked → Bool = λ schema. bytes_eq c.args.schema.now (schema_name schema) in
+    let seen : c.deref.result.now ≡ c.args.self.now = c.deref.ensures.value ∙ c.self.view_is in
+    let nowhere : find p c.deref.result.now ≡ None = found_nowhere p c.deref.result.now (sym c.place_named.ensures.place ∙ c.in-None.is) in
+    ap (λ (o : Option Checked). bound_by o (is_defined c.args.names.now) c.args.name c.args.mapping) (ap (find p) (sym seen) ∙ nowhere)
+
+pub returns-in-Some-clause-said : goal.returns-in-Some-clause-said
+returns-in-Some-clause-said c =
+    let p : Checked → Bool = λ schema. bytes_eq c.args.schema.now (schema_name schema) in
+    let seen : c.deref.result.now ≡ c.args.self.now = c.deref.ensures.value ∙ c.self.view_is in
+    let within : c.in-Some.place < length c.deref.result.now = subst (λ (o : Option ℕ). IfSome o (λ place. place < length c.deref.result.now)) c.in-Some.is c.place_named.ensures.within in
+    let found : find p c.deref.result.now ≡ Some (get_or c.deref.result.now c.in-Some.place c.index_mut.result.now) =
+    found_at p c.deref.result.now c.in-Some.place c.index_mut.result.now (sym c.place_named.ensures.place ∙ c.in-Some.is) within in
+    let at : get_or c.deref.result.now c.in-Some.place c.index_mut.result.now ≡ c.index_mut.result.now =
+    ap (λ (xs : List Checked). get_or xs c.in-Some.place c.index_mut.result.now) c.deref.ensures.value ∙ sym c.index_mut.ensures.value in
+    let named : schema_named c.args.self.now c.args.schema.now ≡ Some c.index_mut.result.now = ap (find p) (sym seen) ∙ found ∙ ap Some at in
+    subst (λ (o : Option Checked). Says (bound_by o (is_defined c.args.names.now) c.args.name c.args.mapping) c.bound_by.result) (sym named) c.bound_by.ensures.said
