@@ -31,10 +31,11 @@ fn by_leaf<N: DefinedNames>(
     if !layout.is_legal {
         return Err(Failure::Fault(InstanceFaultKind::IllegalCombination));
     }
-    if layout.slots_of(0).len() != part.values.len() {
+    let slots = layout.read_slots_of(0);
+    if slots.len() != part.values.len() {
         return Err(Failure::Fault(InstanceFaultKind::WrongCount));
     }
-    let values = values_of_leaf(alloc, schema, names, entity, layout, part)?;
+    let values = values_of_leaf(alloc, schema, names, entity, slots, part)?;
     Ok(Instance {
         name,
         types: Types::Leaf(entity),

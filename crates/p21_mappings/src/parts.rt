@@ -4,7 +4,7 @@ ghost use Rattle.std.specs.Prelude.{◌≡◌, ◌&&◌, ◌++◌, ◌∷◌, []
 ghost use Rattle.std.specs.List.{flat_map, zip};
 ghost use Rattle.std.specs.Str.{str_to_ascii_uppercase};
 ghost use Rattle.ex_layouts.specs.Entities.{entity_spelled};
-ghost use Rattle.ex_layouts.specs.Layouts.{legal, leaf_slots, of_leaf, AreRead};
+ghost use Rattle.ex_layouts.specs.Layouts.{legal, leaf_slots, read_slot, AreRead};
 ghost use Rattle.name_tables.specs.Names.{place_of};
 ghost use Rattle.p21_instances.specs.Instances.{is_among};
 ghost use Rattle.p21_tree.specs.declared.fault.InstanceFaultKind.TheVariants.{Twice};
@@ -287,19 +287,18 @@ pub fn by_parts<N: DefinedNames>(
     by_entities(alloc, layouts, names, name, parts)
 }
 
-/// The values of a part that is of an entity and all above it, or what is wrong with the first that is faulty.
+/// The values of a part that is of an entity and all above it, whose slots as they are read these are, or what is wrong with the
+/// first that is faulty.
 pub fn values_of_leaf<N: DefinedNames>(
     alloc: Global,
     schema: &LoadedSchema<'_>,
     names: &N,
     entity: usize,
-    layout: &Layout<'_>,
+    slots: &[ReadSlot<'_>],
     part: &Record<'_>,
 ) -> Reading<Items<Value>>
-    requires { layout.now ≡ of_leaf schema.now entity }
+    requires { slots.now ≡ map (read_slot schema.now) (leaf_slots schema.now entity) }
     ensures { Gives (λ xs. xs) result (spec.part schema.now (N.is_defined names.now) (leaf_slots schema.now entity, part.now)) }
 {
-    let slots = layout.read_slots_of(0);
-    let values = part.values.as_slice();
-    part_values(alloc, schema, names, slots, values)
+    part_values(alloc, schema, names, slots, part.values.as_slice())
 }

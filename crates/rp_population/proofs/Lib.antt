@@ -1,3 +1,4 @@
+pub mod Layouts
 pub mod Finding
 pub mod Using
 pub mod Populations

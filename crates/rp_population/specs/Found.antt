@@ -1,13 +1,14 @@
 -- What is found in one model: the same as the definitions say of its instances, in parts.
-use Rattle.std.specs.Prelude.{◌≡◌, ℕ, Bool, false, ◌&&◌, ◌||◌, List, [], ◌∷◌, map, Option, Some, None, if◌then◌else◌}
+use Rattle.std.specs.Prelude.{◌≡◌, ℕ, Bool, false, ◌&&◌, ◌||◌, List, [], ◌∷◌, Option, Some, None, if◌then◌else◌}
 use Rattle.std.specs.List.{flat_map, list_any}
 use Rattle.std.specs.Str.{bytes_eq}
 use Rattle.ex_layouts.specs.Entities.{entities_of, line_of}
-use Rattle.ex_slots.specs.Slots.{Slot, slots}
+use Rattle.ex_layouts.specs.Layouts.{layout}
+use Rattle.ex_layouts.specs.declared.layout.Layout.{Layout}
+use Rattle.ex_slots.specs.Slots.{Slot}
 use Rattle.ex_types.specs.Checked.{Checked}
 use Rattle.lineage.specs.Lineage.{is_among}
 use Rattle.rp_content.specs.declared.instance.Instance.{Instance}
-use Rattle.rp_content.specs.declared.instance.Types.{Types}
 use Rattle.rp_content.specs.declared.link.Link.{Link}
 use Rattle.rp_value.specs.declared.value.Value.{Value}
 use Rattle.rp_rows.specs.Contents.{references}
@@ -44,34 +45,45 @@ pub record User : Type 0 where
 abbrev pub told_at : User → ℕ → List Place
 told_at user name = if is_among user.names name then user.place ∷ [] else []
 
-abbrev pub marked : List Bool → List Value → List Value
-marked [] values = []
-marked (mark ∷ marks) [] = []
-marked (mark ∷ marks) (value ∷ values) = if mark then value ∷ marked marks values else marked marks values
+-- the attributes of a name that an entity, which has this line, declares or inherits
+pub record Attribute : Type 0 where
+  pub entity : ℕ
+  pub line : List ℕ
+  pub name : List ℕ
 
 -- whether an attribute has this name, and one of these entities declares it
 abbrev pub is_slot_of : List ℕ → List ℕ → Slot → Bool
 is_slot_of line name s = is_among line s.place.entity && bytes_eq s.name.text name
 
+-- the values of such attributes
+abbrev pub values_of : List ℕ → List ℕ → List Slot → List Value → List Value
+values_of line name [] values = []
+values_of line name (s ∷ slots) [] = []
+values_of line name (s ∷ slots) (value ∷ values) = if is_slot_of line name s then value ∷ values_of line name slots values else values_of line name slots values
+
+-- the attributes of all records
+abbrev pub all_slots : List (List Slot) → List Slot
+all_slots = flat_map (λ slots. slots)
+
+-- the values of an attribute in an instance whose entities have this layout
+abbrev pub values_by : Attribute → Layout → List Value → List Value
+values_by a l values = if is_among l.entities a.entity then values_of a.line a.name (all_slots l.slots) values else []
+
+-- where an instance of a model stands, and the names of what it may use
+abbrev pub user_in : List ℕ → List ℕ × List ℕ → Instance → User
+user_in names model i = record { names = names; place = place_in model i }
+
+-- what is told of an instance of a model, in all attributes
+abbrev pub told_in_all : List ℕ → List ℕ × List ℕ → Instance → List Place
+told_in_all names model i = flat_map (told_at (user_in names model i)) (flat_map references i.values)
+
 module _ (schema : Checked) where
-  -- which values of an instance of these entities are those of a role
-  abbrev pub marks_of : ℕ → List ℕ → Types → List Bool
-  marks_of entity name types =
-      if is_among (entities_of schema types) entity then map (is_slot_of (line_of schema entity) name) (slots schema.named.schema.entities (entities_of schema types)) else []
+  -- the line of the entity of a role
+  abbrev pub line_by : Option Role → List ℕ
+  line_by None = []
+  line_by (Some Every) = []
+  line_by (Some (Of entity name)) = line_of schema entity
 
-  abbrev pub marks_by : Option Role → Types → List Bool
-  marks_by None types = []
-  marks_by (Some Every) types = []
-  marks_by (Some (Of entity name)) types = marks_of entity name types
-
-  abbrev pub marked_references : Option Role → Instance → List ℕ
-  marked_references role i = flat_map references (marked (marks_by role i.types) i.values)
-
-  abbrev pub references_by : Option Role → Instance → List ℕ
-  references_by None i = []
-  references_by (Some Every) i = flat_map references i.values
-  references_by (Some (Of entity name)) i = marked_references (Some (Of entity name)) i
-
-  -- what is told of an instance of a model
-  abbrev pub told_by : Option Role → List ℕ → List ℕ × List ℕ → Instance → List Place
-  told_by role names model i = flat_map (told_at (record { names = names; place = place_in model i })) (references_by role i)
+  -- what is told of an instance of a model, in an attribute
+  abbrev pub told_in : Attribute → List ℕ → List ℕ × List ℕ → Instance → List Place
+  told_in a names model i = flat_map (told_at (user_in names model i)) (flat_map references (values_by a (layout schema i.types) i.values))

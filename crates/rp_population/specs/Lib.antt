@@ -3,4 +3,3 @@ pub mod Entities
 pub mod Uses
 pub mod Sought
 pub mod Found
-pub mod Kept

@@ -8,10 +8,6 @@ pub record SoughtExtent : Type 0 where
   pub schema : Checked
   pub entity : Option ℕ
 
-pub record SoughtRole : Type 0 where
-  pub schema : Checked
-  pub role : Option Role
-
 pub record SoughtUsers : Type 0 where
   pub schema : Checked
   pub role : Option Role

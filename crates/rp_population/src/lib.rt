@@ -4,10 +4,10 @@
 //! the schema, and then in one model after another.
 #![tactic(auto)]
 
+mod attribute;
 mod extents;
 mod names;
 mod place;
-mod plans;
 mod roles;
 mod users;
 mod uses;

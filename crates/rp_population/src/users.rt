@@ -1,82 +1,45 @@
 //! Who uses an instance, in one model after another.
 
-ghost use Rattle.std.specs.Prelude.{◌≡◌, ◌++◌, IfOk, OnOk};
+ghost use Rattle.std.specs.Prelude.{◌≡◌, ◌++◌, IfOk, OnOk, option_copied};
 ghost use Rattle.std.specs.List.{flat_map};
 ghost use Rattle.rp_population.specs.Found as spec;
 
+use crate::attribute::{Attribute, push_in_attribute};
 use crate::names::names_of;
 use crate::place::{Place, copy_key};
-use crate::plans::Plans;
-use crate::roles::Role;
-use crate::uses::{User, push_marked, push_values};
-use ex_types::CheckedSchema;
-use plain_data::Text;
+use crate::roles::{Role, role_of};
+use crate::uses::{User, push_values};
+use ex_layouts::{Layouts, LoadedSchema};
+use plain_data::{Rows, Text};
 use rp_content::{Content, Instance};
 use rp_rows::rows::Key;
 use std::alloc::{AllocError, Global};
 use std::collections::BTreeSet;
 use std::marker::Model;
 
-/// Tells an instance once for each use in the values of a role, which are marked for its entities.
-fn push_in_role(
+/// The entities above that of a role and itself.
+fn line_by(
     alloc: Global,
-    found: &mut Vec<Place>,
-    plans: &mut Plans<'_>,
-    user: &User<'_>,
-    instance: &Instance,
-) -> Result<(), AllocError>
-    ensures same { plans.new ≡ plans.old }
-    ensures places { OnOk result (found.new.items ≡ found.old.items ++ flat_map (spec.told_at user.now) (spec.marked_references plans.old.schema plans.old.role instance.now)) }
+    schema: &LoadedSchema<'_>,
+    role: Option<&Role>,
+) -> Result<Rows<usize>, AllocError>
+    ensures { IfOk result (λ line. line ≡ spec.line_by schema.now (option_copied role.entry)) }
 {
-    if let Some(plan) = plans.known(&instance.types) {
-        return push_marked(
-            alloc,
-            found,
-            user,
-            plan.marks.as_slice(),
-            instance.values.as_slice(),
-        );
-    }
-    let plan = plans.plan(alloc, &instance.types)?;
-    push_marked(
-        alloc,
-        found,
-        user,
-        plan.marks.as_slice(),
-        instance.values.as_slice(),
-    )?;
-    plans.keep(plan)
-}
-
-/// Tells an instance once for each use in the role.
-fn push_user(
-    alloc: Global,
-    found: &mut Vec<Place>,
-    plans: &mut Plans<'_>,
-    user: &User<'_>,
-    instance: &Instance,
-) -> Result<(), AllocError>
-    ensures same { plans.new ≡ plans.old }
-    ensures places { OnOk result (found.new.items ≡ found.old.items ++ flat_map (spec.told_at user.now) (spec.references_by plans.old.schema plans.old.role instance.now)) }
-{
-    match plans.role() {
-        None => Ok(()),
-        Some(Role::Every) => push_values(alloc, found, user, instance.values.as_slice()),
-        Some(Role::Of(_, _)) => push_in_role(alloc, found, plans, user, instance),
+    match role {
+        Some(Role::Of(entity, _)) => schema.line_of(alloc, *entity),
+        _ => Ok(Rows::new(alloc)),
     }
 }
 
-/// Tells each instance of a model once for each of its uses in the role.
-fn push_users(
+/// Tells each instance of a model once for each of its uses.
+fn push_in_all(
     alloc: Global,
     found: &mut Vec<Place>,
-    plans: &mut Plans<'_>,
     names: &BTreeSet<u64>,
     model: &Key,
     instances: &[Instance],
 ) -> Result<(), AllocError>
-    ensures same { plans.new ≡ plans.old }
-    ensures places { OnOk result (found.new.items ≡ found.old.items ++ flat_map (spec.told_by plans.old.schema plans.old.role names.now.keys model.now) instances.now) }
+    ensures { OnOk result (found.new.items ≡ found.old.items ++ flat_map (spec.told_in_all names.now.keys model.now) instances.now) }
 {
     for instance in instances {
         let user = User {
@@ -84,7 +47,31 @@ fn push_users(
             model,
             instance: instance.name,
         };
-        push_user(alloc, found, plans, &user, instance)?;
+        push_values(alloc, found, &user, instance.values.as_slice())?;
+    }
+    Ok(())
+}
+
+/// Tells each instance of a model once for each of its uses in an attribute.
+fn push_in(
+    alloc: Global,
+    found: &mut Vec<Place>,
+    layouts: &mut Layouts<'_>,
+    attribute: &Attribute<'_>,
+    names: &BTreeSet<u64>,
+    model: &Key,
+    instances: &[Instance],
+) -> Result<(), AllocError>
+    ensures layouts { layouts.new ≡ layouts.old }
+    ensures places { OnOk result (found.new.items ≡ found.old.items ++ flat_map (spec.told_in layouts.old attribute.now names.now.keys model.now) instances.now) }
+{
+    for instance in instances {
+        let user = User {
+            names,
+            model,
+            instance: instance.name,
+        };
+        push_in_attribute(alloc, found, layouts, attribute, &user, instance)?;
     }
     Ok(())
 }
@@ -92,16 +79,23 @@ fn push_users(
 /// An instance and a role, whose users are told of one model after another.
 #[derive(Drop)]
 pub struct Users<'s> {
-    plans: Plans<'s>,
+    layouts: Layouts<'s>,
+    role: Option<Role>,
+    /// The entities above that of the role and itself.
+    line: Rows<usize>,
     of: Place,
 }
 
 impl<'s> Model for Users<'s> {
+    ghost use Rattle.std.specs.Prelude.{◌≡◌};
+    ghost use Rattle.rp_population.specs.Found as spec;
     ghost use Rattle.rp_population.specs.Sought.{SoughtUsers};
 
     ghost Value = { SoughtUsers };
 
-    ghost view = { λ u. record { schema = u.plans.schema; role = u.plans.role; of = u.of } };
+    ghost view = { λ u. record { schema = u.layouts; role = u.role; of = u.of } };
+
+    ghost invariant = { λ u. u.line ≡ spec.line_by u.layouts u.role };
 
     ghost use Rattle.std.specs.Coded.{codes};
     ghost use Rattle.ex_types.specs.contracts.schema.CheckedSchema as checked;
@@ -117,20 +111,21 @@ impl<'s> Users<'s> {
     /// The users of what stands at the place, in the role of this name; none in what is no role.
     pub fn of(
         alloc: Global,
-        schema: &'s CheckedSchema,
+        schema: &'s LoadedSchema<'s>,
         role: &Text,
         of: &Place,
     ) -> Result<Users<'s>, AllocError>
         ensures { IfOk result (λ u. u ≡ record { schema = schema.now; role = uses.role_of schema.now role.now; of = of.now }) }
     {
-        let plans = Plans::of(alloc, schema, role)?;
+        let role = role_of(alloc, schema.checked(), role)?;
+        let line = line_by(alloc, schema, role.as_ref())?;
         let model = copy_key(alloc, &of.model)?;
+        let instance = of.instance;
         Ok(Users {
-            plans,
-            of: Place {
-                model,
-                instance: of.instance,
-            },
+            layouts: Layouts::of(alloc, schema)?,
+            role,
+            line,
+            of: Place { model, instance },
         })
     }
 
@@ -146,14 +141,29 @@ impl<'s> Users<'s> {
         ensures same { self.new ≡ self.old }
         ensures places { OnOk result (found.new.items ≡ found.old.items ++ places (uses.users_in self.old.schema self.old.role self.old.of (placed_all (record { model = model.now; content = content.now })))) }
     {
+        let Some(role) = &self.role else {
+            return Ok(());
+        };
         let names = names_of(alloc, &self.of, model, content.links.as_slice())?;
-        push_users(
-            alloc,
-            found,
-            &mut self.plans,
-            &names,
-            model,
-            content.instances.as_slice(),
-        )
+        let instances = content.instances.as_slice();
+        match role {
+            Role::Every => push_in_all(alloc, found, &names, model, instances),
+            Role::Of(entity, name) => {
+                let attribute = Attribute {
+                    entity: *entity,
+                    line: self.line.as_slice(),
+                    name,
+                };
+                push_in(
+                    alloc,
+                    found,
+                    &mut self.layouts,
+                    &attribute,
+                    &names,
+                    model,
+                    instances,
+                )
+            }
+        }
     }
 }

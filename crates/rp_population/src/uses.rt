@@ -46,7 +46,7 @@ fn push_use(
 
 /// Tells the instance once for each of the names that the value refers to, at any depth.
 #[cycle(uses)]
-fn push_value(
+pub fn push_value(
     alloc: Global,
     found: &mut Vec<Place>,
     user: &User<'_>,
@@ -77,29 +77,6 @@ pub fn push_values(
 {
     for value in values {
         push_value(alloc, found, user, value)?;
-    }
-    Ok(())
-}
-
-/// Tells the instance once for each of the names that one of the marked values refers to.
-pub fn push_marked(
-    alloc: Global,
-    found: &mut Vec<Place>,
-    user: &User<'_>,
-    marks: &[bool],
-    values: &[Value],
-) -> Result<(), AllocError>
-    ensures { OnOk result (found.new.items ≡ found.old.items ++ flat_map (spec.told_at user.now) (flat_map references (spec.marked marks.now values.now))) }
-{
-    let mut left = values;
-    for mark in marks {
-        let [value, others @ ..] = left else {
-            return Ok(());
-        };
-        if *mark {
-            push_value(alloc, found, user, value)?;
-        }
-        left = others;
     }
     Ok(())
 }

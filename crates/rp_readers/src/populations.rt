@@ -50,9 +50,9 @@ fn extent_in(
 }
 
 /// The instances of an entity in models of this schema.
-pub fn extent_by(
+pub fn extent_by<'s>(
     alloc: Global,
-    schema: Option<&LoadedSchema<'_>>,
+    schema: Option<&'s LoadedSchema<'s>>,
     entity: &Text,
     counted: &[RowRef<'_, ModelContent>],
 ) -> Result<Rows<Place>, AllocError>
@@ -61,7 +61,7 @@ pub fn extent_by(
     let Some(schema) = schema else {
         return Ok(Rows::new(alloc));
     };
-    let extent = Extent::of(alloc, schema.checked(), entity)?;
+    let extent = Extent::of(alloc, schema, entity)?;
     extent_in(alloc, extent, counted)
 }
 
@@ -111,9 +111,9 @@ fn users_in(
 }
 
 /// The users of an instance in models of this schema.
-pub fn users_by(
+pub fn users_by<'s>(
     alloc: Global,
-    schema: Option<&LoadedSchema<'_>>,
+    schema: Option<&'s LoadedSchema<'s>>,
     role: &Text,
     place: &Place,
     counted: &[RowRef<'_, ModelContent>],
@@ -123,6 +123,6 @@ pub fn users_by(
     let Some(schema) = schema else {
         return Ok(Rows::new(alloc));
     };
-    let users = Users::of(alloc, schema.checked(), role, place)?;
+    let users = Users::of(alloc, schema, role, place)?;
     users_in(alloc, users, counted)
 }

@@ -1,6 +1,6 @@
-use Rattle.std.proofs.Common.{◌≡◌, [], map, slice_index_or, ◌∙◌, ap, subst}
+use Rattle.std.proofs.Common.{◌∙◌, subst}
 use Rattle.std.specs.List.{zip}
-use Rattle.ex_layouts.specs.Layouts.{leaf_slots, read_slot}
+use Rattle.ex_layouts.specs.Layouts.{leaf_slots}
 use Rattle.text_forms.specs.Gives.{Gives}
 use Rattle.p21_mappings.specs.Instances.{each}
 use Rattle.p21_mappings.specs.ReadSlots.{slot_value}
@@ -11,8 +11,6 @@ pub returns : goal.returns
 returns g c =
     let schema = c.args.schema.now in
     let defined = g.N.DefinedNames.is_defined c.args.names.now in
-    let slots = leaf_slots schema c.args.entity in
-    let read : c.read_slots_of-slots.result.now ≡ map (read_slot schema) slots = c.read_slots_of-slots.ensures ∙ ap (λ l. slice_index_or l.read_slots 0 []) c.requires in
     subst (λ o. Gives (λ xs. xs) c.part_values.result o)
-    ((λ i. each (slot_value schema defined) (zip (read i) (c.as_slice-values.ensures i))) ∙ same_values schema defined slots c.args.part.now.values)
+    ((λ i. each (slot_value schema defined) (zip (c.requires i) (c.as_slice.ensures i))) ∙ same_values schema defined (leaf_slots schema c.args.entity) c.args.part.now.values)
     c.part_values.ensures
