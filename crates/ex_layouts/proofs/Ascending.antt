@@ -1,8 +1,14 @@
 -- Sets of numbers in ascending order.
-use Rattle.std.proofs.Common.{◌≡◌, ◌≤◌, ◌<◌, ℕ, zero, suc, ◌+◌, max, Bool, true, false, ◌||◌, slice_index, ◌==◌, List, [], ◌∷◌, length, filter, fold, ⊎_elim, refl, sym, ◌∙◌, ap, subst, arith, le_refl, le_trans}
+use Rattle.std.proofs.Common.{◌≡◌, ◌≤◌, ◌<◌, ℕ, zero, suc, ◌+◌, max, Bool, true, false, ◌||◌, ◌&&◌, nat_lt, slice_index, ◌==◌, List, [], ◌∷◌, length, filter, fold, ⊎_elim, refl, sym, ◌∙◌, ap, subst, arith, le_refl, le_trans}
 use Rattle.std.proofs.lemmas.Bool.Decides.{nat_tests}
 use Rattle.std.proofs.lemmas.Bool.{cases_Bool}
+use Rattle.std.proofs.lemmas.List.FromFn.{get_or-range_with_len, length-range_with_len}
+use Rattle.std.proofs.lemmas.List.Kept.{IsStrictlySortedBy-filter}
+use Rattle.std.proofs.lemmas.Map.Keys.{sorted_from_strictly_increasing, IsStrictlyIncreasing-from_sorted}
 use Rattle.std.specs.List.Sorted.{IsStrictlyIncreasing}
+use Rattle.std.specs.Ordering.{nat_cmp}
+use Rattle.lineage.proofs.Families.{among_numbers, is_among-filter}
+use Rattle.lineage.proofs.Numbers.{numbers_are}
 use Rattle.lineage.specs.Lineage.{is_among, numbers_from}
 use Rattle.ex_layouts.specs.Entities.{ascending}
 
@@ -93,3 +99,29 @@ one_set numbers set up same =
     let low : AreBelow limit set = all_below limit set (λ n is. let most = at_most numbers zero n (sym (same n) ∙ is) in omega arith) in
     let low2 : AreBelow (zero + limit) set = (let e : limit ≡ zero + limit = omega arith in subst (λ n. AreBelow n set) e low) in
     sym (selected limit zero set (rises set zero up (λ some. omega arith)) low2) ∙ (λ i. filter (λ n. same n i) (numbers_from zero limit))
+
+-- ---- they are a set
+
+numbers_rise : (n : ℕ) → IsStrictlyIncreasing (numbers_from zero n)
+numbers_rise n = rw (numbers_are zero n) (λ k within.
+    let many = length-range_with_len zero n in
+    omega (arith, get_or-range_with_len zero n k 0 (omega arith), get_or-range_with_len zero n (k + 1) 0 (omega arith)))
+
+pub ascending_rises : (numbers : List ℕ) → IsStrictlyIncreasing (ascending numbers)
+unfolding ascending
+ascending_rises numbers =
+    let limit = suc (fold max zero numbers) in
+    IsStrictlyIncreasing-from_sorted (filter (is_among numbers) (numbers_from zero limit))
+    (IsStrictlySortedBy-filter nat_cmp (is_among numbers) (numbers_from zero limit) (sorted_from_strictly_increasing (numbers_from zero limit) (numbers_rise limit)))
+
+within : (b t : Bool) → (b ≡ true → t ≡ true) → (t && b) ≡ b
+within true t low = rw (low refl) refl
+within false true low = refl
+within false false low = refl
+
+pub ascending_has : (numbers : List ℕ) (n : ℕ) → is_among (ascending numbers) n ≡ is_among numbers n
+unfolding ascending
+ascending_has numbers n =
+    let limit = suc (fold max zero numbers) in
+    let low : is_among numbers n ≡ true → nat_lt n limit ≡ true = (λ is. let most = at_most numbers zero n is in grind (arith, nat_tests, most)) in
+    is_among-filter (is_among numbers) (numbers_from zero limit) n ∙ ap (λ t. t && is_among numbers n) (among_numbers limit n) ∙ within (is_among numbers n) (nat_lt n limit) low

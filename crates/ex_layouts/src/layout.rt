@@ -117,7 +117,7 @@ pub fn legal_leaf<'s>(
     ensures layout { IfOk result (λ found. IfSome found (λ layout. layout ≡ spec.of_leaf schema.now entity)) }
 {
     let line = schema.line_of(alloc, entity)?;
-    if !schema.is_legal(alloc, line.as_slice())? {
+    if !schema.is_legal_line(alloc, entity, line.as_slice())? {
         return Ok(None);
     }
     Ok(Some(of_line(alloc, schema, entity, line, true)?))
@@ -313,7 +313,7 @@ pub fn layout_of<'s>(
     match types {
         Types::Leaf(entity) => {
             let line = schema.line_of(alloc, *entity)?;
-            let is_legal = schema.is_legal(alloc, line.as_slice())?;
+            let is_legal = schema.is_legal_line(alloc, *entity, line.as_slice())?;
             of_line(alloc, schema, *entity, line, is_legal)
         }
         Types::Several(all) => {

@@ -58,7 +58,8 @@ fn is_legal_set(alloc: Global, compiled: &Compiled, set: &TypeSet) -> Result<boo
 }
 
 impl<'s> LoadedSchema<'s> {
-    ghost use Rattle.std.specs.Prelude.{◌≡◌, IfOk};
+    ghost use Rattle.std.specs.Prelude.{◌≡◌, Some, IfOk};
+    ghost use Rattle.lineage.specs.Lineage.{line as found_line};
     ghost use Rattle.ex_layouts.specs.Entities as spec;
 
     /// The schema with what is found in it once.
@@ -78,13 +79,6 @@ impl<'s> LoadedSchema<'s> {
             loaded.push(LoadedSchema::of(alloc, schema)?)?;
         }
         Ok(loaded)
-    }
-
-    /// The schema, as it was compiled.
-    pub fn compiled(&self) -> &'s Compiled
-        ensures { result.now ≡ self.now }
-    {
-        self.compiled
     }
 
     /// The schema, as it was checked.
@@ -118,7 +112,8 @@ impl<'s> LoadedSchema<'s> {
 
     /// The entities above one and itself, in the order in which files write their values.
     pub fn line_of(&self, alloc: Global, entity: usize) -> Result<Rows<usize>, AllocError>
-        ensures { IfOk result (λ line. line ≡ spec.line_of self.now entity) }
+        ensures line { IfOk result (λ line. line ≡ spec.line_of self.now entity) }
+        ensures found { IfOk result (λ line. found_line self.now.named.supertypes entity ≡ Some line) }
     {
         self.checked().line(alloc, entity)
     }
@@ -129,6 +124,23 @@ impl<'s> LoadedSchema<'s> {
     {
         let set = set_of(alloc, numbers)?;
         is_legal_set(alloc, self.compiled, &set)
+    }
+
+    /// The same of an entity and all above it, of which this is the line. As a rule nothing speaks against them, which is told
+    /// without a set.
+    pub fn is_legal_line(
+        &self,
+        alloc: Global,
+        entity: usize,
+        line: &[usize],
+    ) -> Result<bool, AllocError>
+        requires { found_line self.now.named.supertypes entity ≡ Some line.now }
+        ensures { IfOk result (λ legal. legal ≡ spec.is_legal self.now line.now) }
+    {
+        if self.compiled.is_unconstrained(entity, line) {
+            return Ok(true);
+        }
+        self.is_legal(alloc, line)
     }
 
     /// How many of the schema's names come before that of an entity.

@@ -26,7 +26,7 @@ module _ (above : List (List ℕ)) (set : List ℕ) where
       ∙ ap (λ t. t && is_beside above (member set e) (member set n)) (among_numbers (length set) n)
   among_row e n false = refl
 
-  steps_at : (e n : ℕ) → is_among (supertypes (steps above set) e) n ≡ (nat_lt e (length set) && (nat_lt n (length set) && is_beside above (member set e) (member set n)))
+  pub steps_at : (e n : ℕ) → is_among (supertypes (steps above set) e) n ≡ (nat_lt e (length set) && (nat_lt n (length set) && is_beside above (member set e) (member set n)))
   steps_at e n = ap (λ l. is_among l n) (row_at e (nat_lt e (length set)) refl) ∙ among_row e n (nat_lt e (length set))
 
   both_ways : (a b u d : Bool) → ((a && (b && u)) || (a && (b && (a && d)))) ≡ (a && (b && (u || d)))

@@ -10,3 +10,5 @@ pub mod Tallies
 pub mod Halving
 pub mod Entries
 pub mod Broken
+pub mod Lines
+pub mod Legality

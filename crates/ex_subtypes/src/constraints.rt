@@ -1,6 +1,7 @@
 //! What is kept of the supertype expressions of a schema.
 
-ghost use Rattle.std.specs.Prelude.{◌≡◌, [], true, slice_get, IfOk};
+ghost use Rattle.std.specs.Prelude.{◌≡◌, ℕ, [], true, slice_get, None, IfOk, IsTrue};
+ghost use Rattle.lineage.specs.Lineage.{is_among};
 ghost use Rattle.std.specs.List.{list_all};
 ghost use Rattle.std.specs.Option.{option_copied, option_map};
 ghost use Rattle.ex_subtypes.specs.Combinations.{is_distinct, names};
@@ -62,4 +63,16 @@ pub fn constraint_at(kept: &[Option<Constraint>], number: usize) -> Option<&Cons
         Some(constraint) => constraint.as_ref(),
         None => None,
     }
+}
+
+/// Whether none of these entities has an expression.
+pub fn are_free(kept: &[Option<Constraint>], numbers: &[usize]) -> bool
+    ensures { IsTrue result → (n : ℕ) → is_among numbers.now n ≡ true → spec.kept_at kept.now n ≡ None }
+{
+    for number in numbers {
+        if constraint_at(kept, *number).is_some() {
+            return false;
+        }
+    }
+    true
 }

@@ -58,7 +58,8 @@ fn breaks(
     }
 }
 
-fn is_abstract(entities: &[NamedEntity], number: usize) -> bool
+/// Whether the entity of this number is abstract.
+pub(crate) fn is_abstract(entities: &[NamedEntity], number: usize) -> bool
     ensures { result ≡ spec.is_abstract entities.now number }
 {
     match entities.get(number) {

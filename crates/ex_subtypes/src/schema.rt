@@ -1,13 +1,15 @@
 //! A checked schema whose supertype expressions can be read.
 
-ghost use Rattle.std.specs.Prelude.{◌≡◌, IfOk};
+ghost use Rattle.std.specs.Prelude.{◌≡◌, ℕ, List, Some, None, IfOk, IsTrue};
+ghost use Rattle.std.specs.List.Sorted.{IsStrictlyIncreasing};
+ghost use Rattle.lineage.specs.Lineage.{is_among, line as line_of};
 ghost use Rattle.text_forms.specs.Gives.{Gives};
 ghost use Rattle.ex_subtypes.specs.Faults as faults;
 ghost use Rattle.ex_subtypes.specs.Legal as spec;
 
 use crate::build::{SubtypeFault, first_fault};
-use crate::constraints::{Constraint, all_constraints};
-use crate::legal::{Illegal, refusal};
+use crate::constraints::{Constraint, all_constraints, are_free};
+use crate::legal::{Illegal, is_abstract, refusal};
 use crate::type_set::TypeSet;
 use ex_types::CheckedSchema;
 use std::alloc::{AllocError, Global};
@@ -80,5 +82,16 @@ impl Compiled {
         ensures { IfOk result (λ found. found ≡ spec.refusal self.now.named.schema.entities set.now) }
     {
         refusal(alloc, self.schema.entities(), &self.constraints, set)
+    }
+
+    /// Whether nothing speaks against an instance of an entity and all above it, of which this is the line: the entity isn't
+    /// abstract, and none of them has an expression. It takes no set and no steps between its members. Where it isn't so,
+    /// `legal` tells.
+    pub fn is_unconstrained(&self, entity: usize, line: &[usize]) -> bool
+        requires { line_of self.now.named.supertypes entity ≡ Some line.now }
+        ensures { IsTrue result → (set : List ℕ) → IsStrictlyIncreasing set → ((n : ℕ) → is_among set n ≡ is_among line.now n) → spec.refusal self.now.named.schema.entities set ≡ None }
+    {
+        self.schema.named().proved();
+        !is_abstract(self.schema.entities(), entity) && are_free(&self.constraints, line)
     }
 }
