@@ -145,9 +145,8 @@ def parts_of_many(count):
 @family("parts", 100_000)
 def parts_in_a_chain(count):
     """Each entity is a subtype of the one before it, so that the last is the leaf; it stands first."""
-    chain = each(count - 1, lambda k: f"ENTITY A{k + 1} SUBTYPE OF(A{k});END_ENTITY;")
     parts = each(count, lambda k: f"A{count - 1 - k}()")
-    return file_of(f"#1=({parts});"), put(1), f"SCHEMA measured;ENTITY A0;END_ENTITY;{chain}END_SCHEMA;"
+    return file_of(f"#1=({parts});"), put(1), f"SCHEMA measured;{chain(count)}END_SCHEMA;"
 
 
 @family("sets", INSTANCES)
@@ -163,6 +162,31 @@ def sets_of_types(count):
 def leaves(count):
     """Each instance is of another entity."""
     return file_of(each(count, lambda k: f"#{k + 1}=A{k}();")), put(count), schema_of_parts(plainly, count)
+
+
+def chain(count):
+    return "ENTITY A0;END_ENTITY;" + each(count - 1, lambda k: f"ENTITY A{k + 1} SUBTYPE OF(A{k});END_ENTITY;")
+
+
+@family("leaves", 10_000)
+def leaves_of_a_chain(count):
+    """An instance of each entity of one chain of subtypes."""
+    return file_of(each(count, lambda k: f"#{k + 1}=A{k}();")), put(count), f"SCHEMA measured;{chain(count)}END_SCHEMA;"
+
+
+@family("leaves", 60_000)
+def leaves_below_a_chain(count):
+    """An instance of each entity that is below the last of a chain of 2,000."""
+    below = each(count, lambda k: f"ENTITY B{k} SUBTYPE OF(A1999);END_ENTITY;")
+    return file_of(each(count, lambda k: f"#{k + 1}=B{k}();")), put(count), f"SCHEMA measured;{chain(2000)}{below}END_SCHEMA;"
+
+
+@family("leaves", 40_000)
+def leaves_of_diamonds(count):
+    """An instance on each level of diamonds, one upon the other."""
+    level = each(count - 1, lambda k: f"ENTITY L{k} SUBTYPE OF(A{k});END_ENTITY;ENTITY R{k} SUBTYPE OF(A{k});END_ENTITY;"
+                                      f"ENTITY A{k + 1} SUBTYPE OF(L{k},R{k});END_ENTITY;")
+    return file_of(each(count, lambda k: f"#{k + 1}=A{k}();")), put(count), f"SCHEMA measured;ENTITY A0;END_ENTITY;{level}END_SCHEMA;"
 
 
 # ---- supertype expressions

@@ -373,6 +373,13 @@ def select_attribute(count):
     return choice_of(count, "x : s", lambda k: "(x.a > 0)")
 
 
+@family("uses")
+def select_attribute_of_attribute(count):
+    """Of a SELECT of 60,000 entities, each with an attribute of this SELECT."""
+    return schema(defined("s", f"SELECT ({names(60_000, 'e')})"), each(60_000, lambda k: entity(f"e{k}", "x : s;")),
+                  returns(each(count, lambda k: "EXISTS(v.x.x)", " AND\n"), "v : s"))
+
+
 @family("entities")
 def select_element(count):
     return choice_of(count, "x : LIST OF s", lambda k: "(x[1].a > 0)")
