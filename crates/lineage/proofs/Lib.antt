@@ -1,3 +1,4 @@
+pub mod Placing
 pub mod Sets
 pub mod Left
 pub mod Search

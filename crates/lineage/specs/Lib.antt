@@ -1,3 +1,4 @@
 pub mod Lineage
 pub mod Traces
 pub mod Numbered
+pub mod Placed

@@ -8,6 +8,7 @@
 mod below;
 mod cycles;
 mod order;
+mod placed;
 mod reached;
 mod rings;
 mod steps;

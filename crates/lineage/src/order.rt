@@ -1,12 +1,12 @@
-//! The line that leads down to a member.
+//! The order in which the members above one are told.
 
-ghost use Rattle.std.specs.Prelude.{◌≡◌, Some, IfOk};
+ghost use Rattle.std.specs.Prelude.{◌≡◌, IfOk, Some};
 ghost use Rattle.lineage.specs.Lineage as spec;
 
+use crate::placed::Placed;
 use crate::steps::{Step, enter_all, supertypes};
 use plain_data::Rows;
 use std::alloc::{AllocError, Global};
-use std::collections::BTreeSet;
 
 /// The members above this one and itself: supertypes first, in the order of the lists, depth first,
 /// each once at its first place.
@@ -14,24 +14,23 @@ pub fn line(alloc: Global, graph: &[Rows<usize>], member: usize) -> Result<Rows<
     requires { spec.IsAcyclic graph.now }
     ensures { IfOk result (λ order. spec.line graph.now member ≡ Some order) }
 {
-    let mut order = Vec::new(alloc);
-    let mut placed = BTreeSet::new(alloc);
+    let mut order = Placed::new(alloc, graph.len());
     let mut steps = Vec::new(alloc);
     steps.push(Step::Enter(member))?;
     while let Some(step) = steps.pop() {
         match step {
             Step::Enter(next) => {
-                if !placed.contains(&next) {
+                if !order.has(next) {
                     steps.push(Step::Place(next))?;
                     enter_all(&mut steps, supertypes(graph, next))?;
                 }
             }
             Step::Place(next) => {
-                if placed.insert(next)? {
-                    order.push(next)?;
+                if !order.has(next) {
+                    order.push(alloc, next)?;
                 }
             }
         }
     }
-    Ok(Rows::from_vec(order))
+    Ok(order.into_rows())
 }

@@ -85,7 +85,7 @@ fn behind(values: &[Value], count: usize) -> &[Value]
     }
 }
 
-/// The same, of the values of all records.
+/// Tells the instance once for each of the names that the values of the attributes in all these records refer to.
 fn push_records(
     alloc: Global,
     found: &mut Vec<Place>,
@@ -104,7 +104,8 @@ fn push_records(
     Ok(())
 }
 
-/// The same, of an instance of these entities. One that isn't of the entity has no such values.
+/// Tells the instance once for each of the names that its values of the attributes refer to. One that isn't of the
+/// entity has none.
 fn push_by_layout(
     alloc: Global,
     found: &mut Vec<Place>,

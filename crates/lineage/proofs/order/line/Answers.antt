@@ -4,12 +4,12 @@ use Rattle.lineage.specs.declared.steps.Step.TheVariants.{Enter, Place}
 use Rattle.std.specs.Option.{option_map}
 use Rattle.lineage.specs.Lineage as spec
 use Rattle.lineage.proofs.Lines.{line_of, line_is}
-use Rattle.lineage.proofs.Sets.{contained, inserted, was_new, was_there}
+use Rattle.lineage.proofs.Placing.{with_known, with_last}
 use Rattle.lineage.proofs.Walk.{walk_start, enter_known, enter_new, place_known, place_new, walk_done, enter_less, pass_less, place_less}
 use Rattle.lineage.proofs.order.line.Goals as goal
 
 pub loop-step-init : goal.loop-step-init
-loop-step-init c = rw (c.new-placed.ensures.empty, c.new-order.ensures.items, c.in_ok-push.ensures.items, c.new-steps.ensures.items) (walk_start c.args.graph.now c.requires c.args.member)
+loop-step-init c = rw (c.new-order.ensures, c.in_ok-push.ensures.items, c.new-steps.ensures.items) (walk_start c.args.graph.now c.requires c.args.member)
 
 pub loop-step-smaller-in-Continue-branch-3 : goal.loop-step-smaller-in-Continue-branch-3
 loop-step-smaller-in-Continue-branch-3 c =
@@ -22,37 +22,36 @@ loop-step-preserved-in-Continue-branch-3 c =
     let rest = c.pop.new.self.items in
     let was : c.loop-step.steps.items ≡ rest ++ Enter c.in-Enter.next ∷ [] = c.in-Some.ensures.items ∙ ap (λ s. rest ++ s ∷ []) c.in-Enter.is in
     rw (c.in_ok-enter_all-in-Enter.ensures, c.in_ok-push-in-Enter.ensures.items, c.supertypes.ensures)
-    (enter_new c.args.graph.now c.requires c.args.member c.loop-step.placed.keys c.loop-step.order.items rest c.in-Enter.next (rw was at c.loop-step.invariant))
+    (enter_new c.args.graph.now c.requires c.args.member c.loop-step.order c.loop-step.order rest c.in-Enter.next (rw was at c.loop-step.invariant))
 
-pub loop-step-smaller-else-not-contains : goal.loop-step-smaller-else-not-contains
-loop-step-smaller-else-not-contains c =
+pub loop-step-smaller-else-not-has : goal.loop-step-smaller-else-not-has
+loop-step-smaller-else-not-has c =
     let rest = c.pop.new.self.items in
     let was : c.loop-step.steps.items ≡ rest ++ Enter c.in-Enter.next ∷ [] = c.in-Some.ensures.items ∙ ap (λ s. rest ++ s ∷ []) c.in-Enter.is in
     rw was (pass_less c.args.graph.now c.requires c.args.member rest c.in-Enter.next)
 
-pub loop-step-preserved-else-not-contains : goal.loop-step-preserved-else-not-contains
-loop-step-preserved-else-not-contains c =
+pub loop-step-preserved-else-not-has : goal.loop-step-preserved-else-not-has
+loop-step-preserved-else-not-has c =
     let rest = c.pop.new.self.items in
     let was : c.loop-step.steps.items ≡ rest ++ Enter c.in-Enter.next ∷ [] = c.in-Some.ensures.items ∙ ap (λ s. rest ++ s ∷ []) c.in-Enter.is in
-    enter_known c.args.graph.now c.requires c.args.member c.loop-step.placed.keys c.loop-step.order.items rest c.in-Enter.next (rw was at c.loop-step.invariant)
-    (sym (contained c.loop-step.placed.keys c.in-Enter.next) ∙ sym c.contains.ensures ∙ c.if-not-contains.false)
+    enter_known c.args.graph.now c.requires c.args.member c.loop-step.order c.loop-step.order rest c.in-Enter.next (rw was at c.loop-step.invariant)
+    (sym c.has.ensures ∙ c.if-not-has.false)
 
-pub loop-step-smaller-in-Continue-branch-5 : goal.loop-step-smaller-in-Continue-branch-5
-loop-step-smaller-in-Continue-branch-5 c =
+pub loop-step-smaller-in-Continue-branch-4 : goal.loop-step-smaller-in-Continue-branch-4
+loop-step-smaller-in-Continue-branch-4 c =
     let rest = c.pop.new.self.items in
     let was : c.loop-step.steps.items ≡ rest ++ Place c.in-Place.next ∷ [] = c.in-Some.ensures.items ∙ ap (λ s. rest ++ s ∷ []) c.in-Place.is in
     rw was (place_less c.args.graph.now c.requires c.args.member rest c.in-Place.next)
 
-pub loop-step-preserved-in-Continue-branch-5 : goal.loop-step-preserved-in-Continue-branch-5
-loop-step-preserved-in-Continue-branch-5 c =
+pub loop-step-preserved-in-Continue-branch-4 : goal.loop-step-preserved-in-Continue-branch-4
+loop-step-preserved-in-Continue-branch-4 c =
     let rest = c.pop.new.self.items in
-    let placed = c.loop-step.placed.keys in
+    let order = c.loop-step.order in
     let next = c.in-Place.next in
     let was : c.loop-step.steps.items ≡ rest ++ Place next ∷ [] = c.in-Some.ensures.items ∙ ap (λ s. rest ++ s ∷ []) c.in-Place.is in
-    rw c.in_ok-push-in-Place.ensures.items
-    (place_new c.args.graph.now c.requires c.args.member placed c.loop-step.order.items rest next c.insert.new.self.keys
-    (inserted placed c.insert.new.self.keys next c.in_ok-insert-in-Place.ensures.keys) (rw was at c.loop-step.invariant)
-    (was_new placed next c.in_ok-insert-in-Place.field-0 c.in_ok-insert-in-Place.ensures.added c.if-branch.true))
+    rw c.in_ok-push-in-Place.ensures
+    (place_new c.args.graph.now c.requires c.args.member order order rest next (order ++ next ∷ []) (with_last order next) (rw was at c.loop-step.invariant)
+    (sym c.has-in-Place.ensures ∙ c.if-not-has-2.true))
 
 pub loop-step-smaller : goal.loop-step-smaller
 loop-step-smaller c =
@@ -63,17 +62,16 @@ loop-step-smaller c =
 pub loop-step-preserved : goal.loop-step-preserved
 loop-step-preserved c =
     let rest = c.pop.new.self.items in
-    let placed = c.loop-step.placed.keys in
+    let order = c.loop-step.order in
     let next = c.in-Place.next in
     let was : c.loop-step.steps.items ≡ rest ++ Place next ∷ [] = c.in-Some.ensures.items ∙ ap (λ s. rest ++ s ∷ []) c.in-Place.is in
-    place_known c.args.graph.now c.requires c.args.member placed c.loop-step.order.items rest next c.insert.new.self.keys
-    (inserted placed c.insert.new.self.keys next c.in_ok-insert-in-Place.ensures.keys) (rw was at c.loop-step.invariant)
-    (was_there placed next c.in_ok-insert-in-Place.field-0 c.in_ok-insert-in-Place.ensures.added c.if-branch.false)
+    let known = sym c.has-in-Place.ensures ∙ c.if-not-has-2.false in
+    place_known c.args.graph.now c.requires c.args.member order order rest next order (with_known order next known) (rw was at c.loop-step.invariant) known
 
 pub returns : goal.returns
 returns c =
     let graph = c.args.graph.now in
     let member = c.args.member in
     let none : c.loop-step.steps.items ≡ [] = nil_from_length _ (omega (arith, c.in_default.ensures.cases)) in
-    let order : c.from_vec.result ≡ spec.each_once (line_of graph member) = c.from_vec.ensures ∙ walk_done graph c.requires member c.loop-step.placed.keys c.loop-step.order.items (rw none at c.loop-step.invariant) in
+    let order : c.into_rows.result ≡ spec.each_once (line_of graph member) = c.into_rows.ensures ∙ walk_done graph c.requires member c.loop-step.order c.loop-step.order (rw none at c.loop-step.invariant) in
     ap (option_map spec.each_once) (line_is graph c.requires member) ∙ ap (λ l. Some l) (sym order)
