@@ -373,11 +373,25 @@ def select_attribute(count):
     return choice_of(count, "x : s", lambda k: "(x.a > 0)")
 
 
+def attributes_of_attributes(count, declared, path="x.x"):
+    """A question for an attribute of an attribute of a SELECT of 60,000 entities, where an attribute x is of what is declared."""
+    return schema(defined("s", f"SELECT ({names(60_000, 'e')})"), each(60_000, lambda k: entity(f"e{k}", f"x : {declared(k)};")),
+                  returns(each(count, lambda k: f"EXISTS(v.{path})", " AND\n"), "v : s"))
+
+
 @family("uses")
 def select_attribute_of_attribute(count):
-    """Of a SELECT of 60,000 entities, each with an attribute of this SELECT."""
-    return schema(defined("s", f"SELECT ({names(60_000, 'e')})"), each(60_000, lambda k: entity(f"e{k}", "x : s;")),
-                  returns(each(count, lambda k: "EXISTS(v.x.x)", " AND\n"), "v : s"))
+    return attributes_of_attributes(count, lambda k: "s")
+
+
+@family("uses")
+def select_attribute_of_own_attribute(count):
+    return attributes_of_attributes(count, lambda k: f"e{k}")
+
+
+@family("uses")
+def select_attribute_of_next_attribute(count):
+    return attributes_of_attributes(count, lambda k: f"e{(k + 1) % 60_000}", "x.x.x")
 
 
 @family("entities")

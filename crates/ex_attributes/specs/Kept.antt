@@ -4,10 +4,11 @@ use Rattle.std.specs.List.{flat_map}
 use Rattle.lineage.specs.Lineage.{family}
 use Rattle.ex_kinds.specs.Kinds.{Kinds}
 use Rattle.ex_renamings.specs.Leading.{is_marked}
-use Rattle.ex_kinds.specs.Types.{declared, own, alternatives}
+use Rattle.ex_kinds.specs.Types.{declared, own, alternatives, plain}
 use Rattle.ex_attributes.specs.Attributes.{Attributes, found_nothing, found_after}
 use Rattle.ex_attributes.specs.declared.found.Found.{Found}
 use Rattle.ex_attributes.specs.declared.kept.Kept.{Kept}
+use Rattle.ex_attributes.specs.declared.kept.KeptAmong.{KeptAmong}
 
 -- this, or nothing
 abbrev pub found_if : Bool → Found → Found
@@ -30,3 +31,7 @@ module _ (types : List Kinds) (schema : Attributes) (name : List ℕ) where
 -- of each type it tells what is found of the name
 unfoldable pub IsKept : List Kinds → Attributes → Kept → Type 0
 IsKept types schema kept = (n : ℕ) → found_if (is_marked kept.marks.items n) kept.found ≡ type_found types schema kept.name n
+
+-- it tells what is found of the name among its kinds
+abbrev pub IsKeptAmong : List Kinds → Attributes → KeptAmong → Type 0
+IsKeptAmong types schema kept = kept.found ≡ found_after schema kept.name found_nothing (plain types kept.kinds)

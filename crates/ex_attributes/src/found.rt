@@ -3,7 +3,7 @@
 ghost use Rattle.std.specs.Prelude.{◌≡◌, IfOk, IsTrue};
 ghost use Rattle.ex_attributes.specs.Attributes as spec;
 
-use ex_kinds::{Kinds, TypeFaultKind, Typed, are_same, copied};
+use ex_kinds::{Kinds, TypeFaultKind, Typed, are_same};
 use std::alloc::{AllocError, Global};
 
 /// What was found of an attribute's name among several entities.
@@ -28,13 +28,29 @@ impl Found {
     }
 
     /// The same once more.
-    pub(crate) fn copied(&self, alloc: Global) -> Result<Found, AllocError>
+    pub fn copied(&self) -> Result<Found, AllocError>
         ensures { IfOk result (λ found. found ≡ self.now) }
     {
         Ok(Found {
             is_there: self.is_there,
             is_ambiguous: self.is_ambiguous,
-            kinds: copied(alloc, self.kinds.as_slice())?,
+            kinds: self.kinds.copied()?,
+        })
+    }
+
+    /// The same, of whose kinds copies are written once.
+    pub(crate) fn into_shared(self) -> Result<Found, AllocError>
+        ensures { IfOk result (λ found. found ≡ self) }
+    {
+        let Found {
+            is_there,
+            is_ambiguous,
+            kinds,
+        } = self;
+        Ok(Found {
+            is_there,
+            is_ambiguous,
+            kinds: kinds.into_shared()?,
         })
     }
 

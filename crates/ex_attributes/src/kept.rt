@@ -8,7 +8,7 @@ ghost use Rattle.ex_attributes.specs.Kept as spec;
 
 use crate::attributes::Attributes;
 use crate::found::Found;
-use ex_kinds::{Kinds, Types};
+use ex_kinds::{Kinds, Types, ValueKind, are_same};
 use ex_renamings::is_marked;
 use plain_data::Text;
 use std::alloc::{AllocError, Global};
@@ -35,10 +35,34 @@ impl Kept {
         ensures { IfOk result (λ found. found ≡ spec.found_if (is_marked_in self.now.marks.items number) self.now.found) }
     {
         if is_marked(&self.marks, number) {
-            self.found.copied(alloc)
+            self.found.copied()
         } else {
             Ok(Found::nothing(alloc))
         }
+    }
+}
+
+/// What is found of a name among several kinds.
+#[derive(Drop)]
+pub struct KeptAmong {
+    pub name: Text,
+    pub kinds: Kinds,
+    pub found: Found,
+}
+
+impl KeptAmong {
+    /// Whether it is of this name.
+    pub fn is_of(&self, name: &str) -> bool
+        ensures { result ≡ bytes_eq self.now.name name.now }
+    {
+        self.name.as_str() == name
+    }
+
+    /// Whether it is of these kinds.
+    pub fn is_among(&self, kinds: &[ValueKind]) -> bool
+        ensures { IsTrue result → self.now.kinds ≡ kinds.now }
+    {
+        are_same(self.kinds.as_slice(), kinds)
     }
 }
 
@@ -82,7 +106,7 @@ fn stays(
 ) -> Result<bool, AllocError>
     ensures { IfOk result (λ told. IsTrue told → attributes_spec.found_after attributes.now name.now found.now own.now ≡ found.now) }
 {
-    let after = attributes.found_from(alloc, found.copied(alloc)?, own.as_slice(), name)?;
+    let after = attributes.found_from(alloc, found.copied()?, own.as_slice(), name)?;
     Ok(after.is_same(found))
 }
 
@@ -141,11 +165,29 @@ pub fn keep(
 ) -> Result<Option<Kept>, AllocError>
     ensures { IfOk result (λ told. IfSome told (λ k. spec.IsKept types.now attributes.now k)) }
 {
-    let found = first_found(alloc, types, attributes, name)?;
+    let found = first_found(alloc, types, attributes, name)?.into_shared()?;
     let Some(own) = own_marks(alloc, types, attributes, name, &found)? else {
         return Ok(None);
     };
     let marks = types.leading(alloc, &own)?;
     let name = Text::from_str(alloc, name)?;
     Ok(Some(Kept { name, marks, found }))
+}
+
+/// What is found of the name among kinds.
+pub fn keep_among(
+    alloc: Global,
+    types: &Types,
+    attributes: &Attributes,
+    kinds: Kinds,
+    name: &str,
+) -> Result<KeptAmong, AllocError>
+    ensures { IfOk result (spec.IsKeptAmong types.now attributes.now) }
+{
+    let plain = types.plain(alloc, kinds.as_slice())?;
+    let found = attributes
+        .found_among(alloc, plain.as_slice(), name)?
+        .into_shared()?;
+    let name = Text::from_str(alloc, name)?;
+    Ok(KeptAmong { name, kinds, found })
 }

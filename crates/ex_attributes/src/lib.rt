@@ -18,4 +18,4 @@ mod taken;
 pub use attribute::{Attribute, Redeclared};
 pub use attributes::Attributes;
 pub use found::Found;
-pub use kept::{Kept, keep};
+pub use kept::{Kept, KeptAmong, keep, keep_among};

@@ -2,3 +2,4 @@ pub mod Kinds
 pub mod Faults
 pub mod Types
 pub mod Room
+pub mod Indexed

@@ -8,4 +8,6 @@ abbrev pub kinds_in : Room → List ValueKind
 kinds_in r.None = []
 kinds_in (r.One kinds) = kinds
 kinds_in (r.Two kinds) = kinds
-kinds_in (r.Many kinds) = kinds.items
+kinds_in (r.Several kinds) = kinds.items
+kinds_in (r.Many kinds) = kinds
+kinds_in (r.Shared kinds) = kinds

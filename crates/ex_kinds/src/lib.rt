@@ -3,6 +3,7 @@
 
 mod data_type;
 mod fault;
+mod indexed;
 mod kind;
 mod kinds;
 mod list;

@@ -1,37 +1,18 @@
 //! Kinds as sets.
 
 ghost use Rattle.std.specs.Prelude.{◌≡◌, IfOk, IsTrue, OnOk};
-ghost use Rattle.std.specs.List.{list_any};
 ghost use Rattle.ex_kinds.specs.Kinds as spec;
 
 use crate::kind::{Sort, ValueKind};
 use crate::kinds::Kinds;
 use std::alloc::{AllocError, Global};
 
-/// Whether this kind is one of those.
-fn is_among(kinds: &[ValueKind], kind: ValueKind) -> bool
-    ensures { result ≡ list_any (λ other. spec.same other kind) kinds.now }
-{
-    kinds.iter().any(|other| *other == kind)
-}
-
-/// Puts the kind behind the others, if it is not yet there.
-fn add(kinds: &mut Kinds, kind: ValueKind) -> Result<(), AllocError>
-    ensures { OnOk result (kinds.new ≡ spec.with_kind kinds.old kind) }
-{
-    if is_among(kinds.as_slice(), kind) {
-        Ok(())
-    } else {
-        kinds.push(kind)
-    }
-}
-
 /// Puts those behind the others that are not yet there.
 pub fn join(kinds: &mut Kinds, more: &[ValueKind]) -> Result<(), AllocError>
     ensures { OnOk result (kinds.new ≡ spec.joined kinds.old more.now) }
 {
     for kind in more {
-        add(kinds, *kind)?;
+        kinds.add(*kind)?;
     }
     Ok(())
 }
@@ -60,7 +41,7 @@ pub fn elements(alloc: Global, kinds: &[ValueKind]) -> Result<Kinds, AllocError>
     let mut found = Kinds::new(alloc);
     for kind in kinds {
         if let Some(element) = shallower(*kind) {
-            add(&mut found, element)?;
+            found.add(element)?;
         }
     }
     Ok(found)

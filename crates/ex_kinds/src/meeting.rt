@@ -224,10 +224,11 @@ fn declared_of_sort(
 fn declared_with_elements(alloc: Global, types: &[Kinds]) -> Result<Vec<bool>, AllocError>
     ensures { IfOk result (λ found. found.items ≡ map (spec.declares spec.has_elements) types.now) }
 {
-    types
-        .iter()
-        .map(|kinds| declares_elements(kinds.as_slice()))
-        .collect(alloc)
+    let mut found = Vec::with_capacity(alloc, types.len())?;
+    for kinds in types {
+        found.push(declares_elements(kinds.as_slice()))?;
+    }
+    Ok(found)
 }
 
 /// Which types declare such a kind that is of no defined type.
@@ -248,8 +249,9 @@ fn declared_with_instances(
 fn declared_instances(alloc: Global, types: &[Kinds]) -> Result<Vec<bool>, AllocError>
     ensures { IfOk result (λ found. found.items ≡ map (spec.has_instance) types.now) }
 {
-    types
-        .iter()
-        .map(|kinds| has_instance(kinds.as_slice()))
-        .collect(alloc)
+    let mut found = Vec::with_capacity(alloc, types.len())?;
+    for kinds in types {
+        found.push(has_instance(kinds.as_slice()))?;
+    }
+    Ok(found)
 }

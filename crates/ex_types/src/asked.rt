@@ -6,7 +6,7 @@ ghost use Rattle.std.specs.Prelude.{◌≡◌, OnOk};
 use ex_named::{
     NamedDataType, NamedDomainRule, NamedLocal, NamedSchema, NamedType, NamedUnderlying, TypeName,
 };
-use ex_typing::{Known, ask};
+use ex_typing::{Asked, Known, ask};
 use ex_typing_statements::ask_statements;
 use std::alloc::{AllocError, Global};
 use std::collections::BTreeMap;
@@ -15,6 +15,8 @@ use std::collections::BTreeMap;
 const MOST_NAMES: usize = 64;
 /// The tables of all names have so many parts at most.
 const MOST_PARTS: usize = 1 << 21;
+/// So many attributes taken one of another are kept at most.
+const MOST_BEHIND: usize = 4;
 /// A type of fewer parts is looked through each time.
 const FEWEST_PARTS: usize = 64;
 /// So often something is looked at before it is worth a table.
@@ -22,14 +24,17 @@ const FEWEST_LOOKS: usize = 1 << 17;
 /// So many looks a table has to save for each part of each type.
 const WORTH: usize = 8;
 
-fn ask_rules<'a>(names: &mut Vec<&'a str>, list: &'a [NamedDomainRule]) -> Result<(), AllocError> {
+fn ask_rules<'a>(
+    names: &mut Vec<Asked<'a>>,
+    list: &'a [NamedDomainRule],
+) -> Result<(), AllocError> {
     for rule in list {
         ask(names, &rule.condition)?;
     }
     Ok(())
 }
 
-fn ask_locals<'a>(names: &mut Vec<&'a str>, list: &'a [NamedLocal]) -> Result<(), AllocError> {
+fn ask_locals<'a>(names: &mut Vec<Asked<'a>>, list: &'a [NamedLocal]) -> Result<(), AllocError> {
     for local in list {
         if let Some(value) = &local.value {
             ask(names, value)?;
@@ -40,7 +45,7 @@ fn ask_locals<'a>(names: &mut Vec<&'a str>, list: &'a [NamedLocal]) -> Result<()
 
 /// Puts the names that declarations of constants, types and entities take behind the others.
 fn ask_declarations<'a>(
-    names: &mut Vec<&'a str>,
+    names: &mut Vec<Asked<'a>>,
     schema: &'a NamedSchema,
 ) -> Result<(), AllocError> {
     for constant in schema.constants.as_slice() {
@@ -59,7 +64,10 @@ fn ask_declarations<'a>(
 }
 
 /// Puts the names that functions and rules take behind the others.
-fn ask_algorithms<'a>(names: &mut Vec<&'a str>, schema: &'a NamedSchema) -> Result<(), AllocError> {
+fn ask_algorithms<'a>(
+    names: &mut Vec<Asked<'a>>,
+    schema: &'a NamedSchema,
+) -> Result<(), AllocError> {
     for function in schema.functions.as_slice() {
         ask_locals(names, function.locals.as_slice())?;
         ask_statements(names, function.statements.as_slice())?;
@@ -73,21 +81,47 @@ fn ask_algorithms<'a>(names: &mut Vec<&'a str>, schema: &'a NamedSchema) -> Resu
 }
 
 /// How often each name is taken.
-fn counted<'a>(alloc: Global, names: &[&'a str]) -> Result<BTreeMap<&'a str, usize>, AllocError> {
+fn counted<'a>(alloc: Global, names: &[Asked<'a>]) -> Result<BTreeMap<&'a str, usize>, AllocError> {
     let mut counts = BTreeMap::new(alloc);
-    for name in names {
-        let count: &mut usize = counts.entry(*name)?.or_insert(0);
+    for asked in names {
+        let count: &mut usize = counts.entry(asked.name)?.or_insert(0);
         *count = count.saturating_add(1);
     }
     Ok(counts)
 }
 
-/// How often the schema takes each name.
-fn asked(alloc: Global, schema: &NamedSchema) -> Result<BTreeMap<&str, usize>, AllocError> {
+/// The names that the schema takes, as often as it does.
+fn asked(alloc: Global, schema: &NamedSchema) -> Result<Vec<Asked<'_>>, AllocError> {
     let mut names = Vec::new(alloc);
     ask_declarations(&mut names, schema)?;
     ask_algorithms(&mut names, schema)?;
-    counted(alloc, &names)
+    Ok(names)
+}
+
+/// The pairs of names of which the second is taken of an attribute of the first, each once.
+fn pairs<'a>(alloc: Global, names: &[Asked<'a>]) -> Result<Vec<(&'a str, &'a str)>, AllocError> {
+    let mut found = Vec::new(alloc);
+    for asked in names {
+        if let Some(first) = asked.of {
+            found.push((first, asked.name))?;
+        }
+    }
+    found.sort()?;
+    found.dedup();
+    Ok(found)
+}
+
+/// Keeps what is found of names in what attributes may be that are kept.
+fn keep_pairs(alloc: Global, known: &mut Known, names: &[Asked<'_>]) -> Result<(), AllocError>
+    ensures { OnOk result (known.new ≡ known.old) }
+{
+    let pairs = pairs(alloc, names)?;
+    for _ in 0..MOST_BEHIND {
+        for (first, name) in &pairs {
+            known.keep_behind(alloc, first, name)?;
+        }
+    }
+    Ok(())
 }
 
 /// What stands in this place among what a type is by renaming or selection.
@@ -198,7 +232,8 @@ pub fn keep_asked(alloc: Global, known: &mut Known, schema: &NamedSchema) -> Res
     if widest < FEWEST_PARTS {
         return Ok(());
     }
-    let counts = asked(alloc, schema)?;
+    let names = asked(alloc, schema)?;
+    let counts = counted(alloc, &names)?;
     let chosen = worth_keeping(alloc, &counts, all, widest)?;
     for (_, name) in chosen
         .iter()
@@ -207,5 +242,5 @@ pub fn keep_asked(alloc: Global, known: &mut Known, schema: &NamedSchema) -> Res
     {
         known.keep(alloc, name)?;
     }
-    Ok(())
+    keep_pairs(alloc, known, &names)
 }

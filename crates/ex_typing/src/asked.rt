@@ -4,9 +4,17 @@
 use ex_named::{NamedExpression, NamedInterval, NamedOperation, NamedQualifier, NamedQuery};
 use std::alloc::AllocError;
 
+/// The name of an attribute that is taken of a value.
+#[derive(Clone, Copy)]
+pub struct Asked<'a> {
+    pub name: &'a str,
+    /// The name of the attribute that the value is, if it is one itself.
+    pub of: Option<&'a str>,
+}
+
 /// Puts the names that an expression takes behind the others.
 #[cycle(asked)]
-pub fn ask<'a>(names: &mut Vec<&'a str>, tree: &'a NamedExpression) -> Result<(), AllocError> {
+pub fn ask<'a>(names: &mut Vec<Asked<'a>>, tree: &'a NamedExpression) -> Result<(), AllocError> {
     match tree {
         NamedExpression::Call(_, _, list) => ask_all(names, list.as_slice()),
         NamedExpression::BuiltIn(_, _, list) => ask_all(names, list.as_slice()),
@@ -29,7 +37,7 @@ pub fn ask<'a>(names: &mut Vec<&'a str>, tree: &'a NamedExpression) -> Result<()
 /// Puts the names that expressions take behind the others.
 #[cycle(asked)]
 pub fn ask_all<'a>(
-    names: &mut Vec<&'a str>,
+    names: &mut Vec<Asked<'a>>,
     list: &'a [NamedExpression],
 ) -> Result<(), AllocError> {
     for tree in list {
@@ -38,21 +46,38 @@ pub fn ask_all<'a>(
     Ok(())
 }
 
+/// The name, where an attribute is taken by it.
+fn attribute_of(tree: &NamedQualifier) -> Option<&str> {
+    match tree {
+        NamedQualifier::Attribute(_, name) => Some(name.text.as_str()),
+        _ => None,
+    }
+}
+
 #[cycle(asked)]
 fn ask_qualifiers<'a>(
-    names: &mut Vec<&'a str>,
+    names: &mut Vec<Asked<'a>>,
     list: &'a [NamedQualifier],
 ) -> Result<(), AllocError> {
+    let mut of = None;
     for tree in list {
-        ask_qualifier(names, tree)?;
+        ask_qualifier(names, of, tree)?;
+        of = attribute_of(tree);
     }
     Ok(())
 }
 
 #[cycle(asked)]
-fn ask_qualifier<'a>(names: &mut Vec<&'a str>, tree: &'a NamedQualifier) -> Result<(), AllocError> {
+fn ask_qualifier<'a>(
+    names: &mut Vec<Asked<'a>>,
+    of: Option<&'a str>,
+    tree: &'a NamedQualifier,
+) -> Result<(), AllocError> {
     match tree {
-        NamedQualifier::Attribute(_, name) => Ok(names.push(name.text.as_str())?),
+        NamedQualifier::Attribute(_, name) => {
+            let name = name.text.as_str();
+            Ok(names.push(Asked { name, of })?)
+        },
         NamedQualifier::Group(_, _) => Ok(()),
         NamedQualifier::Index(_, index) => ask(names, index),
         NamedQualifier::Range(_, low, high) => {
@@ -64,7 +89,7 @@ fn ask_qualifier<'a>(names: &mut Vec<&'a str>, tree: &'a NamedQualifier) -> Resu
 
 #[cycle(asked)]
 fn ask_operations<'a>(
-    names: &mut Vec<&'a str>,
+    names: &mut Vec<Asked<'a>>,
     list: &'a [NamedOperation],
 ) -> Result<(), AllocError> {
     for tree in list {
@@ -74,14 +99,14 @@ fn ask_operations<'a>(
 }
 
 #[cycle(asked)]
-fn ask_interval<'a>(names: &mut Vec<&'a str>, tree: &'a NamedInterval) -> Result<(), AllocError> {
+fn ask_interval<'a>(names: &mut Vec<Asked<'a>>, tree: &'a NamedInterval) -> Result<(), AllocError> {
     ask(names, &tree.low)?;
     ask(names, &tree.item)?;
     ask(names, &tree.high)
 }
 
 #[cycle(asked)]
-fn ask_query<'a>(names: &mut Vec<&'a str>, tree: &'a NamedQuery) -> Result<(), AllocError> {
+fn ask_query<'a>(names: &mut Vec<Asked<'a>>, tree: &'a NamedQuery) -> Result<(), AllocError> {
     ask(names, &tree.source)?;
     ask(names, &tree.condition)
 }

@@ -4,7 +4,7 @@ ghost use Rattle.std.specs.Prelude.{◌≡◌, [], slice_get, slice_index_or, op
 ghost use Rattle.ex_kinds.specs.Types.{plain};
 ghost use Rattle.ex_attributes.specs.Attributes.{found_after, found_nothing};
 
-use ex_attributes::{Attributes, Found, Kept, keep};
+use ex_attributes::{Attributes, Found, Kept, KeptAmong, keep, keep_among};
 use ex_kinds::{Kinds, Types, ValueKind, alternative};
 use plain_data::Rows;
 use std::alloc::{AllocError, Global};
@@ -17,6 +17,11 @@ pub struct Signature {
     pub result: Kinds,
 }
 
+/// So many kinds are looked through each time.
+const FEW: usize = 16;
+/// Of so many lists of kinds what is found of a name is kept.
+const MOST_AMONG: usize = 16;
+
 /// What a schema's declarations say of kinds: of its defined types, attributes, constants and functions, each in the order
 /// of the schema.
 pub struct Known {
@@ -26,6 +31,8 @@ pub struct Known {
     functions: Rows<Signature>,
     /// What is found of some names in each type, so that it isn't looked for each time.
     kept: Vec<Kept>,
+    /// What is found of names among the many kinds that attributes of such types may be of.
+    among: Vec<KeptAmong>,
 }
 
 impl Drop for Known {
@@ -36,12 +43,14 @@ impl Drop for Known {
             constants,
             functions,
             kept,
+            among,
         } = self;
         drop(types);
         drop(attributes);
         drop(constants);
         drop(functions);
         drop(kept);
+        drop(among);
     }
 }
 
@@ -53,9 +62,9 @@ impl Model for Known {
     ghost view = { λ k. record { types = k.types; attributes = k.attributes; constants = k.constants; functions = k.functions } };
 
     ghost use Rattle.std.specs.List.{All};
-    ghost use Rattle.ex_attributes.specs.Kept.{IsKept};
+    ghost use Rattle.ex_attributes.specs.Kept.{IsKept, IsKeptAmong};
 
-    ghost invariant = { λ k. All (λ kept. IsKept k.types k.attributes kept) k.kept.items };
+    ghost invariant = { λ k. All (λ kept. IsKept k.types k.attributes kept) k.kept.items × All (IsKeptAmong k.types k.attributes) k.among.items };
 }
 
 impl Known {
@@ -74,6 +83,7 @@ impl Known {
             constants,
             functions,
             kept: Vec::new(alloc),
+            among: Vec::new(alloc),
         }
     }
 
@@ -87,6 +97,64 @@ impl Known {
         Ok(())
     }
 
+    /// The kinds that an attribute of this name may be of, as far as that is kept.
+    fn kinds_behind(&self, alloc: Global, name: &str) -> Result<Vec<Kinds>, AllocError> {
+        let mut lists = Vec::new(alloc);
+        for kept in &self.kept {
+            if kept.is_of(name) {
+                lists.push(kept.found.kinds.copied()?)?;
+            }
+        }
+        for kept in &self.among {
+            if kept.is_of(name) {
+                lists.push(kept.found.kinds.copied()?)?;
+            }
+        }
+        Ok(lists)
+    }
+
+    /// Keeps what is found of a name among kinds, if they are many.
+    fn keep_among(&mut self, alloc: Global, kinds: &Kinds, name: &str) -> Result<(), AllocError>
+        ensures { self.new ≡ self.old }
+    {
+        if kinds.len() < FEW || self.among.len() >= MOST_AMONG {
+            return Ok(());
+        }
+        if self.found_among(kinds.as_slice(), name)?.is_some() {
+            return Ok(());
+        }
+        let kinds = kinds.copied()?;
+        let kept = keep_among(alloc, &self.types, &self.attributes, kinds, name)?;
+        self.among.push(kept)?;
+        Ok(())
+    }
+
+    /// Keeps what is found of a name in what an attribute of the first name may be, as far as that is kept and is of many kinds.
+    pub fn keep_behind(&mut self, alloc: Global, first: &str, name: &str) -> Result<(), AllocError>
+        ensures { self.new ≡ self.old }
+    {
+        let lists = self.kinds_behind(alloc, first)?;
+        for kinds in &lists {
+            self.keep_among(alloc, kinds, name)?;
+        }
+        Ok(())
+    }
+
+    /// What is found of a name among many kinds, if that is kept.
+    fn found_among(&self, kinds: &[ValueKind], name: &str) -> Result<Option<Found>, AllocError>
+        ensures { IfOk result (λ told. IfSome told (λ found. found ≡ found_after self.now.attributes name.now found_nothing (plain self.now.types kinds.now))) }
+    {
+        if kinds.len() < FEW {
+            return Ok(None);
+        }
+        for kept in &self.among {
+            if kept.is_of(name) && kept.is_among(kinds) {
+                return Ok(Some(kept.found.copied()?));
+            }
+        }
+        Ok(None)
+    }
+
     /// What is found of a name among these kinds, if that is kept.
     pub(crate) fn found(
         &self,
@@ -97,7 +165,7 @@ impl Known {
         ensures { IfOk result (λ told. IfSome told (λ found. found ≡ found_after self.now.attributes name.now found_nothing (plain self.now.types kinds.now))) }
     {
         let [kind] = kinds else {
-            return Ok(None);
+            return self.found_among(kinds, name);
         };
         let Some(number) = alternative(*kind) else {
             return Ok(None);

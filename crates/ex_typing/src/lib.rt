@@ -8,7 +8,7 @@ mod scope;
 mod taken;
 mod trees;
 
-pub use asked::{ask, ask_all};
+pub use asked::{Asked, ask, ask_all};
 pub use known::{Known, Signature};
 pub use scope::TypingScope;
 pub use trees::{expression, expressions};

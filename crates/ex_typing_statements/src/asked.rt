@@ -3,13 +3,13 @@
 use ex_named::{
     NamedCase, NamedCaseAction, NamedExpression, NamedIncrement, NamedRepeatControl, NamedStatement,
 };
-use ex_typing::{ask, ask_all};
+use ex_typing::{Asked, ask, ask_all};
 use std::alloc::AllocError;
 
 /// Puts the names that statements take behind the others.
 #[cycle(asked)]
 pub fn ask_statements<'a>(
-    names: &mut Vec<&'a str>,
+    names: &mut Vec<Asked<'a>>,
     list: &'a [NamedStatement],
 ) -> Result<(), AllocError> {
     for tree in list {
@@ -19,7 +19,10 @@ pub fn ask_statements<'a>(
 }
 
 #[cycle(asked)]
-fn ask_statement<'a>(names: &mut Vec<&'a str>, tree: &'a NamedStatement) -> Result<(), AllocError> {
+fn ask_statement<'a>(
+    names: &mut Vec<Asked<'a>>,
+    tree: &'a NamedStatement,
+) -> Result<(), AllocError> {
     match tree {
         NamedStatement::Null | NamedStatement::Escape | NamedStatement::Skip => Ok(()),
         NamedStatement::Assignment(_, _, value) => ask(names, value),
@@ -39,7 +42,7 @@ fn ask_statement<'a>(names: &mut Vec<&'a str>, tree: &'a NamedStatement) -> Resu
 }
 
 #[cycle(asked)]
-fn ask_case<'a>(names: &mut Vec<&'a str>, case: &'a NamedCase) -> Result<(), AllocError> {
+fn ask_case<'a>(names: &mut Vec<Asked<'a>>, case: &'a NamedCase) -> Result<(), AllocError> {
     ask(names, &case.selector)?;
     ask_actions(names, case.actions.as_slice())?;
     match &case.otherwise {
@@ -50,7 +53,7 @@ fn ask_case<'a>(names: &mut Vec<&'a str>, case: &'a NamedCase) -> Result<(), All
 
 #[cycle(asked)]
 fn ask_actions<'a>(
-    names: &mut Vec<&'a str>,
+    names: &mut Vec<Asked<'a>>,
     actions: &'a [NamedCaseAction],
 ) -> Result<(), AllocError> {
     for action in actions {
@@ -61,7 +64,7 @@ fn ask_actions<'a>(
 }
 
 fn ask_optional<'a>(
-    names: &mut Vec<&'a str>,
+    names: &mut Vec<Asked<'a>>,
     value: &'a Option<NamedExpression>,
 ) -> Result<(), AllocError> {
     match value {
@@ -71,7 +74,7 @@ fn ask_optional<'a>(
 }
 
 fn ask_increment<'a>(
-    names: &mut Vec<&'a str>,
+    names: &mut Vec<Asked<'a>>,
     increment: &'a NamedIncrement,
 ) -> Result<(), AllocError> {
     ask(names, &increment.first)?;
@@ -80,7 +83,7 @@ fn ask_increment<'a>(
 }
 
 fn ask_control<'a>(
-    names: &mut Vec<&'a str>,
+    names: &mut Vec<Asked<'a>>,
     control: &'a NamedRepeatControl,
 ) -> Result<(), AllocError> {
     if let Some(increment) = &control.increment {

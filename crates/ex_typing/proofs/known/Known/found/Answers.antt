@@ -24,7 +24,7 @@ returns-then-is_of c =
     let first : ValueKind = record { depth = 0; sort = Integer } in
     let within = subst (λ l. at < length l) c.deref-kept-items.ensures.value c.loop-kept-test.true in
     let read = c.kept-item.is ∙ ap (λ l. get_or l at kept) c.deref-kept-items.ensures.value in
-    let inside_is = subst (IsKept inside.types inside.attributes) (sym read) (All-get_or (IsKept inside.types inside.attributes) inside.kept.items at kept within c.self.invariant) in
+    let inside_is = subst (IsKept inside.types inside.attributes) (sym read) (All-get_or (IsKept inside.types inside.attributes) inside.kept.items at kept within c.self.invariant.0) in
     let is = subst (λ known. IsKept known.types known.attributes kept) c.self.view_is inside_is in
     c.in_ok-found_in.ensures
     ∙ kept_plainly types attributes kept is name (sym c.if-is_of.ensures) (get_or c.args.kinds.now 0 first) c.in-Some.number (sym c.in-Some.ensures)

@@ -1,0 +1,6 @@
+use Rattle.std.proofs.Common.{◌≡◌, map, take}
+use Rattle.ex_kinds.specs.Types as spec
+use Rattle.ex_kinds.proofs.meeting.declared_instances.Given as goal
+
+abbrev pub invariant-loop-kinds : goal.invariant-loop-kinds
+invariant-loop-kinds l = l.found.items ≡ map spec.has_instance (take l.kinds-index l.types)
