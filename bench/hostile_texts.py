@@ -384,14 +384,14 @@ def select_attribute_of_attribute(count):
     return attributes_of_attributes(count, lambda k: "s")
 
 
-@family("uses")
+@family("uses, at most 10,000")
 def select_attribute_of_own_attribute(count):
-    return attributes_of_attributes(count, lambda k: f"e{k}")
+    return attributes_of_attributes(min(count, 10_000), lambda k: f"e{k}")
 
 
-@family("uses")
+@family("uses, at most 10,000")
 def select_attribute_of_next_attribute(count):
-    return attributes_of_attributes(count, lambda k: f"e{(k + 1) % 60_000}", "x.x.x")
+    return attributes_of_attributes(min(count, 10_000), lambda k: f"e{(k + 1) % 60_000}", "x.x.x")
 
 
 @family("entities")
