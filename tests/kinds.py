@@ -667,6 +667,16 @@ def many_of_them():
     twice = "".join(f"ENTITY e_{k} SUBTYPE OF (e_{k - 1}, f_{k - 1}); END_ENTITY; ENTITY f_{k} SUBTYPE OF (e_{k - 1}, f_{k - 1}); END_ENTITY; " for k in range(1, 100))
     yield ("attributes with two ways to them", f"ENTITY e_0; a, b : INTEGER; END_ENTITY; ENTITY f_0; b : STRING; END_ENTITY; {twice} "
            "ENTITY e; x : e_99; WHERE x.a = 1; x\\e_0.b = 1; x\\f_0.b = 'a'; x.⟦Ambiguous⟧b = 1; END_ENTITY;")
+    # so often asked that what is found is kept: of a SELECT, of what its members' attributes are, and of what theirs are
+    names, often = range(300), 600
+    around = f"TYPE t = SELECT ({', '.join(f'd_{k}' for k in names)}); END_TYPE; " + "".join(
+        f"ENTITY d_{k}; x : r_{k}; n : INTEGER; END_ENTITY; ENTITY r_{k}; x : d_{k}; n : STRING; END_ENTITY; " for k in names)
+    asked = "v.n = 1; v.x.n = 'a'; v.x.x.n = 1; v.x.x.x.n = 'a'; " * often
+    for fault in ("v.x.n ⟦Operand⟧= 1", "v.x.x.n ⟦Operand⟧= 'a'", "v.x.x.x.n ⟦Operand⟧= 1", "EXISTS(v.x⟦Qualifier⟧.m)", "EXISTS(v.x.x⟦Qualifier⟧.m)"):
+        yield f"{fault}, behind many attributes of attributes of many entities", f"{around} ENTITY q; v : t; WHERE {asked}{fault}; END_ENTITY;"
+    around += "ENTITY g; b : INTEGER; END_ENTITY; ENTITY h; b : INTEGER; END_ENTITY; ENTITY i SUBTYPE OF (g, h); END_ENTITY; "
+    around = around.replace("ENTITY r_7; x : d_7;", "ENTITY r_7 SUBTYPE OF (i); x : d_7;")
+    yield ("one of many entities' attributes has two of a name", f"{around} ENTITY q; v : t; WHERE {asked}EXISTS(v.x.⟦Ambiguous⟧b); END_ENTITY;")
     literals = " ".join(f"w{k} : ⟦SelectInTypeof⟧'A.S' = '{k}';" for k in range(count))
     yield "many warnings", f"{SELECTS} ENTITY q; WHERE {literals} END_ENTITY;"
 
