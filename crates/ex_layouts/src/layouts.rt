@@ -47,14 +47,7 @@ fn letter(name: &[u8], place: usize) -> usize {
 /// alone.
 fn hint_of(name: &[u8]) -> usize {
     let count = name.len();
-    let letters = [
-        count / 4,
-        count / 2,
-        count / 4 * 3,
-        count.wrapping_sub(2),
-        count.wrapping_sub(1),
-        0,
-    ];
+    let letters = [count / 2, count.wrapping_sub(2), 0];
     let mut packed = count;
     for place in letters {
         packed = packed.wrapping_mul(256).wrapping_add(letter(name, place));
@@ -198,6 +191,7 @@ impl<'s> Layouts<'s> {
     }
 
     /// The entity of this name, in either case. The spelling is kept, if there is room.
+    #[inline(never)]
     pub fn entity_spelled(&mut self, alloc: Global, name: &str) -> Result<Option<usize>, AllocError>
         ensures same { self.new ≡ self.old }
         ensures entity { IfOk result (λ entity. entity ≡ entity_spelled self.old name.now) }

@@ -68,6 +68,7 @@ fn has_twice(alloc: Global, parts: &[Record<'_>]) -> Result<bool, AllocError>
 }
 
 /// The entity that the keyword names, in either case.
+#[inline(always)]
 pub fn entity_named(
     alloc: Global,
     layouts: &mut Layouts<'_>,
