@@ -102,7 +102,7 @@ def path_faults(path, text):
 # ---- commands
 
 def command_faults(text):
-    source = read("crates/rp_server/src/command.rt")
+    source = read("crates/rp_command/src/command.rt")
     commands = {*re.findall(r'Command::new\(alloc, "(\w+)"\)', source), "help"} - {"rp_server"}
     options = {*re.findall(r'\.long\("([\w-]+)"\)', source), "help", *(["version"] if ".version(" in source else [])}
     for words in re.findall(r"(?:`|^|\| )rp_server ([^`\n|<]+)", text, re.MULTILINE):

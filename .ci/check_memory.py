@@ -48,7 +48,7 @@ LISTED = [
     Listed("crates/rp_io/src/chunk.rt", "keep",
            "if line.extend_from_slice(piece).is_err() { release(line); return Room::NoRoom; }",
            "AllocError is the one error of Vec::extend_from_slice"),
-    Listed("crates/rp_server/src/command.rt", "fault_of", "Err(_) => Fault::NoMemory",
+    Listed("crates/rp_command/src/command.rt", "fault_of", "Err(_) => CommandLineFault::NoMemory",
            "AllocError is the one error of line_of"),
     Listed("crates/rp_replies/src/replies.rt", "no_memory_line", r'b"{\"refused\":{\"code\":18,\"name\":\"NoMemory\"}}\n"',
            "the reply's bytes, which are had by a word"),
@@ -568,7 +568,7 @@ PLANTED = ["crates/ex_check/src/schema.rt", "crates/ex_named/src/binding.rt", "c
 # Faults beside a listed place, on its line: the file, the place's code, and what stands there then.
 BESIDE = [
     ("crates/ex_kinds/src/data_type.rt", "None => Err(AllocError),", "None => Err(AllocError), Some(0) => Err(AllocError), // found"),
-    ("crates/rp_server/src/command.rt", "Err(_) => Fault::NoMemory,", "Err(_) => Fault::NoMemory, Ok(_) if full => Fault::NoMemory, // found"),
+    ("crates/rp_command/src/command.rt", "Err(_) => CommandLineFault::NoMemory,", "Err(_) => CommandLineFault::NoMemory, Ok(_) if full => CommandLineFault::NoMemory, // found"),
 ]
 
 

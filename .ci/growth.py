@@ -4,13 +4,13 @@ for what there is in all.
 A growth is an allocator, but as what a call of `plan` or `plan_*` is handed: the words `alloc`, `allocator` and `Global`. In the
 crates that are read another name for a Global is refused. So is a growth each call by a name of GROWS. This is read:
 
-    a plan          a function of rp_plans by the name of `plan`, or that begins with `plan_`. Its tests are each `Err(..)` that
+    a plan          a function of the crates of plans by the name of `plan`, or that begins with `plan_`. Its tests are each `Err(..)` that
                     is no pattern, and each call that looks at sight: `unseen`, `lacks`, `model_right`, `group_right`, those of
                     one's own, and a function of the crate that calls one. Nothing grows in front of the last of them, and a
                     plan without one is refused
-    another         function of rp_plans grows nothing in front of its last look at sight; and none looks into a table itself, by
+    another         function of these crates grows nothing in front of its last look at sight; and none looks into a table itself, by
                     `.models`, `.groups`, `.partners` or `.schemas`: what a plan knows is what readers tell
-    the readers     what is called in front of these tests, and what that calls, grows nothing at all: functions of rp_plans,
+    the readers     what is called in front of these tests, and what that calls, grows nothing at all: functions of plans,
                     rp_readers, rp_access and rp_tables, by their names
     the body        `prepare` of rp_core grows nothing in front of its call of `plan`
     sizes           in rp_readers and rp_access nothing is made for a number of things at once: no `with_capacity`, `reserve`,
@@ -26,11 +26,13 @@ import re
 
 from sources import Fault, Listed, Token, functions_of, missed, planted, tokens_of, without_listed
 
-PLANS = "crates/rp_plans/src/"
+FILE_PLANS = "crates/rp_file_plans/src/"
+ITEM_PLANS = "crates/rp_item_plans/src/"
+PLANS = ("crates/rp_plans/src/", FILE_PLANS, ITEM_PLANS, "crates/rp_core/src/plans.rt")
 READERS = "crates/rp_readers/src/"
 ACCESS = "crates/rp_access/src/"
 BODY = "crates/rp_core/src/"
-READ = (PLANS, READERS, ACCESS, BODY, "crates/rp_tables/src/")
+READ = (*PLANS, READERS, ACCESS, BODY, "crates/rp_tables/src/")
 
 PLAN = re.compile(r"plan|plan_\w+")
 GROWS = re.compile(r"(try_)?(with_capacity|reserve|push|insert|append|extend|resize|copy|clone|collect|sort|split_off|from_elem|from_slice|"
@@ -47,13 +49,13 @@ ONE_MORE = "room for one row more, once a plan has passed its tests"
 
 LISTED = [
     # what is read once the tests of sight have passed
-    Listed(f"{PLANS}single.rt", "plan_add",
+    Listed(f"{FILE_PLANS}single.rt", "plan_add",
            SEEN + "let name = model.greatest + 1; let instance = said_by(alloc, layouts, model, name, text)?", HIS_OWN),
-    Listed(f"{PLANS}single.rt", "plan_set", SEEN + "let instance = said_by(alloc, layouts, model, name, text)?", HIS_OWN),
+    Listed(f"{FILE_PLANS}single.rt", "plan_set", SEEN + "let instance = said_by(alloc, layouts, model, name, text)?", HIS_OWN),
     # what everyone may ask
-    Listed(f"{PLANS}lists.rt", "plan_list", "let groups = asked.group_items(alloc)?", "the groups that the caller sees are listed"),
-    Listed(f"{PLANS}lists.rt", "plan_list", "models: asked.model_items(alloc)?", "the models that the caller sees are listed"),
-    Listed(f"{PLANS}lists.rt", "plan_schemas", "Reply::Schemas(asked.schema_names(alloc)?)", "everyone is told all schemas"),
+    Listed(f"{ITEM_PLANS}lists.rt", "plan_list", "let groups = asked.group_items(alloc)?", "the groups that the caller sees are listed"),
+    Listed(f"{ITEM_PLANS}lists.rt", "plan_list", "models: asked.model_items(alloc)?", "the models that the caller sees are listed"),
+    Listed(f"{ITEM_PLANS}lists.rt", "plan_schemas", "Reply::Schemas(asked.schema_names(alloc)?)", "everyone is told all schemas"),
     # sizes
     Listed(f"{READERS}items.rt", "model_rows", "Vec::with_capacity(alloc, seen.len())?", "the models that the caller sees"),
     Listed(f"{READERS}items.rt", "group_rows", "Vec::with_capacity(alloc, seen.len())?", "the groups that the caller sees"),
@@ -152,9 +154,9 @@ class Crates:
     def read(self):
         """Looks at all of them, and gives the faults."""
         asked = set()
-        for folder, name in ((PLANS, "plan"), (BODY, "prepare"), (READERS, "model_right"), (ACCESS, "visible_models")):
+        for folder, name in ((PLANS[-1], "plan"), (BODY, "prepare"), (READERS, "model_right"), (ACCESS, "visible_models")):
             if not any(file.startswith(folder) and it.name == name for file, it in self.functions):
-                self.fault(f"{folder}lib.rt", Token(""), f"there is no function {name}")
+                self.fault(folder if folder.endswith(".rt") else f"{folder}lib.rt", Token(""), f"there is no function {name}")
         for file, function in self.functions:
             if file.startswith(PLANS):
                 asked |= self.read_tests(file, function)

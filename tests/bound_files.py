@@ -258,6 +258,78 @@ def schemas(it):
     ])
 
 
+# ---- attributes of several supertypes
+
+# w lists the later of two supertypes first, redeclares an attribute, and has several of its own
+REDECLARED = """SCHEMA D; ENTITY r; a : INTEGER; END_ENTITY;
+ENTITY s SUBTYPE OF (r); b : INTEGER; END_ENTITY;
+ENTITY t SUBTYPE OF (r); c : INTEGER; END_ENTITY;
+ENTITY w SUBTYPE OF (t, s); d : REAL; SELF\\r.a : INTEGER; e, f : REAL; DERIVE g : REAL := d; END_ENTITY; END_SCHEMA;
+"""
+# d redeclares one attribute in DERIVE, and one among its explicit ones
+DERIVED = """SCHEMA D; ENTITY r; a : INTEGER; END_ENTITY;
+ENTITY s SUBTYPE OF (r); b : OPTIONAL INTEGER; END_ENTITY;
+ENTITY t SUBTYPE OF (r); c : INTEGER; END_ENTITY;
+ENTITY d SUBTYPE OF (s, t); SELF\\s.b : INTEGER; e : REAL; DERIVE SELF\\r.a : INTEGER := 1; END_ENTITY; END_SCHEMA;
+"""
+
+
+def attributes(it):
+    looks(it, "D", REDECLARED, [
+        ("supertypes in the order in which they are listed", "#1=W(1,2,3,4.,5.,6.);", ["#1=W(1,2,3,4.,5.,6.);"]),
+        ("the same in several keywords", "#1=(S(3)W(4.,5.,6.)R(1)T(2));", ["#1=W(1,2,3,4.,5.,6.);"]),
+        ("no value for what is redeclared or derived", "#1=W(1,2,3,4.,5.,6.,7);", instance_fault("WrongCount", 1)),
+    ])
+    looks(it, "D", DERIVED, [
+        ("a star where a subtype derives", "#1=D(*,2,3,4.);", ["#1=D(*,2,3,4.);"]),
+        ("the same in several keywords", "#1=(D(4.)T(3)S($)R(*));", ["#1=D(*,$,3,4.);"]),
+        ("a value where a subtype derives", "#1=D(1,2,3,4.);", instance_fault("WrongKind", 1)),
+        ("a star for what is redeclared otherwise", "#1=D(*,*,3,4.);", instance_fault("NotDerived", 1)),
+    ])
+
+
+# ---- sets of entities
+
+def entities(declaration, *subtypes):
+    """A schema of an entity and its subtypes, by their names."""
+    below = " ".join(f"ENTITY {name} SUBTYPE OF (e); END_ENTITY;" for name in subtypes)
+    return f"SCHEMA s; ENTITY e {declaration}; END_ENTITY; {below} END_SCHEMA;"
+
+
+# a schema, sets that an instance may have, with the line that is told, and sets that none may
+SETS = [
+    (entities("ABSTRACT SUPERTYPE OF (ONEOF(a, b) ANDOR c)", "a", "b", "c"),
+     {"E A": "A()", "E A C": "(A()C()E())", "E C": "C()"}, ["E A B", "B C A E", "E", "A", "A C"]),
+    # what the expression doesn't name combines freely
+    (entities("SUPERTYPE OF (a AND b)", "a", "b", "c"),
+     {"E": "E()", "E A B": "(A()B()E())", "E C": "C()", "E A B C": "(A()B()C()E())"}, ["E A", "E B C"]),
+    (entities("SUPERTYPE OF (ONEOF(a AND b, c))", "a", "b", "c"),
+     {"E A B": "(A()B()E())", "E C": "C()"}, ["E A", "E A C", "E A B C"]),
+    (entities("SUPERTYPE OF (ONEOF(a, b) AND ONEOF(c, d))", "a", "b", "c", "d"),
+     {"E": "E()", "E A C": "(A()C()E())", "E B D": "(B()D()E())"}, ["E A", "E A B C", "E A C D"]),
+    # AND binds more than ANDOR
+    (entities("SUPERTYPE OF (a AND b ANDOR c)", "a", "b", "c"),
+     {"E C": "C()", "E A B": "(A()B()E())", "E A B C": "(A()B()C()E())"}, ["E A", "E A C"]),
+    (entities("SUPERTYPE OF ((a ANDOR b) AND c)", "a", "b", "c"),
+     {"E A C": "(A()C()E())", "E B C": "(B()C()E())", "E A B C": "(A()B()C()E())"}, ["E C", "E A B"]),
+    (entities("SUPERTYPE OF (ONEOF(a ANDOR b, c))", "a", "b", "c"),
+     {"E A": "A()", "E A B": "(A()B()E())", "E C": "C()"}, ["E A C", "E A B C"]),
+    # an instance has all supertypes of each of its entities, and falls into no two parts
+    ("SCHEMA s; ENTITY r; END_ENTITY; ENTITY t; END_ENTITY; ENTITY v SUBTYPE OF (r, t); END_ENTITY; ENTITY w SUBTYPE OF (r); END_ENTITY; END_SCHEMA;",
+     {"R": "R()", "R T V": "V()", "R T V W": "(R()T()V()W())"}, ["R T", "R T W", "R V", "T V"]),
+    ("SCHEMA s; ENTITY z SUPERTYPE OF (ONEOF(b, a)); END_ENTITY; ENTITY b ABSTRACT SUPERTYPE SUBTYPE OF (z); END_ENTITY; "
+     "ENTITY a SUPERTYPE OF (c AND d) SUBTYPE OF (z); END_ENTITY; ENTITY c SUBTYPE OF (a); END_ENTITY; ENTITY d SUBTYPE OF (a); END_ENTITY; END_SCHEMA;",
+     {"Z A C D": "(A()C()D()Z())"}, ["Z B", "Z A C", "Z B A", "Z B A C"]),
+]
+
+
+def sets(it):
+    illegal = instance_fault("IllegalCombination", 1)
+    for text, legal, none in SETS:
+        rows = [(names, told) for names, told in [*((key, [f"#1={line};"]) for key, line in legal.items()), *((key, illegal) for key in none)]]
+        looks(it, "S", text, [(names, "#1=({});".format("".join(f"{name}()" for name in names.split())), told) for names, told in rows])
+
+
 # ---- headers
 
 HEADERS = [
@@ -319,4 +391,4 @@ def exports(it):
 
 
 if __name__ == "__main__":
-    run_parts("bound files", (values, faults, schemas, headers, exports), sys.argv[1:])
+    run_parts("bound files", (values, faults, schemas, attributes, sets, headers, exports), sys.argv[1:])

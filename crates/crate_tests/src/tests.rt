@@ -1,9 +1,6 @@
 //! The tests, by what they look at.
 
-mod attributes;
 mod decimals;
 mod devices;
-mod legal;
 mod rights;
-mod strings;
 mod values;

@@ -16,7 +16,8 @@ use Rattle.ex_warnings.specs.Warnings.{warnings, names_select}
 use Rattle.ex_types.specs.Checked.{Checked, checked, checked_by}
 use Rattle.ex_typing_statements.specs.Statements.{Told}
 use Rattle.ex_subtypes.specs.declared.build.SubtypeFault.{SubtypeFault}
-use Rattle.ex_subtypes.specs.Faults.{built, built_by}
+use Rattle.ex_compiled.specs.Compiling.{built}
+use Rattle.ex_subtypes.specs.Faults.{built_by}
 
 earlier : (from before : ℕ) (ns : List ℕ) → before ≤ from → Rise from ns → Rise before ns
 earlier from before [] less rise = tt

@@ -23,7 +23,7 @@ use Rattle.ex_types.specs.Checked.{Checked, checked}
 use Rattle.ex_subtypes.specs.declared.build.SubtypeFault.{SubtypeFault}
 use Rattle.ex_subtypes.specs.declared.build.SubtypeFaultKind.{SubtypeFaultKind}
 use Rattle.ex_subtypes.specs.declared.build.SubtypeFaultKind.TheVariants as subtypes
-use Rattle.ex_subtypes.specs.Faults.{built}
+use Rattle.ex_compiled.specs.Compiling.{built}
 use Rattle.ex_check.specs.declared.place.Position.{Position}
 use Rattle.ex_check.specs.declared.fault.SchemaFault.{SchemaFault}
 use Rattle.ex_check.specs.declared.fault.SchemaFault.TheVariants.{Lexical, Syntactic, Naming, Typing, Constraining}

@@ -11,7 +11,7 @@ ghost use Rattle.ex_check.specs.Check as spec;
 use crate::fault::SchemaFault;
 use crate::place::Position;
 use crate::schema::compile_schema;
-use ex_subtypes::Compiled;
+use ex_compiled::Compiled;
 use ex_types::CheckedSchema;
 use rp_io::{Sink, write_all};
 use std::alloc::{AllocError, Global};

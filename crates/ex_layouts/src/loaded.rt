@@ -4,9 +4,10 @@ ghost use Rattle.std.specs.Prelude.{◌≡◌, not, is_some, IfOk};
 ghost use Rattle.ex_subtypes.specs.Legal.{refusal};
 ghost use Rattle.ex_layouts.specs.Entities as spec;
 
+use ex_compiled::Compiled;
 use ex_named::NamedEntity;
 use ex_selects::DefinedTypes;
-use ex_subtypes::{Compiled, TypeSet};
+use ex_subtypes::TypeSet;
 use ex_types::CheckedSchema;
 use plain_data::{Rows, Text};
 use std::alloc::{AllocError, Global};

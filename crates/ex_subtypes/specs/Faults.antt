@@ -5,7 +5,6 @@ use Rattle.ex_named.specs.declared.declaration.NamedEntity.{NamedEntity}
 use Rattle.ex_named.specs.declared.declaration.NamedSupertype.{NamedSupertype}
 use Rattle.ex_named.specs.declared.declaration.NamedSupertype.TheFolds.{fold-NamedSupertype}
 use Rattle.ex_named.specs.declared.declaration.NamedSupertype.TheOpen.{NamedSupertype-F}
-use Rattle.ex_types.specs.Checked.{Checked}
 use Rattle.lineage.specs.Lineage.{is_among}
 use Rattle.lineage.specs.Numbered.{numbered}
 use Rattle.ex_subtypes.specs.declared.build.Mention.{Mention}
@@ -73,10 +72,7 @@ sooner (Some first) f = if is_before f first then Some f else Some first
 unfoldable pub first_fault : List NamedEntity → Option SubtypeFault
 first_fault entities = fold sooner None (faults entities)
 
-abbrev pub built_by : Checked → Option SubtypeFault → Result Checked SubtypeFault
-built_by schema None = Ok schema
-built_by schema (Some f) = Err f
-
--- the schema, or the fault of least offset of its expressions
-abbrev pub built : Checked → Result Checked SubtypeFault
-built schema = built_by schema (first_fault schema.named.schema.entities)
+-- what is made where all expressions can be read, or the fault of least offset
+abbrev pub built_by : {A : Type 0} → A → Option SubtypeFault → Result A SubtypeFault
+built_by made None = Ok made
+built_by made (Some f) = Err f

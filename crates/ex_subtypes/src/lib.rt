@@ -4,17 +4,17 @@
 mod build;
 mod choices;
 mod constraints;
+mod expressions;
 mod family;
 mod graph;
 mod legal;
 mod nodes;
 mod places;
-mod schema;
 mod sets;
 mod type_set;
 mod walks;
 
 pub use build::{SubtypeFault, SubtypeFaultKind};
+pub use expressions::Constraints;
 pub use legal::Illegal;
-pub use schema::Compiled;
 pub use type_set::TypeSet;

@@ -8,7 +8,7 @@ use crate::config::{Config, ConfigFault, config_of};
 use crate::fault::LoadFault;
 use crate::files::{Folder, file_bytes};
 use ex_check::{SchemaFault, compile_schema, words_of_fault};
-use ex_subtypes::Compiled;
+use ex_compiled::Compiled;
 use plain_data::{Rows, Text};
 use std::alloc::{AllocError, Global};
 use text_forms::Failure;

@@ -2,12 +2,12 @@
 #![tactic(auto, unfolding(crate::specs::Held::Fits))]
 
 use crate::opening::may_open;
+use crate::plans::plan;
 use crate::steps::{Pending, make_steps};
 use ex_layouts::LoadedSchema;
 use plain_data::Text;
 use rp_access::Access;
 use rp_plain::messages::{NewFault, Reply, Request};
-use rp_plans::plan;
 use rp_readers::{Asking, KeptLayouts, place_among};
 use std::alloc::Global;
 use std::marker::Model;

@@ -1,4 +1,1 @@
 pub mod Firsts
-pub mod LinkOrder
-pub mod Loaded
-pub mod Putting

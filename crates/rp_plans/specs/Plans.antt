@@ -2,7 +2,6 @@
 use Rattle.std.specs.Prelude.{◌≡◌, ◌≢◌, true, List, [], ◌∷◌, Some, None, is_some, Result, Ok, MatchResult}
 use Rattle.rp_rows.specs.Rows.{Text}
 use Rattle.rp_plain.specs.declared.messages.Request.{Request}
-use Rattle.rp_plain.specs.declared.messages.Request.TheVariants.{CreateGroup, DeleteGroup, GrantGroup, RevokeGroup, Include, Exclude, Members, Extent, Users}
 use Rattle.rp_plain.specs.declared.messages.Refusal.{Refusal}
 use Rattle.rp_plain.specs.declared.messages.Refusal.TheVariants.{NoMemory}
 use Rattle.rp_plain.specs.Edits.{Edit, EditModel, EditGroup}
@@ -44,16 +43,3 @@ IsRefusal a c q refusal = refusal ≢ NoMemory → first_some (meaning a c q).te
 
 abbrev pub Plans : Asked → Text → Request → Result Plan Refusal → Type 0
 Plans a c q result = MatchResult result (IsAnswer a c q) (IsRefusal a c q)
-
--- it names a group
-abbrev pub IsOnGroup : Request → Type 0
-IsOnGroup (CreateGroup name schema) = Unit {0}
-IsOnGroup (DeleteGroup name) = Unit {0}
-IsOnGroup (GrantGroup name to) = Unit {0}
-IsOnGroup (RevokeGroup name to) = Unit {0}
-IsOnGroup (Include group model) = Unit {0}
-IsOnGroup (Exclude group model) = Unit {0}
-IsOnGroup (Members group) = Unit {0}
-IsOnGroup (Extent group entity) = Unit {0}
-IsOnGroup (Users group of role) = Unit {0}
-IsOnGroup _ = ⊥

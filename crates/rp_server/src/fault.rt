@@ -1,5 +1,6 @@
 //! Why the program ends with status 2, and the line that it then writes on standard error.
 use plain_data::Text;
+use rp_command::CommandLineFault;
 use rp_config::LoadFault;
 use rp_program::{Fault as CommandFault, StartFault};
 use rp_repo::NewFault;
@@ -10,13 +11,11 @@ use text_forms::Failure;
 /// Why the program ends with status 2.
 #[derive(Drop)]
 pub enum Fault {
-    /// The command line is wrong; why, in one line.
-    CommandLine(String),
-    /// The command line names no command with its file.
-    Incomplete,
+    /// The command line asks for nothing.
+    CommandLine(CommandLineFault),
     /// The command line has a word that isn't UTF-8.
     Words,
-    /// Memory is wanting for the command line.
+    /// Memory is wanting, of which nothing else tells.
     NoMemory,
     /// The file of this path is no configuration: the place and the key of what is wrong in it.
     Config(Text, String),
@@ -27,10 +26,7 @@ pub enum Fault {
 impl fmt::Display for Fault {
     fn fmt<W: fmt::Write>(&self, f: &mut fmt::Formatter<W>) -> fmt::Result {
         match self {
-            Fault::CommandLine(why) => write_usage(f, why.as_str()),
-            Fault::Incomplete => {
-                write_usage(f, "batch wants --config FILE, and check wants FILE")
-            }
+            Fault::CommandLine(fault) => fault.fmt(f),
             Fault::Words => f.write_str("the command line isn't UTF-8"),
             Fault::NoMemory => f.write_str("out of memory"),
             Fault::Config(path, words) => write_of_config(f, path, words.as_str()),
@@ -50,11 +46,6 @@ fn write_of_command<W: fmt::Write>(f: &mut fmt::Formatter<W>, fault: &CommandFau
         CommandFault::Read => f.write_str("standard input can't be read"),
         CommandFault::Write => f.write_str("standard output can't be written"),
     }
-}
-
-/// Writes what is wrong with the command line.
-fn write_usage<W: fmt::Write>(f: &mut fmt::Formatter<W>, why: &str) -> fmt::Result {
-    write!(f, "{why} (rp_server --help tells what to type)")
 }
 
 /// Writes what is wrong with a file.
@@ -99,6 +90,12 @@ fn why_none(fault: NewFault) -> &'static str {
         NewFault::BadName => "a partner's name isn't 1 to 64 of A-Z a-z 0-9 _ . -",
         NewFault::TooMany => "more than 100 schemas or more than 1,000 partners",
         NewFault::NoMemory => "out of memory",
+    }
+}
+
+impl From<CommandLineFault> for Fault {
+    fn from(fault: CommandLineFault) -> Fault {
+        Fault::CommandLine(fault)
     }
 }
 

@@ -1,12 +1,11 @@
 //! The program: a repository of STEP product models that several partners share.
 #![tactic(auto)]
 
-mod command;
 mod fault;
 
-use command::{Asked, asked_of};
 use fault::Fault;
 use plain_data::Text;
+use rp_command::{Command, command_of};
 use rp_config::{FromFiles, LoadFault, file_bytes, wrong_place};
 use rp_program::{Done, Fault as CommandFault, StartFault, batch, check, explain, status_of};
 use rp_repo::{FromReader, ToWriter};
@@ -30,22 +29,22 @@ fn run<R: AllocGlobal + Files + Env + Print + Eprint + Input>(rt: &R) -> Result<
         return Err(Fault::Words);
     };
     let words: Vec<String> = args.collect(alloc)?;
-    match asked_of(alloc, words.as_slice())? {
-        Asked::Help(text) => match text.print(rt) {
+    match command_of(alloc, words.as_slice())? {
+        Command::Help(text) => match text.print(rt) {
             Ok(()) => Ok(Done::Helped),
             Err(_) => Err(Fault::Command(CommandFault::Write)),
         },
-        Asked::Batch(path) => match batch_of(rt, path) {
+        Command::Batch(path) => match batch_of(rt, path) {
             Ok(done) => Ok(done),
             Err(fault) => Err(with_place(rt, fault)?),
         },
-        Asked::Check(path) => Ok(check(
+        Command::Check(path) => Ok(check(
             alloc,
             &FromFiles::new(rt),
             path,
             &mut ToWriter::new(io::writer(rt)),
         )?),
-        Asked::Explain(path) => Ok(explain(
+        Command::Explain(path) => Ok(explain(
             alloc,
             &FromFiles::new(rt),
             path,

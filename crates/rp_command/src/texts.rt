@@ -1,0 +1,64 @@
+//! The texts of help.
+
+/// The version of the program, which CHANGES.md tells more of.
+pub const VERSION: &str = "0.1";
+
+pub const ABOUT: &str = "A repository of STEP product models that several partners share.";
+
+pub const BATCH_ABOUT: &str =
+    "Answers requests: one JSON object a line on standard input, one line of JSON for each on standard output.";
+
+pub const BATCH_AFTER: &str = "\
+The configuration is a JSON object of the partners and of the schemas' files, whose paths start
+at the working directory:
+
+  {\"partners\":[{\"name\":\"ann\",\"token\":\"ta\"}],\"schemas\":[\"t.exp\"]}
+
+A request names its partner in \"as\" and what to do in \"do\":
+
+  {\"as\":\"ann\",\"do\":\"schemas\"}
+  {\"as\":\"ann\",\"do\":\"check_schema\",\"text\":\"SCHEMA T; .. END_SCHEMA;\"}
+  {\"as\":\"ann\",\"do\":\"create_model\",\"name\":\"m\",\"schema\":\"T\"}
+  {\"as\":\"ann\",\"do\":\"put\",\"owner\":\"ann\",\"model\":\"m\",\"file\":\"ISO-10303-21; ..\"}
+  {\"as\":\"ann\",\"do\":\"names\",\"owner\":\"ann\",\"model\":\"m\"}
+  {\"as\":\"ann\",\"do\":\"get\",\"owner\":\"ann\",\"model\":\"m\",\"instance\":1}
+  {\"as\":\"ann\",\"do\":\"add\",\"owner\":\"ann\",\"model\":\"m\",\"text\":\"P(2.,$)\"}
+  {\"as\":\"ann\",\"do\":\"set\",\"owner\":\"ann\",\"model\":\"m\",\"instance\":1,\"text\":\"P(5.,$)\"}
+  {\"as\":\"ann\",\"do\":\"drop\",\"owner\":\"ann\",\"model\":\"m\",\"instance\":1}
+  {\"as\":\"ann\",\"do\":\"grant\",\"kind\":\"model\",\"name\":\"m\",\"to\":\"bob\",\"level\":\"read\"}
+  {\"as\":\"ann\",\"do\":\"revoke\",\"kind\":\"model\",\"name\":\"m\",\"to\":\"bob\"}
+  {\"as\":\"bob\",\"do\":\"list\"}
+  {\"as\":\"ann\",\"do\":\"delete_model\",\"name\":\"m\"}
+
+A line has at most 16 MiB, a file or a text in it, the configuration and each schema 8 MiB. A model has at most
+200,000 instances and 10,000 links, an owner 100 models. A put of 8 MiB takes some 60 MB and half a second, a
+schema of 8 MiB some 160 MB and two seconds. All that is put stays in memory, and is gone at the end.
+
+The status is 0 at the end of the input. It is 2, with one line on standard error, where the command
+line or a file is wrong or where the input or the output fails.";
+
+pub const CHECK_ABOUT: &str = "Reads an EXPRESS schema, and tells its name or its first fault.";
+
+pub const CHECK_AFTER: &str = "\
+It writes on standard output the name of a schema that is read, and a line for each warning,
+
+  T: ok
+  warning SelectInTypeof line 2 column 7
+
+and the status is 0; or one line, the kind of the first fault with its line and its column, which is counted in bytes,
+
+  Syntax line 3 column 14
+
+and the status is 1. With --explain the line of the text stands below each line with a place, and a caret below the byte.
+The kinds are
+
+  Token, OpenString, OpenRemark, BadEncoded, TooBig   of a token that is none
+  Syntax                                              of a token that cannot stand where it does
+  OutOfProfile                                        of EXPRESS that this program leaves out
+  TooDeep                                             of more than 64 levels of nesting
+  Undeclared, DeclaredTwice, CyclicSubtype, CyclicType, NotAnAttribute     of names
+  RealArithmetic, EntityComparison, Operand, Arguments, Assign, Qualifier, Ambiguous     of what values may be
+  NamedTwice, NotDirectSubtype                        of a supertype expression
+
+A schema of 1 MiB takes some 22 MB and a fifth of a second, one of 8 MiB some 160 MB and two seconds.
+The status is 2, with one line on standard error, where the file can't be read or is over 8 MiB.";

@@ -1,0 +1,3 @@
+pub mod LinkOrder
+pub mod Loaded
+pub mod Putting

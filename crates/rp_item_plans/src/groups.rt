@@ -1,0 +1,112 @@
+//! Groups that are created, deleted and granted.
+
+ghost use Rattle.rp_readers.specs.Told.{told};
+ghost use Rattle.rp_plans.specs.Plans.{Plans};
+
+use crate::models::own;
+use plain_data::{Rows, Text};
+use rp_access::{Altered, at_least};
+use rp_plain::messages::{Refusal, Reply, Request};
+use rp_plans::{Edits, Plan, first, is_no_partner, name_fault, names_fault, unseen, when};
+use rp_readers::Asking;
+use rp_rows::limits::MAX_GROUPS;
+use rp_rows::rows::{Level, Listing, Right};
+use std::alloc::Global;
+
+/// A group of the caller's, without members.
+pub fn plan_create_group(
+    alloc: Global,
+    asked: &Asking<'_, '_>,
+    name: Text,
+    mut schema: Text,
+) -> Result<Plan, Refusal>
+    ensures { Plans (told asked.now) asked.now.caller.now (Request.CreateGroup name schema) result }
+{
+    schema.make_ascii_uppercase();
+    let tests = [
+        name_fault(&name),
+        when(!asked.has_schema(&schema), Refusal::UnknownSchema),
+        when(
+            at_least(Right::Reads, asked.own_group_right(&name)),
+            Refusal::Exists,
+        ),
+        when(asked.group_count() >= MAX_GROUPS, Refusal::TooMany),
+    ];
+    if let Some(refusal) = first(&tests) {
+        return Err(refusal);
+    }
+    let key = own(alloc, asked, name)?;
+    let members = Rows::new(alloc);
+    Ok(Plan {
+        reply: Reply::Done,
+        edits: Edits::OfGroup(key, Altered::Hold(Listing { schema, members })),
+    })
+}
+
+/// A group of the caller's is gone, with its grants.
+pub fn plan_delete_group(alloc: Global, asked: &Asking<'_, '_>, name: Text) -> Result<Plan, Refusal>
+    ensures { Plans (told asked.now) asked.now.caller.now (Request.DeleteGroup name) result }
+{
+    let tests = [name_fault(&name), unseen(asked.own_group_right(&name))];
+    if let Some(refusal) = first(&tests) {
+        return Err(refusal);
+    }
+    let key = own(alloc, asked, name)?;
+    Ok(Plan {
+        reply: Reply::Done,
+        edits: Edits::OfGroup(key, Altered::Remove),
+    })
+}
+
+/// A partner may read a group of the caller's.
+pub fn plan_grant_group(
+    alloc: Global,
+    asked: &Asking<'_, '_>,
+    name: Text,
+    to: Text,
+) -> Result<Plan, Refusal>
+    ensures { Plans (told asked.now) asked.now.caller.now (Request.GrantGroup name to) result }
+{
+    let tests = [
+        names_fault(&name, &to),
+        is_no_partner(asked, &to),
+        unseen(asked.own_group_right(&name)),
+    ];
+    if let Some(refusal) = first(&tests) {
+        return Err(refusal);
+    }
+    let edits = if to.is(asked.caller) {
+        Edits::Nothing
+    } else {
+        let key = own(alloc, asked, name)?;
+        Edits::OfGroup(key, Altered::Grants(to, Some(Level::Read)))
+    };
+    Ok(Plan {
+        reply: Reply::Done,
+        edits,
+    })
+}
+
+/// A partner may not read a group of the caller's.
+pub fn plan_revoke_group(
+    alloc: Global,
+    asked: &Asking<'_, '_>,
+    name: Text,
+    to: Text,
+) -> Result<Plan, Refusal>
+    ensures { Plans (told asked.now) asked.now.caller.now (Request.RevokeGroup name to) result }
+{
+    let tests = [
+        names_fault(&name, &to),
+        is_no_partner(asked, &to),
+        unseen(asked.own_group_right(&name)),
+    ];
+    if let Some(refusal) = first(&tests) {
+        return Err(refusal);
+    }
+    let key = own(alloc, asked, name)?;
+    Ok(Plan {
+        reply: Reply::Done,
+        edits: Edits::OfGroup(key, Altered::Grants(to, None)),
+    })
+}

@@ -1,0 +1,53 @@
+//! Lists of what there is.
+
+ghost use Rattle.rp_readers.specs.Told.{told};
+ghost use Rattle.rp_plans.specs.Plans.{Plans};
+
+use rp_plain::messages::{Refusal, Reply, Request};
+use rp_plans::{Edits, Plan, first, is_no_partner, key_fault, unseen};
+use rp_readers::Asking;
+use rp_readers::contents::names_of;
+use rp_rows::rows::Key;
+use std::alloc::Global;
+
+/// The names of a model's instances, with their types.
+pub fn plan_names(alloc: Global, asked: &Asking<'_, '_>, key: &Key) -> Result<Plan, Refusal>
+    ensures { Plans (told asked.now) asked.now.caller.now (Request.Names key.now) result }
+{
+    let tests = [
+        key_fault(key),
+        is_no_partner(asked, &key.0),
+        unseen(asked.model_right(key)),
+    ];
+    if let Some(refusal) = first(&tests) {
+        return Err(refusal);
+    }
+    Ok(Plan {
+        reply: Reply::Names(names_of(alloc, asked, key)?),
+        edits: Edits::Nothing,
+    })
+}
+
+/// The groups and the models that the caller sees.
+pub fn plan_list(alloc: Global, asked: &Asking<'_, '_>) -> Result<Plan, Refusal>
+    ensures { Plans (told asked.now) asked.now.caller.now Request.ListItems result }
+{
+    let groups = asked.group_items(alloc)?;
+    Ok(Plan {
+        reply: Reply::Listed {
+            groups,
+            models: asked.model_items(alloc)?,
+        },
+        edits: Edits::Nothing,
+    })
+}
+
+/// The names of the schemas.
+pub fn plan_schemas(alloc: Global, asked: &Asking<'_, '_>) -> Result<Plan, Refusal>
+    ensures { Plans (told asked.now) asked.now.caller.now Request.Schemas result }
+{
+    Ok(Plan {
+        reply: Reply::Schemas(asked.schema_names(alloc)?),
+        edits: Edits::Nothing,
+    })
+}

@@ -1,0 +1,147 @@
+//! The members of groups: models are included and excluded, and told with whether they count.
+
+ghost use Rattle.std.specs.Prelude.{◌≡◌, option_copied};
+ghost use Rattle.rp_plain.specs.Meaning.{first_some};
+ghost use Rattle.rp_plain.specs.Groups as of_groups;
+ghost use Rattle.rp_readers.specs.Told.{told};
+ghost use Rattle.rp_plans.specs.Plans.{Plans};
+
+use crate::models::own;
+use plain_data::Text;
+use rp_access::{Altered, excluding, has_key, including};
+use rp_plain::messages::{Refusal, Reply, Request};
+use rp_plans::{Edits, Plan, first, is_no_partner, key_fault, lacks, unseen, when};
+use rp_readers::Asking;
+use rp_rows::limits::MAX_MEMBERS;
+use rp_rows::names::is_valid_name;
+use rp_rows::rows::{Key, Listing, ModelContent, Right};
+use std::alloc::Global;
+
+// ---- tests
+
+/// Of a group's name or a model's that is none.
+fn member_fault(group: &Text, model: &Key) -> Option<Refusal>
+    ensures { result ≡ of_groups.member_fault group.now model.now }
+{
+    let valid = is_valid_name(group) && is_valid_name(&model.0) && is_valid_name(&model.1);
+    when(!valid, Refusal::BadName)
+}
+
+/// The models that the group lists, if it is seen.
+fn members_of<'a>(listing: Option<&'a Listing>) -> &'a [Key]
+    ensures { result.now ≡ of_groups.members_of (option_copied listing.entry) }
+{
+    match listing {
+        Some(listing) => listing.members.as_slice(),
+        None => &[],
+    }
+}
+
+fn is_member(model: &Key, listing: Option<&Listing>) -> bool
+    ensures { result ≡ of_groups.is_member model.now (option_copied listing.entry) }
+{
+    has_key(model, members_of(listing))
+}
+
+/// Of a model of another schema than the group.
+fn is_of_other(model: Option<&ModelContent>, group: Option<&Listing>) -> Option<Refusal>
+    ensures { result ≡ of_groups.is_of_other (option_copied model.entry) (option_copied group.entry) }
+{
+    match (model, group) {
+        (Some(model), Some(group)) => when(!model.schema.is(&group.schema), Refusal::WrongSchema),
+        _ => None,
+    }
+}
+
+/// Why a model isn't included in a group of the caller's.
+fn include_fault(asked: &Asking<'_, '_>, group: &Text, model: &Key) -> Option<Refusal>
+    ensures { result ≡ first_some (of_groups.include (told asked.now) asked.now.caller.now group.now model.now).tests }
+{
+    let listing = asked.own_listing(group);
+    first(&[
+        member_fault(group, model),
+        is_no_partner(asked, &model.0),
+        unseen(asked.own_group_right(group)),
+        lacks(Right::Groups, asked.model_right(model)),
+        is_of_other(asked.content(model), listing),
+        when(is_member(model, listing), Refusal::Membership),
+        when(members_of(listing).len() >= MAX_MEMBERS, Refusal::TooMany),
+    ])
+}
+
+// ---- plans
+
+/// A group of the caller's lists a model.
+pub fn plan_include(
+    alloc: Global,
+    asked: &Asking<'_, '_>,
+    group: Text,
+    model: Key,
+) -> Result<Plan, Refusal>
+    ensures { Plans (told asked.now) asked.now.caller.now (Request.Include group model) result }
+{
+    if let Some(refusal) = include_fault(asked, &group, &model) {
+        return Err(refusal);
+    }
+    let edits = match asked.own_listing(&group) {
+        None => Edits::Nothing,
+        Some(listing) => {
+            let listing = including(alloc, listing, model)?;
+            Edits::OfGroup(own(alloc, asked, group)?, Altered::Hold(listing))
+        }
+    };
+    Ok(Plan {
+        reply: Reply::Done,
+        edits,
+    })
+}
+
+/// A group of the caller's doesn't list a model.
+pub fn plan_exclude(
+    alloc: Global,
+    asked: &Asking<'_, '_>,
+    group: Text,
+    model: &Key,
+) -> Result<Plan, Refusal>
+    ensures { Plans (told asked.now) asked.now.caller.now (Request.Exclude group model.now) result }
+{
+    let listing = asked.own_listing(&group);
+    let tests = [
+        member_fault(&group, model),
+        is_no_partner(asked, &model.0),
+        unseen(asked.own_group_right(&group)),
+        when(!is_member(model, listing), Refusal::Membership),
+    ];
+    if let Some(refusal) = first(&tests) {
+        return Err(refusal);
+    }
+    let edits = match listing {
+        None => Edits::Nothing,
+        Some(listing) => {
+            let listing = excluding(alloc, listing, model)?;
+            Edits::OfGroup(own(alloc, asked, group)?, Altered::Hold(listing))
+        }
+    };
+    Ok(Plan {
+        reply: Reply::Done,
+        edits,
+    })
+}
+
+/// The models that a group lists, and which of them count.
+pub fn plan_members(alloc: Global, asked: &Asking<'_, '_>, group: &Key) -> Result<Plan, Refusal>
+    ensures { Plans (told asked.now) asked.now.caller.now (Request.Members group.now) result }
+{
+    let tests = [
+        key_fault(group),
+        is_no_partner(asked, &group.0),
+        unseen(asked.group_right(group)),
+    ];
+    if let Some(refusal) = first(&tests) {
+        return Err(refusal);
+    }
+    Ok(Plan {
+        reply: Reply::Members(asked.members(alloc, group)?),
+        edits: Edits::Nothing,
+    })
+}
