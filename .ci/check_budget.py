@@ -32,7 +32,7 @@ import budget as budgets
 from budget import BUDGET, KINDS, TOP, TURNS, Share, edit_files, lines_of, operations
 
 MEASURE = os.path.join(TOP, "out/minutes.json")
-TESTS, MOST_TESTS = "crate_tests", 8
+TESTS, MOST_TESTS = "crate_tests", 4
 MOST_OPERATIONS = 250
 MEASURED = re.compile(r"^Measured .*$", re.MULTILINE)
 

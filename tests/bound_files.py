@@ -10,12 +10,12 @@ What is exported is put again, and has to be exported as the same bytes. The las
 import os
 import sys
 
-from harness import TOP, run_parts, unmarked
-from messages import (
+from lib.harness import TOP, run_parts, unmarked
+from lib.messages import (
     CONFIG, E, OK, T, Repository, canonical, create, export, exported, file_fault, file_of, instance_fault, instances, named, names, put,
 )
-from plain_binding import spelled_list
-from plain_files import read
+from lib.plain_binding import spelled_list
+from lib.plain_files import read
 
 sys.path.insert(0, os.path.join(TOP, "bench"))
 

@@ -9,8 +9,8 @@ Each function `test_*` is one test; its document string says what has to hold. T
 """
 import sys
 
-from harness import Wrong, run_tests
-from messages import (
+from lib.harness import Wrong, run_tests
+from lib.messages import (
     BAD_REQUEST, CONFIG, FILE_LIMIT, FIRST, FIRST_NAMES, L, NO_SUCH_ITEM, OK, T, TOO_LARGE, UNKNOWN_SCHEMA,
     Repository, check, create, expect, expect_fault, fault, file_of, good, instances, line, list_of, listed, loaded,
     names, put, replies_to, schemas,

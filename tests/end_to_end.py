@@ -16,8 +16,8 @@ import subprocess
 import sys
 import time
 
-from harness import TOP, Folder, Wrong, run_tests, shortened
-from messages import (
+from lib.harness import TOP, Folder, Wrong, run_tests, shortened
+from lib.messages import (
     BAD_NAME, BAD_REQUEST, CONFIG, E, EXISTS, FILE_LIMIT, FIRST, FIRST_EXPORT, FIRST_LINES, FIRST_NAMES, FIRST_REPLIES, HAS_LINKS, HEAD,
     IN_USE, LINE_LIMIT, NO_RIGHT, NO_SUCH_INSTANCE, NO_SUCH_ITEM, OK, T, TOO_LARGE, TOO_MANY, UNKNOWN_PARTNER, UNKNOWN_SCHEMA, WRONG_SCHEMA,
     Repository, add, added, canonical, check, create, delete, drop, expect, expect_config_fault, expect_fault, expect_replies, export, exported,

@@ -11,8 +11,8 @@ without a mark stand its instances, in order of name, or else what is refused of
 """
 import sys
 
-from harness import run_parts, unmarked
-from messages import CONFIG, OK, WRONG_SCHEMA, Repository, create, file_fault, file_of, instance_fault, instances, named, names, put
+from lib.harness import run_parts, unmarked
+from lib.messages import CONFIG, OK, WRONG_SCHEMA, Repository, create, file_fault, file_of, instance_fault, instances, named, names, put
 
 # entities for values of each sort, and for instances that refer to others
 T = """SCHEMA t;

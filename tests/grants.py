@@ -9,8 +9,8 @@ Each function `test_*` is one test; its document string says what has to hold. T
 """
 import sys
 
-from harness import Wrong, run_tests
-from messages import (
+from lib.harness import Wrong, run_tests
+from lib.messages import (
     BAD_NAME, BAD_REQUEST, EXISTS, FIRST, FIRST_EXPORT, FIRST_LINES, FIRST_NAMES, HAS_LINKS, IN_USE, NO_RIGHT, NO_SUCH_INSTANCE, NO_SUCH_ITEM,
     OK, TOO_MANY, UNKNOWN_PARTNER, WRONG_SCHEMA, add, added, canonical, create, delete, drop, expect, export, exported, file_fault, file_of, get,
     got, grant, instance_fault, instances, line, link, link_fault, linked, list_of, listed, named, names, put, replies_to, revoke, set_instance,

@@ -8,8 +8,8 @@ Each function `test_*` is one test; its document string says what has to hold. T
 """
 import sys
 
-from harness import Wrong, run_tests
-from messages import (
+from lib.harness import Wrong, run_tests
+from lib.messages import (
     BAD_NAME, BAD_REQUEST, CONFIG, E, EXISTS, FIRST, FIRST_EXPORT, FIRST_LINES, FIRST_NAMES, HAS_LINKS, MEMBERSHIP, NO_RIGHT, NO_SUCH_INSTANCE,
     NO_SUCH_ITEM, OK, TOO_MANY, UNKNOWN_PARTNER, UNKNOWN_SCHEMA, WRONG_SCHEMA, add, added, create, create_group, delete, delete_group, drop,
     exclude, expect, export, extent, extent_is, file_of, get, got, grant, grant_group, include, instances, line, link, link_fault, linked,

@@ -19,13 +19,13 @@ import json
 import random
 import sys
 
-from harness import end, shortened, take_program
-from messages import Repository as RepositoryFolder
-from plain_binding import Entity, InstanceFault, Schema, bound, express, references_of
-from plain_model import (
+from lib.harness import end, shortened, take_program
+from lib.messages import Repository as RepositoryFolder
+from lib.plain_binding import Entity, InstanceFault, Schema, bound, express, references_of
+from lib.plain_model import (
     CODES, GROUPING, LINE_LIMIT, LINKS_OF_ONE_MODEL, READING, REQUESTS, TEXT_LIMIT, WRITING, File, FileFault, Link, Repository, request_of, targets,
 )
-from random_files import POOL, UNDEFINED, T, exchange_file, instance_text, long_file, schema_text
+from lib.random_files import POOL, UNDEFINED, T, exchange_file, instance_text, long_file, schema_text
 
 LABEL = "random lines"
 PARTNERS = ["ann", "bob", "cyd"]

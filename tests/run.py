@@ -17,7 +17,7 @@ import subprocess
 import sys
 import time
 
-import trial
+from lib import trial
 
 TESTS = os.path.dirname(os.path.abspath(__file__))
 TOP = os.path.dirname(TESTS)

@@ -32,14 +32,14 @@ import sys
 from concurrent.futures import ProcessPoolExecutor
 from typing import NamedTuple
 
-from harness import Wrong, end, shortened, take_program
-from messages import Repository as RepositoryFolder
-from messages import (
+from lib.harness import Wrong, end, shortened, take_program
+from lib.messages import Repository as RepositoryFolder
+from lib.messages import (
     create, create_group, exclude, exported, extent, file_of, get, grant, grant_group, include, line, link, list_of, members, put, revoke, users,
 )
-from plain_binding import Entity, Schema, express
-from plain_files import read, read_mapping
-from plain_model import GROUPING, READING, WRITING, Group, Refused, Repository, compact, request_of
+from lib.plain_binding import Entity, Schema, express
+from lib.plain_files import read, read_mapping
+from lib.plain_model import GROUPING, READING, WRITING, Group, Refused, Repository, compact, request_of
 
 LABEL = "two runs"
 PARTNERS = ["ann", "bob", "cyd", "dan"]

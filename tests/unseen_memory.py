@@ -12,8 +12,8 @@ of all rows is made larger for the row of one partner. The last line is 'unseen 
 import os
 import sys
 
-from harness import TOP, Folder, end, take_program
-from messages import (
+from lib.harness import TOP, Folder, end, take_program
+from lib.messages import (
     CONFIG, HAS_LINKS, IN_USE, MEMBERSHIP, NO_SUCH_INSTANCE, NO_SUCH_ITEM, Repository, add, canonical, check, create, create_group, delete,
     delete_group, drop, exclude, export, exported, extent, extent_is, file_fault, file_of, get, good, got, grant, grant_group, include,
     instance_fault, link, link_fault, list_of, listed, loaded, members, members_are, named, names, put, revoke, revoke_group, schemas,

@@ -5,7 +5,7 @@
 
 For each file of request lines (else those of tools/lines) the program is run once for each of its
 allocations with that one refused, and once with that one and all later ones refused, by refuse.c. A reply
-has to be NoMemory or the exact one for the content so far, which tests/plain_model.py gives. A request that
+has to be NoMemory or the exact one for the content so far, which tests/lib/plain_model.py gives. A request that
 was answered NoMemory has changed nothing, so what follows is answered accordingly. The program may end with
 status 2 and no output only where the allocation was one of those that it makes before it first reads its
 input. It is a failure too if a run that refuses nothing has a NoMemory, if a run has more of them than
@@ -27,9 +27,9 @@ TOOLS = os.path.dirname(os.path.abspath(__file__))
 TOP = os.path.dirname(TOOLS)
 sys.dont_write_bytecode = True
 sys.path.insert(0, os.path.join(TOP, "tests"))
-from plain_binding import Aggregate, Entity, Enumeration, Schema, Select, express  # noqa: E402
-from plain_files import read, read_mapping  # noqa: E402
-from plain_model import FileFault, Repository  # noqa: E402
+from lib.plain_binding import Aggregate, Entity, Enumeration, Schema, Select, express  # noqa: E402
+from lib.plain_files import read, read_mapping  # noqa: E402
+from lib.plain_model import FileFault, Repository  # noqa: E402
 
 PROGRAM = os.path.join(TOP, "crates/rp_server/out/rp_server")
 LINES = os.path.join(TOOLS, "lines")

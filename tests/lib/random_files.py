@@ -3,12 +3,12 @@
 A text is a list of tokens that are written one behind the other, with blanks, comments and nothing between them. A mark
 as ⟦Token⟧ in front of a token says that the text's fault lies there, and of what kind it is.
 """
-from harness import unmarked
-from plain_binding import (
+from lib.harness import unmarked
+from lib.plain_binding import (
     DERIVED, UNSET, Aggregate, Bits, Entity, Enumeration, Header, Instance, Item, Reference, Schema, Select, Typed, line_of, members,
     places_of, real_of, target,
 )
-from plain_model import File, FileFault, Mapping
+from lib.plain_model import File, FileFault, Mapping
 
 NOTHING = [""] * 12
 BLANKS = [" ", "  ", "\n", "\r\n", "\t", "\x01", "\x00", "/**/", "/***/", "/* é */", "/* it's #1=P(; */", "\\N\\", "\\F\\"]

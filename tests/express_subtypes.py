@@ -2,15 +2,15 @@
 """Runs the built program on schemas whose supertype expressions can't be read, by `check` and by the request
 `check_schema`, and compares all that is told of them, byte for byte.
 
-    tests/subtypes.py [PROGRAM]
+    tests/express_subtypes.py [PROGRAM]
 
 A mark as ⟦NamedTwice⟧ stands right before the first byte of a fault; of several faults the first is told. What has
-no mark is accepted. The last line is 'subtypes: N passed, M failed', and the status is 0 only if none failed.
+no mark is accepted. The last line is 'express subtypes: N passed, M failed', and the status is 0 only if none failed.
 """
 import sys
 
-from harness import run_parts, unmarked
-from messages import check, fault, good, replies_to
+from lib.harness import run_parts, unmarked
+from lib.messages import check, fault, good, replies_to
 
 # a's direct subtypes are b, c and d, and e stands below d
 BELOW = ("ENTITY b SUBTYPE OF (a); END_ENTITY; ENTITY c SUBTYPE OF (a); END_ENTITY; ENTITY d SUBTYPE OF (a); END_ENTITY; "
@@ -97,4 +97,4 @@ def many(it):
 
 
 if __name__ == "__main__":
-    run_parts("subtypes", [by_check, by_request, many], sys.argv[1:])
+    run_parts("express subtypes", [by_check, by_request, many], sys.argv[1:])

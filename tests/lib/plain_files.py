@@ -3,8 +3,8 @@ ValueError, whatever its fault is. It is written from docs/EXCHANGE-FILES.md, an
 import re
 from typing import NamedTuple
 
-from plain_binding import DERIVED, UNSET, Bits, Header, Instance, Item, Reference, Typed, real_of
-from plain_model import File, Mapping
+from lib.plain_binding import DERIVED, UNSET, Bits, Header, Instance, Item, Reference, Typed, real_of
+from lib.plain_model import File, Mapping
 
 TOKEN = re.compile(r"""
     (?P<blank> [\0- ]+ | /\*.*?\*/ | \\[NF]\\ ) | (?P<string> '(?:[^']|'')*' ) | (?P<binary> "[0-3][0-9A-Fa-f]*" )

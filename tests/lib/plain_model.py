@@ -16,8 +16,8 @@ import re
 from dataclasses import dataclass, field
 from typing import NamedTuple
 
-import plain_binding
-from plain_binding import DEFAULT_HEADER, Header, InstanceFault, Reference
+from lib import plain_binding
+from lib.plain_binding import DEFAULT_HEADER, Header, InstanceFault, Reference
 
 MIB = 1024 * 1024
 TEXT_LIMIT = 8 * MIB

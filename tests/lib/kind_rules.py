@@ -1,4 +1,4 @@
-"""The rules of kinds, for the tables of tests/kinds.py: which kinds a value may have, and what operators, functions and
+"""The rules of kinds, for the tables of tests/express_kinds.py: which kinds a value may have, and what operators, functions and
 places make of them. They are written out here once more, from their description alone.
 
 A value's kinds are simple ones (with each enumeration and each entity one of its own), and an aggregate with the kinds

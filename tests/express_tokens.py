@@ -2,17 +2,17 @@
 """Runs `rp_server check` of the built program on EXPRESS texts and compares, byte for byte, what it tells of their tokens
 and numbers, and of the places of what a schema declares.
 
-    tests/schema_texts.py [PROGRAM]
+    tests/express_tokens.py [PROGRAM]
 
 A mark as ⟦Syntax⟧ stands right before the first byte of a fault; what has no mark is accepted. The grammar has rows of its
-own in tests/schemas.py, names in tests/names.py, kinds in tests/kinds.py. The last line is
-'schema texts: N passed, M failed', and the status is 0 only if none failed.
+own in tests/express_grammar.py, names in tests/express_names.py, kinds in tests/express_kinds.py. The last line is
+'express tokens: N passed, M failed', and the status is 0 only if none failed.
 """
 import os
 import sys
 
-from harness import TOP, run_parts
-from messages import T
+from lib.harness import TOP, run_parts
+from lib.messages import T
 
 # ---- tokens alone: a fault of a token is told before any of syntax
 
@@ -117,7 +117,7 @@ def tokens_in_place(it):
 
 def words_in_lower_case(it):
     """Each word of the profile where it is due: a schema has them all, and its literals name no SELECT in lower case."""
-    with open(os.path.join(TOP, "tests/long.exp"), encoding="utf-8") as file:
+    with open(os.path.join(TOP, "tests/data/long.exp"), encoding="utf-8") as file:
         it.accepts("long.exp in lower case", file.read().lower(), b"PLANT_MODEL")
 
 
@@ -180,4 +180,4 @@ def trees(it):
 
 
 if __name__ == "__main__":
-    run_parts("schema texts", (faults_of_tokens, tokens_in_place, words_in_lower_case, numbers, trees), sys.argv[1:])
+    run_parts("express tokens", (faults_of_tokens, tokens_in_place, words_in_lower_case, numbers, trees), sys.argv[1:])

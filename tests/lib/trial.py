@@ -16,10 +16,9 @@ import sys
 import tempfile
 import time
 
-from harness import TOP, Folder, LeftOut, Wrong
-from messages import Repository
+from lib.harness import TESTS, TOP, Folder, LeftOut, Wrong
+from lib.messages import Repository
 
-TESTS = os.path.dirname(os.path.abspath(__file__))
 BATCH = ("batch", "--config", "config.json")
 
 # how long one run may take, and how many bytes its lines may have

@@ -2,15 +2,15 @@
 """Runs `rp_server check` of the built program on EXPRESS schemas and compares, byte for byte, what it prints of
 their names: which are declared, where each may stand, and which fault is told.
 
-    tests/names.py [PROGRAM]
+    tests/express_names.py [PROGRAM]
 
 A mark as ⟦Undeclared⟧ stands right before the first byte of a fault; of several faults the first is told. What has
 no mark is accepted. First each sort of name stands at each place that a name can have; then come rows by hand. The
-last line is 'names: N passed, M failed', and the status is 0 only if none failed.
+last line is 'express names: N passed, M failed', and the status is 0 only if none failed.
 """
 import sys
 
-from harness import run_parts
+from lib.harness import run_parts
 
 # What stands around a piece: something of each sort.
 WORLD = ("TYPE t = INTEGER; END_TYPE; TYPE l = ENUMERATION OF (i, j); END_TYPE; "
@@ -1063,4 +1063,4 @@ def rows(it):
 PARTS = (places, twice_in_a_schema, twice_in_an_entity, attributes, items, several, lineages, rows, many)
 
 if __name__ == "__main__":
-    run_parts("names", PARTS, sys.argv[1:])
+    run_parts("express names", PARTS, sys.argv[1:])

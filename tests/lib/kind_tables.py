@@ -1,9 +1,9 @@
-"""Generated tables for tests/kinds.py: each operator, function and place with a value of each kind, and what each gives.
+"""Generated tables for tests/express_kinds.py: each operator, function and place with a value of each kind, and what each gives.
 
 A value of each kind is the result of a function without arguments, which can stand everywhere. A piece is put into its
 context at `¤`; `@` in it is a name of its own, so that many pieces that are accepted can be looked at in one schema.
 """
-from kind_rules import (BUILT_IN, NOTHING, OPERATORS, Kinds, everything, fault_of, fault_of_built_in, fault_of_case, fault_of_sign,
+from lib.kind_rules import (BUILT_IN, NOTHING, OPERATORS, Kinds, everything, fault_of, fault_of_built_in, fault_of_case, fault_of_sign,
                         fits, given_by, holds_entity, many, may_be, may_be_aggregate, of, union)
 
 COLOUR, SIZE, D, E = of("enumeration colour"), of("enumeration size"), of("entity d"), of("entity e")

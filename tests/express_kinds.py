@@ -2,19 +2,19 @@
 """Runs `rp_server check` of the built program on EXPRESS schemas and compares, byte for byte, what it tells of their
 types: which kinds fit where, which fault is told, and which warnings.
 
-    tests/kinds.py [PROGRAM]
+    tests/express_kinds.py [PROGRAM]
 
 A mark as ⟦Operand⟧ stands right before the first byte of a fault; of several faults the first is told, and no warning
 with it. ⟦SelectInTypeof⟧ stands before each literal that is warned of. What has no mark is accepted. First come the
-tables of tests/kind_tables.py, then rows by hand, then the long schema of tests/long.exp. The last line is
-'kinds: N passed, M failed', and the status is 0 only if none failed.
+tables of tests/lib/kind_tables.py, then rows by hand, then the long schema of tests/data/long.exp. The last line is
+'express kinds: N passed, M failed', and the status is 0 only if none failed.
 """
 import os
 import re
 import sys
 
-from harness import MARK, TOP, WARNING, run_parts
-from kind_tables import TABLES
+from lib.harness import MARK, TOP, WARNING, run_parts
+from lib.kind_tables import TABLES
 
 FAULTS = {"Operand", "Arguments", "Assign", "Qualifier", "Ambiguous", "RealArithmetic", "EntityComparison"}
 
@@ -683,7 +683,7 @@ def many_of_them():
 
 # ---- the long schema
 
-LONG = os.path.join(TOP, "tests/long.exp")
+LONG = os.path.join(TOP, "tests/data/long.exp")
 # the words and signs of the profile; those of one letter or two are looked for among the tokens as well
 WORDS = """ABS ABSTRACT AGGREGATE AND ANDOR ARRAY BAG BEGIN BINARY BLENGTH BOOLEAN BY CASE CONSTANT DERIVE DIV ELSE END END_CASE
 END_CONSTANT END_ENTITY END_FUNCTION END_IF END_LOCAL END_REPEAT END_RULE END_SCHEMA END_TYPE ENTITY ENUMERATION ESCAPE EXISTS FALSE
@@ -785,4 +785,4 @@ def long_schema(it):
 
 
 if __name__ == "__main__":
-    run_parts("kinds", (tables, rows_by_hand, long_schema), sys.argv[1:])
+    run_parts("express kinds", (tables, rows_by_hand, long_schema), sys.argv[1:])

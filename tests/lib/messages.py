@@ -1,7 +1,7 @@
 """Requests and replies for the test scripts, the repository that most of them open, and turns that are compared."""
 import json
 
-from harness import Folder, Wrong, shortened
+from lib.harness import Folder, Wrong, shortened
 
 MIB = 1024 * 1024
 FILE_LIMIT = 8 * MIB

@@ -1,19 +1,19 @@
 #!/usr/bin/env python3
 """Runs `rp_server check` of the built program on EXPRESS schemas and compares what it prints, byte for byte.
 
-    tests/schemas.py [PROGRAM]
+    tests/express_grammar.py [PROGRAM]
 
 Each production of the grammar (ISO 10303-11:1994, Annex A, as far as the profile takes it) has a line in
 PRODUCTIONS: a text that is spelled, and one that is refused at the token behind the mark. What surrounds a
 piece declares the names that it uses, so that a text that is spelled is a schema; one whose names can't be
 declared has a mark too, before the name at which it is refused. Then come the faults of tokens, the bounds of
-nesting and of size, and the command line. What names mean is looked at by tests/names.py. The last line is
-'schemas: N passed, M failed', and the status is 0 only if none failed.
+nesting and of size, and the command line. What names mean is looked at by tests/express_names.py. The last line is
+'express grammar: N passed, M failed', and the status is 0 only if none failed.
 """
 import sys
 import time
 
-from harness import run_parts
+from lib.harness import run_parts
 
 # Where a piece of a schema stands, and the names that it uses there.
 SCHEMA = "SCHEMA A; {} END_SCHEMA;"
@@ -38,7 +38,7 @@ WHOLE = "{}"
 # The mark before the token of the fault: Syntax, OutOfProfile, TooDeep; or before a name that isn't declared.
 MARKS = {"¿": "Syntax", "¡": "OutOfProfile", "¶": "TooDeep", "¬": "Undeclared"}
 
-# The faults of kinds, which tests/kinds.py looks at: what has one of them is spelled, and its names are bound.
+# The faults of kinds, which tests/express_kinds.py looks at: what has one of them is spelled, and its names are bound.
 KINDS = ("RealArithmetic", "EntityComparison", "Operand", "Arguments", "Assign", "Qualifier", "Ambiguous")
 
 # production, where the piece stands, a piece that is spelled, a piece that is not; `¬` in the first is a fault of names
@@ -396,4 +396,4 @@ def explained(it):
 
 
 if __name__ == "__main__":
-    run_parts("schemas", (productions, tokens, nesting, sizes, rows, commands, explained), sys.argv[1:])
+    run_parts("express grammar", (productions, tokens, nesting, sizes, rows, commands, explained), sys.argv[1:])
