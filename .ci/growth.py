@@ -60,7 +60,7 @@ LISTED = [
     Listed(f"{READERS}items.rt", "model_rows", "Vec::with_capacity(alloc, seen.len())?", "the models that the caller sees"),
     Listed(f"{READERS}items.rt", "group_rows", "Vec::with_capacity(alloc, seen.len())?", "the groups that the caller sees"),
     Listed(f"{READERS}listings.rt", "told_members", "Vec::with_capacity(alloc, members.len())?", "what a group lists that the caller sees"),
-    Listed(f"{READERS}contents.rt", "named_types", "Vec::with_capacity(alloc, instances.len())?", "what a model has that the caller sees"),
+    Listed(f"{READERS}contents.rt", "listed_instances", "Vec::with_capacity(alloc, instances.len())?", "what a model has that the caller sees"),
     Listed(f"{READERS}schemas.rt", "names_of", "Vec::with_capacity(alloc, schemas.len())?", "everyone is told all schemas"),
     Listed(f"{READERS}kept.rt", "of", "Vec::with_capacity(alloc, schemas.len())?", "all schemas, at the opening"),
     Listed(f"{ACCESS}members.rt", "members_of", "Vec::with_capacity(alloc, keys.len())?", "what a group lists that the caller sees"),
@@ -268,13 +268,13 @@ STATEMENTS = [
 # Items that are planted behind all others of the file of `plan_names`.
 ITEMS = {
     "a plan without tests": """
-pub fn plan_told(asked: &Asking<'_>) -> Result<Plan, Refusal> { Ok(Plan { reply: asked.told(), edits: Edits::Nothing }) } // found""",
+pub fn plan_told(asked: &Readers<'_>) -> Result<Plan, Refusal> { Ok(Plan { reply: asked.told(), edits: Edits::Nothing }) } // found""",
     "a plan that grows and tests nothing": """
-pub fn plan_told(alloc: Global, asked: &Asking<'_>) -> Result<Plan, Refusal> { Ok(told(alloc, asked)?) } // found""",
+pub fn plan_told(alloc: Global, asked: &Readers<'_>) -> Result<Plan, Refusal> { Ok(told(alloc, asked)?) } // found""",
     "a plan that hands its request to another function": """
-pub fn plan_told(alloc: Global, asked: &Asking<'_>, key: &Key) -> Result<Plan, Refusal> { told(alloc, asked, key) } // found""",
+pub fn plan_told(alloc: Global, asked: &Readers<'_>, key: &Key) -> Result<Plan, Refusal> { told(alloc, asked, key) } // found""",
     "a plan that tells a refusal last, behind a growth": """
-pub fn plan_told(alloc: Global, asked: &Asking<'_>, key: &Key) -> Result<Plan, Refusal> {
+pub fn plan_told(alloc: Global, asked: &Readers<'_>, key: &Key) -> Result<Plan, Refusal> {
     if let Some(refusal) = unseen(asked.model_right(key)) {
         return Err(refusal);
     }
@@ -285,7 +285,7 @@ pub fn plan_told(alloc: Global, asked: &Asking<'_>, key: &Key) -> Result<Plan, R
     }
 }""",
     "a plan that tests again behind a growth": """
-pub fn plan_told(alloc: Global, asked: &Asking<'_>, key: &Key) -> Result<Plan, Refusal> {
+pub fn plan_told(alloc: Global, asked: &Readers<'_>, key: &Key) -> Result<Plan, Refusal> {
     if let Some(refusal) = key_fault(key) {
         return Err(refusal);
     }
@@ -293,21 +293,21 @@ pub fn plan_told(alloc: Global, asked: &Asking<'_>, key: &Key) -> Result<Plan, R
     seen(asked, key)?;
     Ok(names)
 }
-fn seen(asked: &Asking<'_>, key: &Key) -> Result<(), Refusal> {
+fn seen(asked: &Readers<'_>, key: &Key) -> Result<(), Refusal> {
     if let Some(refusal) = unseen(asked.model_right(key)) {
         return Err(refusal);
     }
     Ok(())
 }""",
     "a test of sight behind a growth": """
-fn seen_late(alloc: Global, asked: &Asking<'_>, key: &Key) -> Option<Refusal> {
+fn seen_late(alloc: Global, asked: &Readers<'_>, key: &Key) -> Option<Refusal> {
     let _name = key.1.copy(alloc); // found // found
     unseen(asked.model_right(key))
 }""",
     "another name of an allocator": """
 fn told(memory: Global) {} // found""",
     "what is fine": """
-pub fn plan_last(alloc: Global, asked: &Asking<'_>, key: &Key) -> Result<Plan, Refusal> {
+pub fn plan_last(alloc: Global, asked: &Readers<'_>, key: &Key) -> Result<Plan, Refusal> {
     match unseen(asked.model_right(key)) {
         Some(refusal) => Err(refusal),
         None => match told(alloc, asked, key) {
@@ -316,8 +316,8 @@ pub fn plan_last(alloc: Global, asked: &Asking<'_>, key: &Key) -> Result<Plan, R
         },
     }
 }
-pub fn plan_either(alloc: Global, asked: &Asking<'_>, key: &Key) -> Result<Plan, Refusal> { plan_names(alloc, asked, key) }
-pub fn plan_told(alloc: Global, asked: &Asking<'_>, key: &Key) -> Result<Plan, Refusal> {
+pub fn plan_either(alloc: Global, asked: &Readers<'_>, key: &Key) -> Result<Plan, Refusal> { plan_names(alloc, asked, key) }
+pub fn plan_told(alloc: Global, asked: &Readers<'_>, key: &Key) -> Result<Plan, Refusal> {
     let tests = [key_fault(key), unseen(asked.model_right(key))];
     if let Some(refusal) = first(&tests) {
         return Err(refusal);

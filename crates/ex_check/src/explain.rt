@@ -64,7 +64,7 @@ fn explanation(alloc: Global, text: &[u8]) -> Result<(Vec<u8>, Verdict), AllocEr
 {
     match compile_schema(alloc, text) {
         Ok(compiled) => Ok((
-            explained_schema(alloc, text, compiled.schema())?,
+            explained_schema(alloc, text, compiled.checked())?,
             Verdict::Accepted,
         )),
         Err(Failure::Fault(fault)) => Ok((explained_fault(alloc, text, fault)?, Verdict::Refused)),

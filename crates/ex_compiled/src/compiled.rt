@@ -51,7 +51,7 @@ impl Compiled {
     }
 
     /// The schema, as it was checked.
-    pub fn schema(&self) -> &CheckedSchema
+    pub fn checked(&self) -> &CheckedSchema
         ensures { result.now ≡ self.now }
     {
         &self.schema

@@ -67,7 +67,7 @@ impl<'s> LoadedSchema<'s> {
     pub fn of(alloc: Global, compiled: &'s Compiled) -> Result<LoadedSchema<'s>, AllocError>
         ensures { IfOk result (λ loaded. loaded ≡ compiled.now) }
     {
-        let types = DefinedTypes::of(alloc, compiled.schema().types())?;
+        let types = DefinedTypes::of(alloc, compiled.checked().types())?;
         Ok(LoadedSchema { compiled, types })
     }
 
@@ -86,7 +86,7 @@ impl<'s> LoadedSchema<'s> {
     pub fn checked(&self) -> &'s CheckedSchema
         ensures { result.now ≡ self.now }
     {
-        self.compiled.schema()
+        self.compiled.checked()
     }
 
     /// What its declared types come to.

@@ -18,7 +18,7 @@ use Rattle.p21_tree.specs.declared.fault.InstanceFaultKind.TheVariants.{Twice}
 use Rattle.p21_tree.specs.declared.instance.Mapping.TheVariants.{Internal}
 use Rattle.p21_tree.specs.declared.instance.Record.{Record}
 use Rattle.p21_tree.specs.declared.value.Value as tree
-use Rattle.p21_lines.specs.Trees.{entity_name, instance_tree, leaf_part, mapping, own_parts, record_of, records}
+use Rattle.p21_canonical.specs.Trees.{entity_name, instance_tree, leaf_part, mapping, own_parts, record_of, records}
 use Rattle.rp_content.specs.declared.instance.Instance.{Instance}
 use Rattle.rp_content.specs.declared.instance.Types.{Types}
 use Rattle.rp_content.specs.declared.instance.Types.TheVariants.{Leaf, Several}

@@ -15,7 +15,7 @@ use Rattle.p21_tree.specs.declared.value.Value.TheFolds as trees
 use Rattle.p21_tree.specs.declared.value.Value.TheOpen.{Value-F}
 use Rattle.p21_tree.specs.declared.value.Value.TheVariants as t
 use Rattle.p21_values.specs.Taking.{bound}
-use Rattle.p21_lines.specs.Trees.{attribute_at, attribute_tree, attributes, marks_of, value_tree}
+use Rattle.p21_canonical.specs.Trees.{attribute_at, attribute_tree, attributes, marks_of, value_tree}
 use Rattle.rp_value.specs.declared.value.Value.{Value}
 use Rattle.rp_value.specs.declared.value.Value.TheVariants as v
 use Rattle.p21_laws.proofs.Pairs.{AllBoth, numbered_next}

@@ -9,7 +9,7 @@ use Rattle.p21_spelling.specs.Tokens.{is_bits}
 use Rattle.p21_spelling.proofs.Runs.{both_hold, first_holds, second_holds}
 use Rattle.p21_lexemes.specs.Lexical.{is_binary}
 use Rattle.p21_values.specs.Tokens.{bits, bits_of_digit}
-use Rattle.p21_lines.specs.Binaries.{binary, digit, digits, unused, unused_of, weighs}
+use Rattle.p21_canonical.specs.Binaries.{binary, digit, digits, unused, unused_of, weighs}
 
 -- a digit of four bits
 abbrev of_four : Bool → Bool → Bool → Bool → ℕ

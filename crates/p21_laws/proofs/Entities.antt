@@ -9,7 +9,7 @@ use Rattle.name_tables.specs.Names.{place_of}
 use Rattle.ex_layouts.specs.Entities.{entity_spelled}
 use Rattle.p21_spelling.proofs.Runs.{first_holds, second_holds}
 use Rattle.p21_spelling.specs.Tokens.{is_word}
-use Rattle.p21_lines.specs.Trees.{entity_name}
+use Rattle.p21_canonical.specs.Trees.{entity_name}
 use Rattle.p21_laws.proofs.Names.{given, passes_at, place_has, placed_once}
 use Rattle.p21_laws.specs.Schemas.{IsAccepted}
 use Rattle.p21_laws.specs.Types.{is_upper_word}

@@ -31,7 +31,7 @@ use Rattle.p21_tree.specs.declared.instance.Mapping.TheVariants.{External, Inter
 use Rattle.p21_tree.specs.declared.instance.Record.{Record}
 use Rattle.p21_tree.specs.declared.raw.Raw.{Raw}
 use Rattle.p21_tree.specs.declared.value.Value.{Value as Spelled}
-use Rattle.p21_lines.specs.Trees.{canonical, content_tree, entity_name, header_tree, instance_tree, mapping, own_parts, records}
+use Rattle.p21_canonical.specs.Trees.{canonical, content_tree, entity_name, header_tree, instance_tree, mapping, own_parts, records}
 use Rattle.rp_content.specs.declared.content.Content.{Content}
 use Rattle.rp_content.specs.declared.instance.Instance.{Instance}
 use Rattle.rp_content.specs.declared.instance.Types.{Types}

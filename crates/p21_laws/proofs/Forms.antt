@@ -15,8 +15,8 @@ use Rattle.p21_tree.specs.declared.value.Value.TheVariants as t
 use Rattle.p21_tree.specs.declared.value.Value.TheViews as views
 use Rattle.p21_values.specs.Taking as taking
 use Rattle.p21_values.specs.Taking.{Meaning, bare, meaning, named, none, of_binary, of_integer, of_item, of_list, of_real, of_text, reference}
-use Rattle.p21_lines.specs.Binaries.{binary}
-use Rattle.p21_lines.specs.Trees.{item_name, layer, logical_name, type_name, value_tree}
+use Rattle.p21_canonical.specs.Binaries.{binary}
+use Rattle.p21_canonical.specs.Trees.{item_name, layer, logical_name, type_name, value_tree}
 use Rattle.rp_numbers.specs.Decimals.{Decimal}
 use Rattle.rp_numbers.specs.Written.{written}
 use Rattle.rp_numbers.specs.declared.Logical.{Logical}

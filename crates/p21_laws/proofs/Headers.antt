@@ -23,8 +23,8 @@ use Rattle.p21_tree.specs.declared.header.HeaderValue.TheOpen.{HeaderValue-F}
 use Rattle.p21_tree.specs.declared.header.HeaderValue.TheVariants as h
 use Rattle.p21_tree.specs.declared.header.HeaderValue.TheViews.{roll-HeaderValue}
 use Rattle.p21_values.specs.Tokens.{ok}
-use Rattle.p21_lines.specs.Trees as write
-use Rattle.p21_lines.specs.Trees.{header_tree, header_value_tree}
+use Rattle.p21_canonical.specs.Trees as write
+use Rattle.p21_canonical.specs.Trees.{header_tree, header_value_tree}
 use Rattle.rp_value.specs.Elements.{Elements}
 use Rattle.rp_value.specs.declared.value.AggregateKind.TheVariants as aggregate
 use Rattle.rp_value.specs.declared.value.Value.{Value}

@@ -13,7 +13,7 @@ use Rattle.name_tables.specs.Names.{place_of}
 use Rattle.p21_spelling.specs.Tokens.{is_word}
 use Rattle.ex_selects.specs.Items.{items, items_by}
 use Rattle.p21_values.specs.Tokens.{boolean, by_letter, logical}
-use Rattle.p21_lines.specs.Trees.{item_name, items_of, logical_name}
+use Rattle.p21_canonical.specs.Trees.{item_name, items_of, logical_name}
 use Rattle.rp_numbers.specs.declared.Logical.{Logical}
 use Rattle.rp_numbers.specs.declared.Logical.TheVariants as l
 use Rattle.p21_laws.proofs.Names.{given, passes_at, place_has}

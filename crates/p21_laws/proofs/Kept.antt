@@ -20,7 +20,7 @@ use Rattle.p21_spelling.specs.Tokens.{is_name}
 use Rattle.p21_lexemes.specs.Lexical.{max_name}
 use Rattle.p21_tree.specs.declared.header.Header as spelled_header
 use Rattle.p21_tree.specs.declared.instance.Instance as tree
-use Rattle.p21_lines.specs.Trees.{canonical, content_tree, instance_tree}
+use Rattle.p21_canonical.specs.Trees.{canonical, content_tree, instance_tree}
 use Rattle.rp_content.specs.Headers as held
 use Rattle.rp_content.specs.declared.content.Content.{Content}
 use Rattle.rp_content.specs.declared.header.Header.{Header}

@@ -13,7 +13,7 @@ use Rattle.name_tables.specs.Names.{place_of}
 use Rattle.p21_spelling.proofs.Runs.{first_holds, second_holds}
 use Rattle.p21_spelling.specs.Tokens.{is_word}
 use Rattle.ex_selects.specs.Items.{type_named}
-use Rattle.p21_lines.specs.Trees.{type_name}
+use Rattle.p21_canonical.specs.Trees.{type_name}
 use Rattle.p21_laws.specs.Types.{AreTypes, AreWords, is_upper_word}
 
 -- what a function gives, and of what

@@ -10,7 +10,7 @@ use Rattle.p21_spelling.specs.Values.{text_of}
 use Rattle.p21_lexemes.specs.Tokens.{Lexemes, lexemes}
 use Rattle.p21_tree.specs.declared.value.Value as tree
 use Rattle.p21_values.specs.Taking.{bound}
-use Rattle.p21_lines.specs.Trees.{value_tree}
+use Rattle.p21_canonical.specs.Trees.{value_tree}
 use Rattle.rp_value.specs.declared.value.Value.{Value}
 use Rattle.p21_laws.proofs.Taken.{bound_levels, bound_spelled}
 use Rattle.p21_laws.specs.Types.{AreTypes}

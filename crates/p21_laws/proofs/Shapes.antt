@@ -9,7 +9,7 @@ use Rattle.lineage.specs.Numbered.{numbered}
 use Rattle.ex_layouts.specs.Entities.{is_legal, line_of}
 use Rattle.ex_layouts.specs.Layouts.{in_name_order, leaf, slots_in}
 use Rattle.p21_tree.specs.declared.instance.Record.{Record}
-use Rattle.p21_lines.specs.Trees.{attributes, entity_name, leaf_part, mapping, marks_of, own_part, own_parts, record_of, records}
+use Rattle.p21_canonical.specs.Trees.{attributes, entity_name, leaf_part, mapping, marks_of, own_part, own_parts, record_of, records}
 use Rattle.rp_content.specs.declared.instance.Types.{Types}
 use Rattle.rp_content.specs.declared.instance.Types.TheVariants.{Leaf, Several}
 use Rattle.rp_value.specs.declared.value.Value.{Value}

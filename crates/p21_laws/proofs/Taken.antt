@@ -29,8 +29,8 @@ use Rattle.p21_values.specs.Taking as taking
 use Rattle.p21_values.specs.Taking.{Meaning, all_there, bare, bare_at, bound, by_choice, chosen, is_that, meaning, named_by, none, of_binary, of_integer, of_item, of_list, of_real, of_text, only, place, reference_at, with_first}
 use Rattle.ex_selects.specs.Items.{items, type_named}
 use Rattle.p21_values.specs.Tokens.{bits, boolean, integer, logical, ok}
-use Rattle.p21_lines.specs.Binaries.{binary}
-use Rattle.p21_lines.specs.Trees.{item_name, logical_name, type_name, value_tree}
+use Rattle.p21_canonical.specs.Binaries.{binary}
+use Rattle.p21_canonical.specs.Trees.{item_name, logical_name, type_name, value_tree}
 use Rattle.rp_numbers.proofs.Rereading.{read_again}
 use Rattle.rp_numbers.specs.Decimals.{Decimal, IsNormal}
 use Rattle.rp_numbers.specs.Spelling.{parse}

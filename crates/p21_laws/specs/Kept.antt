@@ -11,7 +11,7 @@ use Rattle.p21_read.specs.Single.{mapping_of}
 use Rattle.p21_lexemes.specs.Lexical.{max_name}
 use Rattle.p21_tree.specs.declared.instance.Mapping.{Mapping}
 use Rattle.p21_tree.specs.declared.raw.Raw.{Raw}
-use Rattle.p21_lines.specs.Trees.{instance_tree}
+use Rattle.p21_canonical.specs.Trees.{instance_tree}
 use Rattle.rp_content.specs.Headers.{default_header}
 use Rattle.rp_content.specs.declared.content.Content.{Content}
 use Rattle.rp_content.specs.declared.header.Header.{Header}

@@ -13,7 +13,7 @@ ghost use Rattle.p21_spelling.specs.Values.{spelling, text_of};
 ghost use Rattle.p21_lexemes.specs.Tokens.{Lexemes, lexemes};
 ghost use Rattle.p21_tree.specs.declared.value.Value as tree;
 ghost use Rattle.p21_values.specs.Taking.{bound};
-ghost use Rattle.p21_lines.specs.Trees.{value_tree};
+ghost use Rattle.p21_canonical.specs.Trees.{value_tree};
 ghost use Rattle.rp_value.specs.declared.value.Value.{Value};
 
 /// What a type took of a value of a file, it takes again from the tree that canonical text has for

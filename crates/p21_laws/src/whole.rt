@@ -15,7 +15,7 @@ ghost use Rattle.p21_laws.specs.Schemas.{IsAccepted};
 ghost use Rattle.p21_grammar.specs.File.{file_of};
 ghost use Rattle.p21_tree.specs.declared.instance.Instance as tree;
 ghost use Rattle.p21_tree.specs.declared.raw.Raw.{Raw};
-ghost use Rattle.p21_lines.specs.Trees.{canonical, content_tree, instance_tree};
+ghost use Rattle.p21_canonical.specs.Trees.{canonical, content_tree, instance_tree};
 ghost use Rattle.rp_content.specs.declared.content.Content.{Content};
 ghost use Rattle.rp_content.specs.declared.instance.Instance.{Instance};
 

@@ -3,10 +3,10 @@
 ghost use Rattle.std.specs.Prelude.{◌≡◌, ◌++◌, IfOk, OnOk, map, None};
 ghost use Rattle.p21_spelling.specs.Files as spelled;
 ghost use Rattle.p21_escapes.specs.Encoding.{encoded};
-ghost use Rattle.p21_lines.specs.Trees as spec;
+ghost use Rattle.p21_canonical.specs.Trees as spec;
 
 use ex_layouts::LoadedSchema;
-use p21_lines::{Output, write_lines, write_string, write_values};
+use p21_canonical::{Output, write_lines, write_string, write_values};
 use plain_data::Text;
 use rp_content::{Content, Header, Instance};
 use rp_value::Value;
@@ -66,7 +66,7 @@ fn write_data<'s>(
 /// The canonical text of what a model of this schema holds.
 ///
 /// Its time is that of the text, and of the entities of each instance.
-#[tactic(auto, unfolding(p21_lines::specs::Trees::canonical))]
+#[tactic(auto, unfolding(p21_canonical::specs::Trees::canonical))]
 pub fn write<'s>(
     alloc: Global,
     schema: &'s LoadedSchema<'s>,

@@ -5,5 +5,5 @@ mod file;
 mod single;
 
 pub use file::write;
-pub use p21_lines::type_text;
+pub use p21_canonical::type_text;
 pub use single::write_instance;

@@ -2,10 +2,10 @@
 
 ghost use Rattle.std.specs.Prelude.{◌≡◌, IfOk};
 ghost use Rattle.p21_spelling.specs.Instances as spelled;
-ghost use Rattle.p21_lines.specs.Trees as spec;
+ghost use Rattle.p21_canonical.specs.Trees as spec;
 
 use ex_layouts::Layouts;
-use p21_lines::{Output, write_entity_instance};
+use p21_canonical::{Output, write_entity_instance};
 use plain_data::Text;
 use rp_content::Instance;
 use std::alloc::{AllocError, Global};

@@ -13,7 +13,7 @@ use Rattle.rp_rows.specs.Alterations.{Holds, altered, grants_of}
 use Rattle.rp_rows.proofs.Keys.{key_at, found_at}
 use Rattle.rp_plain.specs.Plain.{Plain, model_at}
 use Rattle.rp_plain.specs.Edits.{changed}
-use Rattle.rp_plain.specs.Asked.{asked, held}
+use Rattle.rp_plain.specs.Readers.{asked, held}
 use Rattle.rp_plain.specs.Instances.{placing, dropping}
 use Rattle.rp_plans.specs.declared.edits.Edits.{Edits}
 use Rattle.rp_plans.specs.declared.edits.Edits.TheVariants as edits

@@ -17,7 +17,7 @@ use Rattle.rp_plain.specs.declared.messages.Reply.{Reply}
 use Rattle.rp_plain.specs.declared.messages.Reply.TheVariants.{Refused}
 use Rattle.rp_plain.specs.Plain.{Plain}
 use Rattle.rp_plain.specs.Edits.{changed}
-use Rattle.rp_plain.specs.Asked.{Asked, asked}
+use Rattle.rp_plain.specs.Readers.{Readers, asked}
 use Rattle.rp_plain.specs.Files.{Reading, read_content, stored, text_by, links_of, exported}
 use Rattle.rp_plain.specs.Meaning.{schema_of as of_schema}
 use Rattle.rp_plain.specs.Checks as checks
@@ -45,7 +45,7 @@ check_told (Ok schema) = refl
 check_told (Err fault) = refl
 
 -- no request is answered that memory is wanting
-told : (a : Asked) (c : Text) (q : Request) → is_no_memory (meaning a c q).reply ≡ false
+told : (a : Readers) (c : Text) (q : Request) → is_no_memory (meaning a c q).reply ≡ false
 told a c (CreateModel name schema) = refl
 told a c (DeleteModel name) = refl
 told a c (Put k file links) = stored_told (read_content a.schemas (a.content k) (link_names links) (file_of file))

@@ -8,7 +8,7 @@ use ex_layouts::LoadedSchema;
 use plain_data::Text;
 use rp_access::Access;
 use rp_plain::messages::{NewFault, Reply, Request};
-use rp_readers::{Asking, KeptLayouts, place_among};
+use rp_readers::{Readers, KeptLayouts, place_among};
 use std::alloc::Global;
 use std::marker::Model;
 
@@ -93,7 +93,7 @@ impl<'s> Holdings<'s> {
         ensures prepared { IsPrepared self.old.content (turn self.old.content place request) result }
         ensures fits { Fits self.new result }
     {
-        let asked = Asking {
+        let asked = Readers {
             schemas: self.schemas,
             partners: &self.partners,
             models: self.access.models(),

@@ -15,11 +15,11 @@ use rp_item_plans::{
 };
 use rp_plain::messages::{Refusal, Request};
 use rp_plans::Plan;
-use rp_readers::{Asking, KeptLayouts};
+use rp_readers::{Readers, KeptLayouts};
 use std::alloc::Global;
 
 /// The plan of a request on groups, or its refusal.
-fn plan_on_group(alloc: Global, asked: &Asking<'_, '_>, request: Request) -> Result<Plan, Refusal>
+fn plan_on_group(alloc: Global, asked: &Readers<'_, '_>, request: Request) -> Result<Plan, Refusal>
     requires listed { TellsListed (told asked.now) }
     requires on_group { IsOnGroup request }
     ensures { Plans (told asked.now) asked.now.caller.now request result }
@@ -41,7 +41,7 @@ fn plan_on_group(alloc: Global, asked: &Asking<'_, '_>, request: Request) -> Res
 /// The request's plan, or its refusal. What was found in the schemas for it is kept with theirs.
 pub fn plan(
     alloc: Global,
-    asked: &Asking<'_, '_>,
+    asked: &Readers<'_, '_>,
     layouts: &mut KeptLayouts<'_>,
     request: Request,
 ) -> Result<Plan, Refusal>

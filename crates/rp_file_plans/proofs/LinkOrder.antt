@@ -7,7 +7,7 @@ use Rattle.p21_instances.proofs.SortedBy.{Rises, rises_in_order}
 use Rattle.rp_content.specs.declared.link.Link.{Link}
 use Rattle.rp_rows.specs.Rows.{Text, Key}
 use Rattle.rp_rows.specs.Contents.{link_name, link_names}
-use Rattle.rp_plain.specs.Asked.{Asked}
+use Rattle.rp_plain.specs.Readers.{Readers}
 use Rattle.rp_plain.specs.Links.{links_in_order, first_fault}
 use Rattle.rp_file_plans.specs.Links.{AreInOrder}
 
@@ -47,7 +47,7 @@ next_again l m (k ∷ ks) order e =
     subst (λ x. (x.name == l.name) ≡ is_among (link_names (k ∷ ks)) l.name) same (stands_next l k ks order)
 
 -- which names the instances have is all that is asked of them
-module _ (a : Asked) (k : Key) (schema : Text) (xs ys : List ℕ) (same : (n : ℕ) → is_among xs n ≡ is_among ys n) where
+module _ (a : Readers) (k : Key) (schema : Text) (xs ys : List ℕ) (same : (n : ℕ) → is_among xs n ≡ is_among ys n) where
   pub same_faults : (ls : List Link) → first_fault a k schema xs ls ≡ first_fault a k schema ys ls
   same_faults [] = refl
   same_faults (l ∷ ls) = rw (same l.name, same_faults ls) refl

@@ -12,7 +12,7 @@ use Rattle.rp_plain.specs.declared.messages.Request.{Request}
 use Rattle.rp_plain.specs.declared.messages.Refusal.TheVariants.{NoSuchItem}
 use Rattle.rp_plain.specs.declared.messages.Reply.TheVariants.{Stored}
 use Rattle.rp_plain.specs.declared.messages.Request.TheVariants.{Put}
-use Rattle.rp_plain.specs.Asked.{Asked}
+use Rattle.rp_plain.specs.Readers.{Readers}
 use Rattle.rp_plain.specs.Meaning.{first_some}
 use Rattle.rp_plain.specs.Links.{linking, no_request}
 use Rattle.rp_plain.specs.Files.{Reading, read_for, read_content, refused, stored, ill_linked, too_many, refilled, filled}
@@ -25,11 +25,11 @@ use Rattle.rp_plans.specs.Plans.{IsAnswer, IsRefusal, Plans}
 use Rattle.rp_plans.proofs.Firsts.{first_front, first_behind}
 
 -- a refusal that is handed on
-pub refused_with : (a : Asked) (c : Text) (q : Request) (why : Refusal) (r : Result Plan Refusal) → IsErrAnd r (λ e. e ≡ why) → IsRefusal a c q why → Plans a c q r
+pub refused_with : (a : Readers) (c : Text) (q : Request) (why : Refusal) (r : Result Plan Refusal) → IsErrAnd r (λ e. e ≡ why) → IsRefusal a c q why → Plans a c q r
 refused_with a c q why (Ok plan) is refused = elim is [ ]
 refused_with a c q why (Err e) is refused = subst (IsRefusal a c q) (sym is) refused
 
-module _ (a : Asked) (c : Text) (k : Key) (file : Text) (links : List Link) where
+module _ (a : Readers) (c : Text) (k : Key) (file : Text) (links : List Link) where
   -- the tests without a look into the file
   abbrev early : List (Option Refusal)
   early = no_request links ∷ cheap_tests a k file

@@ -12,7 +12,7 @@ use ex_compiled::Compiled;
 use plain_data::{Rows, Text};
 use rp_plain::messages::{Refusal, Reply, Request};
 use rp_plans::{Edits, Plan, too_large};
-use rp_readers::Asking;
+use rp_readers::Readers;
 use std::alloc::{AllocError, Global};
 use text_forms::Failure;
 
@@ -30,7 +30,7 @@ fn told_of_text(alloc: Global, text: &Text) -> Result<Reply, AllocError>
 fn told_of_schema(alloc: Global, compiled: &Compiled) -> Result<Reply, AllocError>
     ensures { IfOk result (λ reply. reply ≡ Reply.Checked (schema_name compiled.now) compiled.now.warnings) }
 {
-    let schema = compiled.schema();
+    let schema = compiled.checked();
     let warnings = Vec::from_slice(alloc, schema.warnings())?;
     let schema = Text::from_str(alloc, schema.name())?;
     Ok(Reply::Checked {
@@ -40,7 +40,7 @@ fn told_of_schema(alloc: Global, compiled: &Compiled) -> Result<Reply, AllocErro
 }
 
 /// What there is to tell of an EXPRESS text.
-pub fn plan_check(alloc: Global, asked: &Asking<'_, '_>, text: &Text) -> Result<Plan, Refusal>
+pub fn plan_check(alloc: Global, asked: &Readers<'_, '_>, text: &Text) -> Result<Plan, Refusal>
     ensures { Plans (told asked.now) asked.now.caller.now (Request.CheckSchema text.now) result }
 {
     if let Some(refusal) = too_large(text) {

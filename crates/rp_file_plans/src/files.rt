@@ -21,7 +21,7 @@ use rp_access::Altered;
 use rp_content::{Content, Instance, Link};
 use rp_plain::messages::{Refusal, Reply, Request};
 use rp_plans::{Edits, Plan, first, is_no_partner, key_fault, lacks, too_large, unseen, when};
-use rp_readers::Asking;
+use rp_readers::Readers;
 use rp_readers::contents::{copies, links_of, text_of};
 use rp_rows::limits::{MAX_INSTANCES, MAX_LINKS};
 use rp_rows::rows::{Key, ModelContent, Right};
@@ -29,7 +29,7 @@ use std::alloc::{AllocError, Global};
 use text_forms::Failure;
 
 /// Why a request that puts a text into a model is refused without a look into the text.
-pub fn cheap_fault(asked: &Asking<'_, '_>, key: &Key, file: &Text) -> Option<Refusal>
+pub fn cheap_fault(asked: &Readers<'_, '_>, key: &Key, file: &Text) -> Option<Refusal>
     ensures { result ≡ first_some (cheap_tests (told asked.now) key.now file.now) }
 {
     first(&[
@@ -63,7 +63,7 @@ fn bound<'s>(
 #[tactic(auto, using(crate::proofs::Loaded::read_loaded))]
 fn loaded(
     alloc: Global,
-    asked: &Asking<'_, '_>,
+    asked: &Readers<'_, '_>,
     model: &ModelContent,
     linked: &[u64],
     file: &Text,
@@ -85,7 +85,7 @@ fn loaded(
 /// What the file says by the schema of the model that it is for, where these names are linked, or why it is refused.
 fn read_for(
     alloc: Global,
-    asked: &Asking<'_, '_>,
+    asked: &Readers<'_, '_>,
     model: &ModelContent,
     linked: &[u64],
     file: &Text,
@@ -163,7 +163,7 @@ fn refilled(
 }
 
 /// Why a file and links are refused without a look into the file.
-fn early_fault(asked: &Asking<'_, '_>, key: &Key, file: &Text, links: &[Link]) -> Option<Refusal>
+fn early_fault(asked: &Readers<'_, '_>, key: &Key, file: &Text, links: &[Link]) -> Option<Refusal>
     ensures { result ≡ first_some (of_links.no_request links.now ∷ cheap_tests (told asked.now) key.now file.now) }
 {
     match no_request(links) {
@@ -175,7 +175,7 @@ fn early_fault(asked: &Asking<'_, '_>, key: &Key, file: &Text, links: &[Link]) -
 /// What the file says by the schema of the model, whose instances may refer to these links, or why it is refused.
 fn read_linked(
     alloc: Global,
-    asked: &Asking<'_, '_>,
+    asked: &Readers<'_, '_>,
     model: &ModelContent,
     links: &[Link],
     file: &Text,
@@ -189,7 +189,7 @@ fn read_linked(
 /// The links in the order of their names, if a model of this key and schema may have them beside the content.
 fn fit_links(
     alloc: Global,
-    asked: &Asking<'_, '_>,
+    asked: &Readers<'_, '_>,
     key: &Key,
     schema: &Text,
     links: Rows<Link>,
@@ -210,7 +210,7 @@ fn fit_links(
 /// What the model of this key holds once what the file says and these links are put into it, or why they are refused.
 fn refilled_by(
     alloc: Global,
-    asked: &Asking<'_, '_>,
+    asked: &Readers<'_, '_>,
     key: &Key,
     model: &ModelContent,
     file: &Text,
@@ -236,7 +236,7 @@ fn refilled_by(
 /// A model's content is replaced by that of a file, and its links by these.
 pub fn plan_put(
     alloc: Global,
-    asked: &Asking<'_, '_>,
+    asked: &Readers<'_, '_>,
     key: Key,
     file: &Text,
     links: Rows<Link>,
@@ -259,7 +259,7 @@ pub fn plan_put(
 }
 
 /// Of a model whose links aren't asked for.
-fn has_links(linked: bool, asked: &Asking<'_, '_>, key: &Key) -> Option<Refusal>
+fn has_links(linked: bool, asked: &Readers<'_, '_>, key: &Key) -> Option<Refusal>
     ensures { result ≡ of_files.has_links linked ((told asked.now).content key.now) }
 {
     when(!linked && links_of(asked, key).len() > 0, Refusal::HasLinks)
@@ -279,7 +279,7 @@ fn exported(alloc: Global, linked: bool, file: Text, links: &[Link]) -> Result<R
 /// The canonical text of what a model holds, with its links if they are asked for.
 pub fn plan_export(
     alloc: Global,
-    asked: &Asking<'_, '_>,
+    asked: &Readers<'_, '_>,
     key: &Key,
     linked: bool,
 ) -> Result<Plan, Refusal>

@@ -10,7 +10,7 @@ use rp_content::Instance;
 use rp_plain::messages::{Refusal, Reply, Request};
 use rp_plans::{Edits, Plan, first, is_no_partner, key_fault, unseen, when};
 use rp_readers::instances::{instance_in, line_of};
-use rp_readers::{Asking, KeptLayouts};
+use rp_readers::{Readers, KeptLayouts};
 use rp_rows::rows::Key;
 use std::alloc::Global;
 
@@ -24,7 +24,7 @@ pub fn is_absent(found: Option<&Instance>) -> Option<Refusal>
 /// One instance of a model, as canonical text has it.
 pub fn plan_get(
     alloc: Global,
-    asked: &Asking<'_, '_>,
+    asked: &Readers<'_, '_>,
     layouts: &mut KeptLayouts<'_>,
     key: &Key,
     name: u64,

@@ -17,7 +17,7 @@ use plain_data::{Items, Rows, Text};
 use rp_content::{Content, Instance, Link};
 use rp_plain::messages::{LinkFault, LinkFaultKind, Refusal};
 use rp_plans::when;
-use rp_readers::Asking;
+use rp_readers::Readers;
 use rp_readers::instances::instance_named;
 use rp_rows::limits::MAX_NAME;
 use rp_rows::rows::Key;
@@ -82,7 +82,7 @@ fn leads_to(link: &Link, key: &Key) -> bool
 }
 
 /// What is wrong with the instance that is linked to, where its model is to be of this schema.
-fn target_fault(asked: &Asking<'_, '_>, schema: &Text, link: &Link) -> Option<LinkFaultKind>
+fn target_fault(asked: &Readers<'_, '_>, schema: &Text, link: &Link) -> Option<LinkFaultKind>
     requires { TellsNamed (told asked.now) }
     ensures { result ≡ of_links.target_fault schema.now link.now.target ((told asked.now).content (of_links.target_model link.now)) }
 {
@@ -109,7 +109,7 @@ struct Holder<'a> {
 
 /// What is wrong with a link of the model, behind which the others stand.
 fn fault_of(
-    asked: &Asking<'_, '_>,
+    asked: &Readers<'_, '_>,
     holder: &Holder<'_>,
     link: &Link,
     others: &[Link],
@@ -128,7 +128,7 @@ fn fault_of(
 }
 
 /// The fault of the first of the links that has one.
-fn first_fault(asked: &Asking<'_, '_>, holder: &Holder<'_>, links: &[Link]) -> Option<LinkFault>
+fn first_fault(asked: &Readers<'_, '_>, holder: &Holder<'_>, links: &[Link]) -> Option<LinkFault>
     requires named { TellsNamed (told asked.now) }
     requires order { AreInOrder links.now }
     ensures { result ≡ of_links.first_fault (told asked.now) holder.now.key.now holder.now.schema.now holder.now.instances.now links.now }
@@ -167,7 +167,7 @@ fn names_of_instances(alloc: Global, instances: &[Instance]) -> Result<Names, Al
 /// Why the links, which are in order, can't be those of a model of this key and schema that holds the content.
 pub fn link_refusal(
     alloc: Global,
-    asked: &Asking<'_, '_>,
+    asked: &Readers<'_, '_>,
     key: &Key,
     schema: &Text,
     links: &[Link],

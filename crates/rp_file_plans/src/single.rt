@@ -16,7 +16,7 @@ use rp_content::Instance;
 use rp_plain::messages::{Refusal, Reply, Request};
 use rp_plans::{Edits, Plan, first, is_no_partner, key_fault, lacks, when};
 use rp_readers::instances::{instance_in, instance_named};
-use rp_readers::{Asking, KeptLayouts, ModelNames};
+use rp_readers::{Readers, KeptLayouts, ModelNames};
 use rp_rows::limits::{MAX_INSTANCES, MAX_NAME};
 use rp_rows::rows::{Key, ModelContent, Right};
 use rp_store::is_used;
@@ -57,7 +57,7 @@ fn is_full(model: &ModelContent) -> Option<Refusal>
 /// One instance more of a model.
 pub fn plan_add(
     alloc: Global,
-    asked: &Asking<'_, '_>,
+    asked: &Readers<'_, '_>,
     layouts: &mut KeptLayouts<'_>,
     key: Key,
     text: &Text,
@@ -87,7 +87,7 @@ pub fn plan_add(
 /// Another instance in place of the one of its name.
 pub fn plan_set(
     alloc: Global,
-    asked: &Asking<'_, '_>,
+    asked: &Readers<'_, '_>,
     layouts: &mut KeptLayouts<'_>,
     key: Key,
     name: u64,
@@ -115,7 +115,7 @@ pub fn plan_set(
 }
 
 /// Of an instance that another one of the model refers to, if the partner sees the model.
-fn is_needed(asked: &Asking<'_, '_>, key: &Key, name: u64) -> Option<Refusal>
+fn is_needed(asked: &Readers<'_, '_>, key: &Key, name: u64) -> Option<Refusal>
     ensures { result ≡ of_instances.is_needed name ((told asked.now).content key.now) }
 {
     match asked.content(key) {
@@ -128,7 +128,7 @@ fn is_needed(asked: &Asking<'_, '_>, key: &Key, name: u64) -> Option<Refusal>
 }
 
 /// A model without the instance of this name.
-pub fn plan_drop(asked: &Asking<'_, '_>, key: Key, name: u64) -> Result<Plan, Refusal>
+pub fn plan_drop(asked: &Readers<'_, '_>, key: Key, name: u64) -> Result<Plan, Refusal>
     requires { TellsNamed (told asked.now) }
     ensures { Plans (told asked.now) asked.now.caller.now (Request.DropInstance key name) result }
 {

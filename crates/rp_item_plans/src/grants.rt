@@ -8,14 +8,14 @@ use plain_data::Text;
 use rp_access::Altered;
 use rp_plain::messages::{Refusal, Reply, Request};
 use rp_plans::{Edits, Plan, first, is_no_partner, names_fault, unseen};
-use rp_readers::Asking;
+use rp_readers::Readers;
 use rp_rows::rows::Level;
 use std::alloc::Global;
 
 /// A partner's level on a model of the caller's.
 pub fn plan_grant(
     alloc: Global,
-    asked: &Asking<'_, '_>,
+    asked: &Readers<'_, '_>,
     name: Text,
     to: Text,
     level: Level,
@@ -45,7 +45,7 @@ pub fn plan_grant(
 /// No level of a partner on a model of the caller's.
 pub fn plan_revoke(
     alloc: Global,
-    asked: &Asking<'_, '_>,
+    asked: &Readers<'_, '_>,
     name: Text,
     to: Text,
 ) -> Result<Plan, Refusal>

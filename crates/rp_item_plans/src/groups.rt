@@ -8,7 +8,7 @@ use plain_data::{Rows, Text};
 use rp_access::{Altered, at_least};
 use rp_plain::messages::{Refusal, Reply, Request};
 use rp_plans::{Edits, Plan, first, is_no_partner, name_fault, names_fault, unseen, when};
-use rp_readers::Asking;
+use rp_readers::Readers;
 use rp_rows::limits::MAX_GROUPS;
 use rp_rows::rows::{Level, Listing, Right};
 use std::alloc::Global;
@@ -16,7 +16,7 @@ use std::alloc::Global;
 /// A group of the caller's, without members.
 pub fn plan_create_group(
     alloc: Global,
-    asked: &Asking<'_, '_>,
+    asked: &Readers<'_, '_>,
     name: Text,
     mut schema: Text,
 ) -> Result<Plan, Refusal>
@@ -44,7 +44,7 @@ pub fn plan_create_group(
 }
 
 /// A group of the caller's is gone, with its grants.
-pub fn plan_delete_group(alloc: Global, asked: &Asking<'_, '_>, name: Text) -> Result<Plan, Refusal>
+pub fn plan_delete_group(alloc: Global, asked: &Readers<'_, '_>, name: Text) -> Result<Plan, Refusal>
     ensures { Plans (told asked.now) asked.now.caller.now (Request.DeleteGroup name) result }
 {
     let tests = [name_fault(&name), unseen(asked.own_group_right(&name))];
@@ -61,7 +61,7 @@ pub fn plan_delete_group(alloc: Global, asked: &Asking<'_, '_>, name: Text) -> R
 /// A partner may read a group of the caller's.
 pub fn plan_grant_group(
     alloc: Global,
-    asked: &Asking<'_, '_>,
+    asked: &Readers<'_, '_>,
     name: Text,
     to: Text,
 ) -> Result<Plan, Refusal>
@@ -90,7 +90,7 @@ pub fn plan_grant_group(
 /// A partner may not read a group of the caller's.
 pub fn plan_revoke_group(
     alloc: Global,
-    asked: &Asking<'_, '_>,
+    asked: &Readers<'_, '_>,
     name: Text,
     to: Text,
 ) -> Result<Plan, Refusal>

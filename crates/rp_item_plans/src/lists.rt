@@ -5,13 +5,13 @@ ghost use Rattle.rp_plans.specs.Plans.{Plans};
 
 use rp_plain::messages::{Refusal, Reply, Request};
 use rp_plans::{Edits, Plan, first, is_no_partner, key_fault, unseen};
-use rp_readers::Asking;
+use rp_readers::Readers;
 use rp_readers::contents::names_of;
 use rp_rows::rows::Key;
 use std::alloc::Global;
 
 /// The names of a model's instances, with their types.
-pub fn plan_names(alloc: Global, asked: &Asking<'_, '_>, key: &Key) -> Result<Plan, Refusal>
+pub fn plan_names(alloc: Global, asked: &Readers<'_, '_>, key: &Key) -> Result<Plan, Refusal>
     ensures { Plans (told asked.now) asked.now.caller.now (Request.Names key.now) result }
 {
     let tests = [
@@ -29,7 +29,7 @@ pub fn plan_names(alloc: Global, asked: &Asking<'_, '_>, key: &Key) -> Result<Pl
 }
 
 /// The groups and the models that the caller sees.
-pub fn plan_list(alloc: Global, asked: &Asking<'_, '_>) -> Result<Plan, Refusal>
+pub fn plan_list(alloc: Global, asked: &Readers<'_, '_>) -> Result<Plan, Refusal>
     ensures { Plans (told asked.now) asked.now.caller.now Request.ListItems result }
 {
     let groups = asked.group_items(alloc)?;
@@ -43,7 +43,7 @@ pub fn plan_list(alloc: Global, asked: &Asking<'_, '_>) -> Result<Plan, Refusal>
 }
 
 /// The names of the schemas.
-pub fn plan_schemas(alloc: Global, asked: &Asking<'_, '_>) -> Result<Plan, Refusal>
+pub fn plan_schemas(alloc: Global, asked: &Readers<'_, '_>) -> Result<Plan, Refusal>
     ensures { Plans (told asked.now) asked.now.caller.now Request.Schemas result }
 {
     Ok(Plan {

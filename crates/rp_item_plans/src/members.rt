@@ -11,7 +11,7 @@ use plain_data::Text;
 use rp_access::{Altered, excluding, has_key, including};
 use rp_plain::messages::{Refusal, Reply, Request};
 use rp_plans::{Edits, Plan, first, is_no_partner, key_fault, lacks, unseen, when};
-use rp_readers::Asking;
+use rp_readers::Readers;
 use rp_rows::limits::MAX_MEMBERS;
 use rp_rows::names::is_valid_name;
 use rp_rows::rows::{Key, Listing, ModelContent, Right};
@@ -54,7 +54,7 @@ fn is_of_other(model: Option<&ModelContent>, group: Option<&Listing>) -> Option<
 }
 
 /// Why a model isn't included in a group of the caller's.
-fn include_fault(asked: &Asking<'_, '_>, group: &Text, model: &Key) -> Option<Refusal>
+fn include_fault(asked: &Readers<'_, '_>, group: &Text, model: &Key) -> Option<Refusal>
     ensures { result ≡ first_some (of_groups.include (told asked.now) asked.now.caller.now group.now model.now).tests }
 {
     let listing = asked.own_listing(group);
@@ -74,7 +74,7 @@ fn include_fault(asked: &Asking<'_, '_>, group: &Text, model: &Key) -> Option<Re
 /// A group of the caller's lists a model.
 pub fn plan_include(
     alloc: Global,
-    asked: &Asking<'_, '_>,
+    asked: &Readers<'_, '_>,
     group: Text,
     model: Key,
 ) -> Result<Plan, Refusal>
@@ -99,7 +99,7 @@ pub fn plan_include(
 /// A group of the caller's doesn't list a model.
 pub fn plan_exclude(
     alloc: Global,
-    asked: &Asking<'_, '_>,
+    asked: &Readers<'_, '_>,
     group: Text,
     model: &Key,
 ) -> Result<Plan, Refusal>
@@ -129,7 +129,7 @@ pub fn plan_exclude(
 }
 
 /// The models that a group lists, and which of them count.
-pub fn plan_members(alloc: Global, asked: &Asking<'_, '_>, group: &Key) -> Result<Plan, Refusal>
+pub fn plan_members(alloc: Global, asked: &Readers<'_, '_>, group: &Key) -> Result<Plan, Refusal>
     ensures { Plans (told asked.now) asked.now.caller.now (Request.Members group.now) result }
 {
     let tests = [

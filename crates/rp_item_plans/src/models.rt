@@ -10,13 +10,13 @@ use rp_access::{Altered, at_least};
 use rp_content::Content;
 use rp_plain::messages::{Refusal, Reply, Request};
 use rp_plans::{Edits, Plan, first, name_fault, unseen, when};
-use rp_readers::Asking;
+use rp_readers::Readers;
 use rp_rows::limits::MAX_MODELS;
 use rp_rows::rows::{Key, ModelContent, Right};
 use std::alloc::{AllocError, Global};
 
 /// The key of the caller's own item of this name.
-pub fn own(alloc: Global, asked: &Asking<'_, '_>, name: Text) -> Result<Key, AllocError>
+pub fn own(alloc: Global, asked: &Readers<'_, '_>, name: Text) -> Result<Key, AllocError>
     ensures { IfOk result (λ key. key ≡ (asked.now.caller.now, name)) }
 {
     let owner = asked.caller.copy(alloc)?;
@@ -38,7 +38,7 @@ fn new_content(alloc: Global, schema: Text) -> Result<ModelContent, AllocError>
 /// An empty model of the caller's.
 pub fn plan_create(
     alloc: Global,
-    asked: &Asking<'_, '_>,
+    asked: &Readers<'_, '_>,
     name: Text,
     mut schema: Text,
 ) -> Result<Plan, Refusal>
@@ -66,7 +66,7 @@ pub fn plan_create(
 }
 
 /// A model of the caller's is gone, with its grants.
-pub fn plan_delete(alloc: Global, asked: &Asking<'_, '_>, name: Text) -> Result<Plan, Refusal>
+pub fn plan_delete(alloc: Global, asked: &Readers<'_, '_>, name: Text) -> Result<Plan, Refusal>
     ensures { Plans (told asked.now) asked.now.caller.now (Request.DeleteModel name) result }
 {
     let tests = [name_fault(&name), unseen(asked.own_model_right(&name))];

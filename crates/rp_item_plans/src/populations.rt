@@ -8,7 +8,7 @@ use plain_data::Text;
 use rp_plain::messages::{Refusal, Reply, Request};
 use rp_plans::{Edits, Plan, first, is_no_partner, key_fault, unseen, when};
 use rp_population::Place;
-use rp_readers::Asking;
+use rp_readers::Readers;
 use rp_readers::populations::{extent_by, group_schema, has_place, users_by};
 use rp_rows::rows::Key;
 use std::alloc::Global;
@@ -16,7 +16,7 @@ use std::alloc::Global;
 /// The instances of an entity in a group's population.
 pub fn plan_extent(
     alloc: Global,
-    asked: &Asking<'_, '_>,
+    asked: &Readers<'_, '_>,
     group: &Key,
     entity: &Text,
 ) -> Result<Plan, Refusal>
@@ -42,7 +42,7 @@ pub fn plan_extent(
 /// The instances of a group's population that use one of them.
 pub fn plan_users(
     alloc: Global,
-    asked: &Asking<'_, '_>,
+    asked: &Readers<'_, '_>,
     group: &Key,
     place: &Place,
     role: &Text,

@@ -15,7 +15,7 @@ use Rattle.rp_rows.proofs.Keys.{key_total, key_at, found_at}
 use Rattle.rp_plain.specs.declared.messages.Request.TheVariants.{CreateGroup, Include, Exclude}
 use Rattle.rp_plain.specs.declared.messages.Refusal.TheVariants as refusal
 use Rattle.rp_plain.specs.Plain.{Plain, group_at}
-use Rattle.rp_plain.specs.Asked.{asked, held}
+use Rattle.rp_plain.specs.Readers.{asked, held}
 use Rattle.rp_plain.specs.Meaning.{first_some, when, has_text, has_schema, is_no_partner}
 use Rattle.rp_rows.specs.Listings.{max_groups, max_members, itself, with_member, without_member}
 use Rattle.rp_plain.specs.Groups.{new_listing, members_of, member_fault, relisted}

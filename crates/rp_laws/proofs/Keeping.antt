@@ -8,7 +8,7 @@ use Rattle.rp_rows.specs.Sight.{sees, shown, sees_group, shown_group}
 use Rattle.rp_rows.proofs.Keys.{key_total, altered_ascends}
 use Rattle.rp_plain.specs.Plain.{Plain, part}
 use Rattle.rp_plain.specs.Edits.{Edit, EditModel, EditGroup, edited_by, changed}
-use Rattle.rp_plain.specs.Asked.{asked}
+use Rattle.rp_plain.specs.Readers.{asked}
 use Rattle.rp_plain.specs.Step.{answer, next}
 use Rattle.rp_plain.specs.Valid.{IsOrdered}
 

@@ -34,7 +34,7 @@ use Rattle.rp_plain.specs.declared.messages.Refusal.{Refusal}
 use Rattle.rp_plain.specs.declared.messages.Refusal.TheVariants as refusal
 use Rattle.rp_plain.specs.Plain.{Plain, model_at}
 use Rattle.rp_plain.specs.Edits.{Edit, EditModel, EditGroup}
-use Rattle.rp_plain.specs.Asked.{asked, held}
+use Rattle.rp_plain.specs.Readers.{asked, held}
 use Rattle.rp_plain.specs.Meaning.{first_some, has_text, schema_name, has_schema, schema_named}
 use Rattle.rp_rows.specs.Listings.{max_models}
 use Rattle.rp_plain.specs.Models.{new_content}

@@ -21,7 +21,7 @@ use Rattle.rp_plain.specs.declared.messages.LinkFaultKind.{LinkFaultKind}
 use Rattle.rp_plain.specs.declared.messages.LinkFaultKind.TheVariants.{Defined, Own}
 use Rattle.rp_plain.specs.declared.messages.Refusal.TheVariants as refusal
 use Rattle.rp_plain.specs.Plain.{Plain, model_at}
-use Rattle.rp_plain.specs.Asked.{Asked, asked, held}
+use Rattle.rp_plain.specs.Readers.{Readers, asked, held}
 use Rattle.rp_plain.specs.Meaning.{has_text}
 use Rattle.rp_plain.specs.Links.{max_links, target_model, links_in_order, linking, has_names, no_request, target_fault, fault_of, told_first, first_fault, told, link_refusal}
 use Rattle.rp_plain.specs.Valid.{IsValidModel, IsValidLink, IsValid}
@@ -49,7 +49,7 @@ all_numbered (l ∷ ls) e = let both = and_parts (has_names l) (list_all has_nam
 
 -- ---- links without a fault
 
-module _ (a : Asked) (k : Key) (schema : Text) (instances : List ℕ) where
+module _ (a : Readers) (k : Key) (schema : Text) (instances : List ℕ) where
   -- it has a name of no instance, and leads to another model that is seen
   record Leads (l : Link) : Type 0 where
     free : is_among instances l.name ≡ false

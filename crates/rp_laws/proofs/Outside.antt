@@ -21,7 +21,7 @@ use Rattle.rp_rows.specs.Sight.{at_least, right_of, owns, is_grant_to, is_grante
 use Rattle.rp_rows.specs.Alterations.{Alteration, Holds, Grants, alter, altered, granting, grant_for, grants_of, gives_to}
 use Rattle.rp_plain.specs.Plain.{Plain, Kind, OfModel, OfGroup, part, model_at, group_at, reaches}
 use Rattle.rp_plain.specs.Edits.{Edit, EditModel, EditGroup, edited_by, changed, is_grant_for, name_of, names_of, Avoids}
-use Rattle.rp_plain.specs.Asked.{asked}
+use Rattle.rp_plain.specs.Readers.{asked}
 use Rattle.rp_plain.specs.Step.{answer, next}
 use Rattle.rp_plain.specs.Valid.{IsOrdered}
 use Rattle.rp_rows.proofs.Keys.{key_total, key_at, found_at}

@@ -15,7 +15,7 @@ use Rattle.rp_plain.specs.declared.messages.Request.TheVariants.{CreateModel, De
 use Rattle.rp_plain.specs.declared.messages.Refusal.{Refusal}
 use Rattle.rp_plain.specs.Plain.{Plain, part, model_at, group_at}
 use Rattle.rp_plain.specs.Edits.{Edit, EditModel, EditGroup, changed}
-use Rattle.rp_plain.specs.Asked.{asked, held}
+use Rattle.rp_plain.specs.Readers.{asked, held}
 use Rattle.rp_plain.specs.Meaning.{first_some}
 use Rattle.rp_plain.specs.Files.{Reading, read_content, filled}
 use Rattle.rp_plain.specs.Grants.{unless_own}

@@ -23,7 +23,7 @@ use Rattle.rp_plain.specs.declared.messages.Refusal.{Refusal}
 use Rattle.rp_plain.specs.declared.messages.Reply.TheVariants.{Refused}
 use Rattle.rp_plain.specs.Plain.{Plain, Kind, OfModel, OfGroup, reaches}
 use Rattle.rp_plain.specs.Edits.{Edit, EditModel, EditGroup, changed, name_of, names_of, is_grant_for, Avoids}
-use Rattle.rp_plain.specs.Asked.{Asked, asked}
+use Rattle.rp_plain.specs.Readers.{Readers, asked}
 use Rattle.rp_plain.specs.Meaning.{first_some, schema_of}
 use Rattle.rp_plain.specs.Checks as checks
 use Rattle.rp_plain.specs.Files.{Reading, read_content, stored, filled, text_by, links_of, exported}
@@ -99,7 +99,7 @@ relisted_said c q k change (Some g) there = listing c q k (Some _) there
 unless_own_said : (c to : Text) (q : Request) (e : Edit) → IsSaid c q e → AllSaid c q (unless_own c to e)
 unless_own_said c to q e is = elim (bytes_eq to c) as (λ t. AllSaid c q (if t then [] else e ∷ [])) [ true ↦ tt | false ↦ (is, tt) ]
 
-edits_said : (a : Asked) (c : Text) (q : Request) → AllSaid c q (meaning a c q).edits
+edits_said : (a : Readers) (c : Text) (q : Request) → AllSaid c q (meaning a c q).edits
 edits_said a c (CreateModel name schema) = holding c (CreateModel name schema) (c, name) (Some _) (only (OfModel, (c, name)))
 edits_said a c (DeleteModel name) = holding c (DeleteModel name) (c, name) None (only (OfModel, (c, name)))
 edits_said a c (Put k file links) = filled_said c (Put k file links) k (a.content k) links (read_content a.schemas (a.content k) (link_names links) (file_of file)) (only (OfModel, k))
@@ -128,11 +128,11 @@ edits_said a c (Users group place role) = tt
 edits_said a c Schemas = tt
 edits_said a c (CheckSchema text) = tt
 
-outcome_said : (a : Asked) (c : Text) (q : Request) (refusal : Option Refusal) → AllSaid c q (outcome (meaning a c q) refusal).edits
+outcome_said : (a : Readers) (c : Text) (q : Request) (refusal : Option Refusal) → AllSaid c q (outcome (meaning a c q) refusal).edits
 outcome_said a c q None = edits_said a c q
 outcome_said a c q (Some refusal) = tt
 
-answer_said : (a : Asked) (c : Text) (q : Request) → AllSaid c q (answer a c q).edits
+answer_said : (a : Readers) (c : Text) (q : Request) → AllSaid c q (answer a c q).edits
 answer_said a c q = outcome_said a c q (first_some (meaning a c q).tests)
 
 pub edits_are_said : EditsAreSaid
@@ -168,7 +168,7 @@ checked_done (Ok schema) refusal e = cc
 checked_done (Err fault) refusal e = cc
 
 -- what a request is answered that passes its tests is no refusal
-is_done : (a : Asked) (c : Text) (q : Request) (refusal : Refusal) → (meaning a c q).reply ≡ Refused refusal → ⊥
+is_done : (a : Readers) (c : Text) (q : Request) (refusal : Refusal) → (meaning a c q).reply ≡ Refused refusal → ⊥
 is_done a c (CreateModel name schema) refusal e = cc
 is_done a c (DeleteModel name) refusal e = cc
 is_done a c (Put k file links) refusal e = stored_done (read_content a.schemas (a.content k) (link_names links) (file_of file)) refusal e

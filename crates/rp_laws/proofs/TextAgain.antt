@@ -21,7 +21,7 @@ use Rattle.p21_laws.specs.Schemas.{IsAccepted}
 use Rattle.p21_bind.specs.Files.{AreAscending}
 use Rattle.p21_tree.specs.declared.value.Value as tree
 use Rattle.p21_tree.specs.declared.value.Value.TheFolds as trees
-use Rattle.p21_lines.specs.Trees.{attribute_at, attribute_tree, instance_tree, leaf_part, mapping, own_parts, record_of, records, value_tree}
+use Rattle.p21_canonical.specs.Trees.{attribute_at, attribute_tree, instance_tree, leaf_part, mapping, own_parts, record_of, records, value_tree}
 use Rattle.rp_content.specs.Headers.{default_header}
 use Rattle.rp_content.specs.declared.header.Header.{Header}
 use Rattle.rp_content.specs.declared.instance.Instance.{Instance}

@@ -3,7 +3,7 @@ use Rattle.std.specs.Prelude.{◌≡◌, ℕ, Bool, true, false, not, ◌&&◌, 
 use Rattle.std.specs.List.{AllByRecursion, list_any}
 use Rattle.ex_types.specs.Checked.{Checked}
 use Rattle.p21_laws.specs.Contents.{IsRead}
-use Rattle.p21_lines.specs.Trees.{canonical}
+use Rattle.p21_canonical.specs.Trees.{canonical}
 use Rattle.rp_content.specs.declared.content.Content.{Content}
 use Rattle.rp_rows.specs.Contents.{link_names}
 use Rattle.rp_rows.specs.Rows.{Key, is_row, Model, GroupRow}
@@ -14,7 +14,7 @@ use Rattle.rp_plain.specs.declared.messages.Reply.TheVariants.{Refused}
 use Rattle.rp_plain.specs.Plain.{Plain, Kind, OfModel, OfGroup, part, reaches}
 use Rattle.rp_plain.specs.Edits.{Edit, name_of, is_grant_for, Avoids}
 use Rattle.rp_plain.specs.Changes.{names_changed, grants_to, KeepsOff}
-use Rattle.rp_plain.specs.Asked.{asked}
+use Rattle.rp_plain.specs.Readers.{asked}
 use Rattle.rp_plain.specs.Meaning.{has_text, schema_named}
 use Rattle.rp_plain.specs.Step.{answer, reply_to, next}
 use Rattle.rp_plain.specs.Opening.{new_fault, opened}

@@ -7,7 +7,7 @@ use Rattle.p21_tree.specs.declared.fault.InstanceFault.{InstanceFault}
 use Rattle.p21_grammar.specs.File.{file_of}
 use Rattle.p21_grammar.specs.Schemas.{is_of_schema}
 use Rattle.p21_bind.specs.Files.{bound_file}
-use Rattle.p21_lines.specs.Trees.{canonical}
+use Rattle.p21_canonical.specs.Trees.{canonical}
 use Rattle.rp_content.specs.declared.content.Content.{Content}
 use Rattle.rp_content.specs.declared.link.Link.{Link}
 use Rattle.rp_rows.specs.declared.rows.ModelContent.{ModelContent}
@@ -20,7 +20,7 @@ use Rattle.rp_plain.specs.declared.messages.Refusal.{Refusal}
 use Rattle.rp_plain.specs.declared.messages.Refusal.TheVariants as refusal
 use Rattle.rp_plain.specs.declared.messages.Reply.{Reply}
 use Rattle.rp_plain.specs.declared.messages.Reply.TheVariants.{Stored, File, Linked}
-use Rattle.rp_plain.specs.Asked.{Asked}
+use Rattle.rp_plain.specs.Readers.{Readers}
 use Rattle.rp_plain.specs.Edits.{Edit, EditModel}
 use Rattle.rp_plain.specs.Meaning.{Meaning, schema_named, schema_of, when, key_fault, is_no_partner, unseen, lacks}
 use Rattle.rp_plain.specs.Links.{max_links, linking, no_request, link_refusal}
@@ -66,7 +66,7 @@ stored (Ok content) = Stored (length content.instances)
 stored (Err refusal) = Stored 0
 
 -- what is wrong with the links of a model that is to hold what the file says
-abbrev pub ill_linked : Asked → Key → Option ModelContent → List Link → Reading → Option Refusal
+abbrev pub ill_linked : Readers → Key → Option ModelContent → List Link → Reading → Option Refusal
 ill_linked a k (Some h) links (Ok content) = link_refusal a k h.schema links content
 ill_linked a k _ links _ = None
 
@@ -83,7 +83,7 @@ abbrev pub filled : Key → Option ModelContent → List Link → Reading → Li
 filled k (Some h) links (Ok content) = EditModel k (Holds (Some (refilled h (linking links content)))) ∷ []
 filled k _ links _ = []
 
-abbrev pub put : Asked → Key → Text → List Link → Meaning
+abbrev pub put : Readers → Key → Text → List Link → Meaning
 put a k file links = let read = read_content a.schemas (a.content k) (link_names links) (file_of file) in record {
   tests = no_request links ∷ too_large file ∷ key_fault k ∷ is_no_partner a k.0 ∷ lacks Writes (a.model_right k) ∷ refused read ∷ ill_linked a k (a.content k) links read ∷ too_many links read ∷ [];
   reply = stored read;
@@ -109,7 +109,7 @@ abbrev pub exported : Bool → Text → List Link → Reply
 exported false file links = File file
 exported true file links = Linked file links
 
-abbrev pub export : Asked → Key → Bool → Meaning
+abbrev pub export : Readers → Key → Bool → Meaning
 export a k linked = record {
   tests = key_fault k ∷ is_no_partner a k.0 ∷ unseen (a.model_right k) ∷ has_links linked (a.content k) ∷ [];
   reply = exported linked (text_by (schema_of a.schemas (a.content k)) (a.content k)) (links_of (a.content k));

@@ -6,7 +6,7 @@ use Rattle.rp_rows.specs.declared.rows.Level.TheVariants.{Read}
 use Rattle.rp_rows.specs.Rows.{Text}
 use Rattle.rp_rows.specs.Alterations.{Grants}
 use Rattle.rp_plain.specs.declared.messages.Reply.TheVariants.{Done}
-use Rattle.rp_plain.specs.Asked.{Asked}
+use Rattle.rp_plain.specs.Readers.{Readers}
 use Rattle.rp_plain.specs.Edits.{Edit, EditModel, EditGroup}
 use Rattle.rp_plain.specs.Meaning.{Meaning, names_fault, is_no_partner, unseen}
 
@@ -15,14 +15,14 @@ abbrev pub unless_own : Text → Text → Edit → List Edit
 unless_own c to e = if bytes_eq to c then [] else e ∷ []
 
 -- it replaces the former level
-abbrev pub grant_model : Asked → Text → Text → Text → Level → Meaning
+abbrev pub grant_model : Readers → Text → Text → Text → Level → Meaning
 grant_model a c name to l = record {
   tests = names_fault name to ∷ is_no_partner a to ∷ unseen (a.model_right (c, name)) ∷ [];
   reply = Done;
   edits = unless_own c to (EditModel (c, name) (Grants to (Some l)));
 }
 
-abbrev pub revoke_model : Asked → Text → Text → Text → Meaning
+abbrev pub revoke_model : Readers → Text → Text → Text → Meaning
 revoke_model a c name to = record {
   tests = names_fault name to ∷ is_no_partner a to ∷ unseen (a.model_right (c, name)) ∷ [];
   reply = Done;
@@ -30,14 +30,14 @@ revoke_model a c name to = record {
 }
 
 -- a group is granted to be read
-abbrev pub grant_group : Asked → Text → Text → Text → Meaning
+abbrev pub grant_group : Readers → Text → Text → Text → Meaning
 grant_group a c name to = record {
   tests = names_fault name to ∷ is_no_partner a to ∷ unseen (a.group_right (c, name)) ∷ [];
   reply = Done;
   edits = unless_own c to (EditGroup (c, name) (Grants to (Some Read)));
 }
 
-abbrev pub revoke_group : Asked → Text → Text → Text → Meaning
+abbrev pub revoke_group : Readers → Text → Text → Text → Meaning
 revoke_group a c name to = record {
   tests = names_fault name to ∷ is_no_partner a to ∷ unseen (a.group_right (c, name)) ∷ [];
   reply = Done;

@@ -12,7 +12,7 @@ use Rattle.rp_rows.specs.Alterations.{Holds}
 use Rattle.rp_plain.specs.declared.messages.Refusal.{Refusal}
 use Rattle.rp_plain.specs.declared.messages.Refusal.TheVariants.{BadName, Exists, WrongSchema, Membership, TooMany}
 use Rattle.rp_plain.specs.declared.messages.Reply.TheVariants.{Done}
-use Rattle.rp_plain.specs.Asked.{Asked}
+use Rattle.rp_plain.specs.Readers.{Readers}
 use Rattle.rp_plain.specs.Edits.{Edit, EditGroup}
 use Rattle.rp_plain.specs.Meaning.{Meaning, when, name_fault, is_no_partner, is_no_schema, unseen, lacks}
 
@@ -20,14 +20,14 @@ use Rattle.rp_plain.specs.Meaning.{Meaning, when, name_fault, is_no_partner, is_
 abbrev pub new_listing : Text → Listing
 new_listing schema = record { schema = str_to_ascii_uppercase schema; members = [] }
 
-abbrev pub create_group : Asked → Text → Text → Text → Meaning
+abbrev pub create_group : Readers → Text → Text → Text → Meaning
 create_group a c name schema = record {
   tests = name_fault name ∷ is_no_schema a schema ∷ when (at_least Reads (a.group_right (c, name))) Exists ∷ when (nat_le max_groups a.group_count) TooMany ∷ [];
   reply = Done;
   edits = EditGroup (c, name) (Holds (Some (new_listing schema))) ∷ [];
 }
 
-abbrev pub delete_group : Asked → Text → Text → Meaning
+abbrev pub delete_group : Readers → Text → Text → Meaning
 delete_group a c name = record {
   tests = name_fault name ∷ unseen (a.group_right (c, name)) ∷ [];
   reply = Done;
@@ -57,7 +57,7 @@ relisted k change None = []
 relisted k change (Some g) = EditGroup k (Holds (Some (change g))) ∷ []
 
 -- the group is the caller's own; of the model he needs the level Group
-abbrev pub include : Asked → Text → Text → Key → Meaning
+abbrev pub include : Readers → Text → Text → Key → Meaning
 include a c group k = let g = a.listing (c, group) in record {
   tests = member_fault group k ∷ is_no_partner a k.0 ∷ unseen (a.group_right (c, group)) ∷ lacks Groups (a.model_right k) ∷ is_of_other (a.content k) g
       ∷ when (is_member k g) Membership ∷ when (nat_le max_members (length (members_of g))) TooMany ∷ [];
@@ -66,7 +66,7 @@ include a c group k = let g = a.listing (c, group) in record {
 }
 
 -- the model isn't looked at
-abbrev pub exclude : Asked → Text → Text → Key → Meaning
+abbrev pub exclude : Readers → Text → Text → Key → Meaning
 exclude a c group k = let g = a.listing (c, group) in record {
   tests = member_fault group k ∷ is_no_partner a k.0 ∷ unseen (a.group_right (c, group)) ∷ when (not (is_member k g)) Membership ∷ [];
   reply = Done;

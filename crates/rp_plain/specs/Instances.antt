@@ -8,7 +8,7 @@ use Rattle.p21_instances.specs.Instances.{is_among}
 use Rattle.p21_read.specs.Single.{mapping_of}
 use Rattle.p21_spelling.specs.Instances.{instance_text}
 use Rattle.p21_bind.specs.Single.{bound_instance}
-use Rattle.p21_lines.specs.Trees.{instance_tree}
+use Rattle.p21_canonical.specs.Trees.{instance_tree}
 use Rattle.rp_content.specs.declared.content.Content.{Content}
 use Rattle.rp_content.specs.declared.instance.Instance.{Instance}
 use Rattle.rp_rows.specs.declared.rows.ModelContent.{ModelContent}
@@ -20,7 +20,7 @@ use Rattle.rp_rows.specs.Alterations.{Holds}
 use Rattle.rp_plain.specs.declared.messages.Refusal.{Refusal}
 use Rattle.rp_plain.specs.declared.messages.Refusal.TheVariants as refusal
 use Rattle.rp_plain.specs.declared.messages.Reply.TheVariants.{Done, Line, Added}
-use Rattle.rp_plain.specs.Asked.{Asked}
+use Rattle.rp_plain.specs.Readers.{Readers}
 use Rattle.rp_plain.specs.Edits.{Edit, EditModel}
 use Rattle.rp_plain.specs.Meaning.{Meaning, schema_named, schema_of, when, key_fault, is_no_partner, unseen, lacks}
 use Rattle.rp_plain.specs.Files.{too_large}
@@ -39,7 +39,7 @@ abbrev pub line_by : Option Checked → Option Instance → Text
 line_by (Some schema) (Some i) = instance_text (instance_tree schema i)
 line_by _ _ = []
 
-abbrev pub get : Asked → Key → ℕ → Meaning
+abbrev pub get : Readers → Key → ℕ → Meaning
 get a k name = let found = instance_in (a.content k) name in record {
   tests = key_fault k ∷ is_no_partner a k.0 ∷ unseen (a.model_right k) ∷ is_absent found ∷ [];
   reply = Line (line_by (schema_of a.schemas (a.content k)) found);
@@ -92,7 +92,7 @@ abbrev pub is_full : Option ModelContent → Option Refusal
 is_full None = None
 is_full (Some h) = when (nat_le max_name h.greatest || nat_le max_instances (length h.content.instances)) refusal.TooMany
 
-abbrev pub add : Asked → Key → Text → Meaning
+abbrev pub add : Readers → Key → Text → Meaning
 add a k text = let new = said a.schemas (a.content k) (next_in (a.content k)) text in record {
   tests = too_large text ∷ key_fault k ∷ is_no_partner a k.0 ∷ lacks Writes (a.model_right k) ∷ refused new ∷ is_full (a.content k) ∷ [];
   reply = Added (next_in (a.content k));
@@ -101,7 +101,7 @@ add a k text = let new = said a.schemas (a.content k) (next_in (a.content k)) te
 
 -- ---- set
 
-abbrev pub set : Asked → Key → ℕ → Text → Meaning
+abbrev pub set : Readers → Key → ℕ → Text → Meaning
 set a k name text = let new = said a.schemas (a.content k) name text in record {
   tests = too_large text ∷ key_fault k ∷ is_no_partner a k.0 ∷ lacks Writes (a.model_right k) ∷ refused new ∷ is_absent (instance_in (a.content k) name) ∷ [];
   reply = Done;
@@ -119,7 +119,7 @@ abbrev pub dropping : Key → ℕ → Option ModelContent → List Edit
 dropping k name None = []
 dropping k name (Some h) = EditModel k (Holds (Some (without_instance name h))) ∷ []
 
-abbrev pub drop_instance : Asked → Key → ℕ → Meaning
+abbrev pub drop_instance : Readers → Key → ℕ → Meaning
 drop_instance a k name = record {
   tests = key_fault k ∷ is_no_partner a k.0 ∷ lacks Writes (a.model_right k) ∷ is_absent (instance_in (a.content k) name) ∷ is_needed name (a.content k) ∷ [];
   reply = Done;

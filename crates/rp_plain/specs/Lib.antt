@@ -1,6 +1,6 @@
 pub mod Plain
 pub mod Edits
-pub mod Asked
+pub mod Readers
 pub mod Meaning
 pub mod Models
 pub mod Grants

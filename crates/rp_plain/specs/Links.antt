@@ -14,7 +14,7 @@ use Rattle.rp_plain.specs.declared.messages.LinkFaultKind.{LinkFaultKind}
 use Rattle.rp_plain.specs.declared.messages.LinkFaultKind.TheVariants.{Defined, Own, NotSeen, OtherSchema, NoInstance}
 use Rattle.rp_plain.specs.declared.messages.Refusal.{Refusal}
 use Rattle.rp_plain.specs.declared.messages.Refusal.TheVariants as refusal
-use Rattle.rp_plain.specs.Asked.{Asked}
+use Rattle.rp_plain.specs.Readers.{Readers}
 use Rattle.rp_plain.specs.Meaning.{when}
 
 -- the links of a model
@@ -49,7 +49,7 @@ abbrev pub target_fault : Text → ℕ → Option ModelContent → Option LinkFa
 target_fault schema target None = Some NotSeen
 target_fault schema target (Some h) = if not (bytes_eq h.schema schema) then Some OtherSchema else (if is_some (instance_of target h.content.instances) then None else Some NoInstance)
 
-module _ (a : Asked) (k : Key) (schema : Text) (instances : List ℕ) where
+module _ (a : Readers) (k : Key) (schema : Text) (instances : List ℕ) where
   -- the first that holds of what is wrong with a link of a model of this name and schema that has these instances; others stand behind it
   abbrev pub fault_of : List ℕ → Link → Option LinkFaultKind
   fault_of others l =
@@ -71,5 +71,5 @@ told None = None
 told (Some fault) = Some (refusal.LinkFault fault)
 
 -- why these links can't be those of a model of this name that holds the content
-abbrev pub link_refusal : Asked → Key → Text → List Link → Content → Option Refusal
+abbrev pub link_refusal : Readers → Key → Text → List Link → Content → Option Refusal
 link_refusal a k schema links content = told (first_fault a k schema (names content.instances) (links_in_order links))

@@ -12,7 +12,7 @@ use Rattle.rp_rows.specs.Sight.{at_least}
 use Rattle.rp_plain.specs.declared.messages.Refusal.{Refusal}
 use Rattle.rp_plain.specs.declared.messages.Refusal.TheVariants.{BadName, UnknownPartner, UnknownSchema, NoSuchItem, NoRight}
 use Rattle.rp_plain.specs.declared.messages.Reply.{Reply}
-use Rattle.rp_plain.specs.Asked.{Asked}
+use Rattle.rp_plain.specs.Readers.{Readers}
 use Rattle.rp_plain.specs.Edits.{Edit}
 
 -- the refusals in the order in which they are tested; where none holds, the reply and the edits
@@ -60,11 +60,11 @@ names_fault one other = when (not (is_name one && is_name other)) BadName
 abbrev pub key_fault : Key → Option Refusal
 key_fault k = names_fault k.0 k.1
 
-abbrev pub is_no_partner : Asked → Text → Option Refusal
+abbrev pub is_no_partner : Readers → Text → Option Refusal
 is_no_partner a name = when (not (has_text a.partners name)) UnknownPartner
 
 -- in either case
-abbrev pub is_no_schema : Asked → Text → Option Refusal
+abbrev pub is_no_schema : Readers → Text → Option Refusal
 is_no_schema a name = when (not (has_schema a.schemas (str_to_ascii_uppercase name))) UnknownSchema
 
 -- the item is not seen

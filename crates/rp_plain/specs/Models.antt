@@ -10,7 +10,7 @@ use Rattle.rp_rows.specs.Sight.{at_least}
 use Rattle.rp_rows.specs.Alterations.{Holds}
 use Rattle.rp_plain.specs.declared.messages.Refusal.TheVariants.{Exists, TooMany}
 use Rattle.rp_plain.specs.declared.messages.Reply.TheVariants.{Done}
-use Rattle.rp_plain.specs.Asked.{Asked}
+use Rattle.rp_plain.specs.Readers.{Readers}
 use Rattle.rp_plain.specs.Edits.{EditModel}
 use Rattle.rp_plain.specs.Meaning.{Meaning, when, name_fault, is_no_schema, unseen}
 
@@ -18,14 +18,14 @@ use Rattle.rp_plain.specs.Meaning.{Meaning, when, name_fault, is_no_schema, unse
 abbrev pub new_content : Text → ModelContent
 new_content schema = record { schema = str_to_ascii_uppercase schema; greatest = 0; content = record { header = default_header; instances = []; links = [] } }
 
-abbrev pub create_model : Asked → Text → Text → Text → Meaning
+abbrev pub create_model : Readers → Text → Text → Text → Meaning
 create_model a c name schema = record {
   tests = name_fault name ∷ is_no_schema a schema ∷ when (at_least Reads (a.model_right (c, name))) Exists ∷ when (nat_le max_models a.model_count) TooMany ∷ [];
   reply = Done;
   edits = EditModel (c, name) (Holds (Some (new_content schema))) ∷ [];
 }
 
-abbrev pub delete_model : Asked → Text → Text → Meaning
+abbrev pub delete_model : Readers → Text → Text → Meaning
 delete_model a c name = record {
   tests = name_fault name ∷ unseen (a.model_right (c, name)) ∷ [];
   reply = Done;

@@ -11,7 +11,7 @@ use Rattle.rp_population.specs.Uses as uses
 use Rattle.rp_plain.specs.declared.lists.Member.{Member}
 use Rattle.rp_plain.specs.declared.messages.Refusal.TheVariants.{NoSuchInstance}
 use Rattle.rp_plain.specs.declared.messages.Reply.TheVariants as reply
-use Rattle.rp_plain.specs.Asked.{Asked}
+use Rattle.rp_plain.specs.Readers.{Readers}
 use Rattle.rp_plain.specs.Meaning.{Meaning, schema_named, when, key_fault, is_no_partner, unseen}
 use Rattle.rp_plain.specs.Groups.{members_of}
 
@@ -23,7 +23,7 @@ counts_among counted k = list_any (λ m. same_key k m.model) counted
 abbrev pub member : List Counted → Key → Member
 member counted k = record { model = k; counts = counts_among counted k }
 
-abbrev pub members : Asked → Key → Meaning
+abbrev pub members : Readers → Key → Meaning
 members a k = record {
   tests = key_fault k ∷ is_no_partner a k.0 ∷ unseen (a.group_right k) ∷ [];
   reply = reply.Members (map (member (a.counted k)) (members_of (a.listing k)));
@@ -42,7 +42,7 @@ extent_by None entity xs = []
 extent_by (Some schema) entity xs = entities.extent schema entity xs
 
 -- none of an entity that the schema lacks
-abbrev pub extent : Asked → Key → Text → Meaning
+abbrev pub extent : Readers → Key → Text → Meaning
 extent a k entity = record {
   tests = key_fault k ∷ is_no_partner a k.0 ∷ unseen (a.group_right k) ∷ [];
   reply = reply.Extent (places (extent_by (group_schema a.schemas (a.listing k)) entity (population (a.counted k))));
@@ -54,7 +54,7 @@ users_by None role p xs = []
 users_by (Some schema) role p xs = uses.users schema role p xs
 
 -- the names of the place aren't tested: the population has it or not
-abbrev pub users : Asked → Key → Place → Text → Meaning
+abbrev pub users : Readers → Key → Place → Text → Meaning
 users a k p role = let xs = population (a.counted k) in record {
   tests = key_fault k ∷ is_no_partner a k.0 ∷ unseen (a.group_right k) ∷ when (not (has_place xs p)) NoSuchInstance ∷ [];
   reply = reply.Users (places (users_by (group_schema a.schemas (a.listing k)) role p xs));

@@ -8,7 +8,7 @@ use Rattle.rp_plain.specs.declared.messages.Reply.{Reply}
 use Rattle.rp_plain.specs.declared.messages.Reply.TheVariants.{Refused}
 use Rattle.rp_plain.specs.Plain.{Plain}
 use Rattle.rp_plain.specs.Edits.{Edit, changed}
-use Rattle.rp_plain.specs.Asked.{Asked, asked}
+use Rattle.rp_plain.specs.Readers.{Readers, asked}
 use Rattle.rp_plain.specs.Meaning.{Meaning, first_some}
 use Rattle.rp_plain.specs.Models.{create_model, delete_model}
 use Rattle.rp_plain.specs.Grants.{grant_model, revoke_model, grant_group, revoke_group}
@@ -20,7 +20,7 @@ use Rattle.rp_plain.specs.Instances.{get, add, set, drop_instance}
 use Rattle.rp_plain.specs.Checks.{check_schema}
 
 -- what c's request means, where he is told this
-abbrev pub meaning : Asked → Text → Request → Meaning
+abbrev pub meaning : Readers → Text → Request → Meaning
 meaning a c (CreateModel name schema) = create_model a c name schema
 meaning a c (DeleteModel name) = delete_model a c name
 meaning a c (Put model file links) = put a model file links
@@ -55,7 +55,7 @@ abbrev pub outcome : Meaning → Option Refusal → Outcome
 outcome m None = record { reply = m.reply; edits = m.edits }
 outcome m (Some refusal) = record { reply = Refused refusal; edits = [] }
 
-abbrev pub answer : Asked → Text → Request → Outcome
+abbrev pub answer : Readers → Text → Request → Outcome
 answer a c q = outcome (meaning a c q) (first_some (meaning a c q).tests)
 
 -- the reply to c's request, and the repository after it

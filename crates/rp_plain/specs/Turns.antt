@@ -6,7 +6,7 @@ use Rattle.rp_plain.specs.declared.messages.Request.{Request}
 use Rattle.rp_plain.specs.declared.messages.Reply.{Reply}
 use Rattle.rp_plain.specs.Plain.{Plain}
 use Rattle.rp_plain.specs.Edits.{Avoids}
-use Rattle.rp_plain.specs.Asked.{asked}
+use Rattle.rp_plain.specs.Readers.{asked}
 use Rattle.rp_plain.specs.Step.{answer, reply_to, next}
 use Rattle.rp_plain.specs.Runs as runs
 use Rattle.rp_plain.specs.Runs.{Effect, is_no_memory, left_by}

@@ -14,7 +14,7 @@ pub struct Item {
 
 /// An instance's name, and its type as it is told.
 #[derive(Drop)]
-pub struct NamedType {
+pub struct ListedInstance {
     pub name: u64,
     pub type_name: Text,
 }

@@ -1,6 +1,6 @@
 //! Requests and their replies.
 
-use crate::lists::{Item, Member, NamedType};
+use crate::lists::{Item, Member, ListedInstance};
 use ex_check::SchemaFault;
 use p21_tree::{FileFault, InstanceFault};
 use plain_data::{Rows, Text};
@@ -212,7 +212,7 @@ pub enum Reply {
         file: Text,
         links: Rows<Link>,
     },
-    Names(Rows<NamedType>),
+    Names(Rows<ListedInstance>),
     /// The line of an instance, without its line feed.
     Line(Text),
     /// An instance was added under this name.

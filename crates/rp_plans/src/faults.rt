@@ -9,7 +9,7 @@ ghost use Rattle.rp_readers.specs.Told.{told};
 use plain_data::Text;
 use rp_access::at_least;
 use rp_plain::messages::Refusal;
-use rp_readers::Asking;
+use rp_readers::Readers;
 use rp_rows::names::is_valid_name;
 use rp_rows::rows::{Key, Right};
 
@@ -65,7 +65,7 @@ pub fn key_fault(key: &Key) -> Option<Refusal>
 }
 
 /// Of the name of no partner.
-pub fn is_no_partner(asked: &Asking<'_, '_>, name: &Text) -> Option<Refusal>
+pub fn is_no_partner(asked: &Readers<'_, '_>, name: &Text) -> Option<Refusal>
     ensures { result ≡ meaning.is_no_partner (told asked.now) name.now }
 {
     when(!asked.has_partner(name), Refusal::UnknownPartner)

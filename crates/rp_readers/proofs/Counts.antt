@@ -8,7 +8,7 @@ use Rattle.sorted_tables.specs.Table.{IsAscending}
 use Rattle.sorted_tables.proofs.Searching.{chosen}
 use Rattle.rp_rows.specs.Rows.{text_cmp, Key, key_cmp, same_key, row_key, is_row, Model, GroupRow}
 use Rattle.rp_rows.specs.Sight.{counts}
-use Rattle.rp_plain.specs.Asked.{as_counted, counted_in}
+use Rattle.rp_plain.specs.Readers.{as_counted, counted_in}
 use Rattle.rp_plain.specs.Populations.{counts_among}
 use Rattle.rp_readers.proofs.Looking.{seen_found}
 

@@ -7,7 +7,7 @@ use Rattle.rp_rows.specs.declared.rows.Right.{Right}
 use Rattle.rp_rows.specs.declared.rows.Right.TheVariants.{Unseen, Reads, Groups, Writes, Owns}
 use Rattle.rp_rows.specs.Rows.{Text, Key, key_cmp, Row, row_key, is_row, Model, GroupRow}
 use Rattle.rp_rows.specs.Sight.{at_least, level, sees}
-use Rattle.rp_plain.specs.Asked.{right_at}
+use Rattle.rp_plain.specs.Readers.{right_at}
 use Rattle.rp_rows.proofs.Keys.{key_total}
 
 -- what was found at the key, which is seen or not

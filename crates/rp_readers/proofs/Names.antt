@@ -15,7 +15,7 @@ use Rattle.rp_rows.specs.Contents.{instance_name, names}
 use Rattle.rp_rows.specs.Instances.{instance_of}
 use Rattle.rp_rows.specs.Sight.{sees, sees_group}
 use Rattle.rp_plain.specs.Plain.{Plain, model_at, group_at}
-use Rattle.rp_plain.specs.Asked.{asked, held}
+use Rattle.rp_plain.specs.Readers.{asked, held}
 use Rattle.rp_tables.specs.Named.{IsNamed, HoldsNamed}
 use Rattle.rp_readers.specs.Named.{AreNamed, TellsNamed}
 use Rattle.rp_rows.specs.Listings.{IsListed}

@@ -10,7 +10,7 @@ use Rattle.rp_rows.specs.Rows.{Key, key_cmp, same_key, row_key, is_row, Model, G
 use Rattle.rp_rows.specs.Sight.{counts}
 use Rattle.rp_population.specs.declared.place.Place.{Place}
 use Rattle.rp_population.specs.Populations.{Counted, Placed, placed, placed_all, population, has_place, is_at}
-use Rattle.rp_plain.specs.Asked.{as_counted, counted_in}
+use Rattle.rp_plain.specs.Readers.{as_counted, counted_in}
 use Rattle.rp_readers.proofs.Counts.{same_at}
 use Rattle.rp_readers.proofs.Looking.{seen_found}
 

@@ -8,7 +8,7 @@ use Rattle.rp_rows.specs.declared.rows.ModelContent.{ModelContent}
 use Rattle.rp_tables.specs.declared.table.RowRef.{RowRef}
 use Rattle.rp_tables.specs.Stored.{row_of}
 use Rattle.rp_readers.specs.Listed.{counted_of}
-use Rattle.rp_plain.specs.Asked.{as_counted, counted_in}
+use Rattle.rp_plain.specs.Readers.{as_counted, counted_in}
 use Rattle.rp_plain.specs.Populations.{member, counts_among}
 use Rattle.rp_access.specs.Listed.{is_counting, member_in}
 use Rattle.rp_readers.specs.Told.{member_told}

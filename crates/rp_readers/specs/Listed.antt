@@ -6,7 +6,7 @@ use Rattle.rp_rows.specs.Rows.{Key, GroupRow}
 use Rattle.rp_rows.specs.Listings.{IsListed}
 use Rattle.rp_population.specs.Populations.{Counted}
 use Rattle.rp_plain.specs.Plain.{Plain}
-use Rattle.rp_plain.specs.Asked.{Asked, as_counted}
+use Rattle.rp_plain.specs.Readers.{Readers, as_counted}
 use Rattle.rp_rows.specs.declared.rows.ModelContent.{ModelContent}
 use Rattle.rp_tables.specs.declared.table.RowRef.{RowRef}
 use Rattle.rp_tables.specs.Stored.{row_of}
@@ -20,7 +20,7 @@ abbrev pub AreListed : Plain → Type 0
 AreListed r = AllByRecursion HoldsListed r.groups
 
 -- all groups that a partner is told of are so
-abbrev pub TellsListed : Asked → Type 0
+abbrev pub TellsListed : Readers → Type 0
 TellsListed a = (k : Key) (g : Listing) → a.listing k ≡ Some g → IsListed g
 
 -- a model that counts, as it is looked at

@@ -9,7 +9,7 @@ use Rattle.rp_rows.specs.Rows.{Key}
 use Rattle.rp_rows.specs.Contents.{link_name}
 use Rattle.rp_rows.specs.Instances.{IsInOrder}
 use Rattle.rp_plain.specs.Plain.{Plain}
-use Rattle.rp_plain.specs.Asked.{Asked}
+use Rattle.rp_plain.specs.Readers.{Readers}
 use Rattle.rp_tables.specs.Named.{IsNamed, HoldsNamed}
 
 -- the names of its instances and of its links can be searched
@@ -22,5 +22,5 @@ abbrev pub AreNamed : Plain → Type 0
 AreNamed r = AllByRecursion HoldsNamed r.models
 
 -- all models that a partner is told of are so
-abbrev pub TellsNamed : Asked → Type 0
+abbrev pub TellsNamed : Readers → Type 0
 TellsNamed a = (k : Key) (h : ModelContent) → a.content k ≡ Some h → IsNamed h

@@ -5,13 +5,13 @@ use Rattle.rp_rows.specs.Rows.{Key, Model, GroupRow}
 use Rattle.rp_plain.specs.declared.lists.Member.{Member}
 use Rattle.rp_plain.specs.declared.lists.Item.{Item}
 use Rattle.rp_plain.specs.Plain.{Plain}
-use Rattle.rp_plain.specs.Asked.{Asked, asked}
-use Rattle.rp_readers.specs.declared.asked.Asking.{Asking}
+use Rattle.rp_plain.specs.Readers.{Readers, asked}
+use Rattle.rp_readers.specs.declared.readers.Readers.{Readers as HeldReaders}
 
-abbrev pub plain_of : Asking → Plain
+abbrev pub plain_of : HeldReaders → Plain
 plain_of s = record { schemas = s.schemas.now; partners = s.partners.now; models = s.models.now.rows; groups = s.groups.now.rows }
 
-unfoldable pub told : Asking → Asked
+unfoldable pub told : HeldReaders → Readers
 told s = asked (plain_of s) s.caller.now
 
 -- a model and a group that are seen, with what may be done with them, as they are told

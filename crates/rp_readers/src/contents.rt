@@ -6,17 +6,17 @@ ghost use Rattle.rp_plain.specs.Files as of_files;
 ghost use Rattle.rp_plain.specs.Lists.{named, names_by};
 ghost use Rattle.rp_readers.specs.Told.{told};
 
-use crate::asked::Asking;
+use crate::readers::Readers;
 use ex_layouts::LoadedSchema;
 use p21_write::{type_text, write};
 use plain_data::{Rows, Text};
 use rp_content::{Instance, Link};
-use rp_plain::lists::NamedType;
+use rp_plain::lists::ListedInstance;
 use rp_rows::rows::Key;
 use std::alloc::{AllocError, Global};
 
 /// The canonical text of what the model holds, if the partner sees it.
-pub fn text_of(alloc: Global, asked: &Asking<'_, '_>, key: &Key) -> Result<Text, AllocError>
+pub fn text_of(alloc: Global, asked: &Readers<'_, '_>, key: &Key) -> Result<Text, AllocError>
     ensures { IfOk result (λ text. text ≡ of_files.text_by (schema_of (told asked.now).schemas ((told asked.now).content key.now)) ((told asked.now).content key.now)) }
 {
     let Some(model) = asked.content(key) else {
@@ -29,7 +29,7 @@ pub fn text_of(alloc: Global, asked: &Asking<'_, '_>, key: &Key) -> Result<Text,
 }
 
 /// The links of the model, if the partner sees it.
-pub fn links_of<'a>(asked: &Asking<'a, '_>, key: &Key) -> &'a [Link]
+pub fn links_of<'a>(asked: &Readers<'a, '_>, key: &Key) -> &'a [Link]
     ensures { result.now ≡ of_files.links_of ((told asked.now).content key.now) }
 {
     match asked.content(key) {
@@ -50,17 +50,17 @@ pub fn copies(alloc: Global, links: &[Link]) -> Result<Rows<Link>, AllocError>
 }
 
 /// The names of the instances, with their types.
-fn named_types(
+fn listed_instances(
     alloc: Global,
     schema: &LoadedSchema<'_>,
     instances: &[Instance],
-) -> Result<Rows<NamedType>, AllocError>
+) -> Result<Rows<ListedInstance>, AllocError>
     ensures { IfOk result (λ rows. rows ≡ map (named schema.now) instances.now) }
 {
     let mut rows = Vec::with_capacity(alloc, instances.len())?;
     for instance in instances {
         let type_name = type_text(alloc, schema, &instance.types)?;
-        rows.push(NamedType {
+        rows.push(ListedInstance {
             name: instance.name,
             type_name,
         })?;
@@ -71,9 +71,9 @@ fn named_types(
 /// The names of the instances of the model, with their types, if the partner sees it.
 pub fn names_of(
     alloc: Global,
-    asked: &Asking<'_, '_>,
+    asked: &Readers<'_, '_>,
     key: &Key,
-) -> Result<Rows<NamedType>, AllocError>
+) -> Result<Rows<ListedInstance>, AllocError>
     ensures { IfOk result (λ rows. rows ≡ names_by (schema_of (told asked.now).schemas ((told asked.now).content key.now)) ((told asked.now).content key.now)) }
 {
     let Some(model) = asked.content(key) else {
@@ -82,5 +82,5 @@ pub fn names_of(
     let Some(schema) = asked.schema_named(&model.schema) else {
         return Ok(Rows::new(alloc));
     };
-    named_types(alloc, schema, model.content.instances.as_slice())
+    listed_instances(alloc, schema, model.content.instances.as_slice())
 }

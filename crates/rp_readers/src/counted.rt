@@ -5,13 +5,13 @@ ghost use Rattle.std.specs.Prelude.{◌≡◌, map, IfOk};
 ghost use Rattle.rp_readers.specs.Listed.{TellsListed, counted_of};
 ghost use Rattle.rp_readers.specs.Told.{told};
 
-use crate::asked::Asking;
+use crate::readers::Readers;
 use rp_access::counted_models;
 use rp_rows::rows::{Key, ModelContent};
 use rp_tables::RowRef;
 use std::alloc::{AllocError, Global};
 
-impl<'a, 's> Asking<'a, 's> {
+impl<'a, 's> Readers<'a, 's> {
     /// The models that count in the group, if the partner sees it.
     pub fn counted(
         &self,

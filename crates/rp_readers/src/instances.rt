@@ -10,7 +10,7 @@ ghost use Rattle.rp_plain.specs.Instances as of_instances;
 ghost use Rattle.rp_readers.specs.Told.{told};
 ghost use Rattle.rp_readers.specs.Named.{TellsNamed};
 
-use crate::asked::Asking;
+use crate::readers::Readers;
 use crate::kept::KeptLayouts;
 use plain_data::Text;
 use rp_content::Instance;
@@ -55,7 +55,7 @@ pub fn instance_named(instances: &[Instance], name: u64) -> Option<&Instance>
 }
 
 /// The instance of this name in the model, if the partner sees it.
-pub fn instance_in<'a>(asked: &Asking<'a, '_>, key: &Key, name: u64) -> Option<&'a Instance>
+pub fn instance_in<'a>(asked: &Readers<'a, '_>, key: &Key, name: u64) -> Option<&'a Instance>
     requires { TellsNamed (told asked.now) }
     ensures { option_copied result ≡ of_instances.instance_in ((told asked.now).content key.now) name }
 {
@@ -69,7 +69,7 @@ pub fn instance_in<'a>(asked: &Asking<'a, '_>, key: &Key, name: u64) -> Option<&
 /// values of is kept.
 pub fn line_of(
     alloc: Global,
-    asked: &Asking<'_, '_>,
+    asked: &Readers<'_, '_>,
     layouts: &mut KeptLayouts<'_>,
     key: &Key,
     found: Option<&Instance>,

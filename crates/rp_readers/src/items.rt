@@ -6,7 +6,7 @@ ghost use Rattle.rp_plain.specs.Lists.{schema_names};
 ghost use Rattle.rp_access.specs.Prepared.{seen_of};
 ghost use Rattle.rp_readers.specs.Told.{told, model_told, group_told};
 
-use crate::asked::Asking;
+use crate::readers::Readers;
 use crate::schemas::sorted_names;
 use plain_data::{Rows, Text};
 use rp_access::{Seen, visible_groups, visible_models};
@@ -52,7 +52,7 @@ fn group_rows(alloc: Global, seen: &[Seen<'_, Listing>]) -> Result<Rows<Item>, A
     Ok(Rows::from_vec(rows))
 }
 
-impl<'a, 's> Asking<'a, 's> {
+impl<'a, 's> Readers<'a, 's> {
     /// The names of the schemas, in byte order.
     pub fn schema_names(&self, alloc: Global) -> Result<Rows<Text>, AllocError>
         ensures { IfOk result (λ names. names ≡ schema_names (told self.now).schemas) }

@@ -9,7 +9,7 @@ ghost use Rattle.rp_access.specs.Listed.{member_of};
 ghost use Rattle.rp_tables.specs.Stored.{row_of};
 ghost use Rattle.rp_readers.specs.Told.{plain_of, told, member_told};
 
-use crate::asked::Asking;
+use crate::readers::Readers;
 use plain_data::{Rows, Text};
 use rp_access::{Member as Listed, copy_key, group_right, members_of, sees_group};
 use rp_plain::lists::Member;
@@ -32,7 +32,7 @@ fn told_members(alloc: Global, members: &[Listed<'_>]) -> Result<Rows<Member>, A
     Ok(Rows::from_vec(rows))
 }
 
-impl<'a, 's> Asking<'a, 's> {
+impl<'a, 's> Readers<'a, 's> {
     /// The group of this owner and name, if the partner sees it.
     fn group_of(&self, owner: &Text, name: &Text) -> Option<RowRef<'a, Listing>>
         ensures { option_map row_of result ≡ group_at (plain_of self.now) self.now.caller.now (owner.now, name.now) }

@@ -11,7 +11,7 @@ ghost use Rattle.rp_tables.specs.Stored.{row_of};
 ghost use Rattle.rp_readers.specs.Listed.{counted_of};
 ghost use Rattle.rp_readers.specs.Told.{told};
 
-use crate::asked::Asking;
+use crate::readers::Readers;
 use ex_layouts::LoadedSchema;
 use plain_data::{Rows, Text};
 use rp_access::counts;
@@ -22,7 +22,7 @@ use rp_tables::RowRef;
 use std::alloc::{AllocError, Global};
 
 /// The schema of the group, if the partner sees it.
-pub fn group_schema<'s>(asked: &Asking<'_, 's>, key: &Key) -> Option<&'s LoadedSchema<'s>>
+pub fn group_schema<'s>(asked: &Readers<'_, 's>, key: &Key) -> Option<&'s LoadedSchema<'s>>
     ensures { option_copied result ≡ of_populations.group_schema (told asked.now).schemas ((told asked.now).listing key.now) }
 {
     match asked.listing(key) {
@@ -82,7 +82,7 @@ fn counts_with(model: &RowRef<'_, ModelContent>, group: &RowRef<'_, Listing>, in
 
 /// Whether an instance of the group's population stands at the place, if the partner sees the group. No list of the
 /// population is made for it.
-pub fn has_place(asked: &Asking<'_, '_>, group: &Key, place: &Place) -> bool
+pub fn has_place(asked: &Readers<'_, '_>, group: &Key, place: &Place) -> bool
     ensures { result ≡ HasPlace (population ((told asked.now).counted group.now)) place.now }
 {
     let Some(group) = asked.group(group) else {

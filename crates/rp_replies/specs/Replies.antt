@@ -13,7 +13,7 @@ use Rattle.rp_rows.specs.declared.rows.Right.TheVariants.{Unseen, Reads, Groups,
 use Rattle.rp_population.specs.declared.place.Place.{Place}
 use Rattle.rp_plain.specs.declared.lists.Item.{Item}
 use Rattle.rp_plain.specs.declared.lists.Member.{Member}
-use Rattle.rp_plain.specs.declared.lists.NamedType.{NamedType}
+use Rattle.rp_plain.specs.declared.lists.ListedInstance.{ListedInstance}
 use Rattle.rp_plain.specs.declared.messages.LinkFaultKind.{LinkFaultKind}
 use Rattle.rp_plain.specs.declared.messages.LinkFaultKind.TheVariants.{Defined, Own, NotSeen, OtherSchema, NoInstance}
 use Rattle.rp_plain.specs.declared.messages.Refusal.{Refusal}
@@ -95,8 +95,8 @@ refusal_members NoMemory = coded 18 (codes "NoMemory")
 
 -- ---- lists
 
-abbrev pub named_type_data : NamedType → Data
-named_type_data t = object (with_number (codes "name") t.name (with_string (codes "type") t.type_name no_members))
+abbrev pub listed_instance_data : ListedInstance → Data
+listed_instance_data t = object (with_number (codes "name") t.name (with_string (codes "type") t.type_name no_members))
 
 -- what isn't seen stands in no list
 abbrev pub level_word : Right → List ℕ
@@ -138,7 +138,7 @@ reply_data Done = only (codes "ok") (object no_members)
 reply_data (Stored n) = only (codes "ok") (only (codes "instances") (number (unsigned n)))
 reply_data (File text) = only (codes "ok") (only (codes "file") (string text))
 reply_data (Linked file links) = only (codes "ok") (object (with_string (codes "file") file (member (codes "links") (list_of link_data links) no_members)))
-reply_data (Names names) = only (codes "ok") (only (codes "names") (list_of named_type_data names))
+reply_data (Names names) = only (codes "ok") (only (codes "names") (list_of listed_instance_data names))
 reply_data (Line text) = only (codes "ok") (only (codes "text") (string text))
 reply_data (Added name) = only (codes "ok") (only (codes "name") (number (unsigned name)))
 reply_data (Listed groups models) = only (codes "ok") (object (member (codes "groups") (list_of item_data groups) (member (codes "models") (list_of item_data models) no_members)))

@@ -2,7 +2,7 @@
 
 ghost use Rattle.std.specs.Prelude.{◌≡◌, ◌∷◌, ◌++◌, OnOk};
 ghost use Rattle.json.specs.Token.{key as key_token};
-ghost use Rattle.rp_replies.specs.Replies.{named_type_data, level_word, item_data, member_data, instance_data, link_data, warning_data, list_of};
+ghost use Rattle.rp_replies.specs.Replies.{listed_instance_data, level_word, item_data, member_data, instance_data, link_data, warning_data, list_of};
 ghost use Rattle.rp_replies.specs.Tokens.{tokens_of};
 ghost use Rattle.serde_json.specs.Data.{string};
 
@@ -10,24 +10,24 @@ use crate::writing::{boolean_at, number_at, place_of_kind, string_at};
 use json::Writer;
 use plain_data::Text;
 use rp_content::Link;
-use rp_plain::lists::{Item, Member, NamedType};
+use rp_plain::lists::{Item, Member, ListedInstance};
 use rp_population::Place;
 use rp_rows::rows::Right;
 use std::alloc::AllocError;
 
-pub(crate) fn write_named_types(out: &mut Writer, names: &[NamedType]) -> Result<(), AllocError>
-    ensures ok { OnOk result (out.new.tokens ≡ out.old.tokens ++ tokens_of (list_of named_type_data names.now)) }
+pub(crate) fn write_listed_instances(out: &mut Writer, names: &[ListedInstance]) -> Result<(), AllocError>
+    ensures ok { OnOk result (out.new.tokens ≡ out.old.tokens ++ tokens_of (list_of listed_instance_data names.now)) }
     ensures before { out.new.before ≡ out.old.before }
 {
     out.begin_array()?;
     for named in names {
-        write_named_type(out, named)?;
+        write_listed_instance(out, named)?;
     }
     out.end_array()
 }
 
-fn write_named_type(out: &mut Writer, named: &NamedType) -> Result<(), AllocError>
-    ensures ok { OnOk result (out.new.tokens ≡ out.old.tokens ++ tokens_of (named_type_data named.now)) }
+fn write_listed_instance(out: &mut Writer, named: &ListedInstance) -> Result<(), AllocError>
+    ensures ok { OnOk result (out.new.tokens ≡ out.old.tokens ++ tokens_of (listed_instance_data named.now)) }
     ensures before { out.new.before ≡ out.old.before }
 {
     out.begin_object()?;

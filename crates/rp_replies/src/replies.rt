@@ -6,7 +6,7 @@ ghost use Rattle.rp_replies.specs.Replies.{only, list_of, instance_data, reply_d
 ghost use Rattle.rp_replies.specs.Tokens.{tokens_of};
 
 use crate::lists::{
-    write_items_at, write_links, write_members, write_named_types, write_places, write_texts,
+    write_items_at, write_links, write_members, write_listed_instances, write_places, write_texts,
     write_warnings,
 };
 use crate::refusals::write_refusal;
@@ -15,7 +15,7 @@ use ex_check::SchemaFault;
 use json::Writer;
 use plain_data::Text;
 use rp_content::Link;
-use rp_plain::lists::{Item, Member, NamedType};
+use rp_plain::lists::{Item, Member, ListedInstance};
 use rp_plain::messages::{Refusal, Reply};
 use rp_population::Place;
 use std::alloc::{AllocError, Global};
@@ -114,13 +114,13 @@ fn write_linked(out: &mut Writer, file: &Text, links: &[Link]) -> Result<(), All
     close(out)
 }
 
-fn write_names(out: &mut Writer, names: &[NamedType]) -> Result<(), AllocError>
+fn write_names(out: &mut Writer, names: &[ListedInstance]) -> Result<(), AllocError>
     ensures ok { OnOk result (out.new.tokens ≡ out.old.tokens ++ tokens_of (reply_data (Reply.Names names.now))) }
     ensures before { out.new.before ≡ out.old.before }
 {
     open(out, "ok")?;
     out.key("names")?;
-    write_named_types(out, names)?;
+    write_listed_instances(out, names)?;
     close(out)
 }
 

@@ -9,7 +9,7 @@ use Rattle.rp_plain.specs.declared.messages.Request.{Request}
 use Rattle.rp_plain.specs.declared.messages.Reply.{Reply}
 use Rattle.rp_plain.specs.Plain.{Plain}
 use Rattle.rp_plain.specs.Edits.{Edit, EditModel, EditGroup, edited_by, changed}
-use Rattle.rp_plain.specs.Asked.{asked}
+use Rattle.rp_plain.specs.Readers.{asked}
 use Rattle.rp_plain.specs.Meaning.{has_text}
 use Rattle.rp_plain.specs.Step.{answer, next}
 use Rattle.rp_plain.specs.Runs.{Effect, is_no_memory, left_by}

@@ -12,7 +12,7 @@ use Rattle.rp_plain.specs.declared.messages.Reply.{Reply}
 use Rattle.rp_plain.specs.declared.messages.Reply.TheVariants.{Refused}
 use Rattle.rp_plain.specs.declared.messages.Refusal.{Refusal}
 use Rattle.rp_plain.specs.declared.messages.Refusal.TheVariants.{BadRequest, TooLarge}
-use Rattle.rp_requests.specs.declared.asks.Asked.{Asked}
+use Rattle.rp_requests.specs.declared.asks.RequestLine.{RequestLine}
 use Rattle.rp_requests.specs.Asks.{asked_of}
 use Rattle.rp_replies.specs.Replies.{line_of_reply}
 
@@ -28,7 +28,7 @@ caller_of partners None = None
 caller_of partners (Some name) = if has_text partners name then Some name else None
 
 -- the turn of a request that was read, if one of these partners asks
-abbrev pub turn_for : List (List ℕ) → Option Asked → Option Turn
+abbrev pub turn_for : List (List ℕ) → Option RequestLine → Option Turn
 turn_for partners None = None
 turn_for partners (Some asked) = option_map (λ c. record { caller = c; request = asked.request }) (caller_of partners asked.caller)
 

@@ -14,7 +14,7 @@ use rp_core::Pending;
 use rp_io::Room;
 use rp_plain::messages::{Refusal, Reply, Request};
 use rp_replies::reply_line;
-use rp_requests::{Asked, Unread, request_of};
+use rp_requests::{RequestLine, Unread, request_of};
 use std::alloc::{AllocError, Global};
 
 /// The bytes that a line is let go of with.
@@ -55,7 +55,7 @@ fn release(mut line: Vec<u8>) {
 }
 
 /// The request of a line, which is let go of: the texts of the request are its own.
-fn request_from(alloc: Global, line: Vec<u8>) -> Result<Asked, Unread>
+fn request_from(alloc: Global, line: Vec<u8>) -> Result<RequestLine, Unread>
     ensures ok { IfOk result (λ asked. asked_of line.items ≡ Some asked) }
     ensures bad { IsErrOf result Unread.BadRequest → asked_of line.items ≡ None }
 {
@@ -84,14 +84,14 @@ fn answer_kept(
 fn answer_asked(
     alloc: Global,
     repository: &mut Repository<'_>,
-    asked: Asked,
+    asked: RequestLine,
 ) -> Result<Vec<u8>, AllocError>
     ensures made { IfOk result (λ bytes.
         let old = repository.old.content in
         Answers old repository.new.content (meant_for old Refusal.BadRequest (turn_for old.partners (Some asked))) bytes.items) }
     ensures refused { OnErr result (repository.new.content ≡ repository.old.content) }
 {
-    let Asked { caller, request } = asked;
+    let RequestLine { caller, request } = asked;
     match partner_of(repository, caller) {
         Some(partner) => answer_turn(alloc, repository, partner, request),
         None => {

@@ -16,5 +16,5 @@ pub use rp_core::Pending;
 pub use rp_io::{DeviceFault, FromReader, Sink, Source, ToWriter};
 pub use rp_plain::messages::{NewFault, Refusal, Reply, Request};
 pub use rp_replies::reply_bytes;
-pub use rp_requests::{Asked, Unread, request_of};
+pub use rp_requests::{RequestLine, Unread, request_of};
 pub use run::{RunFault, run_lines};

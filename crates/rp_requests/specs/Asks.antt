@@ -12,7 +12,7 @@ use Rattle.rp_rows.specs.Rows.{Key}
 use Rattle.rp_population.specs.declared.place.Place.{Place}
 use Rattle.rp_plain.specs.declared.messages.Request.{Request}
 use Rattle.rp_plain.specs.declared.messages.Request.TheVariants.{CreateModel, DeleteModel, Put, Export, Names, Get, Add, Set, DropInstance, ListItems, GrantModel, RevokeModel, CreateGroup, DeleteGroup, GrantGroup, RevokeGroup, Include, Exclude, Members as ListMembers, Extent, Users, Schemas, CheckSchema}
-use Rattle.rp_requests.specs.declared.asks.Asked.{Asked}
+use Rattle.rp_requests.specs.declared.asks.RequestLine.{RequestLine}
 use Rattle.rp_requests.specs.declared.lines.Lists.{Lists}
 use Rattle.rp_requests.specs.declared.grants.ItemKind.{ItemKind}
 use Rattle.rp_requests.specs.declared.grants.ItemKind.TheVariants as kinds
@@ -244,12 +244,12 @@ abbrev pub request_in : Lists → Members → Option Request
 request_in lists ms = with_text (codes "do") ms (λ word. request_for word lists (without (codes "do") ms))
 
 -- `as` has the caller, if it stands there
-abbrev pub asked_with : Lists → Members → Option Asked
+abbrev pub asked_with : Lists → Members → Option RequestLine
 asked_with lists ms = option_and_then (λ caller. option_map (λ request. record { caller = caller; request = request }) (request_in lists (without (codes "as") ms))) (text_if_any (get_member (codes "as") ms))
 
-abbrev pub asked_in : Members → Option Asked
+abbrev pub asked_in : Members → Option RequestLine
 asked_in ms = asked_with (lists_in ms) ms
 
 -- The request of a line: an object in UTF-8. Of equal keys the last one stands.
-abbrev pub asked_of : List ℕ → Option Asked
+abbrev pub asked_of : List ℕ → Option RequestLine
 asked_of line = if is_utf8 line then option_and_then asked_in (option_and_then as_object (read line)) else None

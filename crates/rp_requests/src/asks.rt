@@ -17,7 +17,7 @@ use std::alloc::Global;
 
 /// A request, and who asks.
 #[derive(Drop)]
-pub struct Asked {
+pub struct RequestLine {
     /// What the bytes say, if they say it; whether there is such a partner isn't known here.
     pub caller: Option<Text>,
     pub request: Request,
@@ -33,7 +33,7 @@ pub enum Unread {
 
 /// The request of a line, which stands without its line feed, or of a body. A string of it is copied
 /// once, out of the bytes. Lists and objects are passed over, but for links and for a place.
-pub fn request_of(alloc: Global, line: &[u8]) -> Result<Asked, Unread>
+pub fn request_of(alloc: Global, line: &[u8]) -> Result<RequestLine, Unread>
     ensures ok { IfOk result (λ asked. asked_of line.now ≡ Some asked) }
     ensures bad { IsErrOf result Unread.BadRequest → asked_of line.now ≡ None }
 {
@@ -44,12 +44,12 @@ pub fn request_of(alloc: Global, line: &[u8]) -> Result<Asked, Unread>
     }
 }
 
-fn asked_with(lists: Lists, mut members: Members) -> Option<Asked>
+fn asked_with(lists: Lists, mut members: Members) -> Option<RequestLine>
     ensures { result ≡ asked_with lists (members_view members.entries) }
 {
     let caller = take_text_if_any(&mut members, "as")?;
     let request = request_in(lists, members)?;
-    Some(Asked { caller, request })
+    Some(RequestLine { caller, request })
 }
 
 fn request_in(lists: Lists, mut members: Members) -> Option<Request>

@@ -10,4 +10,4 @@ mod members;
 mod places;
 mod values;
 
-pub use asks::{Asked, Unread, request_of};
+pub use asks::{RequestLine, Unread, request_of};

@@ -1,6 +1,6 @@
 use Rattle.std.proofs.Common.{map}
 use Rattle.p21_spelling.specs.Values.{header_spelling, listed}
-use Rattle.p21_lines.specs.Trees.{header_value_tree}
+use Rattle.p21_canonical.specs.Trees.{header_value_tree}
 use Rattle.p21_write.proofs.Written.{entity_written, map_twice}
 use Rattle.p21_write.proofs.file.write_entity.Goals as goal
 

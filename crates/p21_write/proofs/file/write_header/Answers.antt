@@ -2,7 +2,7 @@ use Rattle.std.proofs.Common.{◌++◌, ◌∙◌, ap, map}
 use Rattle.std.specs.Prelude.{codes}
 use Rattle.p21_spelling.specs.Files.{line, entity_text, schema_text}
 use Rattle.p21_escapes.specs.Encoding.{encoded}
-use Rattle.p21_lines.specs.Trees.{header_value_tree}
+use Rattle.p21_canonical.specs.Trees.{header_value_tree}
 use Rattle.p21_write.proofs.Written.{lines_written}
 use Rattle.p21_write.proofs.file.write_header.Goals as goal
 
