@@ -13,8 +13,8 @@ import re
 import sys
 from collections import Counter
 
-from harness import TOP, Folder, Wrong, run_tests, shortened
-from messages import OK, create, export, extent_is, instances, put, users_are
+from lib.harness import TOP, Folder, Wrong, run_tests, shortened
+from lib.messages import OK, create, export, extent_is, instances, put, users_are
 
 sys.path.insert(0, os.path.join(TOP, "tools"))
 
