@@ -237,7 +237,7 @@ def asked(settings, rows):
     for one in settings:
         turns.append(({"do": "create_model", "name": one.name, "schema": one.name}, {}, one.name))
         put = {"do": "put", "file": one.file(), "model": one.name, "owner": "ann"}
-        turns.append((put, {"instances": len(re.findall(r"^#\d+=", one.data, re.MULTILINE))}, one.name))
+        turns.append((put, {"instances": len(re.findall(r"#\d+=", one.data))}, one.name))
     return turns
 
 
