@@ -50,7 +50,7 @@ class Value(NamedTuple):
 NONE = Value("NONE")
 WORD = r"[A-Z][A-Z0-9_]*"
 SORTS = (
-    ("REAL", r"(-?\d+)\.(?:E(-?\d+))?", lambda digits, exponent: (int(digits), int(exponent or 0))),
+    ("REAL", r"(0|-?\d*[1-9])\.(?:E(-?\d+))?", lambda digits, exponent: (int(digits), int(exponent or 0))),
     ("INTEGER", r"(-?\d+)", lambda number: (int(number),)),
     ("STRING", r"'((?:[^']|'')*)'", lambda text: (text.replace("''", "'"),)),
     ("BINARY", r"%([01]*)", lambda bits: (bits,)),
@@ -85,10 +85,25 @@ def value_at(text, at):
     return Value("AGGREGATE", (found[1], int(found[2]), tuple(elements))), end + 1
 
 
+def written(value):
+    """The one text of a value, as value_of reads it."""
+    sort, parts = value
+    if sort == "AGGREGATE":
+        kind, low, elements = parts
+        return f"{kind}[{low}: {', '.join(map(written, elements))}]"
+    if sort == "CARRIED":
+        return f"{parts[0]}({written(parts[1])})"
+    if sort == "REAL":
+        digits, exponent = parts
+        return f"{digits}.E{exponent}" if exponent else f"{digits}."
+    forms = {"NONE": "?", "INTEGER": "{}", "STRING": "'{}'", "BINARY": "%{}", "LOGICAL": "{}", "ITEM": "{}.{}", "INSTANCE": "#{}"}
+    return forms[sort].format(*(it.replace("'", "''") if sort == "STRING" else it for it in parts))
+
+
 def value_of(text):
     value, end = value_at(text, 0)
-    if end != len(text):
-        raise Fault(f"{text[end:]!r} behind a value")
+    if end != len(text) or written(value) != text:
+        raise Fault(f"{text!r} isn't the text of a value")
     return value
 
 
