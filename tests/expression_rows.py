@@ -115,10 +115,6 @@ class Setting(NamedTuple):
     declarations: str
     data: str
 
-    def schema(self, clause="", behind=""):
-        """The text of the schema, with a clause in its place and declarations at the end."""
-        return f"SCHEMA {self.name};\n{self.declarations.replace('@', clause)}\n{behind}\nEND_SCHEMA;\n"
-
     def file(self):
         """The exchange file of its instances."""
         return HEAD.format(self.name.upper()) + self.data + TAIL
@@ -139,11 +135,17 @@ class Row(NamedTuple):
     bodies: int
 
     def schema(self):
-        """The text of the row's schema. Its one clause is labelled THE_ROW."""
-        clause = f"WHERE the_row : {self.expression};"
-        if not self.rule:
-            return self.setting.schema(clause, self.function)
-        return self.setting.schema("", f"{self.function}\nRULE a_rule FOR {self.rule} {clause} END_RULE;")
+        """The text of a schema in which the row stands alone."""
+        return schema_of(self.setting, [self])
+
+
+def schema_of(setting, rows):
+    """The text of a schema with these rows of the setting. Their clauses and global rules are labelled by their names."""
+    clauses = "".join(f"\n  {row.name} : {row.expression};" for row in rows if not row.rule)
+    functions = "".join(f"{row.function}\n" for row in rows)
+    rules = "".join(f"RULE {row.name} FOR {row.rule}\nWHERE {row.name} : {row.expression}; END_RULE;\n" for row in rows if row.rule)
+    declarations = setting.declarations.replace("@", f"WHERE{clauses}" if clauses else "")
+    return f"SCHEMA {setting.name};\n{declarations}\n{functions}{rules}END_SCHEMA;\n"
 
 
 def blocks_of(text):
@@ -229,6 +231,36 @@ def read_lines():
 
 # ---- the script
 
+GOOD = {"row": "a", "shows": "IN", "expression": "1", "value": "1", "steps": "3 = 1 + (2 * 1)"}
+
+# What a row may not be: keys that differ from those of the one above, and the beginning of what is told of it.
+BAD = (
+    ({"value": ""}, "no value"), ({"steps": ""}, "no steps"), ({"shows": ""}, "no shows"), ({"data": "#1=E();"}, "a key of settings"),
+    ({"value": "one"}, "no value at"), ({"value": "1 2"}, "'1 2' isn't"), ({"value": "01"}, "'01' isn't"), ({"value": "1.0"}, "'1.0' isn't"),
+    ({"value": "10.E1"}, "'10.E1' isn't"), ({"value": "SET[1: 1,2]"}, "no element"), ({"value": "SET[1: 1"}, "no element"),
+    ({"value": "LABEL('a"}, "no value at"), ({"value": "LABEL(1"}, "no value at"), ({"value": "'it's'"}, "\"'it's'\" isn't"),
+    ({"value": "true"}, "no value at"), ({"value": "LIMIT"}, "LIMIT and the steps"), ({"steps": "3"}, "'3' is no number"),
+    ({"steps": "4 = 1 + 2"}, "'1 + 2' isn't 4"), ({"steps": "3 = x + 2"}, "'3 = x + 2' is no number"), ({"steps": "3 = 4 - 1"}, "'3 = 4 - 1' is no"),
+    ({"steps": "endless"}, "LIMIT and the steps"), ({"steps": "200001 = 200000 + 1"}, "LIMIT and the steps"),
+    ({"bodies": "201 = 200 + 1"}, "LIMIT and the steps"), ({"bodies": "2 = 1"}, "'1' isn't 2"),
+)
+
+
+def test_of_the_reader(it):
+    """It refuses what is no row, and takes values of each sort."""
+    setting = Setting("s", "t", "@", "")
+    it.expect("a good row", row_of(setting, GOOD).steps, 3)
+    for keys, wanted in BAD:
+        try:
+            told = str(row_of(setting, {**GOOD, **keys}))
+        except Fault as fault:
+            told = str(fault)
+        it.expect(f"a row with {keys}", told[:len(wanted)], wanted)
+    for text in ("?", "-7", "15.E-1", "0.", "'it''s'", "''", "%01", "%", "UNKNOWN", "COLOUR.RED", "#12", "SET[1: ]", "[1: [1: ], ?]",
+                 "ARRAY[0: LABEL('a'), ?]", "LABELS(LIST[1: LABEL('x'), SHADE(COLOUR.RED)])", "BAG[1: #1, #1]"):
+        it.expect(text, written(value_of(text)), text)
+
+
 def test_of_rows(it):
     """Each row is one, no two have a name, and each line of the tables is shown."""
     faults = []
@@ -247,7 +279,7 @@ def test_of_rows(it):
 
 
 def asked(settings, rows):
-    """Requests for each row's schema, and for a model of each setting with its data; and what is to be answered."""
+    """Requests for the schema of each row, and for a model of each setting with its data; and what is to be answered."""
     turns = [({"do": "check_schema", "text": row.schema()}, {"schema": row.setting.name.upper(), "warnings": []}, row.name) for row in rows]
     for one in settings:
         turns.append(({"do": "create_model", "name": one.name, "schema": one.name}, {}, one.name))
@@ -263,11 +295,11 @@ def fault_told(name, text, answer):
 
 
 def test_of_schemas(it):
-    """The program accepts the schema of each row, and the data of each setting."""
+    """The program accepts the schema of each row, one with all rows of each setting, and the data of each setting."""
     settings, rows = read_rows([])
     turns = asked(settings, rows)
     for one in settings:
-        it.folder.write(f"{one.name}.exp", one.schema())
+        it.folder.write(f"{one.name}.exp", schema_of(one, [row for row in rows if row.setting == one]))
     config = {"partners": [{"name": "ann", "token": "ta"}], "schemas": [f"{one.name}.exp" for one in settings]}
     it.folder.write("config.json", json.dumps(config))
     lines = "".join(json.dumps({"as": "ann", **request}) + "\n" for request, _, _ in turns)
@@ -280,4 +312,4 @@ def test_of_schemas(it):
 
 
 if __name__ == "__main__":
-    run_parts("expression_rows", (test_of_rows, test_of_schemas), sys.argv[1:])
+    run_parts("expression_rows", (test_of_the_reader, test_of_rows, test_of_schemas), sys.argv[1:])
