@@ -246,7 +246,7 @@ BAD = (
 )
 
 
-def test_of_the_reader(it):
+def the_reader(it):
     """It refuses what is no row, and takes values of each sort."""
     setting = Setting("s", "t", "@", "")
     it.expect("a good row", row_of(setting, GOOD).steps, 3)
@@ -261,7 +261,7 @@ def test_of_the_reader(it):
         it.expect(text, written(value_of(text)), text)
 
 
-def test_of_rows(it):
+def the_rows(it):
     """Each row is one, no two have a name, and each line of the tables is shown."""
     faults = []
     settings, rows = read_rows(faults)
@@ -294,7 +294,7 @@ def fault_told(name, text, answer):
     return f"{name}, {answer}" if at is None else f"{name}, {answer['ok']['fault']['kind']} before {text.encode()[at:at + 60]!r}"
 
 
-def test_of_schemas(it):
+def the_schemas(it):
     """The program accepts the schema of each row, one with all rows of each setting, and the data of each setting."""
     settings, rows = read_rows([])
     turns = asked(settings, rows)
@@ -312,4 +312,4 @@ def test_of_schemas(it):
 
 
 if __name__ == "__main__":
-    run_parts("expression_rows", (test_of_the_reader, test_of_rows, test_of_schemas), sys.argv[1:])
+    run_parts("expression_rows", (the_reader, the_rows, the_schemas), sys.argv[1:])
