@@ -171,23 +171,30 @@ def counted(text):
     number, _, working = text.partition("=")
     if not re.fullmatch(r"\d+ ?", number) or not re.fullmatch(r"[\d+*() \n]+", working):
         raise Fault(f"{text!r} is no number with its sum")
-    # only digits, signs and parentheses stand there
-    if eval(working.replace("\n", " ")) != int(number):  # pylint: disable=eval-used
+    try:
+        # only digits, signs and parentheses stand there
+        total = eval(working.replace("\n", " "))  # pylint: disable=eval-used
+    except SyntaxError:
+        total = None
+    if total != int(number):
         raise Fault(f"{working.strip()!r} isn't {number}")
-    return int(number)
+    return total
 
 
 def row_of(setting, keys):
     missing = [it for it in NEEDED if not keys.get(it)]
     if missing or not keys.keys() <= ROW_KEYS:
         raise Fault(f"no {', '.join(missing)}" if missing else "a key of settings")
+    self_name = keys.get("self", "#1")
+    if f"{self_name}=" not in setting.data:
+        raise Fault(f"no instance {self_name}")
     is_limit = keys["value"] == "LIMIT"
     steps = None if keys["steps"] == "endless" else counted(keys["steps"])
     bodies = counted(keys["bodies"]) if "bodies" in keys else None
     if is_limit != (steps is None or steps > MOST_STEPS or (bodies or 0) > MOST_BODIES):
         raise Fault("LIMIT and the steps don't agree")
     shows = [it.strip() for it in keys["shows"].split(";")]
-    return Row(keys["row"], setting, shows, int(keys.get("self", "#1")[1:]), keys.get("function", ""), keys.get("rule", ""),
+    return Row(keys["row"], setting, shows, int(self_name[1:]), keys.get("function", ""), keys.get("rule", ""),
                keys["expression"], None if is_limit else value_of(keys["value"]), steps, bodies)
 
 
@@ -200,12 +207,19 @@ def setting_of(topic, keys):
 def read_topic(topic, text, faults):
     """The settings and rows of a file; what is no row is told to the faults."""
     settings, rows = [], []
-    for keys in blocks_of(text):
+    try:
+        blocks = blocks_of(text)
+    except Fault as fault:
+        faults.append(f"{topic}: {fault}")
+        return settings, rows
+    for keys in blocks:
         try:
             if "setting" in keys:
                 settings.append(setting_of(topic, keys))
-            else:
+            elif settings:
                 rows.append(row_of(settings[-1], keys))
+            else:
+                raise Fault("a row without a setting")
         except Fault as fault:
             faults.append(f"{topic}, {keys.get('row', keys.get('setting'))}: {fault}")
     return settings, rows
@@ -240,15 +254,15 @@ BAD = (
     ({"value": "10.E1"}, "'10.E1' isn't"), ({"value": "SET[1: 1,2]"}, "no element"), ({"value": "SET[1: 1"}, "no element"),
     ({"value": "LABEL('a"}, "no value at"), ({"value": "LABEL(1"}, "no value at"), ({"value": "'it's'"}, "\"'it's'\" isn't"),
     ({"value": "true"}, "no value at"), ({"value": "LIMIT"}, "LIMIT and the steps"), ({"steps": "3"}, "'3' is no number"),
-    ({"steps": "4 = 1 + 2"}, "'1 + 2' isn't 4"), ({"steps": "3 = x + 2"}, "'3 = x + 2' is no number"), ({"steps": "3 = 4 - 1"}, "'3 = 4 - 1' is no"),
+    ({"steps": "4 = 1 + 2"}, "'1 + 2' isn't 4"), ({"steps": "4 = (1 + 3"}, "'(1 + 3' isn't 4"), ({"steps": "3 = x + 2"}, "'3 = x + 2' is no number"), ({"steps": "3 = 4 - 1"}, "'3 = 4 - 1' is no"),
     ({"steps": "endless"}, "LIMIT and the steps"), ({"steps": "200001 = 200000 + 1"}, "LIMIT and the steps"),
-    ({"bodies": "201 = 200 + 1"}, "LIMIT and the steps"), ({"bodies": "2 = 1"}, "'1' isn't 2"),
+    ({"self": "#2"}, "no instance #2"), ({"bodies": "201 = 200 + 1"}, "LIMIT and the steps"), ({"bodies": "2 = 1"}, "'1' isn't 2"),
 )
 
 
 def the_reader(it):
     """It refuses what is no row, and takes values of each sort."""
-    setting = Setting("s", "t", "@", "")
+    setting = Setting("s", "t", "@", "#1=E();")
     it.expect("a good row", row_of(setting, GOOD).steps, 3)
     for keys, wanted in BAD:
         try:
