@@ -15,7 +15,7 @@ import sys
 from collections import Counter
 from typing import NamedTuple
 
-from harness import TOP, run_parts
+from lib.harness import TOP, run_parts
 
 FOLDER = os.path.join(TOP, "tests/data/expressions")
 LINES = "lines.txt"
