@@ -111,7 +111,10 @@ fn report(
     ensures { IfOk result (λ r. (string_bytes r.0 ≡ spec.report text.now) × (r.1 ≡ spec.verdict text.now)) }
 {
     match compiled {
-        Ok(compiled) => Ok((accepted(alloc, text, compiled.checked())?, Verdict::Accepted)),
+        Ok(compiled) => Ok((
+            accepted(alloc, text, compiled.checked())?,
+            Verdict::Accepted,
+        )),
         Err(Failure::Fault(fault)) => Ok((refused(alloc, text, *fault)?, Verdict::Refused)),
         Err(Failure::NoMemory) => Err(AllocError),
     }

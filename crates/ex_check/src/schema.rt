@@ -7,9 +7,9 @@ ghost use Rattle.ex_lex.specs.Spelling.{Rise};
 ghost use Rattle.ex_check.specs.Check as spec;
 
 use crate::fault::SchemaFault;
+use ex_compiled::Compiled;
 use ex_lex::tokens;
 use ex_resolve::{Named, resolve};
-use ex_compiled::Compiled;
 use ex_syntax::parse;
 use ex_tree::Schema as Tree;
 use ex_types::{CheckedSchema, check};

@@ -83,6 +83,7 @@ impl Compiled {
         ensures { IsTrue result → (set : List ℕ) → IsStrictlyIncreasing set → ((n : ℕ) → is_among set n ≡ is_among line.now n) → legal.refusal self.now.named.schema.entities set ≡ None }
     {
         self.schema.named().proved();
-        self.constraints.is_unconstrained(self.schema.entities(), entity, line)
+        self.constraints
+            .is_unconstrained(self.schema.entities(), entity, line)
     }
 }

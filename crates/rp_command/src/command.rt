@@ -68,10 +68,7 @@ fn whole<'a>(alloc: Global) -> Result<clap::Command<'a>, AllocError> {
 }
 
 /// What these words ask for, the program's own name first.
-pub fn command_of<'a>(
-    alloc: Global,
-    words: &'a [String],
-) -> Result<Command<'a>, CommandLineFault> {
+pub fn command_of<'a>(alloc: Global, words: &'a [String]) -> Result<Command<'a>, CommandLineFault> {
     match whole(alloc)?.try_get_matches_from(words) {
         Ok(matches) => asked_in(&matches).ok_or(CommandLineFault::Incomplete),
         Err(error) if error.use_stderr() => Err(fault_of(alloc, &error)),

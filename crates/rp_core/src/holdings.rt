@@ -8,7 +8,7 @@ use ex_layouts::LoadedSchema;
 use plain_data::Text;
 use rp_access::Access;
 use rp_plain::messages::{NewFault, Reply, Request};
-use rp_readers::{Readers, KeptLayouts, place_among};
+use rp_readers::{KeptLayouts, Readers, place_among};
 use std::alloc::Global;
 use std::marker::Model;
 

@@ -15,7 +15,7 @@ use rp_item_plans::{
 };
 use rp_plain::messages::{Refusal, Request};
 use rp_plans::Plan;
-use rp_readers::{Readers, KeptLayouts};
+use rp_readers::{KeptLayouts, Readers};
 use std::alloc::Global;
 
 /// The plan of a request on groups, or its refusal.

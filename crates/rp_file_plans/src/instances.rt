@@ -10,7 +10,7 @@ use rp_content::Instance;
 use rp_plain::messages::{Refusal, Reply, Request};
 use rp_plans::{Edits, Plan, first, is_no_partner, key_fault, unseen, when};
 use rp_readers::instances::{instance_in, line_of};
-use rp_readers::{Readers, KeptLayouts};
+use rp_readers::{KeptLayouts, Readers};
 use rp_rows::rows::Key;
 use std::alloc::Global;
 

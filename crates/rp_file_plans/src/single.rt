@@ -16,7 +16,7 @@ use rp_content::Instance;
 use rp_plain::messages::{Refusal, Reply, Request};
 use rp_plans::{Edits, Plan, first, is_no_partner, key_fault, lacks, when};
 use rp_readers::instances::{instance_in, instance_named};
-use rp_readers::{Readers, KeptLayouts, ModelNames};
+use rp_readers::{KeptLayouts, ModelNames, Readers};
 use rp_rows::limits::{MAX_INSTANCES, MAX_NAME};
 use rp_rows::rows::{Key, ModelContent, Right};
 use rp_store::is_used;

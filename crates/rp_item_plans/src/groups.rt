@@ -44,7 +44,11 @@ pub fn plan_create_group(
 }
 
 /// A group of the caller's is gone, with its grants.
-pub fn plan_delete_group(alloc: Global, asked: &Readers<'_, '_>, name: Text) -> Result<Plan, Refusal>
+pub fn plan_delete_group(
+    alloc: Global,
+    asked: &Readers<'_, '_>,
+    name: Text,
+) -> Result<Plan, Refusal>
     ensures { Plans (told asked.now) asked.now.caller.now (Request.DeleteGroup name) result }
 {
     let tests = [name_fault(&name), unseen(asked.own_group_right(&name))];

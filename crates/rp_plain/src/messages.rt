@@ -1,6 +1,6 @@
 //! Requests and their replies.
 
-use crate::lists::{Item, Member, ListedInstance};
+use crate::lists::{Item, ListedInstance, Member};
 use ex_check::SchemaFault;
 use p21_tree::{FileFault, InstanceFault};
 use plain_data::{Rows, Text};

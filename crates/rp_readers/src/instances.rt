@@ -10,8 +10,8 @@ ghost use Rattle.rp_plain.specs.Instances as of_instances;
 ghost use Rattle.rp_readers.specs.Told.{told};
 ghost use Rattle.rp_readers.specs.Named.{TellsNamed};
 
-use crate::readers::Readers;
 use crate::kept::KeptLayouts;
+use crate::readers::Readers;
 use plain_data::Text;
 use rp_content::Instance;
 use rp_rows::rows::Key;

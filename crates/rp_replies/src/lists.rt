@@ -10,12 +10,15 @@ use crate::writing::{boolean_at, number_at, place_of_kind, string_at};
 use json::Writer;
 use plain_data::Text;
 use rp_content::Link;
-use rp_plain::lists::{Item, Member, ListedInstance};
+use rp_plain::lists::{Item, ListedInstance, Member};
 use rp_population::Place;
 use rp_rows::rows::Right;
 use std::alloc::AllocError;
 
-pub(crate) fn write_listed_instances(out: &mut Writer, names: &[ListedInstance]) -> Result<(), AllocError>
+pub(crate) fn write_listed_instances(
+    out: &mut Writer,
+    names: &[ListedInstance],
+) -> Result<(), AllocError>
     ensures ok { OnOk result (out.new.tokens ≡ out.old.tokens ++ tokens_of (list_of listed_instance_data names.now)) }
     ensures before { out.new.before ≡ out.old.before }
 {

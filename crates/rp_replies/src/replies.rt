@@ -6,7 +6,7 @@ ghost use Rattle.rp_replies.specs.Replies.{only, list_of, instance_data, reply_d
 ghost use Rattle.rp_replies.specs.Tokens.{tokens_of};
 
 use crate::lists::{
-    write_items_at, write_links, write_members, write_listed_instances, write_places, write_texts,
+    write_items_at, write_links, write_listed_instances, write_members, write_places, write_texts,
     write_warnings,
 };
 use crate::refusals::write_refusal;
@@ -15,7 +15,7 @@ use ex_check::SchemaFault;
 use json::Writer;
 use plain_data::Text;
 use rp_content::Link;
-use rp_plain::lists::{Item, Member, ListedInstance};
+use rp_plain::lists::{Item, ListedInstance, Member};
 use rp_plain::messages::{Refusal, Reply};
 use rp_population::Place;
 use std::alloc::{AllocError, Global};
