@@ -234,7 +234,8 @@ ATTRIBUTES = {
     "PERSON_AND_ORGANIZATION_ASSIGNMENT": {"ASSIGNED": to("PERSON_AND_ORGANIZATION"), "ROLE": WIDE, "ITEMS": each_once(1, MANAGED)},
     "CALENDAR_DATE": {"YEAR_COMPONENT": PLAIN, "MONTH_COMPONENT": PLAIN, "DAY_COMPONENT": PLAIN},
     "TIME_OFFSET": {"HOUR_OFFSET": PLAIN, "MINUTE_OFFSET": Maybe(PLAIN), "SENSE": PLAIN},
-    "DATE_AND_TIME": {"DATE_COMPONENT": to("CALENDAR_DATE"), "HOUR": PLAIN, "MINUTE": Maybe(PLAIN), "SECOND": Maybe(PLAIN), "ZONE": to("TIME_OFFSET")},
+    "DATE_AND_TIME": {"DATE_COMPONENT": to("CALENDAR_DATE"), "HOUR": PLAIN, "MINUTE": Maybe(PLAIN), "SECOND": Maybe(PLAIN),
+                      "ZONE": to("TIME_OFFSET")},
     "APPROVAL": {"STATE": PLAIN, "LEVEL": WIDE, "REQUIRED_ROLES": each_once(1, WIDE), "FURTHER_ROLES": each_once(0, WIDE)},
     "APPROVAL_SIGNATURE": {"SIGNER": to("PERSON_AND_ORGANIZATION"), "ROLE": WIDE, "SIGNED": to("APPROVAL"), "SIGNED_ON": Maybe(to("DATE_AND_TIME"))},
     "APPROVAL_ASSIGNMENT": {"ASSIGNED": to("APPROVAL"), "ITEMS": each_once(1, APPROVED)},
@@ -300,7 +301,8 @@ NARROWER = {
 # ---- reading a file
 
 TOKEN = re.compile(r"""\s+|(?P<comment>/\*.*?\*/)|(?P<string>'(?:[^']|'')*')|"(?P<binary>0[0-9A-F]*)"|\#(?P<name>\d+)
-    |(?P<real>[+-]?\d+\.\d*(?:E[+-]?\d+)?)|(?P<integer>[+-]?\d+)|\.(?P<item>[A-Z_]+)\.|(?P<word>[A-Z][A-Z0-9_-]*)|(?P<sign>[(),=;$*])""", re.S | re.X)
+    |(?P<real>[+-]?\d+\.\d*(?:E[+-]?\d+)?)|(?P<integer>[+-]?\d+)|\.(?P<item>[A-Z_]+)\.|(?P<word>[A-Z][A-Z0-9_-]*)
+    |(?P<sign>[(),=;$*])""", re.S | re.X)
 LOGICAL = {"T": True, "F": False, "U": UNKNOWN}
 
 

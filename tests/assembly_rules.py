@@ -738,9 +738,7 @@ def one_unit_of_length_wr1(instances):
         units, body = lengths(it)
         prefixes.append(units[0]["SI_UNIT.PREFIX"] if units and is_a(units[0], "SI_UNIT") else None)
         bodies.append(body)
-    if not contexts:
-        raise ValueError("without a context of units this rule isn't reckoned here")
-    alike, steps = True, 7 + len(contexts) + 9 + bodies[0]
+    alike, steps = True, 7 + len(contexts) + 9 + sum(bodies[:1])
     for prefix, body in zip(prefixes[1:], bodies[1:]):
         # each turn WHILE: alike; and if so IF, <>, `.`, `\`, `[]`, `.`, `[]`, contexts, i, 1, and the body of lengths, prefix: 11;
         # the assignment, FALSE where they differ
