@@ -64,7 +64,8 @@ def together(one, other):
 
 def country_code_wr1(value):
     # AND; twice: the interval, 'A', SELF[1] (`[]`, SELF, 1), 'Z': 1 + 2 * 6
-    return all("A" <= it <= "Z" for it in (value[0], value[1])), 13
+    capital = [None if it == "" else "A" <= it <= "Z" for it in (value[:1], value[1:2])]
+    return both(*capital), 13
 
 
 def count_measure_wr1(value):
