@@ -4,7 +4,7 @@
     tests/assembly_count.py [PROGRAM]
 
 The program isn't run: this says whether the file is right that its answer to `validate` is compared with. Each rule of the schema is
-written out in assembly_rules.py, with the steps that it takes, and reports/GREAT.md tells of each why it holds of these models, or not.
+written out in lib/assembly_rules.py, with the steps that it takes, and reports/GREAT.md tells of each why it holds of these models, or not.
 The last line is 'assembly count: N passed, M failed', which counts entries of the report, and the status is 0 only if none failed.
 """
 import collections
@@ -14,8 +14,8 @@ import os
 import re
 import sys
 
-import assembly_rules as rules
-from assembly_files import Written, population, shape_faults
+from lib import assembly_rules as rules
+from lib.assembly_files import Written, population, shape_faults
 
 FOLDER = os.path.join(os.path.dirname(os.path.dirname(os.path.abspath(__file__))), "example/assembly")
 REPORTS = os.path.join(FOLDER, "reports")

@@ -15,7 +15,7 @@ Both operands and all arguments are evaluated, whatever they give. A CASE takes 
 first equal one; a REPEAT a step and its bounds once, and WHILE and UNTIL at each turn, in which the bound is tested first; the
 expressions of a LOCAL are no statements. None is a value that isn't there, and a truth value that isn't known.
 """
-from assembly_files import UNKNOWN
+from lib.assembly_files import UNKNOWN
 
 # What a constant's body takes: `[a, b]` is a node with two literals, of size 3. A name of it is one node more.
 DIMENSIONLESS, OF_LENGTH, OF_MASS, OF_VOLUME = [0, 0], [1, 0], [0, 1], [3, 0]
