@@ -7,7 +7,7 @@ has its kinds, since what `x.a` means goes by the entities that x may be of. Nam
 import re
 from collections import namedtuple
 from enum import Enum
-from typing import NamedTuple
+from types import SimpleNamespace
 
 from plain_binding import Bits, Enumeration, Real, Select, real_of
 
@@ -28,14 +28,8 @@ class Indeterminate(Enum):
     INDETERMINATE = "?"
 
 
-class Item(NamedTuple):
-    """An item of an enumeration: its type, its place in the declaration, and its word."""
-
-    type: str
-    place: int
-    word: str
-
-
+# an item of an enumeration: its type, its place in the declaration, and its word
+Item = namedtuple("Item", "type place word")
 INDETERMINATE = Indeterminate.INDETERMINATE
 LOGICALS = {it.name: it for it in Logical}
 
@@ -76,25 +70,10 @@ def union(*several):
 
 # ---- types
 
-
-class Simple(NamedTuple):
-    """A simple type by its word, or GENERIC. A string's or a binary's width is the most that it may have, or all."""
-
-    word: str
-    width: int | None = None
-    is_fixed: bool = False
-
-
-class Aggregate(NamedTuple):
-    """ARRAY, LIST, BAG, SET or AGGREGATE. A high bound that is None is none."""
-
-    kind: str
-    low: int
-    high: int | None
-    element: object
-    is_optional: bool = False
-    is_unique: bool = False
-
+# a simple type by its word, or GENERIC; a string's or a binary's width is the most that it may have, or all
+Simple = namedtuple("Simple", "word width is_fixed", defaults=(None, False))
+# ARRAY, LIST, BAG, SET or AGGREGATE; a high bound that is None is none
+Aggregate = namedtuple("Aggregate", "kind low high element is_optional is_unique")
 
 # ---- expressions, each with its kinds: those of a name are bound, and `near` are the entities that it may be of, with their ancestors
 
@@ -146,16 +125,9 @@ Inverse = namedtuple("Inverse", "kind low high entity attribute")
 Local = namedtuple("Local", "names type value")
 
 
-class Derived:
-    """A derived attribute or a constant: its type and its expression."""
-
-    def __init__(self, declared, at):
-        self.type, self.at, self.expression = declared, at, None
-
-
-class DefinedType:
-    def __init__(self, underlying, at):
-        self.underlying, self.at, self.rules = underlying, at, []
+def derived(declared, at):
+    """A derived attribute or a constant: its type and its expression, which stands at a place of the text."""
+    return SimpleNamespace(type=declared, at=at, expression=None)
 
 
 class Entity:
@@ -163,7 +135,7 @@ class Entity:
     has them, and by their names."""
 
     def __init__(self):
-        self.supertypes, self.expression, self.is_abstract = [], None, False
+        self.supertypes = []
         self.explicit, self.redeclared, self.derived, self.derived_again, self.inverse = {}, {}, {}, {}, {}
         self.at, self.unique, self.rules = None, [], []
 
@@ -270,23 +242,6 @@ class Schema:
         underlying = self.types[name].underlying
         return underlying.members if isinstance(underlying, Select) else [underlying]
 
-    def members_at_any_depth(self, name):
-        """The members of a SELECT that are none themselves, with those of the SELECTs among its members."""
-        found = set()
-        for member in self.select_members(name):
-            found |= self.members_at_any_depth(member) if self.is_select(member) else {member}
-        return found
-
-    def selects_to(self, name, wanted):
-        """The SELECTs on any way from a SELECT to one of the wanted members, that itself included; none where no way leads."""
-        found = set()
-        is_way = False
-        for member in self.select_members(name):
-            further = self.selects_to(member, wanted) if self.is_select(member) else set()
-            found |= further
-            is_way = is_way or bool(further) or member in wanted
-        return found | {name} if is_way else set()
-
     def kinds_of(self, declared):
         """The kinds of a type."""
         if declared in self.kinds_by_name:
@@ -324,11 +279,8 @@ LITERALS = {
 KINDS_OF_LITERALS = {"real": Kinds(["REAL"]), "integer": INTEGER, "string": STRING, "binary": BINARY, "encoded": STRING}
 
 
-class Token(NamedTuple):
-    """A word in upper case, a mark, or a literal with its value."""
-
-    sort: str
-    text: object
+# a word in upper case, a mark, or a literal with its value
+Token = namedtuple("Token", "sort text")
 
 
 def remark_end(text, at):
@@ -386,14 +338,9 @@ def kinds_of_operation(operator, left, right):
     return Kinds(left.simple & right.simple, elements=union(*elements) if elements else None)
 
 
-class Scope(NamedTuple):
-    """What names mean beside those of the schema: variables with their kinds, the entity whose attributes may be named alone,
-    the kinds of SELF, and the entities that a rule is for."""
-
-    variables: dict
-    entity: str | None = None
-    self_kinds: Kinds = NO_KINDS
-    extents: tuple = ()
+# what names mean beside those of the schema: variables with their kinds, the entity whose attributes may be named alone, the kinds of
+# SELF, and the entities that a rule is for
+Scope = namedtuple("Scope", "variables entity self_kinds extents", defaults=(None, NO_KINDS, ()))
 
 
 class Reader:
@@ -477,7 +424,7 @@ class Reader:
         self.take(":")
         declared = self.type()
         self.take(":=")
-        found = Derived(declared, self.put_off(";"))
+        found = derived(declared, self.put_off(";"))
         self.take(";")
         return name, found
 
@@ -492,7 +439,7 @@ class Reader:
         else:
             underlying = self.type()
         self.take(";")
-        self.schema.types[name] = DefinedType(underlying, self.put_off("END_TYPE"))
+        self.schema.types[name] = SimpleNamespace(underlying=underlying, at=self.put_off("END_TYPE"), rules=[])
         self.take("END_TYPE")
 
     def width(self):
@@ -528,25 +475,6 @@ class Reader:
         is_optional, is_unique = self.takes("OPTIONAL"), self.takes("UNIQUE")
         return Aggregate(word, low, high, self.type(), is_optional, is_unique)
 
-    def supertype_expression(self, words=("ANDOR", "AND")):
-        """As plain_binding has it: an entity's name, or a word with expressions."""
-        if not words:
-            return self.supertype_term()
-        found = [self.supertype_expression(words[1:])]
-        while self.takes(words[0]):
-            found.append(self.supertype_expression(words[1:]))
-        return found[0] if len(found) == 1 else (words[0], *found)
-
-    def supertype_term(self):
-        if self.takes("ONEOF"):
-            found = self.in_parentheses(self.supertype_expression)
-            return found[0] if len(found) == 1 else ("ONEOF", *found)
-        if self.takes("("):
-            found = self.supertype_expression()
-            self.take(")")
-            return found
-        return self.name()
-
     def attribute_name(self):
         """A name, or the entity and the name of a redeclared attribute."""
         if not self.takes("SELF"):
@@ -559,9 +487,7 @@ class Reader:
     def entity_declaration(self):
         name = self.name()
         entity = self.schema.entities[name] = Entity()
-        entity.is_abstract = self.takes("ABSTRACT")
-        if self.takes("SUPERTYPE") and self.takes("OF"):
-            (entity.expression,) = self.in_parentheses(self.supertype_expression)
+        self.put_off("SUBTYPE", ";")
         if self.takes("SUBTYPE"):
             self.take("OF")
             entity.supertypes = self.in_parentheses(self.name)

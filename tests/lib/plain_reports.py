@@ -4,18 +4,29 @@ steps. It is written from the description alone, and never from the program.
 A population is made of models as plain_model has them. Each check is a filter of its instances or of their values, in the order
 of the population; what is evaluated is told by plain_rules.
 """
+from enum import Enum
+
 from plain_binding import DERIVED, UNSET, Enumeration, Reference, Typed
 from plain_binding import Item as Word
-from plain_express import INDETERMINATE, Aggregate, Explicit, Item, Logical, Simple
+from plain_express import INDETERMINATE, Aggregate, Item, Logical, Simple
 from plain_rules import (
-    LIMIT, NOT_RUN, OUTSIDE, STEPS_OF_AN_EVALUATION, UNKNOWN, Bits, Environment, Evaluation, Instance, Many, PastLimit, as_declared, bare,
-    fits, length, once_each, same, truth,
+    LIMIT, NOT_RUN, STEPS_OF_AN_EVALUATION, TRUE, Bits, Environment, Evaluation, Instance, Many, PastLimit, as_declared, bare, deep, fits,
+    length, once_each, same, truth,
 )
 
 STEPS_BEFORE_THE_LAST = 19_800_000
 LOGICAL_WORDS = {"T": Logical.TRUE, "F": Logical.FALSE, "U": Logical.UNKNOWN}
 
 # ---- populations
+
+
+class Outside(Enum):
+    """A reference that leaves the population, in a written value."""
+
+    OUTSIDE = "#"
+
+
+OUTSIDE = Outside.OUTSIDE
 
 
 def attributes_of(schema, types):
@@ -90,6 +101,22 @@ def fill(schema, instance, values, target):
         instance.read[entity, name] = as_declared(schema, declared, read(value))
 
 
+# ---- SELECTs
+
+
+def members_at_any_depth(schema, name):
+    """The members of a SELECT that are none themselves, with those of the SELECTs among its members."""
+    members = schema.select_members(name)
+    return set().union(*(members_at_any_depth(schema, it) if schema.is_select(it) else {it} for it in members))
+
+
+def selects_to(schema, name, wanted):
+    """The SELECTs on any way from a SELECT to one of the wanted members, that itself included; none where no way leads."""
+    members = schema.select_members(name)
+    further = set().union(*(selects_to(schema, it, wanted) for it in members if schema.is_select(it)))
+    return further | {name} if further or wanted.intersection(members) else set()
+
+
 # ---- what a declaration asks of a value; a redeclaration may ask one of another shape
 
 
@@ -97,7 +124,7 @@ def asked(schema, declared, value):
     """The type by which a value is asked, and the bare value: in a SELECT the one that it is written under, or none."""
     if not schema.is_select(declared):
         return schema.end(declared), bare(value)
-    is_member = isinstance(value, Typed) and value.keyword in schema.members_at_any_depth(declared)
+    is_member = isinstance(value, Typed) and value.keyword in members_at_any_depth(schema, declared)
     return (schema.end(value.keyword), value.value) if is_member else (None, value)
 
 
@@ -139,13 +166,11 @@ def is_astray(schema, declared, value):
         return True
     if isinstance(value, Instance):
         end = schema.end(declared)
-        allowed = schema.members_at_any_depth(declared) if schema.is_select(declared) else {end}
+        allowed = members_at_any_depth(schema, declared) if schema.is_select(declared) else {end}
         return not allowed & value.types
     end, inner = asked(schema, declared, value)
     if isinstance(end, Aggregate) and isinstance(inner, Many):
         return any(is_astray(schema, end.element, it) for it in inner.elements)
-    if isinstance(inner, Instance) and end:
-        return is_astray(schema, end, inner)
     return refers(inner)
 
 
@@ -163,8 +188,8 @@ def rules_at(schema, declared, written_value, read_value):
         end = schema.end(declared)
         return set(schema.names_beneath(declared)), end.element if isinstance(end, Aggregate) else None
     if isinstance(written_value, Instance):
-        return {declared} | schema.selects_to(declared, written_value.types), None
-    between = schema.selects_to(declared, {written_value.keyword}) if isinstance(written_value, Typed) else set()
+        return {declared} | selects_to(schema, declared, written_value.types), None
+    between = selects_to(schema, declared, {written_value.keyword}) if isinstance(written_value, Typed) else set()
     if not between:
         return {declared}, None
     end = schema.end(written_value.keyword)
@@ -329,7 +354,7 @@ def verdict_of(value):
 
 
 def are_same(row, others):
-    return all(same(*its) is Logical.TRUE for its in zip(row, others))
+    return all(same(*its) is TRUE for its in zip(row, others))
 
 
 def count_users(evaluation, instance, inverse):
@@ -345,4 +370,4 @@ def outcome_of_rule(evaluation, rule, expression):
 
 def report_of(schema, models):
     """The report of the population of some models, by what plain_express reads of their schema."""
-    return Report(schema, population_of(schema, models)).make()
+    return deep(Report(schema, population_of(schema, models)).make)

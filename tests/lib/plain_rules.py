@@ -1,23 +1,51 @@
-"""What the trees of plain_express mean over a population, with steps and nesting, and the report of a population, in Python.
+"""What the trees of plain_express mean over a population, with steps and nesting, in Python.
 
 It is written from the description alone, and never from the program: each operator, function and statement is a function
-here, and so is each check of the report. Nothing is compiled, and nothing is remembered between evaluations.
+here. Nothing is compiled, and nothing is remembered from one evaluation to another.
 
 A value is a Python value: int, Real, str, Bits, Logical, Item, an Instance, a Many, INDETERMINATE, or Typed, which is one
-of the first with the name of the defined type that it carries.
+of these with the name of the defined type that it carries.
 """
+import sys
+import threading
 from collections import namedtuple
 from enum import Enum
 
 import plain_express as express
-from plain_binding import DERIVED, UNSET, Bits, Enumeration, Real, Reference, Typed
-from plain_express import INDETERMINATE, Aggregate, Item, Logical, Simple
+from plain_binding import Bits, Enumeration, Real, Typed
+from plain_express import INDETERMINATE, Aggregate, Item, Logical
 
 TRUE, FALSE, UNKNOWN = Logical.TRUE, Logical.FALSE, Logical.UNKNOWN
 STEPS_OF_AN_EVALUATION = 200_000
 NESTED_BODIES = 200
-STEPS_BEFORE_THE_LAST = 19_800_000
 SMALLEST, GREATEST = -2**63, 2**63 - 1
+FRAMES, STACK = 1_000_000, 512 * 1024 * 1024
+
+
+def deep(meaning, *given):
+    """What a function gives that goes down deep: 200 bodies, each of 64 levels."""
+    found = []
+
+    def run():
+        try:
+            found.append((meaning(*given), None))
+        except Exception as fault:  # (it is raised again where it is waited for)
+            found.append((None, fault))
+
+    before, limit = threading.stack_size(STACK), sys.getrecursionlimit()
+    sys.setrecursionlimit(FRAMES)
+    try:
+        thread = threading.Thread(target=run)
+        thread.start()
+        thread.join()
+    finally:
+        threading.stack_size(before)
+        sys.setrecursionlimit(limit)
+    (value, fault), = found
+    if fault:
+        raise fault
+    return value
+
 
 # ---- values
 
@@ -36,12 +64,6 @@ class Instance:
         self.attributes, self.written, self.read, self.derived, self.users = [], {}, {}, set(), []
 
 
-class Outside(Enum):
-    """A reference that leaves the population."""
-
-    OUTSIDE = "#"
-
-
 class Outcome(Enum):
     """What an evaluation comes to that has no value."""
 
@@ -49,7 +71,6 @@ class Outcome(Enum):
     NOT_RUN = "not_run"
 
 
-OUTSIDE = Outside.OUTSIDE
 LIMIT, NOT_RUN = Outcome.LIMIT, Outcome.NOT_RUN
 KINDS = {int: "INTEGER", Real: "REAL", str: "STRING", Bits: "BINARY", Logical: "LOGICAL", Instance: "entity", Many: "aggregate"}
 
@@ -60,17 +81,14 @@ def bare(value):
 
 
 def kind(value):
-    """The simple kind of a bare value that is one. Each enumeration is one."""
+    """The kind of a bare value that isn't none. Each enumeration is one."""
     return value.type if isinstance(value, Item) else KINDS[type(value)]
 
 
-def is_number(value):
-    return isinstance(value, (int, Real))
-
-
 def are_of_one_kind(left, right):
-    """Whether two bare values may be compared. Numbers may, and any two aggregates."""
-    return is_number(left) and is_number(right) or kind(left) == kind(right)
+    """Whether two bare values are, where INTEGER and REAL are one kind, and so are all aggregates."""
+    kinds = {kind(left), kind(right)}
+    return len(kinds) == 1 or kinds == {"INTEGER", "REAL"}
 
 
 def logical(is_so):
@@ -78,7 +96,7 @@ def logical(is_so):
 
 
 def truth(value):
-    """What a condition says: any value but a truth value counts as none, which is unknown."""
+    """What a condition says: a value that is no truth value counts as none, and none as unknown."""
     return bare(value) if isinstance(bare(value), Logical) else UNKNOWN
 
 
@@ -87,17 +105,13 @@ def holds_instance(value):
     return isinstance(value, Instance) or isinstance(value, Many) and any(map(holds_instance, value.elements))
 
 
-def whole(number):
-    """An integer result: none out of 64 bits."""
-    return number if SMALLEST <= number <= GREATEST else INDETERMINATE
-
-
 # ---- equality and order
 
 
 def order(left, right):
-    """Below, at or above zero as the left one comes before, with or behind the right one, of two bare values of one kind."""
-    if is_number(left):
+    """Below, at or above zero as the left one comes before, with or behind the right one, of two bare values of one kind: numbers by
+    value, strings by characters, binaries by bits, truth values and items in their order."""
+    if isinstance(left, (int, Real)):
         (digits, exponent), (others, other) = (it if isinstance(it, Real) else (it, 0) for it in (left, right))
         least = min(exponent, other)
         left, right = digits * 10 ** (exponent - least), others * 10 ** (other - least)
@@ -121,7 +135,7 @@ def same(left, right):
 
 
 def equal(left, right):
-    """Equality by value as it holds within aggregates: unknown with no value, with an instance at any depth, and of two kinds."""
+    """Equality by value within aggregates: unknown with no value, with an instance at any depth, and of two kinds."""
     left, right = bare(left), bare(right)
     if left is INDETERMINATE or right is INDETERMINATE or holds_instance(left) or holds_instance(right):
         return UNKNOWN
@@ -131,24 +145,29 @@ def equal(left, right):
 
 
 def agree(left, right, equality):
-    """Equality of aggregates by that of their elements."""
+    """Equality of aggregates by that of their elements: by place, or by how often each occurs, where a BAG or a SET is among them."""
+    every = left.elements + right.elements
     if len(left.elements) != len(right.elements):
         return FALSE
-    if left.kind in ("BAG", "SET") or right.kind in ("BAG", "SET"):
-        every = left.elements + right.elements
-        if any(it is INDETERMINATE for it in every):
-            return UNKNOWN
-        return logical(all(occurrences(it, left, equality) == occurrences(it, right, equality) for it in every))
-    return least(*(equality(*its) for its in zip(left.elements, right.elements)))
-
-
-def occurrences(value, aggregate, equality):
-    return sum(equality(value, it) is TRUE for it in aggregate.elements)
+    if not {"BAG", "SET"} & {left.kind, right.kind}:
+        return least(*(equality(*its) for its in zip(left.elements, right.elements)))
+    if any(it is INDETERMINATE for it in every):
+        return UNKNOWN
+    occurrences = lambda value, aggregate: sum(equality(value, it) is TRUE for it in aggregate.elements)
+    return logical(all(occurrences(it, left) == occurrences(it, right) for it in every))
 
 
 def place_in(elements, value):
     """The place of the first element that is the same as a value, or None. No value is the same as nothing."""
     return next((place for place, it in enumerate(elements) if same(it, value) is TRUE), None)
+
+
+def taken_from(elements, value):
+    """Whether an element is the same as a value: the first such is taken out."""
+    place = place_in(elements, value)
+    if place is not None:
+        del elements[place]
+    return place is not None
 
 
 def once_each(elements):
@@ -159,85 +178,50 @@ def once_each(elements):
     return found
 
 
-# ---- truth values
+# ---- operators on truth values and on integers
 
 
 def least(*values):
     return min(values, key=lambda it: it.value, default=TRUE)
 
 
-def of_truth_values(operator):
-    """An operator on truth values, as one on all values: no value counts as unknown, and a value of another kind gives none."""
-    def of_values(*values):
-        values = [UNKNOWN if it is INDETERMINATE else bare(it) for it in values]
-        return operator(*values) if all(isinstance(it, Logical) for it in values) else INDETERMINATE
-    return of_values
+def greatest(*values):
+    return max(values, key=lambda it: it.value)
 
 
-@of_truth_values
-def negated(value):
-    return Logical(2 - value.value)
-
-
-@of_truth_values
-def both(left, right):
-    return least(left, right)
-
-
-@of_truth_values
-def either(left, right):
-    return max(left, right, key=lambda it: it.value)
-
-
-@of_truth_values
-def one_alone(left, right):
-    return UNKNOWN if UNKNOWN in (left, right) else logical(left is not right)
-
-
-# ---- operators on integers
-
-
-def of_integers(operator):
-    """An operator on integers, as one on all values: those of another kind give none."""
-    def of_values(*values):
-        values = [bare(it) for it in values]
-        return whole_or_none(operator(*values)) if all(isinstance(it, int) for it in values) else INDETERMINATE
-    return of_values
-
-
-def whole_or_none(number):
-    return INDETERMINATE if number is None else whole(number)
-
-
-@of_integers
-def as_it_is(number):
-    return number
-
-
-@of_integers
-def opposite(number):
-    return -number
-
-
-@of_integers
-def quotient(dividend, divisor):
-    return dividend // divisor if dividend >= 0 and divisor > 0 else None
-
-
-@of_integers
-def remainder(dividend, divisor):
-    return dividend % divisor if dividend >= 0 and divisor > 0 else None
-
-
-@of_integers
 def power(base, exponent):
-    """What is past 64 bits with the exponent 64 stays so with a greater one, and the others repeat themselves."""
-    if exponent < 0:
-        return None
-    return base ** (exponent if exponent <= 64 else 64 + exponent % 2)
+    """What is past 64 bits with the exponent 64 is so with each greater one, and the others repeat themselves."""
+    return None if exponent < 0 else base ** (exponent if exponent <= 64 else 64 + exponent % 2)
 
 
-# ---- `+`, `*`, `-`, and the orders
+TRUTH_OPERATORS = {
+    "NOT": lambda it: Logical(2 - it.value), "AND": least, "OR": greatest,
+    "XOR": lambda left, right: UNKNOWN if UNKNOWN in (left, right) else logical(left is not right),
+}
+INTEGER_OPERATORS = {
+    "+": lambda *its: sum(its), "-": lambda *its: its[0] - its[1] if len(its) > 1 else -its[0], "*": lambda left, right: left * right,
+    "DIV": lambda dividend, divisor: dividend // divisor if dividend >= 0 and divisor > 0 else None,
+    "MOD": lambda dividend, divisor: dividend % divisor if dividend >= 0 and divisor > 0 else None, "**": power,
+}
+
+
+def of_truth_values(operator, *values):
+    """No value counts as unknown, and a value of another kind gives none."""
+    values = [UNKNOWN if it is INDETERMINATE else bare(it) for it in values]
+    return TRUTH_OPERATORS[operator](*values) if all(isinstance(it, Logical) for it in values) else INDETERMINATE
+
+
+def of_integers(operator, *values):
+    """A value of another kind gives none, and so does a result out of 64 bits."""
+    values = [bare(it) for it in values]
+    return whole(INTEGER_OPERATORS[operator](*values)) if all(isinstance(it, int) for it in values) else INDETERMINATE
+
+
+def whole(number):
+    return number if number is not None and SMALLEST <= number <= GREATEST else INDETERMINATE
+
+
+# ---- `+`, `*` and `-` with aggregates
 
 
 def plus(left, right):
@@ -248,9 +232,21 @@ def plus(left, right):
         return joined(one if isinstance(one, Many) else left, other if isinstance(other, Many) else right)
     if isinstance(one, Bits) and isinstance(other, Bits):
         return Bits(one.text + other.text)
-    if isinstance(one, str) and isinstance(other, str):
-        return one + other
-    return of_integers(lambda a, b: a + b)(one, other)
+    return one + other if isinstance(one, str) and isinstance(other, str) else of_integers("+", one, other)
+
+
+def joined(left, right):
+    """`+` with an aggregate. To a SET on the left comes what isn't yet in it."""
+    is_set = isinstance(left, Many) and left.kind == "SET"
+    elements = list(elements_of(left))
+    for it in elements_of(right):
+        if not (is_set and place_in(elements, it) is not None):
+            elements.append(it)
+    return giving_kind(left, right)._replace(elements=elements)
+
+
+def elements_of(value):
+    return value.elements if isinstance(value, Many) else [value]
 
 
 def giving_kind(left, right):
@@ -259,75 +255,52 @@ def giving_kind(left, right):
     return left if is_left else right
 
 
-def elements_of(value):
-    return value.elements if isinstance(value, Many) else [value]
-
-
-def joined(left, right):
-    """`+` with an aggregate. To a SET on the left comes what isn't yet in it."""
-    elements = list(elements_of(left))
-    for it in elements_of(right):
-        if not (isinstance(left, Many) and left.kind == "SET" and place_in(elements, it) is not None):
-            elements.append(it)
-    return giving_kind(left, right)._replace(elements=elements)
-
-
 def times(left, right):
     """Of two aggregates the left's elements that find an equal one left on the right."""
     left, right = bare(left), bare(right)
     if not (isinstance(left, Many) and isinstance(right, Many)):
-        return of_integers(lambda a, b: a * b)(left, right)
-    free, found = list(right.elements), []
-    for it in left.elements:
-        place = place_in(free, it)
-        if place is not None:
-            del free[place]
-            found.append(it)
-    return Many("SET" if "SET" in (left.kind, right.kind) else "BAG", 1, found)
+        return of_integers("*", left, right)
+    free = list(right.elements)
+    return Many("SET" if "SET" in (left.kind, right.kind) else "BAG", 1, [it for it in left.elements if taken_from(free, it)])
 
 
 def minus(left, right):
-    """From an aggregate the first equal one left for each element on the right."""
+    """From an aggregate the first equal one left is taken for each element on the right."""
     one, other = bare(left), bare(right)
-    if one is INDETERMINATE or other is INDETERMINATE or not isinstance(one, Many):
-        return of_integers(lambda a, b: a - b)(one, other)
+    if other is INDETERMINATE or not isinstance(one, Many):
+        return of_integers("-", one, other)
     elements = list(one.elements)
     for it in elements_of(other):
-        place = place_in(elements, it)
-        if place is not None:
-            del elements[place]
+        taken_from(elements, it)
     return giving_kind(one, other)._replace(elements=elements)
 
 
-def equality(left, right):
-    """`=`: unknown with no value; none with an instance on a side, or of two kinds."""
+# ---- relations
+
+
+def compared(left, right, meaning):
+    """A comparison by value: unknown with no value; none with an instance on a side, or of two kinds."""
     left, right = bare(left), bare(right)
     if left is INDETERMINATE or right is INDETERMINATE:
         return UNKNOWN
     if isinstance(left, Instance) or not are_of_one_kind(left, right):
         return INDETERMINATE
-    return equal(left, right)
+    return meaning(left, right)
 
 
-def opposed(operator):
-    """`<>` and `:<>:`: what isn't so."""
-    def of_values(left, right):
-        value = operator(left, right)
-        return value if value is INDETERMINATE else negated(value)
-    return of_values
+def equality(left, right):
+    return compared(left, right, equal)
 
 
-def ordered(is_so, within):
-    """`<`, `>`, `<=` and `>=`: unknown with no value; none with an instance on a side, or of two kinds. Of two aggregates `within`
-    decides."""
-    def of_values(left, right):
-        left, right = bare(left), bare(right)
-        if left is INDETERMINATE or right is INDETERMINATE:
-            return UNKNOWN
-        if isinstance(left, Instance) or not are_of_one_kind(left, right):
-            return INDETERMINATE
+def not_so(value):
+    return value if value is INDETERMINATE else of_truth_values("NOT", value)
+
+
+def ordered(is_so, within=lambda left, right: INDETERMINATE):
+    """One of `<`, `>`, `<=` and `>=`. Of two aggregates `within` decides."""
+    def meaning(left, right):
         return within(left, right) if isinstance(left, Many) else logical(is_so(order(left, right)))
-    return of_values
+    return lambda left, right: compared(left, right, meaning)
 
 
 def is_within(lesser, greater):
@@ -335,12 +308,7 @@ def is_within(lesser, greater):
     if {"LIST", "ARRAY"} & {lesser.kind, greater.kind}:
         return INDETERMINATE
     free = list(greater.elements)
-    for it in lesser.elements:
-        place = place_in(free, it)
-        if place is None:
-            return FALSE
-        del free[place]
-    return TRUE
+    return logical(all(taken_from(free, it) for it in lesser.elements))
 
 
 def has(aggregate, value, is_equal):
@@ -355,19 +323,20 @@ def has(aggregate, value, is_equal):
     return UNKNOWN if any(it is INDETERMINATE for it in (value, *aggregate.elements)) else FALSE
 
 
-NO_ORDER = lambda left, right: INDETERMINATE
 OPERATORS = {
-    "+": plus, "-": minus, "*": times, "DIV": quotient, "MOD": remainder, "**": power, "AND": both, "OR": either, "XOR": one_alone,
-    "=": equality, "<>": opposed(equality), ":=:": same, ":<>:": opposed(same), "IN": lambda value, aggregate: has(aggregate, value, same),
-    "<": ordered(lambda it: it < 0, NO_ORDER), ">": ordered(lambda it: it > 0, NO_ORDER), "<=": ordered(lambda it: it <= 0, is_within),
-    ">=": ordered(lambda it: it >= 0, lambda left, right: is_within(right, left)),
+    "+": plus, "-": minus, "*": times, **{it: lambda *its, it=it: of_integers(it, *its) for it in ("DIV", "MOD", "**")},
+    **{it: lambda *its, it=it: of_truth_values(it, *its) for it in ("AND", "OR", "XOR")},
+    "=": equality, "<>": lambda left, right: not_so(equality(left, right)), ":=:": same, ":<>:": lambda left, right: not_so(same(left, right)),
+    "<": ordered(lambda it: it < 0), ">": ordered(lambda it: it > 0), "<=": ordered(lambda it: it <= 0, is_within),
+    ">=": ordered(lambda it: it >= 0, lambda left, right: is_within(right, left)), "IN": lambda value, many: has(many, value, same),
 }
-UNARY_OPERATORS = {"+": as_it_is, "-": opposite, "NOT": negated}
-LOGICAL_OPERATORS = ("AND", "OR", "XOR")
+
+
+# ---- sizes, and the functions of the language but for TYPEOF and USEDIN
 
 
 def size(value):
-    """The size of an initialiser's result."""
+    """The size of an initialiser's result: 1, and 1 for each element that is no aggregate, and the size of each that is."""
     elements = map(bare, value.elements)
     return 1 + sum(size(it) if isinstance(it, Many) else 1 for it in elements)
 
@@ -377,17 +346,8 @@ def length(value):
 
 
 def count_of(value):
+    """The count of an aggregate."""
     return len(bare(value).elements) if isinstance(bare(value), Many) else 0
-
-
-def product_of_counts(left, right):
-    """What an operator of the table costs beside its node on two aggregates, and what the joining of strings or binaries does not."""
-    if not (isinstance(bare(left), Many) and isinstance(bare(right), Many)):
-        return 0
-    return count_of(left) * count_of(right) + count_of(left) + count_of(right)
-
-
-# ---- functions of the language, but for TYPEOF and USEDIN
 
 
 def of_kind(kinds, meaning):
@@ -401,7 +361,7 @@ def high_index(aggregate):
 
 FUNCTIONS = {
     "ABS": of_kind(int, lambda it: whole(abs(it))), "ODD": of_kind(int, lambda it: logical(it % 2 == 1)),
-    "LENGTH": of_kind(str, len), "BLENGTH": of_kind(Bits, length), "SIZEOF": of_kind(Many, count_of),
+    "LENGTH": of_kind(str, length), "BLENGTH": of_kind(Bits, length), "SIZEOF": of_kind(Many, count_of),
     "LOINDEX": of_kind(Many, lambda it: it.low), "HIINDEX": of_kind(Many, high_index),
     "EXISTS": lambda it: logical(it is not INDETERMINATE), "NVL": lambda value, other: other if value is INDETERMINATE else value,
     "VALUE_IN": lambda aggregate, value: has(aggregate, value, equality),
@@ -409,16 +369,15 @@ FUNCTIONS = {
 
 
 def at_index(value, index):
+    """`a[i]`: an element as it is, or a character or a bit."""
     value, index = bare(value), bare(index)
-    if not isinstance(index, int):
-        return INDETERMINATE
-    if isinstance(value, Many):
-        return value.elements[index - value.low] if value.low <= index <= high_index(value) else INDETERMINATE
-    return part_of(value, index, index)
+    if not (isinstance(value, Many) and isinstance(index, int)):
+        return part_of(value, index, index)
+    return value.elements[index - value.low] if value.low <= index <= high_index(value) else INDETERMINATE
 
 
 def part_of(value, low, high):
-    """The characters or bits from a place to a place, counted from 1."""
+    """`s[i:j]`: the characters or bits from a place to a place, counted from 1."""
     value, low, high = bare(value), bare(low), bare(high)
     if not (isinstance(value, (str, Bits)) and isinstance(low, int) and isinstance(high, int) and 1 <= low <= high <= length(value)):
         return INDETERMINATE
@@ -626,7 +585,8 @@ class Evaluation:
     # -- operators
 
     def unary(self, node, environment):
-        return UNARY_OPERATORS[node.operator](self.value(node.operand, environment))
+        of = of_truth_values if node.operator == "NOT" else of_integers
+        return of(node.operator, self.value(node.operand, environment))
 
     def chain(self, node, environment):
         """Operators from the left. The last one's step is that of the whole node."""
@@ -640,8 +600,8 @@ class Evaluation:
         """Both operands are evaluated, whatever they are."""
         if operator == "IN":
             self.charge(count_of(right))
-        elif operator not in LOGICAL_OPERATORS:
-            self.charge(product_of_counts(left, right))
+        elif operator not in TRUTH_OPERATORS and isinstance(bare(left), Many) and isinstance(bare(right), Many):
+            self.charge(count_of(left) * count_of(right) + count_of(left) + count_of(right))
         value = OPERATORS[operator](left, right)
         if operator == "+" and isinstance(value, (str, Bits)):
             self.charge(length(value))
@@ -649,7 +609,7 @@ class Evaluation:
 
     def interval(self, node, environment):
         low, item, high = (self.value(it, environment) for it in (node.low, node.item, node.high))
-        return both(self.operation(node.low_operator, low, item), self.operation(node.high_operator, item, high))
+        return of_truth_values("AND", self.operation(node.low_operator, low, item), self.operation(node.high_operator, item, high))
 
     def query(self, node, environment):
         source = bare(self.value(node.source, environment))

@@ -9,7 +9,6 @@ are objects as those of `put`, or (name, owner, model, instance).
 """
 import os
 import sys
-import threading
 from types import SimpleNamespace
 
 sys.path.insert(0, os.path.dirname(os.path.dirname(os.path.abspath(__file__))))
@@ -21,36 +20,7 @@ import plain_reports
 import plain_rules
 from plain_express import INDETERMINATE
 from plain_model import Link
-from plain_rules import LIMIT
-
-FRAMES = 1_000_000
-STACK = 512 * 1024 * 1024
-
-
-def deep(meaning, *given):
-    """What a function gives that goes down deep: 200 bodies, each of 64 levels."""
-    found = []
-    before = threading.stack_size(STACK)
-    limit = sys.getrecursionlimit()
-    sys.setrecursionlimit(FRAMES)
-
-    def run():
-        try:
-            found.append((meaning(*given), None))
-        except Exception as fault:  # (it is raised again where it is waited for)
-            found.append((None, fault))
-
-    try:
-        thread = threading.Thread(target=run)
-        thread.start()
-        thread.join()
-    finally:
-        threading.stack_size(before)
-        sys.setrecursionlimit(limit)
-    value, fault = found[0]
-    if fault:
-        raise fault
-    return value
+from plain_rules import LIMIT, deep
 
 
 # ---- the schema that files are read by
@@ -99,7 +69,7 @@ def model_of(schema, owner, name, file, links=()):
 def report(schema_text, models):
     """The content of the reply to `validate` of a group in which these models count."""
     schema = plain_express.read(schema_text)
-    return deep(plain_reports.report_of, schema, [model_of(schema, *it) for it in models])
+    return plain_reports.report_of(schema, [model_of(schema, *it) for it in models])
 
 
 # ---- expressions
