@@ -7,6 +7,7 @@
 A model is (owner, name, file) or (owner, name, file, links): the file is an exchange file, or the instances alone that one has; links
 are objects as those of `put`, or (name, owner, model, instance).
 """
+import functools
 import os
 import sys
 from types import SimpleNamespace
@@ -55,6 +56,7 @@ def binding_schema(schema):
 
 # ---- models
 
+tree_of = functools.lru_cache(maxsize=20)(plain_express.read)
 FILE = "ISO-10303-21;HEADER;FILE_DESCRIPTION((''),'2;1');FILE_NAME('','',(''),(''),'','','');FILE_SCHEMA(('{}'));ENDSEC;DATA;{}ENDSEC;END-ISO-10303-21;"
 
 
@@ -68,7 +70,7 @@ def model_of(schema, owner, name, file, links=()):
 
 def report(schema_text, models):
     """The content of the reply to `validate` of a group in which these models count."""
-    schema = plain_express.read(schema_text)
+    schema = tree_of(schema_text)
     return plain_reports.report_of(schema, [model_of(schema, *it) for it in models])
 
 
@@ -78,7 +80,7 @@ def report(schema_text, models):
 def evaluate(schema_text, expression, instances="", self_name=None, entity=None, limit=plain_rules.STEPS_OF_AN_EVALUATION):
     """A value and its steps, or LIMIT. The expression is one of WHERE of an entity, by default that of the only leaf of the instance
     which is SELF; without SELF it is one of a rule for all entities. The instances are a text of them or models."""
-    schema = plain_express.read(schema_text)
+    schema = tree_of(schema_text)
     models = [("me", "m", instances)] if isinstance(instances, str) else instances
     population = plain_reports.population_of(schema, [model_of(schema, *it) for it in models])
     me = INDETERMINATE

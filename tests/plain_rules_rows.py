@@ -1,0 +1,333 @@
+#!/usr/bin/env python3
+"""Compares what the plain reading of rules in tests/lib gives with values, steps and reports that are known from the description
+of rules itself. It runs no program.
+
+    tests/plain_rules_rows.py [PROGRAM]
+
+The last line is 'plain rules rows: N passed, M failed', and the status is 0 only if none failed.
+"""
+import json
+import os
+import sys
+
+sys.path.insert(1, os.path.join(os.path.dirname(os.path.abspath(__file__)), "lib"))
+
+import plain_files  # noqa: E402
+from harness import end, shortened  # noqa: E402
+from messages import L, T, file_of, line  # noqa: E402
+from plain_model import Repository, compact  # noqa: E402
+from rule_texts import LIMIT, binding_schema, evaluate, plain_express, report, told  # noqa: E402
+
+LABEL = "plain rules rows"
+
+O = """SCHEMA O; ENTITY e; i : OPTIONAL INTEGER;
+WHERE a : i < 3; b : (i < 3) AND FALSE; c : (i < 3) OR TRUE;
+d : NVL(i, 7) = 7; f : SIZEOF(QUERY(z <* [1, 2] | z < i)) = 0;
+END_ENTITY; END_SCHEMA;
+"""
+U = "SCHEMA U; ENTITY e; k : OPTIONAL INTEGER; UNIQUE u1 : k; END_ENTITY; END_SCHEMA;"
+G = """SCHEMA G; FUNCTION f(n : INTEGER) : INTEGER; IF n <= 0 THEN RETURN (0); END_IF; RETURN (f(n - 1)); END_FUNCTION;
+ENTITY e; k : INTEGER; WHERE w : f(k) = 0; END_ENTITY; END_SCHEMA;"""
+N = "SCHEMA N; ENTITY e; DERIVE a : INTEGER := b; b : INTEGER := a; WHERE w : a = 1; END_ENTITY; END_SCHEMA;"
+H = """SCHEMA H; ENTITY e; nx : OPTIONAL e; DERIVE d : INTEGER := NVL(nx.d, 0); WHERE w : d = 0; END_ENTITY; END_SCHEMA;"""
+
+# values of each kind, made by functions: aggregates of a declared kind, and what carries a type
+V = """SCHEMA V;
+TYPE label = STRING; END_TYPE;
+TYPE title = label; END_TYPE;
+TYPE labels = LIST OF label; END_TYPE;
+TYPE colour = ENUMERATION OF (red, green, blue); END_TYPE;
+TYPE paint = colour; END_TYPE;
+TYPE magnitude = ENUMERATION OF (small, large, blue); END_TYPE;
+TYPE number_of = INTEGER; END_TYPE;
+TYPE flag = BOOLEAN; END_TYPE;
+TYPE any_one = SELECT (number_of, flag, label, labels, e); END_TYPE;
+ENTITY e; i : OPTIONAL INTEGER; l : OPTIONAL LIST OF label; r : OPTIONAL e; UNIQUE SELF\\e.i; END_ENTITY;
+FUNCTION a_list (x : LIST OF GENERIC) : GENERIC; RETURN (x); END_FUNCTION;
+FUNCTION a_bag (x : BAG OF GENERIC) : GENERIC; RETURN (x); END_FUNCTION;
+FUNCTION a_set (x : SET OF GENERIC) : GENERIC; RETURN (x); END_FUNCTION;
+FUNCTION a_set_of_sets (x : SET OF SET OF INTEGER) : GENERIC; RETURN (x); END_FUNCTION;
+FUNCTION an_array (x : ARRAY [2:4] OF GENERIC) : GENERIC; RETURN (x); END_FUNCTION;
+FUNCTION as_it_is (x : GENERIC) : GENERIC; RETURN (x); END_FUNCTION;
+FUNCTION as_aggregate (x : AGGREGATE OF GENERIC) : AGGREGATE OF GENERIC; RETURN (x); END_FUNCTION;
+FUNCTION as_any (x : any_one) : any_one; RETURN (x); END_FUNCTION;
+FUNCTION as_real (x : REAL) : REAL; RETURN (x); END_FUNCTION;
+FUNCTION as_string (x : STRING) : STRING; RETURN (x); END_FUNCTION;
+FUNCTION as_boolean (x : BOOLEAN) : BOOLEAN; RETURN (x); END_FUNCTION;
+FUNCTION as_label (x : label) : label; RETURN (x); END_FUNCTION;
+FUNCTION as_title (x : title) : title; RETURN (x); END_FUNCTION;
+FUNCTION as_labels (x : labels) : labels; RETURN (x); END_FUNCTION;
+FUNCTION as_colour (x : colour) : colour; RETURN (x); END_FUNCTION;
+FUNCTION as_paint (x : paint) : paint; RETURN (x); END_FUNCTION;
+FUNCTION twice_one : SET OF INTEGER; LOCAL r : SET OF INTEGER := []; END_LOCAL; r := r + 1; r := r + 1; RETURN (r); END_FUNCTION;
+FUNCTION no_return : INTEGER; ; END_FUNCTION;
+FUNCTION unset_local : INTEGER; LOCAL a : INTEGER; END_LOCAL; RETURN (a); END_FUNCTION;
+FUNCTION later_local : LIST OF INTEGER; LOCAL a : INTEGER := NVL(b, 5); b, c : INTEGER := 7; END_LOCAL; RETURN ([a, b, c]); END_FUNCTION;
+FUNCTION five : INTEGER; RETURN (5); END_FUNCTION;
+FUNCTION turns (low : INTEGER; high : INTEGER; step : INTEGER) : LIST OF INTEGER; LOCAL r : LIST OF INTEGER := []; END_LOCAL;
+  REPEAT v := low TO high BY step; r := r + v; END_REPEAT; RETURN (r); END_FUNCTION;
+FUNCTION odd_turns : LIST OF INTEGER; LOCAL r : LIST OF INTEGER := []; END_LOCAL;
+  REPEAT v := 1 TO 9 UNTIL v >= 7; IF NOT ODD(v) THEN SKIP; END_IF; r := r + v; END_REPEAT; RETURN (r); END_FUNCTION;
+FUNCTION escaped : INTEGER; LOCAL n : INTEGER := 0; END_LOCAL; REPEAT; n := n + 1; IF n = 3 THEN ESCAPE; END_IF; END_REPEAT; RETURN (n);
+END_FUNCTION;
+FUNCTION case_of (x : INTEGER) : STRING; CASE x OF 1, 2 : RETURN ('few'); ? : RETURN ('none'); 3 : RETURN ('three');
+  OTHERWISE : RETURN ('many'); END_CASE; END_FUNCTION;
+END_SCHEMA;
+"""
+
+TRUTHS = ["FALSE", "UNKNOWN", "TRUE"]
+
+# an expression, its value, and its steps where they are known
+VALUES = [
+    # integers
+    ("0 ** 0", "1", 3), ("2 ** (-1)", "?", 4), ("2 ** 62", "4611686018427387904", 3), ("2 ** 63", "?", 3), ("(-2) ** 63", "-9223372036854775808", 4),
+    ("(-1) ** 9223372036854775807", "-1", 4), ("1 ** 9223372036854775806", "1", None), ("0 ** 5", "0", None), ("3 ** 100000000", "?", None),
+    ("9223372036854775807 + 1", "?", 3), ("-9223372036854775807 - 1", "-9223372036854775808", 4), ("-(-9223372036854775807 - 1)", "?", 5),
+    ("ABS(-9223372036854775807 - 1)", "?", None), ("7 DIV 2", "3", None), ("7 MOD 2", "1", None), ("(-7) DIV 2", "?", None), ("7 DIV (-2)", "?", None),
+    ("7 DIV 0", "?", None), ("0 MOD 5", "0", None), ("0 DIV 0", "?", None), ("(-7) MOD 2", "?", None), ("1 + ?", "?", 3), ("-?", "?", 2), ("+5", "5", 2),
+    ("2 + 3 * 4 ** 2", "50", 7), ("10 - 3 - 2", "5", 5), ("-1.5", "-15.E-1", 1), ("+ 1.5", "15.E-1", 1), ("ODD(-3)", "TRUE", None), ("ODD(4)", "FALSE", None),
+    ("ABS(-5)", "5", None), ("ABS(?)", "?", 2), ("ODD(?)", "?", 2),
+    # strings and binaries
+    ("'ab' + 'c'", "'abc'", 6), ("%10 + %1", "%101", 6), ("as_string('abc')[2]", "'b'", None), ("'' + ''", "''", 3),
+    ("as_string('abc')[1:2]", "'ab'", None), ("as_string('abc')[0]", "?", None), ("as_string('abc')[4]", "?", None), ("as_string('abc')[2:1]", "?", None),
+    ("as_string('abc')[2:4]", "?", None), ("as_it_is(%011)[2:3]", "%11", None), ("as_it_is(%01)[1]", "%0", None), ("LENGTH('abc')", "3", 2),
+    ("BLENGTH(%0110)", "4", 2), ("LENGTH(?)", "?", None), ("BLENGTH(?)", "?", None), ("'a' < 'ab'", "TRUE", None), ("'b' < 'ab'", "FALSE", None),
+    ("%0 < %01", "TRUE", None), ("%1 < %01", "FALSE", None), ('"00000041" = \'A\'', "TRUE", 3),
+    # comparisons
+    ("1 = 1.0", "TRUE", 3), ("1 < 1.5", "TRUE", None), ("1.10 = 1.1", "TRUE", None), ("0.E99 = 0", "TRUE", None), ("1.E30 > 9223372036854775807", "TRUE", None),
+    ("FALSE < UNKNOWN", "TRUE", None), ("UNKNOWN < TRUE", "TRUE", None), ("red < green", "TRUE", 3), ("colour.blue > green", "TRUE", 3), ("? = 1", "UNKNOWN", 3),
+    ("? < 1", "UNKNOWN", None), ("? :=: 1", "UNKNOWN", 3), ("SELF :=: ?", "UNKNOWN", None), ("SELF :=: SELF", "TRUE", 3), ("SELF :<>: SELF", "FALSE", None),
+    ("1 :=: 'a'", "FALSE", None), ("1 :<>: 'a'", "TRUE", None), ("SELF :=: 1", "FALSE", None), ("1 :=: 1.0", "TRUE", None), ("red :=: small", "FALSE", None),
+    ("1 = as_it_is('a')", "?", None), ("as_it_is(red) = small", "?", None), ("EXISTS(1 = as_it_is('a'))", "FALSE", None), ("1 = as_it_is(SELF)", "?", None),
+    ("[SELF] = [SELF, SELF]", "UNKNOWN", None), ("[1] = ['a']", "UNKNOWN", None), ("[1] :=: ['a']", "FALSE", None), ("[1, 2] = [1]", "FALSE", None),
+    ("[1, ?] = [1, 2]", "UNKNOWN", None), ("[1, ?] = [2, 2]", "FALSE", None), ("[1, 2] = [2, 1]", "FALSE", None), ("a_bag([1, 2]) = [2, 1]", "TRUE", None),
+    ("a_bag([1, 1, 2]) = [1, 2, 2]", "FALSE", None), ("a_bag([1, ?]) = [2, 3]", "UNKNOWN", None), ("[] = []", "TRUE", None), ("a_set([]) :=: a_list([])", "TRUE", None),
+    # `?` in BAGs within: for each element of either side the numbers of equal ones have to be the same
+    ("a_bag([[1, ?]]) = a_bag([[1, ?]])", "TRUE", None), ("a_bag([[?]]) = a_bag([[2]])", "FALSE", None), ("a_bag([[1]]) = a_bag([[2]])", "FALSE", None),
+    # IN
+    ("1 IN [1, 2]", "TRUE", 10), ("3 IN [1, ?]", "UNKNOWN", None), ("1 IN [1, ?]", "TRUE", None), ("? IN [1]", "UNKNOWN", None), ("1 IN ?", "UNKNOWN", 3),
+    ("3 IN [1, 2]", "FALSE", None), ("[1, ?] IN [[1, ?]]", "FALSE", None), ("1 IN as_it_is(5)", "?", None), ("SELF IN [SELF]", "TRUE", None),
+    ("VALUE_IN([1, 2], 2)", "TRUE", 10), ("VALUE_IN([1, ?], 2)", "UNKNOWN", None), ("VALUE_IN([1], 'a')", "FALSE", None), ("VALUE_IN(as_it_is(5), 5)", "?", None),
+    ("1.0 IN [1]", "TRUE", None), ("[1] IN [[1]]", "TRUE", None), ("VALUE_IN(?, 1)", "UNKNOWN", None),
+    # aggregates
+    ("a_bag([1, 2, 2]) * a_bag([2, 2, 3])", "BAG[2,2]", None), ("a_bag([1, 2, 2]) - 2", "BAG[1,2]", None), ("a_bag([1, 2]) + 3", "BAG[1,2,3]", None),
+    ("a_set([1, 2]) + [2, 3, 3]", "SET[1,2,3]", None), ("[3, 3] + a_set([3])", "SET[3,3,3]", None), ("3 + a_set([3])", "SET[3,3]", None),
+    ("a_set([1]) + 1", "SET[1]", None), ("a_set([1]) + ?", "?", None), ("a_set([?]) + [?]", "SET[?,?]", None), ("a_list([1]) + a_set([1])", "LIST[1,1]", None),
+    ("[1] + [2]", "[1,2]", None), ("[1] + 2", "[1,2]", None), ("1 + [2]", "[1,2]", None), ("[1] + a_list([2])", "LIST[1,2]", None),
+    ("an_array([1, 2, 3]) + 4", "ARRAY2[1,2,3,4]", None), ("4 + an_array([1, 2, 3])", "ARRAY2[4,1,2,3]", None), ("[[1]] + [[2]]", "[[1],[2]]", None),
+    ("a_list([1, 2, 1]) - [1, 1]", "LIST[2]", None), ("a_list([1, 2, 1]) - 1", "LIST[2,1]", None), ("[1, 2] - a_set([2])", "SET[1]", None), ("[1] - ?", "?", None),
+    ("a_list([1, 1]) * a_list([1])", "BAG[1]", None), ("a_list([1]) * a_set([1])", "SET[1]", None), ("[1, 2] * [2]", "BAG[2]", None), ("1 - [1]", "?", None),
+    ("a_set([1]) <= a_set([1, 2])", "TRUE", None), ("a_set([1, 3]) <= a_set([1, 2])", "FALSE", None), ("a_bag([1, 1]) <= a_bag([1, 2])", "FALSE", None),
+    ("a_bag([1, 2]) >= [2]", "TRUE", None), ("[1] <= [1, 1]", "TRUE", None), ("a_list([1]) <= [1]", "?", None), ("a_set([1]) < a_set([1])", "?", None),
+    ("[?] <= [?]", "FALSE", None), ("as_aggregate([1, 2])[2]", "2", None), ("as_aggregate([1, 2])[0]", "?", None),
+    ("an_array([5, 6, 7])[2]", "5", None), ("an_array([5, 6, 7])[1]", "?", None), ("as_aggregate([1])[?]", "?", None), ("LOINDEX(an_array([5, 6, 7]))", "2", None),
+    ("HIINDEX(an_array([5, 6, 7]))", "4", None), ("LOINDEX([5])", "1", None), ("HIINDEX([5, 5])", "2", None), ("SIZEOF([])", "0", 3), ("SIZEOF(?)", "?", 2),
+    ("LOINDEX(?)", "?", None), ("HIINDEX(?)", "?", None), ("USEDIN(?, '')", "?", 3), ("USEDIN(SELF, ?)", "?", 3), ("QUERY(v <* ? | TRUE)", "?", 2),
+    ("QUERY(v <* [1, 2, 3] | v > 1)", "[2,3]", 9 + 3 * 4), ("QUERY(v <* a_set([1, ?]) | v = 1)", "SET[1]", None), ("QUERY(v <* an_array([1, 2, 3]) | v > 1)", "ARRAY2[2,3]", None),
+    ("QUERY(v <* [1, 2] | UNKNOWN)", "[]", None), ("QUERY(v <* [1, 2] | 5)", "[]", None),
+    # functions
+    ("EXISTS(?)", "FALSE", 2), ("EXISTS(UNKNOWN)", "TRUE", 2), ("NVL(?, 7)", "7", 3), ("NVL(5, 7)", "5", 3), ("i", "?", 1), ("SELF.i", "?", 2), ("SELF\\e.i", "?", 3),
+    # what an initialiser becomes
+    ("twice_one", "SET[1]", None), ("TYPEOF(twice_one)", "SET['SET']", None), ("a_set_of_sets([[1, 2], [2, 1]])", "SET[SET[1,2]]", None), ("a_set([1, 1, ?, ?])", "SET[1,?,?]", None),
+    ("TYPEOF([1])", "SET['LIST']", None), ("TYPEOF(as_it_is([1]))", "SET['LIST']", None), ("TYPEOF(as_aggregate([1]))", "SET['LIST']", None), ("as_any([1])", "[1]", None),
+    ("a_set(a_list([1, 1]))", "LIST[1,1]", None), ("TYPEOF(as_real(1))", "SET['INTEGER']", None), ("TYPEOF(as_real(1.0))", "SET['REAL']", None),
+    # what carries a type
+    ("TYPEOF(?)", "SET[]", 2), ("TYPEOF(SELF)", "SET['V.E']", 3), ("TYPEOF(TRUE)", "SET['BOOLEAN','LOGICAL']", 4), ("TYPEOF(UNKNOWN)", "SET['LOGICAL']", 3),
+    ("TYPEOF('a')", "SET['STRING']", 3), ("TYPEOF(as_label('a'))", "SET['V.LABEL','STRING']", None), ("TYPEOF(as_title('a'))", "SET['V.TITLE','V.LABEL','STRING']", None),
+    ("TYPEOF(as_title(as_label('a')))", "SET['V.TITLE','V.LABEL','STRING']", None), ("TYPEOF(as_label(as_title('a')))", "SET['V.LABEL','STRING']", None),
+    ("TYPEOF(as_string(as_label('a')))", "SET['V.LABEL','STRING']", None), ("TYPEOF(as_any(as_title('a')))", "SET['V.TITLE','V.LABEL','STRING']", None),
+    ("TYPEOF(red)", "SET['V.COLOUR']", None), ("TYPEOF(as_paint(red))", "SET['V.PAINT','V.COLOUR']", None), ("TYPEOF(as_colour(as_paint(red)))", "SET['V.COLOUR']", None),
+    ("as_labels(['a'])", "LABELS(LIST[LABEL('a')])", None), ("TYPEOF(as_labels(['a']))", "SET['V.LABELS','LIST']", None), ("TYPEOF(as_labels(['a'])[1])", "SET['V.LABEL','STRING']", None),
+    ("as_labels(['a']) + 'b'", "LIST[LABEL('a'),'b']", None), ("as_label('a') + 'b'", "'ab'", None), ("NVL(as_label('a'), 1)", "LABEL('a')", None), ("[as_label('a')]", "[LABEL('a')]", None),
+    ("as_labels([1])", "LABELS(LIST[1])", None), ("TYPEOF(%1)", "SET['BINARY']", None),
+    # kinds that don't fit
+    ("as_boolean(UNKNOWN)", "UNKNOWN", None), ("as_string(as_it_is(1))", "?", None), ("as_real(as_it_is('a'))", "?", None), ("? AND as_it_is(5)", "?", None),
+    ("EXISTS(? AND as_it_is(5))", "FALSE", None), ("EXISTS(? AND TRUE)", "TRUE", None), ("NOT ?", "UNKNOWN", 2), ("as_it_is(1) + 'a'", "?", None), ("LENGTH(as_it_is(5))", "?", None),
+    # statements
+    ("no_return", "?", 2), ("unset_local", "?", 3), ("later_local", "LIST[5,7,7]", 1 + 3 + 1 + 1 + 8), ("five", "5", 3), ("turns(1, 3, 1)", "LIST[1,2,3]", None), ("turns(3, 1, -1)", "LIST[3,2,1]", None),
+    ("turns(1, 3, 0)", "LIST[]", None), ("turns(1, ?, 1)", "LIST[]", None), ("turns(?, 3, 1)", "LIST[]", None), ("turns(1, 3, ?)", "LIST[]", None), ("turns(3, 1, 1)", "LIST[]", None),
+    ("turns(9223372036854775806, 9223372036854775807, 1)", "LIST[9223372036854775806,9223372036854775807]", None), ("odd_turns", "LIST[1,3,5,7]", None), ("escaped", "3", None),
+    ("case_of(2)", "'few'", 2 + 1 + 1 + 2 + 2), ("case_of(3)", "'three'", 2 + 1 + 1 + 4 + 2), ("case_of(?)", "'many'", 2 + 1 + 1 + 4 + 2), ("case_of(9)", "'many'", None),
+    # intervals
+    ("{1 < 2 < 3}", "TRUE", 4), ("{1 <= 1 < 1}", "FALSE", 4), ("{1 < ? < 3}", "UNKNOWN", 4), ("{3 < 2 < ?}", "FALSE", 4), ("{[1] <= [1, 2] <= [1, 2, 3]}", "TRUE", 1 + 4 + 6 + 8 + 5 + 11),
+    # steps
+    ("[1, 2]", "[1,2]", 6), ("[[1, 2], 3]", "[[1,2],3]", 1 + (6 + 1) + 5), ("[1, 2] = [3]", "FALSE", 1 + 6 + 4 + 2 * 1 + 2 + 1), ("[1] DIV [2, 3]", "?", 1 + 4 + 6 + 1 * 2 + 1 + 2),
+    ("[1] IN [[1], [2]]", "TRUE", 1 + 4 + 14 + 2), ("[1] AND [2]", "?", 9), ("('a')", "'a'", 1), ("USEDIN(SELF, '')", "BAG[]", 3), ("a_list([1])", "LIST[1]", 1 + 4 + 2),
+]
+
+
+class Rows:
+    """Counts what is as it has to be."""
+
+    def __init__(self):
+        self.passed = self.failed = 0
+
+    def expect(self, name, seen, wanted):
+        if seen == wanted:
+            self.passed += 1
+        else:
+            self.failed += 1
+            print(f"{name}: {shortened(repr(seen).encode()).decode()} in place of {shortened(repr(wanted).encode()).decode()}")
+
+    def value(self, expression, value, steps):
+        """An expression of the entity E of V, over one instance of it."""
+        found, taken = evaluate(V, expression, "#1=E($,('a',$),$);", 1)
+        self.expect(expression, (told(found), taken), (value, taken if steps is None else steps))
+
+
+def values(it):
+    for expression, value, steps in VALUES:
+        it.value(expression, value, steps)
+
+
+def truths(it):
+    """The tables of truth values. No value counts as unknown."""
+    named = [*((word, place) for place, word in enumerate(TRUTHS)), ("?", 1)]
+    for left, one in named:
+        it.value(f"NOT {left}", TRUTHS[2 - one], 2)
+        for right, other in named:
+            it.value(f"{left} AND {right}", TRUTHS[min(one, other)], 3)
+            it.value(f"{left} OR {right}", TRUTHS[max(one, other)], 3)
+            it.value(f"{left} XOR {right}", "UNKNOWN" if 1 in (one, other) else TRUTHS[2 if one != other else 0], 3)
+
+
+def limits(it):
+    """Steps and nested bodies of one evaluation."""
+    one_user = "#1=P(1.,$);#2=Q(#1);"
+    it.expect("five steps", seen(evaluate(T, "SIZEOF(u) <= 2", one_user, 1, limit=5)), ("TRUE", 5))
+    it.expect("a limit of four", seen(evaluate(T, "SIZEOF(u) <= 2", one_user, 1, limit=4)), LIMIT)
+    for users in range(3):
+        text = "#1=P(1.,$);" + "".join(f"#{2 + place}=Q(#1);" for place in range(users))
+        it.expect(f"{users} users", seen(evaluate(T, "SIZEOF(u) <= 2", text, 1)), ("TRUE", 4 + users))
+    it.expect("what goes round", seen(evaluate(N, "a = 1", "#1=E();", 1)), LIMIT)
+    it.expect("200 bodies", seen(evaluate(G, "f(k) = 0", "#1=E(199);", 1)), ("TRUE", 10 + 9 * 199))
+    it.expect("201 bodies", seen(evaluate(G, "f(k) = 0", "#1=E(200);", 1)), LIMIT)
+    deep = "(" * 64 + "1" + ")" * 64
+    it.expect("64 levels", seen(evaluate(T, f"{deep} = 1", one_user, 1)), ("TRUE", 3))
+    it.expect("a long sum", seen(evaluate(T, "+".join(["1"] * 100_000), one_user, 1)), ("100000", 199_999))
+
+
+def seen(outcome):
+    return outcome if outcome is LIMIT else (told(outcome[0]), outcome[1])
+
+
+# ---- reports
+
+TRUE_CHECKS = [{"check": check, "verdict": "TRUE"} for check in ("unset", "bounds", "reference")]
+
+
+def ok_of(checks, steps):
+    return {"checks": checks, "steps": steps}
+
+
+def reports(it):
+    it.expect("rows that agree", report(U, [("ann", "m", "#1=E(1);#2=E(1);#3=E($);#4=E(2);")]), ok_of([
+        *TRUE_CHECKS, {"check": "unique", "false": [["ann", "m", 1], ["ann", "m", 2]], "of": "E", "rule": "U1", "verdict": "FALSE"}], 4))
+    it.expect("a function that calls itself", report(G, [("ann", "m", "#1=E(199);#2=E(200);")]), ok_of([
+        *TRUE_CHECKS, {"check": "where", "limit": [["ann", "m", 2]], "of": "E", "rule": "W", "verdict": "LIMIT"}], 201_801))
+    chain = "#1=E($);" + "".join(f"#{name}=E(#{name - 1});" for name in range(2, 202))
+    it.expect("a chain of derived values", report(H, [("ann", "m", chain)]), ok_of([
+        *TRUE_CHECKS, {"check": "where", "limit": [["ann", "m", 201]], "of": "E", "rule": "W", "verdict": "LIMIT"}], 281_000))
+    many = "".join(f"#{name}=E();" for name in range(1, 102))
+    it.expect("101 that go round", report(N, [("ann", "m", many)]), ok_of([
+        *TRUE_CHECKS, {"check": "where", "limit": [["ann", "m", name] for name in range(1, 101)], "not_run": [["ann", "m", 101]], "of": "E",
+                       "rule": "W", "verdict": "LIMIT"}], 20_000_000))
+    array = "SCHEMA B; ENTITY e; a : OPTIONAL ARRAY [3:1] OF INTEGER; END_ENTITY; END_SCHEMA;"
+    it.expect("an array of no right value", report(array, [("ann", "m", "#1=E(());#2=E((1));#3=E($);")]), ok_of([
+        TRUE_CHECKS[0], {"check": "bounds", "false": [["ann", "m", 1, "E.A"], ["ann", "m", 2, "E.A"]], "verdict": "FALSE"}, TRUE_CHECKS[2]], 0))
+
+
+class Opened:
+    """A plain repository of ann and bob with these schemas."""
+
+    def __init__(self, *texts):
+        trees = [plain_express.read(it) for it in texts]
+        self.repository = Repository(["ann", "bob"], [binding_schema(it) for it in trees], plain_files.read, plain_files.read_mapping, None,
+                                     {tree.name: text for tree, text in zip(trees, texts)})
+
+    def reply(self, who, do, **keys):
+        """The reply to a request, whose change is made."""
+        found, change = self.repository.step(line(who, do, **keys))
+        if change:
+            change()
+        return found
+
+    def fill(self, who, schema, instances, **keys):
+        """A model m in the group g of a partner."""
+        self.reply(who, "create_model", name="m", schema=schema)
+        self.reply(who, "create_group", name="g", schema=schema)
+        self.reply(who, "include", group="g", owner=who, model="m")
+        return self.reply(who, "put", owner=who, model="m", file=file_of(instances, schema), **keys)
+
+    def validate(self, who="ann", **keys):
+        return self.reply(who, "validate", **{"owner": "ann", "group": "g", **keys})
+
+
+def rows_of_replies(it):
+    """Replies byte for byte."""
+    opened = Opened(T)
+    opened.fill("ann", "T", "")
+    it.expect("names of nothing", opened.reply("ann", "names", owner="ann", model="m"), b'{"ok":{"names":[]}}')
+    it.expect("no instances", opened.validate(), (
+        b'{"ok":{"checks":[{"check":"unset","verdict":"TRUE"},{"check":"bounds","verdict":"TRUE"},{"check":"reference","verdict":"TRUE"},'
+        b'{"check":"where","of":"P","rule":"W1","verdict":"TRUE"},{"check":"inverse","of":"P","rule":"U","verdict":"TRUE"}],"steps":0}}'))
+    opened = Opened(O)
+    opened.fill("ann", "O", "#1=E($);")
+    found = json.loads(opened.validate())["ok"]
+    it.expect("five rules", [(entry["rule"], entry["verdict"]) for entry in found["checks"][3:]],
+              [("A", "UNKNOWN"), ("B", "FALSE"), ("C", "TRUE"), ("D", "TRUE"), ("F", "TRUE")])
+    it.expect("their steps", found["steps"], 36)
+    it.expect("the second", compact(found["checks"][4]), b'{"check":"where","false":[["ann","m",1]],"of":"E","rule":"B","verdict":"FALSE"}')
+    for rule, steps in (("i < 3", 3), ("(i < 3) AND FALSE", 5), ("(i < 3) OR TRUE", 5), ("NVL(i, 7) = 7", 5), ("SIZEOF(QUERY(z <* [1, 2] | z < i)) = 0", 18)):
+        it.expect(rule, evaluate(O, rule, "#1=E($);", 1)[1], steps)
+    opened = Opened(T)
+    it.expect("values that aren't set", opened.fill("ann", "T", "#1=P($,$);"), b'{"ok":{"instances":1}}')
+    found = json.loads(opened.validate())["ok"]
+    it.expect("one that has to be", compact(found["checks"][0]), b'{"check":"unset","false":[["ann","m",1,"P.X"]],"verdict":"FALSE"}')
+    it.expect("its steps", found["steps"], 5)
+    it.expect("one that isn't derived", opened.reply("ann", "put", owner="ann", model="m", file=file_of("#1=P(*,$);")),
+              b'{"refused":{"code":12,"instance":1,"kind":"NotDerived","name":"InstanceFault"}}')
+
+
+def rows_of_others(it):
+    """What others link to a population changes nothing in it."""
+    opened = Opened(T)
+    opened.fill("ann", "T", "#2=Q(#1);#1=P(0.10,'a');")
+    asked = lambda: (opened.validate(), opened.reply("ann", "users", owner="ann", group="g", of=["ann", "m", 1], role="T.Q.A"))
+    before = asked()
+    found = json.loads(before[0])["ok"]
+    it.expect("all true", ({entry["verdict"] for entry in found["checks"]}, found["steps"]), ({"TRUE"}, 7))
+    it.expect("one user", before[1], b'{"ok":{"users":[["ann","m",2]]}}')
+    opened.reply("ann", "grant", kind="model", name="m", to="bob", level="read")
+    opened.reply("bob", "create_model", name="b", schema="T")
+    links = [{"name": 9, "owner": "ann", "model": "m", "instance": 1}]
+    it.expect("another's put", opened.reply("bob", "put", owner="bob", model="b", file=file_of("#1=Q(#9);"), links=links), b'{"ok":{"instances":1}}')
+    it.expect("both replies", asked(), before)
+    for name, keys, code in (("a bad name", {"group": "a b", "owner": "carl"}, b'3,"name":"BadName"'), ("no partner", {"owner": "carl"}, b'4,"name":"UnknownPartner"'),
+                             ("no group", {"group": "z"}, b'7,"name":"NoSuchItem"'), ("an unseen group", {"who": "bob"}, b'7,"name":"NoSuchItem"'),
+                             ("a key more", {"model": "m"}, b'1,"name":"BadRequest"')):
+        it.expect(name, opened.validate(**keys), b'{"refused":{"code":' + code + b'}}')
+    opened.reply("ann", "grant", kind="group", name="g", to="bob", level="read")
+    it.expect("a group that is granted", opened.validate("bob"), before[0])
+
+
+def rows_of_many(it):
+    """As many instances as one evaluation may go through, with and without those of others."""
+    opened = Opened(L)
+    opened.fill("ann", "L", "".join(f"#{name}=E();" for name in range(1, 66_666)))
+    wanted = compact({"ok": ok_of([*TRUE_CHECKS, {"check": "rule", "of": "R1", "rule": "#1", "verdict": "TRUE"},
+                                   {"check": "rule", "of": "R2", "rule": "#1", "verdict": "LIMIT"}], 400_000)})
+    opened.reply("bob", "create_model", name="m", schema="L")
+    opened.reply("bob", "put", owner="bob", model="m", file=file_of("".join(f"#{name}=E();" for name in range(1, 1001)), "L"))
+    it.expect("66,665 instances", opened.validate(), wanted)
+
+
+def main():
+    it = Rows()
+    for part in (values, truths, limits, reports, rows_of_replies, rows_of_others, rows_of_many):
+        part(it)
+    end(LABEL, it.passed, it.failed)
+
+
+if __name__ == "__main__":
+    main()
