@@ -8,7 +8,7 @@ from enum import Enum
 
 from plain_binding import DERIVED, UNSET, Enumeration, Reference, Typed
 from plain_binding import Item as Word
-from plain_express import INDETERMINATE, Aggregate, Item, Logical, Simple
+from plain_trees import INDETERMINATE, Aggregate, Item, Logical, Simple
 from plain_rules import (
     LIMIT, NOT_RUN, STEPS_OF_AN_EVALUATION, TRUE, Bits, Environment, Evaluation, Instance, Many, PastLimit, as_declared, bare, deep, fits,
     length, once_each, same, truth,

@@ -1,4 +1,4 @@
-"""What the trees of plain_express mean over a population, with steps and nesting, in Python.
+"""What the trees of plain_trees mean over a population, with steps and nesting, in Python.
 
 It is written from the description alone, and never from the program: each operator, function and statement is a function
 here. Nothing is compiled, and nothing is remembered from one evaluation to another.
@@ -11,9 +11,9 @@ import threading
 from collections import namedtuple
 from enum import Enum
 
-import plain_express as express
+import plain_trees as trees
 from plain_binding import Bits, Enumeration, Real, Typed
-from plain_express import INDETERMINATE, Aggregate, Item, Logical
+from plain_trees import INDETERMINATE, Aggregate, Item, Logical
 
 TRUE, FALSE, UNKNOWN = Logical.TRUE, Logical.FALSE, Logical.UNKNOWN
 STEPS_OF_AN_EVALUATION = 200_000
@@ -747,19 +747,19 @@ class Evaluation:
 
 
 EVALUATED = {
-    express.Literal: Evaluation.literal, express.Variable: Evaluation.variable, express.Self: Evaluation.self_value,
-    express.OwnAttribute: Evaluation.own_attribute, express.Constant: Evaluation.constant, express.Extent: Evaluation.extent,
-    express.Call: Evaluation.call, express.BuiltIn: Evaluation.built_in, express.Qualified: Evaluation.qualified,
-    express.Unary: Evaluation.unary, express.Chain: Evaluation.chain, express.Interval: Evaluation.interval,
-    express.Query: Evaluation.query, express.Initialiser: Evaluation.initialiser,
+    trees.Literal: Evaluation.literal, trees.Variable: Evaluation.variable, trees.Self: Evaluation.self_value,
+    trees.OwnAttribute: Evaluation.own_attribute, trees.Constant: Evaluation.constant, trees.Extent: Evaluation.extent,
+    trees.Call: Evaluation.call, trees.BuiltIn: Evaluation.built_in, trees.Qualified: Evaluation.qualified,
+    trees.Unary: Evaluation.unary, trees.Chain: Evaluation.chain, trees.Interval: Evaluation.interval,
+    trees.Query: Evaluation.query, trees.Initialiser: Evaluation.initialiser,
 }
 ACCESSES = {
-    express.OfAttribute: Evaluation.of_attribute, express.OfGroup: Evaluation.of_group, express.OfIndex: Evaluation.of_index,
-    express.OfRange: Evaluation.of_range,
+    trees.OfAttribute: Evaluation.of_attribute, trees.OfGroup: Evaluation.of_group, trees.OfIndex: Evaluation.of_index,
+    trees.OfRange: Evaluation.of_range,
 }
 EXECUTED = {
-    express.Assignment: Evaluation.assignment, express.If: Evaluation.if_statement, express.Case: Evaluation.case_statement,
-    express.Repeat: Evaluation.repeat, express.Compound: Evaluation.compound, express.Null: lambda *_: None,
-    express.Skip: lambda *_: SKIPPED, express.Escape: lambda *_: ESCAPED,
-    express.Return: lambda it, statement, environment: Returned(it.value(statement.value, environment)),
+    trees.Assignment: Evaluation.assignment, trees.If: Evaluation.if_statement, trees.Case: Evaluation.case_statement,
+    trees.Repeat: Evaluation.repeat, trees.Compound: Evaluation.compound, trees.Null: lambda *_: None,
+    trees.Skip: lambda *_: SKIPPED, trees.Escape: lambda *_: ESCAPED,
+    trees.Return: lambda it, statement, environment: Returned(it.value(statement.value, environment)),
 }

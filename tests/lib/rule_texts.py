@@ -19,7 +19,8 @@ import plain_express
 import plain_files
 import plain_reports
 import plain_rules
-from plain_express import INDETERMINATE
+import plain_trees
+from plain_trees import INDETERMINATE
 from plain_model import Link
 from plain_rules import LIMIT, deep
 
@@ -29,9 +30,9 @@ from plain_rules import LIMIT, deep
 
 def binding_type(declared):
     """A type as plain_binding has it."""
-    if isinstance(declared, plain_express.Simple):
+    if isinstance(declared, plain_trees.Simple):
         return declared.word
-    if isinstance(declared, plain_express.Aggregate):
+    if isinstance(declared, plain_trees.Aggregate):
         high = "?" if declared.high is None else declared.high
         return plain_binding.Aggregate(f"{declared.kind} [{declared.low}:{high}]", binding_type(declared.element))
     if isinstance(declared, (plain_binding.Enumeration, plain_binding.Select)):
@@ -107,9 +108,9 @@ def told(value):
         return f"{name}[{','.join(map(told, value.elements))}]"
     if isinstance(value, plain_rules.Instance):
         return f"#{value.place[2]}"
-    if isinstance(value, plain_express.Item):
+    if isinstance(value, plain_trees.Item):
         return f"{value.type}.{value.word}"
-    if isinstance(value, plain_express.Logical):
+    if isinstance(value, plain_trees.Logical):
         return value.name
     if isinstance(value, plain_binding.Bits):
         return f"%{value.text}"
