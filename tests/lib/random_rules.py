@@ -133,7 +133,7 @@ class Maker:
             lambda: built_in("LENGTH", self.expression("STRING", scope, depth - 1)), lambda: built_in("ABS", part()),
             lambda: built_in("BLENGTH", self.expression("BINARY", scope, depth - 1)),
             lambda: built_in(self.choice(["LOINDEX", "HIINDEX"]), self.aggregate("INTEGER", scope, depth - 1)),
-            lambda: chain(part(), "+", self.named("select", scope) or part()), lambda: self.element("INTEGER", scope, depth),
+            lambda: built_in("ABS", self.named("select", scope) or part()), lambda: self.element("INTEGER", scope, depth),
         ])()
 
     def element(self, sort, scope, depth):
@@ -215,6 +215,9 @@ class Maker:
     def condition(self, scope, depth):
         if depth <= 0:
             return Literal(self.choice(Logical), None) if self.happens(0.3) else built_in("EXISTS", self.any_value(scope, 0))
+        if scope.extents and self.happens(0.5):
+            count = built_in("SIZEOF", self.query("entity", scope, depth))
+            return chain(count, self.choice(["=", "<", ">="]), whole(self.choice([0, 1, 2])))
         part = lambda: self.expression("LOGICAL", scope, depth - 1)
         return self.choice([
             lambda: chain(part(), self.choice(["AND", "OR", "XOR"]), part()), lambda: Unary("NOT", part(), None),
@@ -488,3 +491,150 @@ class Maker:
 def random_schema(seed, entities=60):
     """The text of a schema."""
     return Maker(seed, entities).make()
+
+
+# ---- populations
+
+MODELS = [("ann", "m"), ("bob", "k")]
+
+
+class Population:
+    """Random instances of a schema, in two models. Most values are as they are declared; how often they aren't is chosen anew for
+    each population, and so is how many of the instances that may go round do."""
+
+    def __init__(self, seed, schema, most):
+        self.random = random.Random(seed)
+        self.schema, self.binding = schema, binding_schema(schema)
+        self.faults, self.rounds = self.random.choice([0, 0.02, 0.1, 0.3]), self.random.choice([0, 0, 0.2, 1])
+        first = self.random.choice([0.2, 0.2, 0.8, 1])
+        below = [it for it in schema.entities if "ENTITY_1" in schema.line_of(it)]
+        self.few = self.random.random() < 0.3 and self.random.sample(list(schema.entities), 3)
+        self.types, self.models = {}, {}
+        for name in range(1, self.random.choice([0, 1, 5, 20, most, most]) + 1):
+            leaf = self.random.choice(self.few or (below if self.random.random() < first else list(schema.entities)))
+            self.types[name] = set(schema.line_of(leaf)) | self.second(leaf)
+            self.models[name] = MODELS[self.random.random() < 0.3]
+
+    def happens(self, probability):
+        return self.random.random() < probability
+
+    def second(self, leaf):
+        """At times the types of another entity that has a supertype in common."""
+        others = [it for it in self.schema.entities if set(self.schema.line_of(it)) & set(self.schema.line_of(leaf))]
+        return set(self.schema.line_of(self.random.choice(others))) if self.happens(0.15) else set()
+
+    def reference(self, entities):
+        """A reference to an instance of one of these, or to any, or to one that isn't in the population."""
+        fitting = [name for name, types in self.types.items() if types & set(entities)]
+        if self.happens(self.faults) or not fitting:
+            return Reference(1000) if self.happens(0.3) else Reference(self.random.choice([*self.types, 1000]))
+        return Reference(self.random.choice(fitting))
+
+    def value(self, declared, is_optional=False):
+        if self.happens(0.2 if is_optional else self.faults / 2):
+            return UNSET
+        end = self.schema.end(declared)
+        if isinstance(end, Select):
+            return self.selected(declared)
+        if isinstance(end, Aggregate):
+            return self.elements(end)
+        if isinstance(end, Enumeration):
+            return plain_binding.Item(self.random.choice(end.items))
+        return self.simple(end) if isinstance(end, Simple) else self.reference([end])
+
+    def simple(self, end):
+        number = self.random.choice([0, 1, 1, 2, 3, 5, 7, 9, 50, -1] + [99, 150, 500, 2**62] * self.happens(self.faults))
+        if end.word in ("BOOLEAN", "LOGICAL"):
+            return plain_binding.Item(self.random.choice("TF" if end.word == "BOOLEAN" else "TFU"))
+        if end.word in ("STRING", "BINARY"):
+            most = (end.width or 3) + (self.happens(self.faults) and 1)
+            length = most if end.is_fixed else self.random.randrange(most + 1)
+            text = "".join(self.random.choice("ab" if end.word == "STRING" else "01") for _ in range(length))
+            return text if end.word == "STRING" else Bits(text)
+        return number if end.word == "INTEGER" or end.word == "NUMBER" and self.happens(0.5) else plain_binding.real(number, -1)
+
+    def elements(self, end):
+        high = 4 if end.high is None else end.high
+        count = high - end.low + 1 if end.kind == "ARRAY" else self.random.randint(end.low, max(end.low, high))
+        count += self.happens(self.faults)
+        found = []
+        for _ in range(count):
+            value = self.value(end.element, end.is_optional)
+            if self.happens(0.9) and (end.kind == "SET" or end.is_unique) and value in found and value is not UNSET:
+                value = self.value(end.element, end.is_optional)
+            found.append(value)
+        return found
+
+    def selected(self, name):
+        member = self.random.choice(self.schema.select_members(name))
+        if self.schema.is_select(member):
+            return self.selected(member)
+        if member in self.schema.entities:
+            return self.reference([member])
+        value = self.value(member)
+        return value if value is UNSET else Typed(member.lower(), value)
+
+    def instance(self, name, types):
+        """An instance of a file."""
+        derived = {place for it in types for place in self.schema.entities[it].derived_again}
+        values = {}
+        for entity in types:
+            for attribute, it in self.schema.entities[entity].explicit.items():
+                goes_round = attribute == "E_NEXT" and self.happens(self.rounds)
+                found = DERIVED if (entity, attribute) in derived else self.reference(["ENTITY_1"]) if goes_round else self.value(it.type, it.is_optional)
+                if attribute == "E_NEXT" and not goes_round and found not in (UNSET, DERIVED) and found.name <= name:
+                    found = UNSET
+                values[entity.lower(), attribute.lower()] = found
+        return plain_binding.Bound(name, {it.lower() for it in types}, values)
+
+    def make(self):
+        """The models: owner, name, instances as a file has them, and links."""
+        lines, links = {it: "" for it in MODELS}, {it: {} for it in MODELS}
+        for name, types in self.types.items():
+            owner, model = self.models[name]
+            bound = self.instance(name, types)
+            for used in {it.name for it in plain_binding.references_of(bound)}:
+                target = self.models.get(used, ("cyd", "none"))
+                if target != (owner, model):
+                    links[owner, model][used] = (used, *target, used)
+            lines[owner, model] += plain_binding.instance_text(self.binding, bound) + "\n"
+        return [(*it, lines[it], list(links[it].values())) for it in MODELS]
+
+
+def random_population(seed, schema, most=60):
+    """Models of a schema that plain_express read, as rule_texts takes them; the links of some lead to a model that isn't in the group."""
+    return Population(seed, schema, most).make()
+
+
+# ---- counting
+
+
+def main(words):
+    parser = argparse.ArgumentParser(prog="tests/lib/random_rules.py", allow_abbrev=False)
+    for name, number in (("schemas", 20), ("populations", 100), ("entities", 60), ("instances", 60), ("seed", 1)):
+        parser.add_argument(f"--{name}", type=int, default=number)
+    parser.add_argument("--show", action="store_true", help="prints the first schema and the first population of it, and nothing else")
+    given = parser.parse_args(words)
+    counts, longest, steps, begin = collections.Counter(), 0, 0, time.process_time()
+    for number in range(given.schemas):
+        text = random_schema(f"{given.seed} {number}", given.entities)
+        schema = read(text)
+        if schema_text(schema) != text:
+            sys.exit(f"schema {number} of the seed {given.seed} isn't read as it was made")
+        for place in range(given.populations):
+            models = random_population(f"{given.seed} {number} {place}", schema, given.instances)
+            if given.show:
+                print(text, *models, sep="\n")
+                return
+            before = time.process_time()
+            found = report(text, models)
+            longest = max(longest, time.process_time() - before)
+            steps += found["steps"]
+            counts.update((it["check"], it["verdict"]) for it in found["checks"])
+    for (check, verdict), count in sorted(counts.items()):
+        print(f"{check:10} {verdict:8} {count:8}")
+    print(f"{given.schemas * given.populations} populations, {steps} steps, {time.process_time() - begin:.1f} s, at most {longest:.2f} s for one")
+
+
+if __name__ == "__main__":
+    main(sys.argv[1:])

@@ -48,6 +48,7 @@ def binding_entity(entity):
     return plain_binding.Entity(explicit, [it.lower() for it in entity.supertypes], redeclared, derived)
 
 
+@functools.lru_cache(maxsize=20)
 def binding_schema(schema):
     """The schema as plain_binding has it, whose names are in lower case."""
     return plain_binding.Schema(
