@@ -11,10 +11,11 @@ from plain_binding import Item as Word
 from plain_trees import INDETERMINATE, Aggregate, Item, Logical, Simple
 from plain_rules import (
     LIMIT, NOT_RUN, STEPS_OF_AN_EVALUATION, TRUE, Bits, Environment, Evaluation, Instance, Many, PastLimit, as_declared, bare, deep, fits,
-    length, once_each, same, truth,
+    length, once_each, rough, same, truth,
 )
 
 STEPS_BEFORE_THE_LAST = 19_800_000
+WITH_WIDTH = {"STRING": str, "BINARY": Bits}
 LOGICAL_WORDS = {"T": Logical.TRUE, "F": Logical.FALSE, "U": Logical.UNKNOWN}
 
 # ---- populations
@@ -90,6 +91,15 @@ def population_of(schema, models):
     return list(found.values())
 
 
+def extents_of(schema, population):
+    """The instances of each entity."""
+    found = {it: [] for it in schema.entities}
+    for instance in population:
+        for it in instance.types:
+            found[it].append(instance)
+    return found
+
+
 def fill(schema, instance, values, target):
     """The attributes of an instance with their values."""
     instance.attributes = attributes_of(schema, instance.types)
@@ -139,7 +149,7 @@ def has_unset(schema, declared, value):
 def is_out_of_bounds(schema, declared, value):
     """Whether a width or a bound doesn't hold, or something stands twice where it may not."""
     end, value = asked(schema, declared, value)
-    if isinstance(end, Simple) and end.width is not None and isinstance(value, (str, Bits)):
+    if isinstance(end, Simple) and end.width is not None and isinstance(value, WITH_WIDTH[end.word]):
         return length(value) > end.width or end.is_fixed and length(value) < end.width
     if not (isinstance(end, Aggregate) and isinstance(value, Many)):
         return False
@@ -218,7 +228,7 @@ class Report:
     """The checks of a population, and the steps that they took so far."""
 
     def __init__(self, schema, population):
-        self.schema, self.population = schema, population
+        self.schema, self.population, self.extents = schema, population, extents_of(schema, population)
         self.steps = 0
         self.checks = []
 
@@ -232,7 +242,7 @@ class Report:
         """What an evaluation comes to: a value, or LIMIT, or NOT_RUN where those before it took too many steps."""
         if self.steps > STEPS_BEFORE_THE_LAST:
             return NOT_RUN
-        evaluation = Evaluation(self.schema, self.population)
+        evaluation = Evaluation(self.schema, self.extents)
         try:
             value = run(evaluation, *given)
         except PastLimit:
@@ -249,13 +259,10 @@ class Report:
         """An entry with culprits, each behind its verdict. Of equal ones in a list the first alone is told."""
         lists = {}
         for verdict, culprit in culprits:
-            if verdict != "TRUE" and culprit not in lists.setdefault(verdict, []):
-                lists[verdict].append(culprit)
+            if verdict != "TRUE":
+                lists.setdefault(verdict, {})[tuple(culprit)] = culprit
         first = next((it for it in VERDICTS if it in lists), "TRUE")
-        self.checks.append({"check": check, **named, "verdict": first, **{it.lower(): lists[it] for it in lists}})
-
-    def instances_of(self, entity):
-        return [it for it in self.population if entity in it.types]
+        self.checks.append({"check": check, **named, "verdict": first, **{it.lower(): list(lists[it].values()) for it in lists}})
 
     # -- the checks without steps
 
@@ -308,21 +315,21 @@ class Report:
     def rules_of_entities(self):
         for name, entity in sorted(self.schema.entities.items()):
             for label, expression in entity.rules:
-                culprits = [(self.condition(expression, it), [*it.place]) for it in self.instances_of(name)]
+                culprits = [(self.condition(expression, it), [*it.place]) for it in self.extents[name]]
                 self.enter("where", culprits, of=name, rule=label)
 
     def unique(self):
         """Rows of values that are the same. One with no value isn't compared, nor one that isn't whole, which is told as such."""
         for name, entity in sorted(self.schema.entities.items()):
             for label, attributes in entity.unique:
-                rows = [(it, self.row(it, attributes)) for it in self.instances_of(name)]
-                compared = [(it, row) for it, row in rows if not any(value in (INDETERMINATE, LIMIT, NOT_RUN) for value in row)]
-                culprits = []
+                rows = [(it, self.row(it, attributes)) for it in self.extents[name]]
+                alike, culprits = {}, []
                 for it, row in rows:
                     culprits += [(outcome.name, [*it.place]) for outcome in (LIMIT, NOT_RUN) if outcome in row]
-                    is_compared = any(it is other for other, _ in compared)
-                    if is_compared and any(it is not other and are_same(row, others) for other, others in compared):
-                        culprits.append(("FALSE", [*it.place]))
+                    if not {INDETERMINATE, LIMIT, NOT_RUN}.intersection(map(rough, row)):
+                        alike.setdefault((*map(rough, row),), []).append((it, row))
+                agree = {it for its in alike.values() for it, row in its if any(it is not other and are_same(row, others) for other, others in its)}
+                culprits += [("FALSE", [*it.place]) for it, _ in rows if it in agree]
                 self.enter("unique", culprits, of=name, rule=label)
 
     def row(self, instance, attributes):
@@ -335,7 +342,7 @@ class Report:
         for name, entity in sorted(self.schema.entities.items()):
             for label, inverse in entity.inverse.items():
                 culprits = []
-                for it in self.instances_of(name):
+                for it in self.extents[name]:
                     found = self.evaluated(count_users, it, inverse)
                     outcome = found.name if found in (LIMIT, NOT_RUN) else "FALSE" if breaks_count(inverse, found) else "TRUE"
                     culprits.append((outcome, [*it.place]))

@@ -12,7 +12,7 @@ from collections import namedtuple
 from enum import Enum
 
 import plain_trees as trees
-from plain_binding import Bits, Enumeration, Real, Typed
+from plain_binding import Bits, Enumeration, Real, Typed, real
 from plain_trees import INDETERMINATE, Aggregate, Item, Logical
 
 TRUE, FALSE, UNKNOWN = Logical.TRUE, Logical.FALSE, Logical.UNKNOWN
@@ -170,10 +170,20 @@ def taken_from(elements, value):
     return place is not None
 
 
+def rough(value):
+    """Something that values which are the same have in common."""
+    value = bare(value)
+    if isinstance(value, Many):
+        return len(value.elements)
+    return real(value) if isinstance(value, int) else value
+
+
 def once_each(elements):
-    found = []
+    found, alike = [], {}
     for it in elements:
-        if place_in(found, it) is None:
+        others = alike.setdefault(rough(it), [])
+        if place_in(others, it) is None:
+            others.append(it)
             found.append(it)
     return found
 
@@ -462,10 +472,10 @@ SKIPPED, ESCAPED = "SKIP", "ESCAPE"
 
 
 class Evaluation:
-    """One evaluation: its steps, and the bodies that are open."""
+    """One evaluation: its steps, and the bodies that are open. `extents` are the instances of each entity."""
 
-    def __init__(self, schema, population, limit=STEPS_OF_AN_EVALUATION):
-        self.schema, self.population, self.limit = schema, population, limit
+    def __init__(self, schema, extents, limit=STEPS_OF_AN_EVALUATION):
+        self.schema, self.extents, self.limit = schema, extents, limit
         self.steps = self.bodies = 0
 
     def charge(self, steps):
@@ -515,7 +525,7 @@ class Evaluation:
         return as_declared(self.schema, derived.type, value)
 
     def extent(self, node, _):
-        found = [it for it in self.population if node.entity in it.types]
+        found = self.extents[node.entity]
         self.charge(len(found))
         return Many("SET", 1, found)
 

@@ -96,6 +96,8 @@ class Maker:
         if not names or not isinstance(first, (Variable, Self, OwnAttribute, Call, BuiltIn, Qualified)):
             return None
         name = self.choice(names)
+        if self.happens(0.3):
+            return Qualified(Call("ANYTHING", [first], None), [OfAttribute(name, None)], None)
         owners = [it for it in self.schema.entities if self.schema.declares(it, name)]
         accesses = [OfGroup(self.choice(owners)), OfAttribute(name, None)]
         if isinstance(first, Qualified):
@@ -424,6 +426,8 @@ class Maker:
         spin.locals = [Local(["I"], Simple("INTEGER"), whole(0))]
         spin.statements = [Repeat(None, None, None, None, chain(Variable("I", None), "<>", n), None,
                                   [Assignment("I", chain(Variable("I", None), "+", whole(1)))]), Return(Variable("I", None))]
+        anything = self.schema.functions["ANYTHING"] = Algorithm(None, [("X", Simple("GENERIC"))], Simple("GENERIC"))
+        anything.statements = [Return(Variable("X", None))]
         self.callable = {"FALL": (["INTEGER"], "INTEGER")}
         sorts = {"INTEGER": "COUNT", "STRING": "LABEL", "LOGICAL": Simple("LOGICAL"), "entity": "ENTITY_1", "select": "ANY_ONE",
                  "integers": Aggregate("SET", 0, None, "COUNT", False, False), "entities": Aggregate("LIST", 0, None, "ENTITY_1", False, False)}

@@ -91,7 +91,7 @@ def evaluate(schema_text, expression, instances="", self_name=None, entity=None,
         leaves = [it for it in me.types if not any(it in schema.entities[other].supertypes for other in me.types)]
         entity = (entity or min(leaves)).upper()
     tree = plain_express.read_expression(schema, expression, entity, tuple(schema.entities))
-    evaluation = plain_rules.Evaluation(schema, population, limit)
+    evaluation = plain_rules.Evaluation(schema, plain_reports.extents_of(schema, population), limit)
     try:
         value = deep(evaluation.value, tree, plain_rules.Environment(me, {}, {}))
     except plain_rules.PastLimit:
