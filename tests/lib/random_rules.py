@@ -33,8 +33,6 @@ from schema_text import schema_text
 SORTS = {"N": "INTEGER", "S": "STRING", "Q": "LOGICAL", "R": "REAL", "B": "BINARY", "E": "entity", "L": "integers", "M": "entities",
          "C": "item", "X": "select"}
 ELEMENTS = {"integers": "INTEGER", "entities": "entity"}
-WORDS = ["A", "B", "C", "D", "E", "F"]
-
 Scope = collections.namedtuple("Scope", "variables entity extents", defaults=(None, ()))
 
 
@@ -165,10 +163,8 @@ class Maker:
         return self.expression("INTEGER", scope, depth - 1) if depth > 0 and self.happens(0.2) else Literal(
             self.choice([Real(0, 0), Real(1, 0), Real(-15, -1), Real(25, -2), Real(1, 300)]), None)
 
-    def item(self, scope, depth):
-        kind = self.choice(["COLOUR", "PAINT"])
+    def item(self, *_):
         words = self.schema.types["COLOUR"].underlying.items
-        del scope, depth, kind
         place = self.random.randrange(len(words))
         return Literal(Item("COLOUR", place, words[place]), None)
 
@@ -235,9 +231,11 @@ class Maker:
         if sort == "any":
             return chain(self.any_value(scope, depth - 1), self.choice([":=:", ":<>:"]), self.any_value(scope, depth - 1))
         if sort == "integers":
-            return chain(self.aggregate("INTEGER", scope, depth - 1), self.choice(["=", "<>", "<=", ">="]), self.aggregate("INTEGER", scope, depth - 1))
+            several = lambda: self.aggregate("INTEGER", scope, depth - 1)
+            return chain(several(), self.choice(["=", "<>", "<=", ">="]), several())
         if sort == "sets":
-            return chain(self.aggregate("entity", scope, depth - 1), self.choice([":=:", "<=", ">="]), self.aggregate("entity", scope, depth - 1))
+            several = lambda: self.aggregate("entity", scope, depth - 1)
+            return chain(several(), self.choice([":=:", "<=", ">="]), several())
         return chain(part(sort), self.choice(["=", "<>", "<", ">", "<=", ">=", ":=:"]), part(sort))
 
     def inclusion(self, scope, depth):
@@ -257,8 +255,9 @@ class Maker:
         simple = lambda word, *more: Simple(word, *more)
         of = lambda kind, low, high, element, *more: Aggregate(kind, low, high, element, *(more or (False, False)))
         underlying = {
-            "COUNT": simple("INTEGER"), "SMALL_COUNT": "COUNT", "RATIO": simple("REAL"), "LABEL": simple("STRING", 4), "CODE": simple("STRING", 2, True),
-            "BITS": simple("BINARY", 3), "FLAG": simple("BOOLEAN"), "COLOUR": Enumeration(("RED", "GREEN", "BLUE")), "PAINT": "COLOUR",
+            "COUNT": simple("INTEGER"), "SMALL_COUNT": "COUNT", "RATIO": simple("REAL"), "LABEL": simple("STRING", 4),
+            "CODE": simple("STRING", 2, True), "BITS": simple("BINARY", 3), "FLAG": simple("BOOLEAN"),
+            "COLOUR": Enumeration(("RED", "GREEN", "BLUE")), "PAINT": "COLOUR",
             "COUNTS": of("LIST", 1, 3, "COUNT"), "COUNT_SET": of("SET", 0, 3, "COUNT"), "ROW": of("ARRAY", 2, 4, simple("INTEGER"), True, True),
             "PARTS": of("SET", 0, None, "ENTITY_1"), "INNER": Select(("LABEL", "COUNT_SET", "ENTITY_2")),
             "ANY_ONE": Select(("SMALL_COUNT", "INNER", "ENTITY_1", "COLOUR", "PARTS")), "RENAMED": "ANY_ONE",
@@ -274,7 +273,8 @@ class Maker:
             "N": [simple("INTEGER"), "COUNT", "SMALL_COUNT"], "S": [simple("STRING"), "LABEL", "CODE", Simple("STRING", 3)],
             "Q": [simple("BOOLEAN"), simple("LOGICAL"), "FLAG"], "R": [simple("REAL"), "RATIO", simple("NUMBER")],
             "B": ["BITS", simple("BINARY")], "E": [entity], "C": ["COLOUR", "PAINT"], "X": ["ANY_ONE", "RENAMED"],
-            "L": ["COUNTS", "COUNT_SET", "ROW", Aggregate("LIST", 0, 4, simple("INTEGER"), False, True), Aggregate("BAG", 0, None, "COUNT", False, False)],
+            "L": ["COUNTS", "COUNT_SET", "ROW", Aggregate("LIST", 0, 4, simple("INTEGER"), False, True),
+                  Aggregate("BAG", 0, None, "COUNT", False, False)],
             "M": [entities(), "PARTS"],
         }[letter])
 
@@ -317,14 +317,11 @@ class Maker:
         for it, attribute in self.random.sample(above, min(len(above), self.choice([0, 0, 1, 2]))):
             declared = self.schema.entities[it].explicit[attribute].type
             if attribute != "E_NEXT" and self.happens(0.4) and SORTS[attribute[0]] in ("INTEGER", "STRING", "LOGICAL"):
-                expression = self.expression(SORTS[attribute[0]], self.explicit_scope(scope), 2)
+                expression = self.expression(SORTS[attribute[0]], scope, 2)
                 entity.derived_again[it, attribute] = SimpleNamespace(type=declared, at=None, expression=expression)
             else:
                 type_again = self.declared(attribute[0], 60) if attribute[0] in "NSLEX" else declared
                 entity.redeclared[it, attribute] = Explicit(type_again, self.happens(0.5))
-
-    def explicit_scope(self, scope):
-        return scope
 
     def inverse_parts(self, name, taken):
         """Inverse attributes for attributes that may hold the entity."""
@@ -350,7 +347,8 @@ class Maker:
             self.entity_declaration(name, place)
         for name in self.entities[1:]:
             self.inverse_parts(name, self.names_beside(name))
-        depth_of = chain(built_in("NVL", Qualified(OwnAttribute("E_NEXT", None, None), [OfAttribute("N_DEPTH", None)], None), whole(0)), "+", whole(1))
+        depth = Qualified(OwnAttribute("E_NEXT", None, None), [OfAttribute("N_DEPTH", None)], None)
+        depth_of = chain(built_in("NVL", depth, whole(0)), "+", whole(1))
         first = self.schema.entities["ENTITY_1"]
         derived = {}
         for name in self.entities[1:]:
@@ -395,7 +393,8 @@ class Maker:
             scope = Scope({}, None, entities)
             rule.locals, rule.statements, scope = self.body(scope, self.choice([0, 1, 2]), False)
             rule.rules = self.rules_of(self.choice([1, 2]), scope, condition)
-        rounds = Query("X", Extent("ENTITY_1", None), chain(Qualified(Variable("X", None), [OfAttribute("N_DEPTH", None)], None), ">", whole(3)), None)
+        depth = Qualified(Variable("X", None), [OfAttribute("N_DEPTH", None)], None)
+        rounds = Query("X", Extent("ENTITY_1", None), chain(depth, ">", whole(3)), None)
         self.schema.rules["RULE_1"].rules.append(Rule("ROUND", chain(built_in("SIZEOF", rounds), "=", whole(0))))
 
     def rules_of_types(self):
@@ -404,8 +403,10 @@ class Maker:
         typed = lambda name: chain(Literal(f"R.{name}", None), "IN", built_in("TYPEOF", me))
         rules = {
             "COUNT": [chain(me, "<", whole(100)), fall], "SMALL_COUNT": [Interval(whole(0), "<=", me, "<", whole(10), None)],
-            "RATIO": [chain(me, ">", Literal(Real(0, 0), None))], "LABEL": [chain(built_in("LENGTH", me), ">", whole(0)), chain(me, "<>", Literal("a", None))],
-            "FLAG": [me], "COLOUR": [chain(me, "<", Literal(Item("COLOUR", 2, "BLUE"), None))], "PAINT": [chain(me, ":<>:", Literal(Item("COLOUR", 0, "RED"), None))],
+            "RATIO": [chain(me, ">", Literal(Real(0, 0), None))], "FLAG": [me],
+            "LABEL": [chain(built_in("LENGTH", me), ">", whole(0)), chain(me, "<>", Literal("a", None))],
+            "COLOUR": [chain(me, "<", Literal(Item("COLOUR", 2, "BLUE"), None))],
+            "PAINT": [chain(me, ":<>:", Literal(Item("COLOUR", 0, "RED"), None))],
             "COUNTS": [chain(Qualified(me, [OfIndex(whole(1))], None), "=", whole(1))], "COUNT_SET": [chain(whole(3), "IN", me)],
             "ROW": [built_in("EXISTS", Qualified(me, [OfIndex(whole(2))], None)), chain(built_in("LOINDEX", me), "=", whole(2))],
             "INNER": [typed("LABEL")], "ANY_ONE": [chain(typed("SMALL_COUNT"), "OR", built_in("EXISTS", me)), chain(me, ":<>:", whole(7))],
@@ -488,7 +489,8 @@ class Maker:
         self.all_rules()
         ten = SimpleNamespace(type="COUNT", at=None, expression=chain(Call("FALL", [whole(4)], None), "+", whole(10)))
         self.schema.constants = {"TEN": ten}
-        self.schema.entities["ENTITY_2"].rules.append(Rule("WITH_TEN", chain(built_in("SIZEOF", built_in("USEDIN", Self(None), Literal("", None))), "<", Constant("TEN", None))))
+        users = built_in("SIZEOF", built_in("USEDIN", Self(None), Literal("", None)))
+        self.schema.entities["ENTITY_2"].rules.append(Rule("WITH_TEN", chain(users, "<", Constant("TEN", None))))
         return schema_text(self.schema)
 
 
@@ -510,6 +512,8 @@ class Population:
         self.random = random.Random(seed)
         self.schema, self.binding = schema, binding_schema(schema)
         self.faults, self.rounds = self.random.choice([0, 0.02, 0.1, 0.3]), self.random.choice([0, 0, 0.2, 1])
+        # numbers that a function of a type's rule goes down too deep for
+        self.numbers = [500] if self.random.random() < 0.05 else [0, 1, 1, 2, 3, 5, 7, 9, 50, -1]
         first = self.random.choice([0.2, 0.2, 0.8, 1])
         below = [it for it in schema.entities if "ENTITY_1" in schema.line_of(it)]
         self.few = self.random.random() < 0.3 and self.random.sample(list(schema.entities), 3)
@@ -547,7 +551,7 @@ class Population:
         return self.simple(end) if isinstance(end, Simple) else self.reference([end])
 
     def simple(self, end):
-        number = self.random.choice([0, 1, 1, 2, 3, 5, 7, 9, 50, -1] + [99, 150, 500, 2**62] * self.happens(self.faults))
+        number = self.random.choice(self.numbers + [99, 150, 500, 2**62] * self.happens(self.faults))
         if end.word in ("BOOLEAN", "LOGICAL"):
             return plain_binding.Item(self.random.choice("TF" if end.word == "BOOLEAN" else "TFU"))
         if end.word in ("STRING", "BINARY"):
@@ -585,7 +589,8 @@ class Population:
         for entity in types:
             for attribute, it in self.schema.entities[entity].explicit.items():
                 goes_round = attribute == "E_NEXT" and self.happens(self.rounds)
-                found = DERIVED if (entity, attribute) in derived else self.reference(["ENTITY_1"]) if goes_round else self.value(it.type, it.is_optional)
+                found = self.reference(["ENTITY_1"]) if goes_round else self.value(it.type, it.is_optional)
+                found = DERIVED if (entity, attribute) in derived else found
                 if attribute == "E_NEXT" and not goes_round and found not in (UNSET, DERIVED) and found.name <= name:
                     found = UNSET
                 values[entity.lower(), attribute.lower()] = found

@@ -9,6 +9,7 @@ are objects as those of `put`, or (name, owner, model, instance).
 """
 import functools
 import os
+import re
 import sys
 from types import SimpleNamespace
 
@@ -58,8 +59,15 @@ def binding_schema(schema):
 
 # ---- models
 
-tree_of = functools.lru_cache(maxsize=20)(plain_express.read)
-FILE = "ISO-10303-21;HEADER;FILE_DESCRIPTION((''),'2;1');FILE_NAME('','',(''),(''),'','','');FILE_SCHEMA(('{}'));ENDSEC;DATA;{}ENDSEC;END-ISO-10303-21;"
+
+@functools.lru_cache(maxsize=20)
+def tree_of(text):
+    """What plain_express reads of a schema, or of declarations alone, which then are those of a schema S."""
+    is_whole = re.match(r"([\0- ]|--[^\n]*\n|\(\*.*?\*\))*SCHEMA\b", text, re.DOTALL | re.IGNORECASE)
+    return plain_express.read(text if is_whole else f"SCHEMA S; {text} END_SCHEMA;")
+
+FILE = ("ISO-10303-21;HEADER;FILE_DESCRIPTION((''),'2;1');FILE_NAME('','',(''),(''),'','','');FILE_SCHEMA(('{}'));ENDSEC;"
+        "DATA;{}ENDSEC;END-ISO-10303-21;")
 
 
 def model_of(schema, owner, name, file, links=()):
