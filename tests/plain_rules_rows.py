@@ -75,6 +75,44 @@ FUNCTION case_of (x : INTEGER) : STRING; CASE x OF 1, 2 : RETURN ('few'); ? : RE
 END_SCHEMA;
 """
 
+# attributes of one name in several types of an instance, redeclared ones, and users
+A = """SCHEMA A;
+TYPE label = STRING; END_TYPE;
+TYPE title = label; END_TYPE;
+ENTITY e; r : OPTIONAL e; m : OPTIONAL LIST OF e; s : OPTIONAL label;
+INVERSE users : BAG OF e FOR m; once : SET OF e FOR m; one : e FOR r; of_f : SET OF f FOR r; END_ENTITY;
+ENTITY f SUBTYPE OF (e); n : OPTIONAL INTEGER; SELF\\e.s : title; DERIVE d : INTEGER := 1; END_ENTITY;
+ENTITY g SUBTYPE OF (e); n : OPTIONAL INTEGER; DERIVE SELF\\e.s : title := 'g'; END_ENTITY;
+ENTITY h SUBTYPE OF (f); DERIVE SELF\\f.d : INTEGER := 2; SELF\\e.s : label := 'h'; END_ENTITY;
+ENTITY i SUBTYPE OF (f); DERIVE SELF\\f.d : INTEGER := 3; END_ENTITY;
+FUNCTION any (x : GENERIC) : GENERIC; RETURN (x); END_FUNCTION;
+FUNCTION many (x : AGGREGATE OF GENERIC) : AGGREGATE OF GENERIC; RETURN (x); END_FUNCTION;
+END_SCHEMA;
+"""
+INSTANCES = """#1=E(#2,(#2,#2,#3),'e');#2=E(#1,(#2),$);#3=F(#2,$,'f',5);#4=(E($,$,$)F(6)G(7));#5=G($,$,*,8);
+#6=(E($,$,*)F(9)G(10)H());#7=(E($,$,$)F(1)H()I());"""
+# SELF, and as in VALUES
+ATTRIBUTES = [
+    # of types that declare an attribute those that the expression may be of come first, and then those that come first by name
+    (4, "SELF\\f.n", "6", 3), (4, "SELF\\g.n", "7", 3), (4, "any(SELF).n", "6", None), (4, "any(SELF)\\g.n", "7", None),
+    (1, "any(SELF).n", "?", None), (1, "SELF\\f.n", "?", 3), (1, "SELF\\f", "?", 2), (3, "SELF\\f", "#3", 2), (1, "any(5).n", "?", None),
+    (1, "any(?).n", "?", None),
+    # derived ones: the last of the types that redeclare it, and of two with as many ancestors the first by its name
+    (3, "SELF\\f.d", "1", 4), (7, "SELF\\f.d", "2", 4), (5, "s", "TITLE('g')", 2), (6, "SELF\\e.s", "LABEL('h')", 4),
+    (6, "any(SELF).s", "LABEL('h')", None), (3, "s", "LABEL('f')", 1), (1, "s", "LABEL('e')", 1), (2, "s", "?", 1),
+    # users, in the order of the population
+    (2, "users", "BAG[#1,#1,#2]", 4), (2, "once", "SET[#1,#2]", 3), (2, "one", "?", 3), (1, "one", "#2", 2), (3, "one", "?", 1),
+    (2, "of_f", "SET[#3]", 2), (2, "USEDIN(SELF, '')", "BAG[#1,#1,#1,#2,#3]", 3 + 5), (2, "USEDIN(SELF, 'A.E.M')", "BAG[#1,#1,#2]", 3 + 3),
+    (2, "USEDIN(SELF, 'A.F.R')", "BAG[#3]", 4), (2, "USEDIN(SELF, 'a.e.m')", "BAG[]", 3), (2, "USEDIN(SELF, 'A.E.USERS')", "BAG[]", 3),
+    (2, "USEDIN(SELF, 'A.E')", "BAG[]", 3), (2, "USEDIN(SELF, 'B.E.M')", "BAG[]", 3), (2, "USEDIN(SELF, 5)", "?", 3),
+    (2, "USEDIN(5, '')", "?", 3), (2, "m", "LIST[#2]", 1), (1, "m[3]", "#3", 3), (1, "m[4]", "?", 3), (1, "r.r", "#1", 2),
+    (1, "r.r.r.s", "?", 4), (1, "SELF IN m", "FALSE", 1 + 1 + 1 + 3), (1, "r IN m", "TRUE", 6),
+    (1, "m * [r]", "BAG[#2]", 1 + 1 + (1 + 1 + 2) + 3 * 1 + 3 + 1), (1, "m - r", "LIST[#2,#3]", 3), (1, "m + r", "LIST[#2,#2,#3,#2]", 3),
+    (1, "TYPEOF(SELF)", "SET['A.E']", 3), (6, "TYPEOF(SELF)", "SET['A.E','A.F','A.G','A.H']", 6), (1, "TYPEOF(m)", "SET['LIST']", 3),
+    (1, "TYPEOF(once)", "SET['SET']", 3), (2, "TYPEOF(users)", "SET['BAG']", 1 + 4 + 1), (1, "[r, SELF] :=: [m[1], SELF]", "TRUE", None),
+    (1, "many([SELF])[1].r", "#2", None),
+]
+
 TRUTHS = ["FALSE", "UNKNOWN", "TRUE"]
 
 # an expression, its value, and its steps where they are known
@@ -193,15 +231,20 @@ class Rows:
             self.failed += 1
             print(f"{name}: {shortened(repr(seen).encode()).decode()} in place of {shortened(repr(wanted).encode()).decode()}")
 
-    def value(self, expression, value, steps):
-        """An expression of the entity E of V, over one instance of it."""
-        found, taken = evaluate(V, expression, "#1=E($,('a',$),$);", 1)
-        self.expect(expression, (told(found), taken), (value, taken if steps is None else steps))
+    def value(self, expression, value, steps, schema=V, instances="#1=E($,('a',$),$);", name=1):
+        """An expression of the entity E, by default of that of V, over one instance of it."""
+        found, taken = evaluate(schema, expression, instances, name, "E")
+        self.expect(f"{expression} of #{name}", (told(found), taken), (value, taken if steps is None else steps))
 
 
 def values(it):
     for expression, value, steps in VALUES:
         it.value(expression, value, steps)
+
+
+def attributes(it):
+    for name, expression, value, steps in ATTRIBUTES:
+        it.value(expression, value, steps, A, INSTANCES, name)
 
 
 def truths(it):
@@ -354,7 +397,7 @@ def rows_of_many(it):
 
 def main():
     it = Rows()
-    for part in (values, truths, limits, reports, rows_of_replies, rows_of_others, rows_of_many):
+    for part in (values, attributes, truths, limits, reports, rows_of_replies, rows_of_others, rows_of_many):
         part(it)
     end(LABEL, it.passed, it.failed)
 

@@ -513,7 +513,7 @@ class Population:
         self.schema, self.binding = schema, binding_schema(schema)
         self.faults, self.rounds = self.random.choice([0, 0.02, 0.1, 0.3]), self.random.choice([0, 0, 0.2, 1])
         # numbers that a function of a type's rule goes down too deep for
-        self.numbers = [500] if self.random.random() < 0.05 else [0, 1, 1, 2, 3, 5, 7, 9, 50, -1]
+        self.numbers = [500] if self.random.random() < 0.1 else [0, 1, 1, 2, 3, 5, 7, 9, 50, -1]
         first = self.random.choice([0.2, 0.2, 0.8, 1])
         below = [it for it in schema.entities if "ENTITY_1" in schema.line_of(it)]
         self.few = self.random.random() < 0.3 and self.random.sample(list(schema.entities), 3)
