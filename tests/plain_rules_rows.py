@@ -304,6 +304,55 @@ def reports(it):
         TRUE_CHECKS[0], {"check": "bounds", "false": [["ann", "m", 1, "E.A"], ["ann", "m", 2, "E.A"]], "verdict": "FALSE"}, TRUE_CHECKS[2]], 0))
 
 
+# types with rules, SELECTs in one another, and attributes that are redeclared
+K = """SCHEMA K;
+TYPE len = REAL; WHERE pos : SELF > 0; END_TYPE;
+TYPE short = len; WHERE SELF < 5; END_TYPE;
+TYPE lens = LIST [1:2] OF len; WHERE SIZEOF(SELF) < 2; END_TYPE;
+TYPE inner = SELECT (short, e); WHERE inn : FALSE; END_TYPE;
+TYPE outer = SELECT (inner, lens); WHERE out : FALSE; END_TYPE;
+TYPE again = outer; WHERE ag : FALSE; END_TYPE;
+ENTITY e; a : OPTIONAL outer; END_ENTITY;
+ENTITY f SUBTYPE OF (e); SELF\\e.a : inner; END_ENTITY;
+ENTITY g SUBTYPE OF (e); SELF\\e.a : OPTIONAL again; b : LIST OF UNIQUE STRING(2); END_ENTITY;
+ENTITY h; c : lens; END_ENTITY;
+ENTITY i SUBTYPE OF (h); SELF\\h.c : SET [0:1] OF short; END_ENTITY;
+ENTITY j; d : e; END_ENTITY;
+ENTITY k SUBTYPE OF (j); SELF\\j.d : STRING(0); END_ENTITY;
+ENTITY l SUBTYPE OF (j); SELF\\j.d : inner; END_ENTITY;
+ENTITY m; v : BINARY(2) FIXED; w : ARRAY [1:2] OF OPTIONAL UNIQUE INTEGER; END_ENTITY;
+ENTITY n SUBTYPE OF (m); SELF\\m.v : STRING(0); SELF\\m.w : ARRAY [1:2] OF INTEGER; END_ENTITY;
+END_SCHEMA;
+"""
+# instances, the checks that are FALSE (with the rule and the culprits), and the steps
+FALSE_CHECKS = [
+    # a value in a SELECT, under the type that it is written as, the types beneath, and each SELECT on the way
+    ("#1=E(SHORT(1.));", ["INNER.INN 1.E.A", "OUTER.OUT 1.E.A"], 1 + 3 + 1 + 3),
+    ("#1=E(SHORT(-1.));", ["INNER.INN 1.E.A", "LEN.POS 1.E.A", "OUTER.OUT 1.E.A"], 8),
+    ("#1=E(LENS((1.,-1.,$)));", ["unset 1.E.A", "bounds 1.E.A", "LEN.POS 1.E.A", "LENS.#1 1.E.A", "OUTER.OUT 1.E.A"], 3 + 3 + 4 + 1),
+    ("#1=E(#2);#2=F(#1);", ["INNER.INN 1.E.A 2.E.A", "OUTER.OUT 1.E.A 2.E.A"], 4),
+    # a value that isn't of the SELECT of a redeclaration: that one's own rules alone
+    ("#1=F(LENS((1.,$,1.)));", ["unset 1.E.A", "bounds 1.E.A", "INNER.INN 1.E.A", "LENS.#1 1.E.A", "OUTER.OUT 1.E.A"], 1 + 6 + 4 + 1),
+    ("#1=F($);#2=E($);", ["unset 1.E.A"], 0),
+    ("#1=G(LENS((7.,8.)),('a','a','abc'));", ["bounds 1.G.B", "AGAIN.AG 1.E.A", "LENS.#1 1.E.A", "OUTER.OUT 1.E.A"], 1 + 6 + 4 + 1),
+    # a redeclaration as a SET, and of elements
+    ("#1=H((1.,1.));#2=I((1.,1.));#3=I((9.));", ["bounds 2.H.C", "LENS.#1 1.H.C 2.H.C", "SHORT.#1 3.H.C"], 15 + 12 + 9),
+    # references to what isn't of the type, where a redeclaration has no place for one, and in a SELECT
+    ("#1=J(#1);#2=K(#3);#3=E($);#4=L(#3);", ["reference 1.J.D 2.J.D", "INNER.INN 4.J.D"], 1),
+    # widths, an array's count, and what isn't set in one that may leave it out and in one that may not
+    ('#1=M("23",($,$));#2=M("08",(1,1));#3=M("33",(1,2,3));#4=N("1A",(5,$));',
+     ["unset 4.M.W", "bounds 2.M.V 2.M.W 3.M.V 3.M.W 4.M.V"], 0),
+]
+
+
+def types_and_redeclarations(it):
+    for instances, wanted, steps in FALSE_CHECKS:
+        found = report(K, [("ann", "m", instances)])
+        told_of = [" ".join([f"{entry['of']}.{entry['rule']}" if "of" in entry else entry["check"], *(f"{one[2]}.{one[3]}" for one in entry["false"])])
+                   for entry in found["checks"] if entry["verdict"] == "FALSE"]
+        it.expect(instances, (told_of, found["steps"]), (wanted, steps))
+
+
 class Opened:
     """A plain repository of ann and bob with these schemas."""
 
@@ -397,7 +446,7 @@ def rows_of_many(it):
 
 def main():
     it = Rows()
-    for part in (values, attributes, truths, limits, reports, rows_of_replies, rows_of_others, rows_of_many):
+    for part in (values, attributes, truths, limits, reports, types_and_redeclarations, rows_of_replies, rows_of_others, rows_of_many):
         part(it)
     end(LABEL, it.passed, it.failed)
 
