@@ -348,9 +348,10 @@ FALSE_CHECKS = [
 def types_and_redeclarations(it):
     for instances, wanted, steps in FALSE_CHECKS:
         found = report(K, [("ann", "m", instances)])
-        told_of = [" ".join([f"{entry['of']}.{entry['rule']}" if "of" in entry else entry["check"], *(f"{one[2]}.{one[3]}" for one in entry["false"])])
-                   for entry in found["checks"] if entry["verdict"] == "FALSE"]
-        it.expect(instances, (told_of, found["steps"]), (wanted, steps))
+        false = [entry for entry in found["checks"] if entry["verdict"] == "FALSE"]
+        names = [f"{entry['of']}.{entry['rule']}" if "of" in entry else entry["check"] for entry in false]
+        seen_here = [" ".join([name, *(f"{one[2]}.{one[3]}" for one in entry["false"])]) for name, entry in zip(names, false)]
+        it.expect(instances, (seen_here, found["steps"]), (wanted, steps))
 
 
 class Opened:

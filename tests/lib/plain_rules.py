@@ -9,6 +9,7 @@ of these with the name of the defined type that it carries.
 import sys
 import threading
 from collections import namedtuple
+from concurrent.futures import ThreadPoolExecutor
 from enum import Enum
 
 import plain_trees as trees
@@ -24,27 +25,10 @@ FRAMES, STACK = 1_000_000, 512 * 1024 * 1024
 
 def deep(meaning, *given):
     """What a function gives that goes down deep: 200 bodies, each of 64 levels."""
-    found = []
-
-    def run():
-        try:
-            found.append((meaning(*given), None))
-        except Exception as fault:  # (it is raised again where it is waited for)
-            found.append((None, fault))
-
-    before, limit = threading.stack_size(STACK), sys.getrecursionlimit()
     sys.setrecursionlimit(FRAMES)
-    try:
-        thread = threading.Thread(target=run)
-        thread.start()
-        thread.join()
-    finally:
-        threading.stack_size(before)
-        sys.setrecursionlimit(limit)
-    (value, fault), = found
-    if fault:
-        raise fault
-    return value
+    threading.stack_size(STACK)
+    with ThreadPoolExecutor(1) as pool:
+        return pool.submit(meaning, *given).result()
 
 
 # ---- values

@@ -396,6 +396,10 @@ class Maker:
         depth = Qualified(Variable("X", None), [OfAttribute("N_DEPTH", None)], None)
         rounds = Query("X", Extent("ENTITY_1", None), chain(depth, ">", whole(3)), None)
         self.schema.rules["RULE_1"].rules.append(Rule("ROUND", chain(built_in("SIZEOF", rounds), "=", whole(0))))
+        last = self.entities[-1]
+        turns = chain(built_in("SIZEOF", Extent(last, None)), "*", whole(1_000_000))
+        spin = self.schema.rules["RULE_SPIN"] = Algorithm(None, entities=(last,))
+        spin.rules = [Rule("#1", chain(Call("SPIN", [turns], None), "=", whole(0)))]
 
     def rules_of_types(self):
         me = Self(None)
@@ -418,7 +422,7 @@ class Maker:
     # -- functions
 
     def functions(self):
-        """One that calls itself, one that goes round without an end at times, and others."""
+        """One that calls itself, one that goes round as often as it is told to, and others."""
         n = Variable("N", None)
         less = Call("FALL", [chain(n, "-", whole(1))], None)
         fall = self.schema.functions["FALL"] = Algorithm(None, [("N", Simple("INTEGER"))], Simple("INTEGER"))
