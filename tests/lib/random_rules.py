@@ -505,7 +505,11 @@ def random_schema(seed, entities=60):
 
 # ---- populations
 
+# the models of the group, and one outside of it, to whose one instance references lead that leave the population. Before a program is
+# given the files, it needs instances of their names in each model, since links go both ways
 MODELS = [("ann", "m"), ("bob", "k")]
+OUTSIDE, ALONE = ("cyd", "none"), 1000
+INSTANCE_OUTSIDE = f"#{ALONE}=ENTITY_1($);"
 
 
 class Population:
@@ -539,7 +543,7 @@ class Population:
         """A reference to an instance of one of these, or to any, or to one that isn't in the population."""
         fitting = [name for name, types in self.types.items() if types & set(entities)]
         if self.happens(self.faults) or not fitting:
-            return Reference(1000) if self.happens(0.3) else Reference(self.random.choice([*self.types, 1000]))
+            return Reference(ALONE) if self.happens(0.3) else Reference(self.random.choice([*self.types, ALONE]))
         return Reference(self.random.choice(fitting))
 
     def value(self, declared, is_optional=False):
@@ -607,7 +611,7 @@ class Population:
             owner, model = self.models[name]
             bound = self.instance(name, types)
             for used in {it.name for it in plain_binding.references_of(bound)}:
-                target = self.models.get(used, ("cyd", "none"))
+                target = self.models.get(used, OUTSIDE)
                 if target != (owner, model):
                     links[owner, model][used] = (used, *target, used)
             lines[owner, model] += plain_binding.instance_text(self.binding, bound) + "\n"
@@ -615,7 +619,7 @@ class Population:
 
 
 def random_population(seed, schema, most=60):
-    """Models of a schema that plain_express read, as rule_texts takes them; the links of some lead to a model that isn't in the group."""
+    """Models of a schema that plain_express read, as rule_texts takes them; some links lead to the model OUTSIDE."""
     return Population(seed, schema, most).make()
 
 
