@@ -72,6 +72,13 @@ FUNCTION escaped : INTEGER; LOCAL n : INTEGER := 0; END_LOCAL; REPEAT; n := n + 
 END_FUNCTION;
 FUNCTION case_of (x : INTEGER) : STRING; CASE x OF 1, 2 : RETURN ('few'); ? : RETURN ('none'); 3 : RETURN ('three');
   OTHERWISE : RETURN ('many'); END_CASE; END_FUNCTION;
+FUNCTION case_null (x : INTEGER) : INTEGER; CASE x OF 1 : RETURN (1); OTHERWISE : ; END_CASE; RETURN (2); END_FUNCTION;
+FUNCTION case_no_action : INTEGER; CASE 1 + 1 OF END_CASE; RETURN (2); END_FUNCTION;
+FUNCTION case_escape : INTEGER; LOCAL n : INTEGER := 0; END_LOCAL; REPEAT; n := n + 1;
+  CASE n OF 1 : ; 2 : SKIP; OTHERWISE : ESCAPE; END_CASE; n := n + 10; END_REPEAT; RETURN (n); END_FUNCTION;
+FUNCTION hides : LIST OF INTEGER; LOCAL v : INTEGER := 5; r : LIST OF INTEGER := []; END_LOCAL;
+  REPEAT v := 1 TO 2; r := r + v; r := r + SIZEOF(QUERY(v <* [1, 2, 3] | v > 1)); END_REPEAT; r := r + v; RETURN (r); END_FUNCTION;
+FUNCTION later (x : INTEGER) : INTEGER; x := x + 1; IF x > 5 THEN x := as_it_is('a'); END_IF; RETURN (x); END_FUNCTION;
 END_SCHEMA;
 """
 
@@ -208,6 +215,8 @@ VALUES = [
     ("turns(9223372036854775806, 9223372036854775807, 1)", "LIST[9223372036854775806,9223372036854775807]", None),
     ("odd_turns", "LIST[1,3,5,7]", None), ("escaped", "3", None), ("case_of(2)", "'few'", 2 + 1 + 1 + 2 + 2),
     ("case_of(3)", "'three'", 2 + 1 + 1 + 4 + 2), ("case_of(?)", "'many'", 2 + 1 + 1 + 4 + 2), ("case_of(9)", "'many'", None),
+    ("case_null(5)", "2", 2 + (1 + 1 + 1 + 1) + 2), ("case_no_action", "2", 1 + (1 + 3) + 2), ("case_escape", "12", None),
+    ("hides", "LIST[1,2,2,2,5]", None), ("later(1)", "2", None), ("later(5)", "?", None), ("EXISTS(later(?))", "FALSE", None),
     # intervals
     ("{1 < 2 < 3}", "TRUE", 4), ("{1 <= 1 < 1}", "FALSE", 4), ("{1 < ? < 3}", "UNKNOWN", 4), ("{3 < 2 < ?}", "FALSE", 4),
     ("{[1] <= [1, 2] <= [1, 2, 3]}", "TRUE", 1 + 4 + 6 + 8 + 5 + 11),

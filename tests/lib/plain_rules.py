@@ -705,7 +705,7 @@ class Evaluation:
             for label in labels:
                 if equality(selector, self.value(label, environment)) is TRUE:
                     return self.execute(action, environment)
-        return self.execute(statement.otherwise, environment) if statement.otherwise else None
+        return None if statement.otherwise is None else self.execute(statement.otherwise, environment)
 
     def compound(self, statement, environment):
         return self.run(statement.statements, environment)

@@ -68,7 +68,7 @@ def if_statement(it):
 
 def case_statement(it):
     actions = " ".join(f"{listed(labels)} : {text_of(action)}" for labels, action in it.actions)
-    otherwise = f" OTHERWISE : {text_of(it.otherwise)}" if it.otherwise else ""
+    otherwise = "" if it.otherwise is None else f" OTHERWISE : {text_of(it.otherwise)}"
     return f"CASE {text_of(it.selector)} OF {actions}{otherwise} END_CASE;"
 
 
