@@ -23,8 +23,8 @@ from plain_binding import DEFAULT_HEADER, Header, InstanceFault, Reference
 
 sys.path.insert(1, os.path.join(os.path.dirname(os.path.abspath(__file__)), "lib"))
 
-import plain_express
-import plain_reports
+import plain_express  # noqa: E402
+import plain_reports  # noqa: E402
 
 MIB = 1024 * 1024
 TEXT_LIMIT = 8 * MIB

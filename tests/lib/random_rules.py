@@ -17,16 +17,16 @@ from types import SimpleNamespace
 
 sys.path.insert(0, os.path.dirname(os.path.dirname(os.path.abspath(__file__))))
 
-import plain_binding
-from plain_binding import DERIVED, UNSET, Bits, Enumeration, Real, Reference, Select, Typed
-from plain_express import read
-from plain_trees import (
+import plain_binding  # noqa: E402
+from plain_binding import DERIVED, UNSET, Bits, Enumeration, Real, Reference, Select, Typed  # noqa: E402
+from plain_express import read  # noqa: E402
+from plain_trees import (  # noqa: E402
     INDETERMINATE, Aggregate, Algorithm, Assignment, BuiltIn, Call, Case, Chain, Compound, Constant, Entity, Escape, Explicit, Extent, If,
     Initialiser, Interval, Inverse, Item, Literal, Local, Logical, Null, OfAttribute, OfGroup, OfIndex, OfRange, OwnAttribute, Qualified,
     Query, Repeat, Return, Rule, Schema, Self, Simple, Skip, Unary, Variable,
 )
-from rule_texts import binding_schema, report
-from schema_text import schema_text
+from rule_texts import binding_schema, report  # noqa: E402
+from schema_text import schema_text  # noqa: E402
 
 # ---- what a name's first letter says: attributes of one name have one sort of values, so that any `x.a` has it
 

@@ -15,16 +15,15 @@ from types import SimpleNamespace
 
 sys.path.insert(0, os.path.dirname(os.path.dirname(os.path.abspath(__file__))))
 
-import plain_binding
-import plain_express
-import plain_files
-import plain_reports
-import plain_rules
-import plain_trees
-from plain_trees import INDETERMINATE
-from plain_model import Link
-from plain_rules import LIMIT, deep
-
+import plain_binding  # noqa: E402
+import plain_express  # noqa: E402
+import plain_files  # noqa: E402
+import plain_reports  # noqa: E402
+import plain_rules  # noqa: E402
+import plain_trees  # noqa: E402
+from plain_model import Link  # noqa: E402
+from plain_rules import LIMIT, deep  # noqa: E402
+from plain_trees import INDETERMINATE  # noqa: E402
 
 # ---- the schema that files are read by
 
