@@ -363,6 +363,38 @@ def types_and_redeclarations(it):
         it.expect(instances, (seen_here, found["steps"]), (wanted, steps))
 
 
+# constants, a rule with locals and statements, values of a file that are words, and a reference that leaves the population
+Q = """SCHEMA Q; (* a remark (* in a remark *) -- *)
+CONSTANT five : INTEGER := 2 + 3; ten : count := five * 2; END_CONSTANT;
+TYPE count = INTEGER; END_TYPE;
+TYPE colour = ENUMERATION OF (red, green); END_TYPE;
+ENTITY e; c : colour; b : BOOLEAN; l : LOGICAL; r : OPTIONAL e; WHERE one : c = green; two : b; l; END_ENTITY; -- a tail
+FUNCTION first (x : GENERIC : it; y : AGGREGATE : them OF GENERIC) : GENERIC; BEGIN RETURN (y[1]); END; END_FUNCTION;
+RULE u FOR (e); LOCAL n : INTEGER := 0; END_LOCAL;
+  REPEAT i := 1 TO five WHILE i < 3; n := n + SIZEOF(e); END_REPEAT;
+WHERE w : n = 4; ten = 10; END_RULE;
+END_SCHEMA;
+"""
+
+
+def constants_and_rules(it):
+    links = [{"name": 9, "owner": "bob", "model": "k", "instance": 1}]
+    found = report(Q, [("ann", "m", "#1=E(.GREEN.,.T.,.U.,#9);#2=E(.RED.,.F.,.F.,#1);", links)])
+    entry = lambda check, verdict, **more: {"check": check, "verdict": verdict, **more}
+    one, two = ["ann", "m", 1], ["ann", "m", 2]
+    # the rule's statements: a local, REPEAT with its bounds, two turns, and a third one's condition
+    before = 1 + (1 + 1 + 4) + 2 * (3 + 7) + 3
+    it.expect("constants and rules", found, ok_of([
+        *TRUE_CHECKS[:2], entry("reference", "FALSE", false=[[*one, "E.R"]]), entry("where", "FALSE", false=[two], of="E", rule="ONE"),
+        entry("where", "FALSE", false=[two], of="E", rule="TWO"), entry("where", "FALSE", false=[two], unknown=[one], of="E", rule="#3"),
+        entry("rule", "TRUE", of="U", rule="W"), entry("rule", "TRUE", of="U", rule="#2")], 2 * (3 + 1 + 1) + before + 3 + before + 9))
+    for expression, value, steps in (("ten", "COUNT(10)", 7), ("TYPEOF(ten)", "SET['Q.COUNT','INTEGER']", 1 + 7 + 2), ("first(?, [7])", "7", None),
+                                     ("e", "SET[#1,#2]", 3), ("SIZEOF(QUERY(x <* e | x.b))", "1", 2 + 3 + 2 * 3), ("e[2].c", "COLOUR.RED", 3 + 2 + 1),
+                                     ("TYPEOF(e[1].l)", "SET['LOGICAL']", 1 + 6 + 1), ("e[1].r", "?", 6)):
+        found, taken = evaluate(Q, expression, [("ann", "m", "#1=E(.GREEN.,.T.,.U.,#9);#2=E(.RED.,.F.,.F.,#1);", links)])
+        it.expect(expression, (told(found), taken), (value, taken if steps is None else steps))
+
+
 class Opened:
     """A plain repository of ann and bob with these schemas."""
 
@@ -456,7 +488,8 @@ def rows_of_many(it):
 
 def main():
     it = Rows()
-    for part in (values, attributes, truths, limits, reports, types_and_redeclarations, rows_of_replies, rows_of_others, rows_of_many):
+    for part in (values, attributes, truths, limits, reports, types_and_redeclarations, constants_and_rules, rows_of_replies, rows_of_others,
+                 rows_of_many):
         part(it)
     end(LABEL, it.passed, it.failed)
 
