@@ -594,7 +594,7 @@ class Population:
         """An instance of a file."""
         derived = {place for it in types for place in self.schema.entities[it].derived_again}
         values = {}
-        for entity in types:
+        for entity in sorted(types):
             for attribute, it in self.schema.entities[entity].explicit.items():
                 goes_round = attribute == "E_NEXT" and self.happens(self.rounds)
                 found = self.reference(["ENTITY_1"]) if goes_round else self.value(it.type, it.is_optional)
@@ -610,7 +610,7 @@ class Population:
         for name, types in self.types.items():
             owner, model = self.models[name]
             bound = self.instance(name, types)
-            for used in {it.name for it in plain_binding.references_of(bound)}:
+            for used in sorted({it.name for it in plain_binding.references_of(bound)}):
                 target = self.models.get(used, OUTSIDE)
                 if target != (owner, model):
                     links[owner, model][used] = (used, *target, used)
