@@ -353,8 +353,7 @@ class Reader:
         return self.labelled(self.expression, "END_TYPE", "END_ENTITY", "END_RULE") if self.takes("WHERE") else []
 
     def unique(self):
-        read = lambda: self.listed(self.unique_attribute)
-        return self.labelled(read, "WHERE", "END_ENTITY") if self.takes("UNIQUE") else []
+        return self.labelled(lambda: self.listed(self.unique_attribute), "WHERE", "END_ENTITY") if self.takes("UNIQUE") else []
 
     def unique_attribute(self):
         """An attribute of the entity, as one that is named alone."""
@@ -388,7 +387,7 @@ class Reader:
 
     # -- statements
 
-    def statements(self, *ends):
+    def statements(self):
         """Statements up to what can't begin one."""
         found = []
         while not self.sees("END", "ELSE", "END_IF", "END_REPEAT", "END_FUNCTION", "END_RULE", "WHERE"):

@@ -26,9 +26,12 @@ FRAMES, STACK = 1_000_000, 512 * 1024 * 1024
 def deep(meaning, *given):
     """What a function gives that goes down deep: 200 bodies, each of 64 levels."""
     sys.setrecursionlimit(FRAMES)
-    threading.stack_size(STACK)
-    with ThreadPoolExecutor(1) as pool:
-        return pool.submit(meaning, *given).result()
+    before = threading.stack_size(STACK)
+    try:
+        with ThreadPoolExecutor(1) as pool:
+            return pool.submit(meaning, *given).result()
+    finally:
+        threading.stack_size(before)
 
 
 # ---- values
