@@ -396,10 +396,12 @@ class Maker:
         depth = Qualified(Variable("X", None), [OfAttribute("N_DEPTH", None)], None)
         rounds = Query("X", Extent("ENTITY_1", None), chain(depth, ">", whole(3)), None)
         self.schema.rules["RULE_1"].rules.append(Rule("ROUND", chain(built_in("SIZEOF", rounds), "=", whole(0))))
+        # with one instance of this entity 200,000 steps, or one more
         last = self.entities[-1]
-        turns = chain(built_in("SIZEOF", Extent(last, None)), "*", whole(1_000_000))
+        turns = chain(chain(built_in("SIZEOF", Extent(last, None)), "*", whole(28_569)), "+", whole(0))
         spin = self.schema.rules["RULE_SPIN"] = Algorithm(None, entities=(last,))
-        spin.rules = [Rule("#1", chain(Call("SPIN", [turns], None), "=", whole(0)))]
+        said = chain(Call("SPIN", [turns], None), "=", whole(0))
+        spin.rules = [Rule("#1", said if self.happens(0.5) else Unary("NOT", said, None))]
 
     def rules_of_types(self):
         me = Self(None)
@@ -559,7 +561,7 @@ class Population:
         return self.simple(end) if isinstance(end, Simple) else self.reference([end])
 
     def simple(self, end):
-        number = self.random.choice(self.numbers + [99, 150, 500, 2**62] * self.happens(self.faults))
+        number = self.random.choice(self.numbers + [99, 198, 199, 200, 2**62] * self.happens(self.faults))
         if end.word in ("BOOLEAN", "LOGICAL"):
             return plain_binding.Item(self.random.choice("TF" if end.word == "BOOLEAN" else "TFU"))
         if end.word in ("STRING", "BINARY"):
