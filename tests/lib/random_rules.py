@@ -173,6 +173,8 @@ class Maker:
 
     def entity(self, scope, depth):
         found = [Self(None)] if scope.entity else []
+        if scope.extents:
+            found.append(Qualified(Extent(self.choice(scope.extents), None), [OfIndex(whole(self.choice([1, 1, 2])))], None))
         found += [it for it in [self.named("entity", scope)] if it]
         if depth > 0 and self.happens(0.3):
             found.append(built_in("NVL", self.expression("entity", scope, depth - 1), self.expression("entity", scope, depth - 1)))
