@@ -2,7 +2,7 @@
 
 It is written from docs/REQUESTS.md, docs/REFUSALS.md and docs/DECISIONS.md, and never from the program. Models and groups are
 rows of two lists, and every question is asked of all rows. What an exchange file and a schema's text spell isn't found out here: who makes the texts
-knows it. What a file says by its schema is found in plain_binding.py.
+knows it. What a file says by its schema is found in plain_binding.py, and the report of a group's population in plain_reports.py.
 
 A request is a method of Repository that is marked by `request`. Its name is the request's `do`, and its parameters behind
 the partner who asks are the request's keys, in any order; one with a default may be left out, and its annotation says what
@@ -16,7 +16,7 @@ import re
 from dataclasses import dataclass, field
 from typing import NamedTuple
 
-from lib import plain_binding
+from lib import plain_binding, plain_express, plain_reports
 from lib.plain_binding import DEFAULT_HEADER, Header, InstanceFault, Reference
 
 MIB = 1024 * 1024
@@ -318,11 +318,13 @@ READING, GROUPING, WRITING = ["owner", "write", "group", "read"], ["owner", "wri
 class Repository:
     """Partners, schemas as plain_binding.Schema, models and groups. `file_of` tells the File or the FileFault of a text that is
     put, `mapping_of` the Mapping or the FileFault of a text of one instance, and `told_of` the content of the reply to
-    `check_schema`."""
+    `check_schema`. `texts` are those of schemas that have rules, by their names in upper case."""
 
-    def __init__(self, partners, schemas, file_of, mapping_of, told_of):
+    def __init__(self, partners, schemas, file_of, mapping_of, told_of, texts=None):
         self.partners = list(partners)
         self.schemas_by_name = {upper(it.name): it for it in schemas}
+        self.texts = {**{name: plain_binding.express(it) for name, it in self.schemas_by_name.items()}, **(texts or {})}
+        self.trees = {}
         self.models = []
         self.groups = []
         self.file_of = file_of
@@ -587,6 +589,13 @@ class Repository:
         schema = self.schemas_by_name[found.schema]
         return {"users": [place for place, model, it in population for name in references_in(schema, role, it)
                           if Place(*of) in targets(model, name)]}, None
+
+    @request
+    def validate(self, who, owner, group):
+        found = self.seen_group(who, owner, group)
+        if found.schema not in self.trees:
+            self.trees[found.schema] = plain_express.read(self.texts[found.schema])
+        return plain_reports.report_of(self.trees[found.schema], self.counted(found)), None
 
     @request
     def schemas(self, who):

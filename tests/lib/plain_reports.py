@@ -1,0 +1,380 @@
+"""The report of a population by the rules of its schema, in Python: each check of each rule, its verdict and its culprits, and the
+steps. It is written from the description alone, and never from the program.
+
+A population is made of models as plain_model has them. Each check is a filter of its instances or of their values, in the order
+of the population; what is evaluated is told by plain_rules.
+"""
+from enum import Enum
+
+from lib.plain_binding import DERIVED, UNSET, Enumeration, Reference, Typed
+from lib.plain_binding import Item as Word
+from lib.plain_trees import INDETERMINATE, Aggregate, Item, Logical, Simple
+from lib.plain_rules import (
+    LIMIT, NOT_RUN, STEPS_OF_AN_EVALUATION, TRUE, Bits, Environment, Evaluation, Instance, Many, PastLimit, as_declared, bare, deep, fits,
+    length, once_each, rough, same, truth,
+)
+
+STEPS_BEFORE_THE_LAST = 19_800_000
+WITH_WIDTH = {"STRING": str, "BINARY": Bits}
+LOGICAL_WORDS = {"T": Logical.TRUE, "F": Logical.FALSE, "U": Logical.UNKNOWN}
+
+# ---- populations
+
+
+class Outside(Enum):
+    """A reference that leaves the population, in a written value."""
+
+    OUTSIDE = "#"
+
+
+OUTSIDE = Outside.OUTSIDE
+
+
+def attributes_of(schema, types):
+    """The explicit attributes of an instance as they are written: by its leaf, where it has one alone, else type by type in the order
+    of their names."""
+    leaves = [it for it in types if not any(it in schema.entities[other].supertypes for other in types)]
+    line = schema.line_of(leaves[0]) if len(leaves) == 1 else sorted(types)
+    return [(entity, name) for entity in line for name in schema.entities[entity].explicit]
+
+
+def written(schema, declared, value, target):
+    """A value of a file by its type; `target` gives what a reference is."""
+    if value in (UNSET, DERIVED):
+        return INDETERMINATE
+    if isinstance(value, Reference):
+        return target(value.name)
+    if isinstance(value, Typed):
+        keyword = value.keyword.upper()
+        return Typed(keyword, written(schema, keyword, value.value, target))
+    end = schema.end(declared)
+    if isinstance(value, list):
+        low = end.low if end.kind == "ARRAY" else 1
+        return Many(end.kind, low, [written(schema, end.element, it, target) for it in value])
+    if not isinstance(value, Word):
+        return value
+    if isinstance(end, Enumeration):
+        return Item(schema.names_beneath(declared)[-1], end.items.index(value.word), value.word)
+    return LOGICAL_WORDS[value.word]
+
+
+def read(value):
+    """A written value as it is read: a reference that leaves the population is none."""
+    if isinstance(value, Typed):
+        return Typed(value.keyword, read(value.value))
+    if isinstance(value, Many):
+        return value._replace(elements=[read(it) for it in value.elements])
+    return INDETERMINATE if value is OUTSIDE else value
+
+
+def references_in(value):
+    """The instances that a written value refers to, each as often as it does."""
+    value = bare(value)
+    if isinstance(value, Many):
+        return [it for element in value.elements for it in references_in(element)]
+    return [value] if isinstance(value, Instance) else []
+
+
+def population_of(schema, models):
+    """The instances of some models of a schema, in order of their owners, names and numbers."""
+    models = sorted(models, key=lambda it: (it.owner, it.name))
+    bound = {(it.owner, it.name, one.name): one for it in models for one in sorted(it.instances, key=lambda one: one.name)}
+    found = {place: Instance(place, frozenset(it.upper() for it in one.types)) for place, one in bound.items()}
+    links = {(it.owner, it.name, link.name): (link.owner, link.model, link.instance) for it in models for link in it.links}
+    for place, instance in found.items():
+        target = lambda name: found.get(links.get((*place[:2], name), (*place[:2], name)), OUTSIDE)
+        fill(schema, instance, bound[place].values, target)
+    for user in found.values():
+        for attribute in user.attributes:
+            for used in references_in(user.written[attribute]):
+                used.users.append((user, attribute))
+    return list(found.values())
+
+
+def extents_of(schema, population):
+    """The instances of each entity."""
+    found = {it: [] for it in schema.entities}
+    for instance in population:
+        for it in instance.types:
+            found[it].append(instance)
+    return found
+
+
+def fill(schema, instance, values, target):
+    """The attributes of an instance with their values."""
+    instance.attributes = attributes_of(schema, instance.types)
+    instance.derived = {place for it in instance.types for place in schema.entities[it].derived_again}
+    for entity, name in instance.attributes:
+        declared = schema.entities[entity].explicit[name].type
+        value = written(schema, declared, values[entity.lower(), name.lower()], target)
+        instance.written[entity, name] = value
+        instance.read[entity, name] = as_declared(schema, declared, read(value))
+
+
+# ---- SELECTs
+
+
+def members_at_any_depth(schema, name):
+    """The members of a SELECT that are none themselves, with those of the SELECTs among its members."""
+    members = schema.select_members(name)
+    return set().union(*(members_at_any_depth(schema, it) if schema.is_select(it) else {it} for it in members))
+
+
+def selects_to(schema, name, wanted):
+    """The SELECTs on any way from a SELECT to one of the wanted members, that itself included; none where no way leads."""
+    members = schema.select_members(name)
+    further = set().union(*(selects_to(schema, it, wanted) for it in members if schema.is_select(it)))
+    return further | {name} if further or wanted.intersection(members) else set()
+
+
+# ---- what a declaration asks of a value; a redeclaration may ask one of another shape
+
+
+def asked(schema, declared, value):
+    """The type by which a value is asked, and the bare value: in a SELECT the one that it is written under, or none."""
+    if not schema.is_select(declared):
+        return schema.end(declared), bare(value)
+    is_member = isinstance(value, Typed) and value.keyword in members_at_any_depth(schema, declared)
+    return (schema.end(value.keyword), value.value) if is_member else (None, value)
+
+
+def has_unset(schema, declared, value):
+    """Whether an element isn't set that has to be."""
+    end, value = asked(schema, declared, value)
+    if not (isinstance(end, Aggregate) and isinstance(value, Many)):
+        return False
+    return any(it is INDETERMINATE and not end.is_optional or has_unset(schema, end.element, it) for it in value.elements)
+
+
+def is_out_of_bounds(schema, declared, value):
+    """Whether a width or a bound doesn't hold, or something stands twice where it may not."""
+    end, value = asked(schema, declared, value)
+    if isinstance(end, Simple) and end.width is not None and isinstance(value, WITH_WIDTH[end.word]):
+        return length(value) > end.width or end.is_fixed and length(value) < end.width
+    if not (isinstance(end, Aggregate) and isinstance(value, Many)):
+        return False
+    return breaks_count(end, len(value.elements)) or has_twice(end, value) or any(
+        is_out_of_bounds(schema, end.element, it) for it in value.elements)
+
+
+def breaks_count(bounds, count):
+    """Of BAG, LIST and SET, and of an inverse attribute, the bounds are those of the count; an ARRAY asks for all its indexes."""
+    if bounds.kind == "ARRAY":
+        return count != bounds.high - bounds.low + 1
+    return count < bounds.low or bounds.high is not None and count > bounds.high
+
+
+def has_twice(end, value):
+    """Whether a SET, or what is UNIQUE, holds something twice. What isn't set equals nothing."""
+    elements = read(value).elements
+    return (end.kind == "SET" or end.is_unique) and len(once_each(elements)) < len(elements)
+
+
+def is_astray(schema, declared, value):
+    """Whether a reference leaves the population, or has no place in a type."""
+    if value is OUTSIDE:
+        return True
+    if isinstance(value, Instance):
+        end = schema.end(declared)
+        allowed = members_at_any_depth(schema, declared) if schema.is_select(declared) else {end}
+        return not allowed & value.types
+    end, inner = asked(schema, declared, value)
+    if isinstance(end, Aggregate) and isinstance(inner, Many):
+        return any(is_astray(schema, end.element, it) for it in inner.elements)
+    return refers(inner)
+
+
+def refers(value):
+    """Whether a written value holds a reference."""
+    value = bare(value)
+    return any(map(refers, value.elements)) if isinstance(value, Many) else value is OUTSIDE or isinstance(value, Instance)
+
+
+def rules_at(schema, declared, written_value, read_value):
+    """The defined types by which a declaration has a value's rules tried, and the type that its elements are declared by, or None."""
+    if not schema.is_select(declared):
+        if not fits(read_value, schema.kinds_of(declared)):
+            return set(), None
+        end = schema.end(declared)
+        return set(schema.names_beneath(declared)), end.element if isinstance(end, Aggregate) else None
+    if isinstance(written_value, Instance):
+        return {declared} | selects_to(schema, declared, written_value.types), None
+    between = selects_to(schema, declared, {written_value.keyword}) if isinstance(written_value, Typed) else set()
+    if not between:
+        return {declared}, None
+    end = schema.end(written_value.keyword)
+    beneath = schema.names_beneath(written_value.keyword)
+    return {*between, *beneath}, end.element if isinstance(end, Aggregate) else None
+
+
+def values_tried(schema, declared_types, written_value, read_value):
+    """A value and those in it, from the left, each behind the one that holds it and with the types whose rules are tried on it."""
+    if read_value is INDETERMINATE:
+        return
+    asked_by = [rules_at(schema, it, written_value, read_value) for it in declared_types]
+    yield read_value, set().union(*(names for names, _ in asked_by))
+    elements = [it for _, it in asked_by if it]
+    if isinstance(bare(read_value), Many) and elements:
+        for pair in zip(bare(written_value).elements, bare(read_value).elements):
+            yield from values_tried(schema, elements, *pair)
+
+
+# ---- the report
+
+VERDICTS = ("FALSE", "LIMIT", "NOT_RUN", "UNKNOWN")
+
+
+class Report:
+    """The checks of a population, and the steps that they took so far."""
+
+    def __init__(self, schema, population):
+        self.schema, self.population, self.extents = schema, population, extents_of(schema, population)
+        self.steps = 0
+        self.checks = []
+
+    def make(self):
+        for check in (self.unset, self.bounds, self.references, self.rules_of_types, self.rules_of_entities, self.unique,
+                      self.inverse, self.global_rules):
+            check()
+        return {"checks": self.checks, "steps": self.steps}
+
+    def evaluated(self, run, *given):
+        """What an evaluation comes to: a value, or LIMIT, or NOT_RUN where those before it took too many steps."""
+        if self.steps > STEPS_BEFORE_THE_LAST:
+            return NOT_RUN
+        evaluation = Evaluation(self.schema, self.extents)
+        try:
+            value = run(evaluation, *given)
+        except PastLimit:
+            self.steps += STEPS_OF_AN_EVALUATION
+            return LIMIT
+        self.steps += evaluation.steps
+        return value
+
+    def condition(self, expression, self_value):
+        """The verdict of a rule of WHERE on a value."""
+        return verdict_of(self.evaluated(lambda it: it.value(expression, Environment(self_value, {}, {}))))
+
+    def enter(self, check, culprits, **named):
+        """An entry with culprits, each behind its verdict. Of equal ones in a list the first alone is told."""
+        lists = {}
+        for verdict, culprit in culprits:
+            if verdict != "TRUE":
+                lists.setdefault(verdict, {})[tuple(culprit)] = culprit
+        first = next((it for it in VERDICTS if it in lists), "TRUE")
+        self.checks.append({"check": check, **named, "verdict": first, **{it.lower(): list(lists[it].values()) for it in lists}})
+
+    # -- the checks without steps
+
+    def declarations(self, instance, attribute):
+        """How an attribute is declared, and redeclared by types of the instance."""
+        entity, name = attribute
+        again = [self.schema.entities[it].redeclared.get(attribute) for it in sorted(instance.types)]
+        return [self.schema.entities[entity].explicit[name], *(it for it in again if it)]
+
+    def attributes(self):
+        """The attributes of all instances that aren't derived, with what is told of them as culprits."""
+        for instance in self.population:
+            for attribute in instance.attributes:
+                if attribute not in instance.derived:
+                    yield instance, attribute, [*instance.place, ".".join(attribute)]
+
+    def enter_attributes(self, check, is_fault):
+        culprits = []
+        for instance, attribute, culprit in self.attributes():
+            value = instance.written[attribute]
+            if any(is_fault(it, value) for it in self.declarations(instance, attribute)):
+                culprits.append(("FALSE", culprit))
+        self.enter(check, culprits)
+
+    def unset(self):
+        self.enter_attributes("unset", lambda it, value: (
+            value is INDETERMINATE and not it.is_optional or has_unset(self.schema, it.type, value)))
+
+    def bounds(self):
+        self.enter_attributes("bounds", lambda it, value: is_out_of_bounds(self.schema, it.type, value))
+
+    def references(self):
+        self.enter_attributes("reference", lambda it, value: is_astray(self.schema, it.type, value))
+
+    # -- the checks by evaluations
+
+    def rules_of_types(self):
+        """The rules of defined types, on each value of an attribute that is declared, or written, by the type."""
+        tried = {}
+        for instance, attribute, culprit in self.attributes():
+            types = [it.type for it in self.declarations(instance, attribute)]
+            for value, names in values_tried(self.schema, types, instance.written[attribute], instance.read[attribute]):
+                for name in names:
+                    tried.setdefault(name, []).append((value, culprit))
+        for name, defined in sorted(self.schema.types.items()):
+            for label, expression in defined.rules:
+                culprits = [(self.condition(expression, value), culprit) for value, culprit in tried.get(name, [])]
+                self.enter("type", culprits, of=name, rule=label)
+
+    def rules_of_entities(self):
+        for name, entity in sorted(self.schema.entities.items()):
+            for label, expression in entity.rules:
+                culprits = [(self.condition(expression, it), [*it.place]) for it in self.extents[name]]
+                self.enter("where", culprits, of=name, rule=label)
+
+    def unique(self):
+        """Rows of values that are the same. One with no value isn't compared, nor one that isn't whole, which is told as such."""
+        for name, entity in sorted(self.schema.entities.items()):
+            for label, attributes in entity.unique:
+                rows = [(it, self.row(it, attributes)) for it in self.extents[name]]
+                alike, culprits = {}, []
+                for it, row in rows:
+                    culprits += [(outcome.name, [*it.place]) for outcome in (LIMIT, NOT_RUN) if outcome in row]
+                    if not {INDETERMINATE, LIMIT, NOT_RUN}.intersection(map(rough, row)):
+                        alike.setdefault((*map(rough, row),), []).append((it, row))
+                agree = {it for its in alike.values() for it, row in its if any(it is not other and are_same(row, others) for other, others in its)}
+                culprits += [("FALSE", [*it.place]) for it, _ in rows if it in agree]
+                self.enter("unique", culprits, of=name, rule=label)
+
+    def row(self, instance, attributes):
+        """The values of the attributes of a rule of UNIQUE. Each costs a step beside its body or its results."""
+        environment = Environment(instance, {}, {})
+        return [self.evaluated(lambda it: it.value(attribute, environment)) for attribute in attributes]
+
+    def inverse(self):
+        """The counts of users. One is due where the attribute is no aggregate."""
+        for name, entity in sorted(self.schema.entities.items()):
+            for label, inverse in entity.inverse.items():
+                culprits = []
+                for it in self.extents[name]:
+                    found = self.evaluated(count_users, it, inverse)
+                    outcome = found.name if found in (LIMIT, NOT_RUN) else "FALSE" if breaks_count(inverse, found) else "TRUE"
+                    culprits.append((outcome, [*it.place]))
+                self.enter("inverse", culprits, of=name, rule=label)
+
+    def global_rules(self):
+        """A rule's locals and statements are run before each of its conditions."""
+        for name, rule in sorted(self.schema.rules.items()):
+            for label, expression in rule.rules:
+                verdict = verdict_of(self.evaluated(outcome_of_rule, rule, expression))
+                self.checks.append({"check": "rule", "of": name, "rule": label, "verdict": verdict})
+
+
+def verdict_of(value):
+    return value.name if value in (LIMIT, NOT_RUN) else truth(value).name
+
+
+def are_same(row, others):
+    return all(same(*its) is TRUE for its in zip(row, others))
+
+
+def count_users(evaluation, instance, inverse):
+    evaluation.charge(1)
+    return len(evaluation.users(instance, inverse))
+
+
+def outcome_of_rule(evaluation, rule, expression):
+    environment = Environment(INDETERMINATE, {}, {})
+    evaluation.algorithm(rule, environment)
+    return evaluation.value(expression, environment)
+
+
+def report_of(schema, models):
+    """The report of the population of some models, by what plain_express reads of their schema."""
+    return deep(Report(schema, population_of(schema, models)).make)
