@@ -4,13 +4,14 @@ random schemas with rules.
 
     tests/lib/compare_rules.py PROGRAM [--schemas N] [--populations N] [--entities N] [--instances N] [--seed S]
 
-One process of the program takes the populations of one schema, one after the other in the same two models. Differences are told with
-the seeds of the schema and of the population. The last line is 'compare rules: N passed, M failed', and the status is 0 only if none
-failed.
+One process of the program takes the populations of one schema, one after the other in the same two models. The first difference of each
+schema is told with its seeds, then instances are left out as long as there is one, and what is left is told. The last line is
+'compare rules: N passed, M failed', and the status is 0 only if none failed.
 """
 import argparse
 import json
 import os
+import re
 import sys
 
 sys.path.insert(0, os.path.dirname(os.path.dirname(os.path.abspath(__file__))))
@@ -25,56 +26,83 @@ from lib.rule_texts import report  # noqa: E402
 LABEL = "compare rules"
 OWNER = MODELS[0][0]
 CONFIG = {"partners": [{"name": name, "token": name} for name in (*(owner for owner, _ in MODELS), OUTSIDE[0])], "schemas": ["r.exp"]}
+OK = b'{"ok":{}}'
 
 
 def opening():
-    """Lines that make the models and the group. Its owner may write all models, and so give them links to each other."""
+    """Lines that make the models and the group, with their replies. Its owner may write all models, and so give them links to each other."""
     lines = [line(OWNER, "create_group", name="g", schema="R")]
     for owner, name in (*MODELS, OUTSIDE):
         lines += [create(owner, name, "R"), grant(owner, name, OWNER, "write")]
     lines += [line(OWNER, "include", group="g", owner=owner, model=name) for owner, name in MODELS]
-    return [*lines, put(*OUTSIDE[:1], *OUTSIDE, file_of(INSTANCE_OUTSIDE, "R"))]
+    outside = put(OUTSIDE[0], *OUTSIDE, file_of(INSTANCE_OUTSIDE, "R"))
+    return [(it, OK) for it in lines] + [(outside, b'{"ok":{"instances":1}}')]
 
 
-def turns(models):
-    """Lines that put the models, and then validate. Links go both ways, so each model has instances of its names first."""
-    names = [[it.split("=")[0] for it in text.splitlines()] for _, _, text, _ in models]
+def turns(text, models):
+    """Lines that put the models and then validate, with their replies. Links go both ways, so each model has instances of its names first."""
+    names = [[it.split("=")[0] for it in instances.splitlines()] for _, _, instances, _ in models]
     lines = [put(OWNER, owner, name, file_of("".join(f"{it}=ENTITY_1($);" for it in its), "R"))
              for (owner, name, _, _), its in zip(models, names)]
-    lines += [put(OWNER, owner, name, file_of(text, "R"), *(link(*it) for it in links)) for owner, name, text, links in models]
-    wanted = [compact({"ok": {"instances": len(its)}}) for its in names]
-    return [*lines, line(OWNER, "validate", owner=OWNER, group="g")], [*wanted, *wanted]
+    lines += [put(OWNER, owner, name, file_of(instances, "R"), *(link(*it) for it in links)) for owner, name, instances, links in models]
+    taken = [compact({"ok": {"instances": len(its)}}) for its in names]
+    return [*zip(lines, [*taken, *taken]), (line(OWNER, "validate", owner=OWNER, group="g"), compact({"ok": report(text, models)}))]
 
 
-def first_difference(seen, wanted):
-    """Of two reports the first entries that differ, or both where they tell the same entries, or aren't reports."""
-    entries = [json.loads(it).get("ok", {}).get("checks", []) for it in (seen, wanted)]
-    return next(((compact(one), compact(other)) for one, other in zip(*entries) if one != other), (seen, wanted))
-
-
-def compare(text, seeds, most):
-    """How many populations of a schema are answered as they have to be, and how many aren't."""
-    schema = read(text)
-    lines, wanted, names = opening(), [], []
-    wanted += [b'{"ok":{}}'] * (len(lines) - 1) + [b'{"ok":{"instances":1}}']
-    for seed in seeds:
-        models = random_population(seed, schema, most)
-        more, replies = turns(models)
-        lines += more
-        names.append((seed, len(lines) - 1))
-        wanted += [*replies, compact({"ok": report(text, models)})]
+def first_difference(text, its):
+    """The place of the first line that isn't answered as it has to be, with both replies, or None."""
     with Repository(CONFIG, r=text) as folder:
-        status, output, fault = folder.batch(b"\n".join(lines))
+        status, output, fault = folder.batch(b"\n".join(asked for asked, _ in its))
     if status:
         sys.exit(f"{LABEL}: status {status}: {shortened(fault).decode()}")
     seen = output.splitlines()
-    first = next((place for place, its in enumerate(zip(seen, wanted)) if its[0] != its[1]), None)
-    if first is not None:
-        seed = next((seed for seed, last in names if first <= last), None)
-        print(f"population {seed!r}, line {first}: {shortened(lines[first]).decode()}")
-        print("  {}\n  in place of\n  {}".format(*(shortened(it).decode() for it in first_difference(seen[first], wanted[first]))))
-    failed = sum(seen[last:last + 1] != wanted[last:last + 1] for _, last in names)
-    return len(names) - failed, failed + (first is not None and not failed)
+    return next(((place, one, wanted) for place, (one, (_, wanted)) in enumerate(zip(seen, its)) if one != wanted), None)
+
+
+def entries(seen, wanted):
+    """Of two reports the first entries that differ, or both where they tell the same entries, or aren't reports."""
+    checks = [json.loads(it).get("ok", {}).get("checks", []) for it in (seen, wanted)]
+    found = next(((compact(one), compact(other)) for one, other in zip(*checks) if one != other), (seen, wanted))
+    return "  {}\n  in place of\n  {}".format(*(shortened(it).decode() for it in found))
+
+
+def without(models, number):
+    """Models without the instance of a number: what refers to it refers to one outside."""
+    found = []
+    for owner, name, instances, links in models:
+        lines = [it for it in instances.splitlines() if not it.startswith(f"#{number}=")]
+        used = {int(it) for one in lines for it in re.findall(r"#(\d+)", one.split("=", 1)[1])}
+        kept = [it for it in links if it[0] != number and it[0] in used]
+        found.append((owner, name, "".join(it + "\n" for it in lines), kept + [(number, *OUTSIDE, ALONE)] * (number in used)))
+    return found
+
+
+def smallest(text, models):
+    """The models with as few instances as leaving one out after the other gives, so that there still is a difference."""
+    for number in [int(it) for _, _, instances, _ in models for it in re.findall(r"^#(\d+)=", instances, re.MULTILINE)]:
+        fewer = without(models, number)
+        if first_difference(text, [*opening(), *turns(text, fewer)]):
+            models = fewer
+    return models
+
+
+def compare(text, seeds, most):
+    """How many populations of a schema are answered as they have to be up to the first that isn't, and how many aren't."""
+    schema, its, ends = read(text), opening(), []
+    for seed in seeds:
+        its += turns(text, random_population(seed, schema, most))
+        ends.append(len(its))
+    found = first_difference(text, its)
+    if not found:
+        return len(seeds), 0
+    place, *replies = found
+    count = sum(it <= place for it in ends)
+    print(f"population {seeds[count]!r}: {shortened(its[place][0]).decode()}\n{entries(*replies)}")
+    models = smallest(text, random_population(seeds[count], schema, most))
+    left = first_difference(text, [*opening(), *turns(text, models)])
+    if left:
+        print("with fewer instances:", *models, entries(*left[1:]), sep="\n")
+    return count, 1
 
 
 def main(words):
