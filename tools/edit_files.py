@@ -16,6 +16,8 @@ import sys
 TOP = os.path.dirname(os.path.dirname(os.path.abspath(__file__)))
 EDITS = os.path.join(TOP, "tools/edits")
 TURN = os.path.join(EDITS, "turn")
+# rt, which sums the files of each crate once.
+RT = os.path.join(TOP, ".ci/rt_once.py")
 # What stands in must-fail/ for a while, a path in a line; whoever puts edits there holds a lock on it.
 STANDING = os.path.join(TOP, "out/standing")
 
@@ -186,7 +188,7 @@ def run_rt(words):
     told = Told()
     how = {"cwd": TOP, "stdin": subprocess.DEVNULL, "stdout": subprocess.PIPE, "stderr": subprocess.STDOUT, "errors": "replace"}
     # Ctrl-C reaches the script alone, which then ends rt before it takes the edits away.
-    process = subprocess.Popen(["rt", *words], start_new_session=True, **how)
+    process = subprocess.Popen([sys.executable, RT, *words], start_new_session=True, **how)
     try:
         for line in process.stdout:
             print(line, end="", flush=True)
