@@ -35,6 +35,23 @@ SORTS = {"N": "INTEGER", "S": "STRING", "Q": "LOGICAL", "R": "REAL", "B": "BINAR
 ELEMENTS = {"integers": "INTEGER", "entities": "entity"}
 Scope = collections.namedtuple("Scope", "variables entity extents", defaults=(None, ()))
 
+# A function whose steps tell a value apart from most others, so that what an expression gives is seen in the steps of a report.
+SHOWING = """SCHEMA R; TYPE colour = ENUMERATION OF (red, green, blue); END_TYPE;
+FUNCTION fall (n : INTEGER) : INTEGER; RETURN (n); END_FUNCTION;
+FUNCTION show (x : GENERIC) : LOGICAL;
+LOCAL n : INTEGER := SIZEOF(TYPEOF(x)); END_LOCAL;
+  IF NOT EXISTS(x) THEN RETURN (FALSE); END_IF;
+  IF 'INTEGER' IN TYPEOF(x) THEN n := fall(ABS(x) MOD 7); END_IF;
+  IF 'REAL' IN TYPEOF(x) THEN IF x < 1.0 THEN ; END_IF; END_IF;
+  IF 'STRING' IN TYPEOF(x) THEN REPEAT i := 1 TO LENGTH(x); IF x[i] :=: 'a' THEN ; END_IF; END_REPEAT; END_IF;
+  IF 'BINARY' IN TYPEOF(x) THEN REPEAT i := 1 TO BLENGTH(x); IF x[i] :=: %1 THEN ; END_IF; END_REPEAT; END_IF;
+  IF 'LOGICAL' IN TYPEOF(x) THEN IF x THEN ; END_IF; IF NOT x THEN ; ; END_IF; END_IF;
+  CASE TRUE OF x :=: colour.red : ; x :=: colour.green : BEGIN ; ; END; OTHERWISE : ; END_CASE;
+  IF SIZEOF(TYPEOF(x) * ['ARRAY', 'BAG', 'LIST', 'SET']) > 0 THEN n := HIINDEX(x) + SIZEOF(QUERY(v <* x | show(v))); END_IF;
+  n := SIZEOF(USEDIN(x, ''));
+  RETURN (TRUE);
+END_FUNCTION; END_SCHEMA;"""
+
 
 def whole(number):
     return Literal(number, None)
@@ -222,10 +239,13 @@ class Maker:
         return self.choice([
             lambda: chain(part(), self.choice(["AND", "OR", "XOR"]), part()), lambda: Unary("NOT", part(), None),
             lambda: self.comparison(scope, depth), lambda: self.comparison(scope, depth), lambda: self.comparison(scope, depth),
-            lambda: self.inclusion(scope, depth), lambda: self.inclusion(scope, depth),
+            lambda: self.inclusion(scope, depth), lambda: self.inclusion(scope, depth), lambda: self.shown(scope, depth),
             lambda: built_in("EXISTS", self.any_value(scope, depth - 1)), lambda: built_in("ODD", self.expression("INTEGER", scope, depth - 1)),
             lambda: Interval(*(self.choice(["<", "<="]) if place % 2 else self.expression("INTEGER", scope, depth - 1) for place in range(5)), None),
         ])()
+
+    def shown(self, scope, depth):
+        return Call("SHOW", [self.any_value(scope, depth - 1)], None)
 
     def comparison(self, scope, depth):
         sort = self.choice(["INTEGER"] * 4 + ["STRING", "REAL", "BINARY", "item", "LOGICAL", "any", "integers", "sets"])
@@ -374,10 +394,10 @@ class Maker:
         return found
 
     def all_rules(self):
-        condition = lambda scope: self.expression("LOGICAL", scope, 3)
+        condition = lambda scope: self.shown(scope, 4) if self.happens(0.5) else self.expression("LOGICAL", scope, 3)
         for name in self.entities:
             entity = self.schema.entities[name]
-            entity.rules = self.rules_of(self.choice([0, 0, 1, 1, 2]), Scope({}, name), condition)
+            entity.rules = self.rules_of(self.choice([0, 1, 1, 2, 2]), Scope({}, name), condition)
             names = sorted({it for above in self.schema.line_of(name) for of in self.attributes(above) for it in of})
             if names and self.happens(0.3):
                 listed = self.random.sample(names, min(len(names), self.choice([1, 1, 2])))
@@ -435,6 +455,7 @@ class Maker:
         spin.locals = [Local(["I"], Simple("INTEGER"), whole(0))]
         spin.statements = [Repeat(None, None, None, None, chain(Variable("I", None), "<>", n), None,
                                   [Assignment("I", chain(Variable("I", None), "+", whole(1)))]), Return(Variable("I", None))]
+        self.schema.functions["SHOW"] = read(SHOWING).functions["SHOW"]
         anything = self.schema.functions["ANYTHING"] = Algorithm(None, [("X", Simple("GENERIC"))], Simple("GENERIC"))
         anything.statements = [Return(Variable("X", None))]
         self.callable = {"FALL": (["INTEGER"], "INTEGER")}
