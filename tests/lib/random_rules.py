@@ -35,9 +35,16 @@ SORTS = {"N": "INTEGER", "S": "STRING", "Q": "LOGICAL", "R": "REAL", "B": "BINAR
 ELEMENTS = {"integers": "INTEGER", "entities": "entity"}
 Scope = collections.namedtuple("Scope", "variables entity extents", defaults=(None, ()))
 
-# A function whose steps tell a value apart from most others, so that what an expression gives is seen in the steps of a report.
-SHOWING = """SCHEMA R; TYPE colour = ENUMERATION OF (red, green, blue); END_TYPE;
+# Functions that give aggregates their kinds, and one whose steps tell a value apart from most others, so that what an expression gives is
+# seen in the steps of a report.
+SHOWING = """SCHEMA R; TYPE colour = ENUMERATION OF (red, green, blue); END_TYPE; ENTITY entity_1; END_ENTITY;
+TYPE counts = LIST OF INTEGER; END_TYPE; TYPE parts = SET OF entity_1; END_TYPE;
 FUNCTION fall (n : INTEGER) : INTEGER; RETURN (n); END_FUNCTION;
+FUNCTION as_set (x : SET OF INTEGER) : SET OF INTEGER; RETURN (x); END_FUNCTION;
+FUNCTION as_bag (x : BAG OF INTEGER) : BAG OF INTEGER; RETURN (x); END_FUNCTION;
+FUNCTION as_array (x : ARRAY [2:4] OF INTEGER) : ARRAY [2:4] OF INTEGER; RETURN (x); END_FUNCTION;
+FUNCTION as_counts (x : counts) : counts; RETURN (x); END_FUNCTION;
+FUNCTION as_parts (x : parts) : parts; RETURN (x); END_FUNCTION;
 FUNCTION show (x : GENERIC) : LOGICAL;
 LOCAL n : INTEGER := SIZEOF(TYPEOF(x)); END_LOCAL;
   IF NOT EXISTS(x) THEN RETURN (FALSE); END_IF;
@@ -106,29 +113,42 @@ class Maker:
 
     def of_entity(self, sort, scope, depth):
         """An attribute of this sort of another instance, or None."""
-        names = sorted({name for it in self.schema.entities for of in self.attributes(it) for name in of if SORTS[name[0]] == sort})
         first = self.entity(scope, depth - 1)
+        near = self.likely(first, scope) if self.happens(0.8) else self.schema.entities
+        names = sorted({name for it in near for of in self.attributes(it) for name in of if SORTS[name[0]] == sort})
         if not names or not isinstance(first, (Variable, Self, OwnAttribute, Call, BuiltIn, Qualified)):
             return None
         name = self.choice(names)
         if self.happens(0.3):
             return Qualified(Call("ANYTHING", [first], None), [OfAttribute(name, None)], None)
-        owners = [it for it in self.schema.entities if self.schema.declares(it, name)]
+        owners = [it for it in near if self.schema.declares(it, name)]
         accesses = [OfGroup(self.choice(owners)), OfAttribute(name, None)]
         if isinstance(first, Qualified):
             return Qualified(first.first, [*first.accesses, *accesses], None)
         return Qualified(first, accesses, None)
 
+    def likely(self, node, scope):
+        """Entities that an instance likely is of: those of SELF, or of what an attribute is declared to hold, with those below."""
+        if isinstance(node, Self):
+            return self.schema.line_of(scope.entity)
+        for it in self.schema.line_of(scope.entity) if isinstance(node, OwnAttribute) else []:
+            entity = self.schema.entities[it]
+            held = entity.explicit[node.name].type if node.name in entity.explicit else getattr(entity.inverse.get(node.name), "entity", None)
+            if held in self.schema.entities:
+                below = [one for one in self.schema.entities if held in self.schema.line_of(one)]
+                return self.schema.line_of(held) if self.happens(0.5) else self.schema.line_of(self.choice(below))
+        return self.schema.entities
+
     def expression(self, sort, scope, depth):
         """An expression that may be of a sort."""
         make = {"INTEGER": self.integer, "STRING": self.string, "LOGICAL": self.condition, "REAL": self.real, "BINARY": self.binary,
                 "entity": self.entity, "item": self.item, "select": self.select}.get(sort)
-        if self.happens(0.02):
+        if self.happens(0.01):
             return Literal(INDETERMINATE, None)
         found = None
-        if depth > 0 and self.happens(0.3):
+        if depth > 0 and self.happens(0.2):
             found = self.of_entity(sort, scope, depth)
-        elif self.happens(0.6):
+        elif self.happens(0.3 if depth > 0 else 0.7):
             found = self.named(sort, scope)
         functions = [name for name, (_, result) in self.callable.items() if result == sort]
         if not found and depth > 0 and functions and self.happens(0.2):
@@ -141,10 +161,10 @@ class Maker:
 
     def integer(self, scope, depth):
         if depth <= 0:
-            return whole(self.choice([0, 1, 2, 3, 7, 100, 2**63 - 1]) if self.happens(0.9) else self.random.randrange(50))
+            return whole(self.choice([0, 1, 1, 2, 2, 3, 5, 7]) if self.happens(0.95) else self.choice([100, 2**63 - 1]))
         part = lambda: self.expression("INTEGER", scope, depth - 1)
         return self.choice([
-            lambda: chain(part(), self.choice(["+", "-", "*", "DIV", "MOD", "**"]), part()), lambda: built_in("NVL", part(), part()),
+            lambda: chain(part(), self.choice(["+", "+", "-", "*", "DIV", "MOD", "**"]), part()), lambda: built_in("NVL", part(), part()),
             lambda: built_in("SIZEOF", self.aggregate(self.choice(["INTEGER", "entity", "STRING"]), scope, depth - 1)),
             lambda: built_in("SIZEOF", built_in("TYPEOF", self.any_value(scope, depth - 1))), lambda: Unary(self.choice("+-"), part(), None),
             lambda: built_in("LENGTH", self.expression("STRING", scope, depth - 1)), lambda: built_in("ABS", part()),
@@ -199,8 +219,8 @@ class Maker:
         return self.choice(found) if found else Literal(INDETERMINATE, None)
 
     def any_value(self, scope, depth):
-        sorts = ["INTEGER", "STRING", "LOGICAL", "REAL", "BINARY", "entity", "item", "select", "integers", "entities"]
-        return self.expression(self.choice(sorts), scope, depth)
+        sorts = {"INTEGER": 3, "STRING": 2, "LOGICAL": 3, "REAL": 1, "BINARY": 1, "entity": 2, "item": 1, "select": 2, "integers": 4, "entities": 4}
+        return self.expression(self.random.choices(list(sorts), list(sorts.values()))[0], scope, depth)
 
     def aggregate(self, element, scope, depth):
         """An aggregate whose elements may be of a sort."""
@@ -213,6 +233,9 @@ class Maker:
         if depth <= 0:
             return Initialiser([self.expression(element, scope, 0) for _ in range(self.random.randrange(4))], None)
         part = lambda: self.aggregate(element, scope, depth - 1)
+        declared = {"INTEGER": ["AS_SET", "AS_BAG", "AS_ARRAY", "AS_COUNTS"], "entity": ["AS_PARTS"]}.get(element)
+        if declared and self.happens(0.3):
+            return Call(self.choice(declared), [part()], None)
         ways = [lambda: chain(part(), self.choice("+-*"), part()), lambda: self.query(element, scope, depth), part,
                 lambda: chain(part(), self.choice("+-"), self.expression(element, scope, depth - 1))]
         if element == "entity":
@@ -455,7 +478,7 @@ class Maker:
         spin.locals = [Local(["I"], Simple("INTEGER"), whole(0))]
         spin.statements = [Repeat(None, None, None, None, chain(Variable("I", None), "<>", n), None,
                                   [Assignment("I", chain(Variable("I", None), "+", whole(1)))]), Return(Variable("I", None))]
-        self.schema.functions["SHOW"] = read(SHOWING).functions["SHOW"]
+        self.schema.functions.update({name: it for name, it in read(SHOWING).functions.items() if name != "FALL"})
         anything = self.schema.functions["ANYTHING"] = Algorithm(None, [("X", Simple("GENERIC"))], Simple("GENERIC"))
         anything.statements = [Return(Variable("X", None))]
         self.callable = {"FALL": (["INTEGER"], "INTEGER")}
