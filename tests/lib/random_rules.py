@@ -33,18 +33,27 @@ from schema_text import schema_text  # noqa: E402
 SORTS = {"N": "INTEGER", "S": "STRING", "Q": "LOGICAL", "R": "REAL", "B": "BINARY", "E": "entity", "L": "integers", "M": "entities",
          "C": "item", "X": "select"}
 ELEMENTS = {"integers": "INTEGER", "entities": "entity"}
+# functions of SHOWING that give back what is of a sort, as what they declare
+DECLARED = {"INTEGER": ["AS_COUNT", "AS_SMALL"], "STRING": ["AS_LABEL"], "REAL": ["AS_REAL"], "select": ["AS_SELECT"],
+            "integers": ["AS_SET", "AS_BAG", "AS_ARRAY", "AS_COUNTS"], "entities": ["AS_PARTS"]}
 Scope = collections.namedtuple("Scope", "variables entity extents", defaults=(None, ()))
 
 # Functions that give aggregates their kinds, and one whose steps tell a value apart from most others, so that what an expression gives is
 # seen in the steps of a report.
 SHOWING = """SCHEMA R; TYPE colour = ENUMERATION OF (red, green, blue); END_TYPE; ENTITY entity_1; END_ENTITY;
-TYPE counts = LIST OF INTEGER; END_TYPE; TYPE parts = SET OF entity_1; END_TYPE;
+TYPE counts = LIST OF INTEGER; END_TYPE; TYPE parts = SET OF entity_1; END_TYPE; TYPE any_one = SELECT (count); END_TYPE;
+TYPE count = INTEGER; END_TYPE; TYPE small_count = count; END_TYPE; TYPE label = STRING; END_TYPE;
 FUNCTION fall (n : INTEGER) : INTEGER; RETURN (n); END_FUNCTION;
 FUNCTION as_set (x : SET OF INTEGER) : SET OF INTEGER; RETURN (x); END_FUNCTION;
 FUNCTION as_bag (x : BAG OF INTEGER) : BAG OF INTEGER; RETURN (x); END_FUNCTION;
 FUNCTION as_array (x : ARRAY [2:4] OF INTEGER) : ARRAY [2:4] OF INTEGER; RETURN (x); END_FUNCTION;
 FUNCTION as_counts (x : counts) : counts; RETURN (x); END_FUNCTION;
 FUNCTION as_parts (x : parts) : parts; RETURN (x); END_FUNCTION;
+FUNCTION as_count (x : count) : count; RETURN (x); END_FUNCTION;
+FUNCTION as_small (x : small_count) : small_count; RETURN (x); END_FUNCTION;
+FUNCTION as_label (x : label) : label; RETURN (x); END_FUNCTION;
+FUNCTION as_real (x : REAL) : REAL; RETURN (x); END_FUNCTION;
+FUNCTION as_select (x : any_one) : any_one; RETURN (x); END_FUNCTION;
 FUNCTION show (x : GENERIC) : LOGICAL;
 LOCAL n : INTEGER := SIZEOF(TYPEOF(x)); END_LOCAL;
   IF NOT EXISTS(x) THEN RETURN (FALSE); END_IF;
@@ -153,6 +162,9 @@ class Maker:
         functions = [name for name, (_, result) in self.callable.items() if result == sort]
         if not found and depth > 0 and functions and self.happens(0.2):
             found = self.call(self.choice(functions), scope, depth)
+        if not found and depth > 0 and sort in DECLARED and self.happens(0.2):
+            inner = self.choice(["INTEGER", sort]) if sort == "REAL" else sort
+            found = Call(self.choice(DECLARED[sort]), [self.expression(inner, scope, depth - 1)], None)
         return found or (make(scope, depth) if make else self.aggregate(ELEMENTS[sort], scope, depth))
 
     def call(self, name, scope, depth):
@@ -233,9 +245,8 @@ class Maker:
         if depth <= 0:
             return Initialiser([self.expression(element, scope, 0) for _ in range(self.random.randrange(4))], None)
         part = lambda: self.aggregate(element, scope, depth - 1)
-        declared = {"INTEGER": ["AS_SET", "AS_BAG", "AS_ARRAY", "AS_COUNTS"], "entity": ["AS_PARTS"]}.get(element)
-        if declared and self.happens(0.3):
-            return Call(self.choice(declared), [part()], None)
+        if sort in DECLARED and self.happens(0.3):
+            return Call(self.choice(DECLARED[sort]), [part()], None)
         ways = [lambda: chain(part(), self.choice("+-*"), part()), lambda: self.query(element, scope, depth), part,
                 lambda: chain(part(), self.choice("+-"), self.expression(element, scope, depth - 1))]
         if element == "entity":
@@ -361,7 +372,7 @@ class Maker:
         above = [(it, attribute) for it in self.schema.line_of(name)[:-1] for attribute in self.schema.entities[it].explicit]
         for it, attribute in self.random.sample(above, min(len(above), self.choice([0, 0, 1, 2]))):
             declared = self.schema.entities[it].explicit[attribute].type
-            if attribute != "E_NEXT" and self.happens(0.4) and SORTS[attribute[0]] in ("INTEGER", "STRING", "LOGICAL"):
+            if attribute != "E_NEXT" and self.happens(0.6) and SORTS[attribute[0]] in ("INTEGER", "STRING", "LOGICAL"):
                 expression = self.expression(SORTS[attribute[0]], scope, 2)
                 entity.derived_again[it, attribute] = SimpleNamespace(type=declared, at=None, expression=expression)
             else:
