@@ -33,7 +33,40 @@ from lib.schema_text import schema_text  # noqa: E402
 SORTS = {"N": "INTEGER", "S": "STRING", "Q": "LOGICAL", "R": "REAL", "B": "BINARY", "E": "entity", "L": "integers", "M": "entities",
          "C": "item", "X": "select"}
 ELEMENTS = {"integers": "INTEGER", "entities": "entity"}
+# functions of SHOWING that give back what is of a sort, as what they declare
+DECLARED = {"INTEGER": ["AS_COUNT", "AS_SMALL"], "STRING": ["AS_LABEL"], "REAL": ["AS_REAL"], "select": ["AS_SELECT"],
+            "integers": ["AS_SET", "AS_BAG", "AS_ARRAY", "AS_COUNTS"], "entities": ["AS_PARTS"]}
 Scope = collections.namedtuple("Scope", "variables entity extents", defaults=(None, ()))
+
+# Functions that give aggregates their kinds, and one whose steps tell a value apart from most others, so that what an expression gives is
+# seen in the steps of a report.
+SHOWING = """SCHEMA R; TYPE colour = ENUMERATION OF (red, green, blue); END_TYPE; ENTITY entity_1; END_ENTITY;
+TYPE counts = LIST OF INTEGER; END_TYPE; TYPE parts = SET OF entity_1; END_TYPE; TYPE any_one = SELECT (count); END_TYPE;
+TYPE count = INTEGER; END_TYPE; TYPE small_count = count; END_TYPE; TYPE label = STRING; END_TYPE;
+FUNCTION fall (n : INTEGER) : INTEGER; RETURN (n); END_FUNCTION;
+FUNCTION as_set (x : SET OF INTEGER) : SET OF INTEGER; RETURN (x); END_FUNCTION;
+FUNCTION as_bag (x : BAG OF INTEGER) : BAG OF INTEGER; RETURN (x); END_FUNCTION;
+FUNCTION as_array (x : ARRAY [2:4] OF INTEGER) : ARRAY [2:4] OF INTEGER; RETURN (x); END_FUNCTION;
+FUNCTION as_counts (x : counts) : counts; RETURN (x); END_FUNCTION;
+FUNCTION as_parts (x : parts) : parts; RETURN (x); END_FUNCTION;
+FUNCTION as_count (x : count) : count; RETURN (x); END_FUNCTION;
+FUNCTION as_small (x : small_count) : small_count; RETURN (x); END_FUNCTION;
+FUNCTION as_label (x : label) : label; RETURN (x); END_FUNCTION;
+FUNCTION as_real (x : REAL) : REAL; RETURN (x); END_FUNCTION;
+FUNCTION as_select (x : any_one) : any_one; RETURN (x); END_FUNCTION;
+FUNCTION show (x : GENERIC) : LOGICAL;
+LOCAL n : INTEGER := SIZEOF(TYPEOF(x)); END_LOCAL;
+  IF NOT EXISTS(x) THEN RETURN (FALSE); END_IF;
+  IF 'INTEGER' IN TYPEOF(x) THEN n := fall(ABS(x) MOD 7); END_IF;
+  IF 'REAL' IN TYPEOF(x) THEN IF x < 1.0 THEN ; END_IF; END_IF;
+  IF 'STRING' IN TYPEOF(x) THEN REPEAT i := 1 TO LENGTH(x); IF x[i] :=: 'a' THEN ; END_IF; END_REPEAT; END_IF;
+  IF 'BINARY' IN TYPEOF(x) THEN REPEAT i := 1 TO BLENGTH(x); IF x[i] :=: %1 THEN ; END_IF; END_REPEAT; END_IF;
+  IF 'LOGICAL' IN TYPEOF(x) THEN IF x THEN ; END_IF; IF NOT x THEN ; ; END_IF; END_IF;
+  CASE TRUE OF x :=: colour.red : ; x :=: colour.green : BEGIN ; ; END; OTHERWISE : ; END_CASE;
+  IF SIZEOF(TYPEOF(x) * ['ARRAY', 'BAG', 'LIST', 'SET']) > 0 THEN n := HIINDEX(x) + SIZEOF(QUERY(v <* x | show(v))); END_IF;
+  n := SIZEOF(USEDIN(x, ''));
+  RETURN (TRUE);
+END_FUNCTION; END_SCHEMA;"""
 
 
 def whole(number):
@@ -89,33 +122,49 @@ class Maker:
 
     def of_entity(self, sort, scope, depth):
         """An attribute of this sort of another instance, or None."""
-        names = sorted({name for it in self.schema.entities for of in self.attributes(it) for name in of if SORTS[name[0]] == sort})
         first = self.entity(scope, depth - 1)
+        near = self.likely(first, scope) if self.happens(0.8) else self.schema.entities
+        names = sorted({name for it in near for of in self.attributes(it) for name in of if SORTS[name[0]] == sort})
         if not names or not isinstance(first, (Variable, Self, OwnAttribute, Call, BuiltIn, Qualified)):
             return None
         name = self.choice(names)
         if self.happens(0.3):
             return Qualified(Call("ANYTHING", [first], None), [OfAttribute(name, None)], None)
-        owners = [it for it in self.schema.entities if self.schema.declares(it, name)]
+        owners = [it for it in near if self.schema.declares(it, name)]
         accesses = [OfGroup(self.choice(owners)), OfAttribute(name, None)]
         if isinstance(first, Qualified):
             return Qualified(first.first, [*first.accesses, *accesses], None)
         return Qualified(first, accesses, None)
 
+    def likely(self, node, scope):
+        """Entities that an instance likely is of: those of SELF, or of what an attribute is declared to hold, with those below."""
+        if isinstance(node, Self):
+            return self.schema.line_of(scope.entity)
+        for it in self.schema.line_of(scope.entity) if isinstance(node, OwnAttribute) else []:
+            entity = self.schema.entities[it]
+            held = entity.explicit[node.name].type if node.name in entity.explicit else getattr(entity.inverse.get(node.name), "entity", None)
+            if held in self.schema.entities:
+                below = [one for one in self.schema.entities if held in self.schema.line_of(one)]
+                return self.schema.line_of(held) if self.happens(0.5) else self.schema.line_of(self.choice(below))
+        return self.schema.entities
+
     def expression(self, sort, scope, depth):
         """An expression that may be of a sort."""
         make = {"INTEGER": self.integer, "STRING": self.string, "LOGICAL": self.condition, "REAL": self.real, "BINARY": self.binary,
                 "entity": self.entity, "item": self.item, "select": self.select}.get(sort)
-        if self.happens(0.02):
+        if self.happens(0.01):
             return Literal(INDETERMINATE, None)
         found = None
-        if depth > 0 and self.happens(0.3):
+        if depth > 0 and self.happens(0.2):
             found = self.of_entity(sort, scope, depth)
-        elif self.happens(0.6):
+        elif self.happens(0.3 if depth > 0 else 0.7):
             found = self.named(sort, scope)
         functions = [name for name, (_, result) in self.callable.items() if result == sort]
         if not found and depth > 0 and functions and self.happens(0.2):
             found = self.call(self.choice(functions), scope, depth)
+        if not found and depth > 0 and sort in DECLARED and self.happens(0.2):
+            inner = self.choice(["INTEGER", sort]) if sort == "REAL" else sort
+            found = Call(self.choice(DECLARED[sort]), [self.expression(inner, scope, depth - 1)], None)
         return found or (make(scope, depth) if make else self.aggregate(ELEMENTS[sort], scope, depth))
 
     def call(self, name, scope, depth):
@@ -124,10 +173,10 @@ class Maker:
 
     def integer(self, scope, depth):
         if depth <= 0:
-            return whole(self.choice([0, 1, 2, 3, 7, 100, 2**63 - 1]) if self.happens(0.9) else self.random.randrange(50))
+            return whole(self.choice([0, 1, 1, 2, 2, 3, 5, 7]) if self.happens(0.95) else self.choice([100, 2**63 - 1]))
         part = lambda: self.expression("INTEGER", scope, depth - 1)
         return self.choice([
-            lambda: chain(part(), self.choice(["+", "-", "*", "DIV", "MOD", "**"]), part()), lambda: built_in("NVL", part(), part()),
+            lambda: chain(part(), self.choice(["+", "+", "-", "*", "DIV", "MOD", "**"]), part()), lambda: built_in("NVL", part(), part()),
             lambda: built_in("SIZEOF", self.aggregate(self.choice(["INTEGER", "entity", "STRING"]), scope, depth - 1)),
             lambda: built_in("SIZEOF", built_in("TYPEOF", self.any_value(scope, depth - 1))), lambda: Unary(self.choice("+-"), part(), None),
             lambda: built_in("LENGTH", self.expression("STRING", scope, depth - 1)), lambda: built_in("ABS", part()),
@@ -182,8 +231,8 @@ class Maker:
         return self.choice(found) if found else Literal(INDETERMINATE, None)
 
     def any_value(self, scope, depth):
-        sorts = ["INTEGER", "STRING", "LOGICAL", "REAL", "BINARY", "entity", "item", "select", "integers", "entities"]
-        return self.expression(self.choice(sorts), scope, depth)
+        sorts = {"INTEGER": 3, "STRING": 2, "LOGICAL": 3, "REAL": 1, "BINARY": 1, "entity": 2, "item": 1, "select": 2, "integers": 4, "entities": 4}
+        return self.expression(self.random.choices(list(sorts), list(sorts.values()))[0], scope, depth)
 
     def aggregate(self, element, scope, depth):
         """An aggregate whose elements may be of a sort."""
@@ -196,6 +245,8 @@ class Maker:
         if depth <= 0:
             return Initialiser([self.expression(element, scope, 0) for _ in range(self.random.randrange(4))], None)
         part = lambda: self.aggregate(element, scope, depth - 1)
+        if sort in DECLARED and self.happens(0.3):
+            return Call(self.choice(DECLARED[sort]), [part()], None)
         ways = [lambda: chain(part(), self.choice("+-*"), part()), lambda: self.query(element, scope, depth), part,
                 lambda: chain(part(), self.choice("+-"), self.expression(element, scope, depth - 1))]
         if element == "entity":
@@ -222,10 +273,13 @@ class Maker:
         return self.choice([
             lambda: chain(part(), self.choice(["AND", "OR", "XOR"]), part()), lambda: Unary("NOT", part(), None),
             lambda: self.comparison(scope, depth), lambda: self.comparison(scope, depth), lambda: self.comparison(scope, depth),
-            lambda: self.inclusion(scope, depth), lambda: self.inclusion(scope, depth),
+            lambda: self.inclusion(scope, depth), lambda: self.inclusion(scope, depth), lambda: self.shown(scope, depth),
             lambda: built_in("EXISTS", self.any_value(scope, depth - 1)), lambda: built_in("ODD", self.expression("INTEGER", scope, depth - 1)),
             lambda: Interval(*(self.choice(["<", "<="]) if place % 2 else self.expression("INTEGER", scope, depth - 1) for place in range(5)), None),
         ])()
+
+    def shown(self, scope, depth):
+        return Call("SHOW", [self.any_value(scope, depth - 1)], None)
 
     def comparison(self, scope, depth):
         sort = self.choice(["INTEGER"] * 4 + ["STRING", "REAL", "BINARY", "item", "LOGICAL", "any", "integers", "sets"])
@@ -318,7 +372,7 @@ class Maker:
         above = [(it, attribute) for it in self.schema.line_of(name)[:-1] for attribute in self.schema.entities[it].explicit]
         for it, attribute in self.random.sample(above, min(len(above), self.choice([0, 0, 1, 2]))):
             declared = self.schema.entities[it].explicit[attribute].type
-            if attribute != "E_NEXT" and self.happens(0.4) and SORTS[attribute[0]] in ("INTEGER", "STRING", "LOGICAL"):
+            if attribute != "E_NEXT" and self.happens(0.6) and SORTS[attribute[0]] in ("INTEGER", "STRING", "LOGICAL"):
                 expression = self.expression(SORTS[attribute[0]], scope, 2)
                 entity.derived_again[it, attribute] = SimpleNamespace(type=declared, at=None, expression=expression)
             else:
@@ -374,10 +428,10 @@ class Maker:
         return found
 
     def all_rules(self):
-        condition = lambda scope: self.expression("LOGICAL", scope, 3)
+        condition = lambda scope: self.shown(scope, 4) if self.happens(0.5) else self.expression("LOGICAL", scope, 3)
         for name in self.entities:
             entity = self.schema.entities[name]
-            entity.rules = self.rules_of(self.choice([0, 0, 1, 1, 2]), Scope({}, name), condition)
+            entity.rules = self.rules_of(self.choice([0, 1, 1, 2, 2]), Scope({}, name), condition)
             names = sorted({it for above in self.schema.line_of(name) for of in self.attributes(above) for it in of})
             if names and self.happens(0.3):
                 listed = self.random.sample(names, min(len(names), self.choice([1, 1, 2])))
@@ -435,6 +489,7 @@ class Maker:
         spin.locals = [Local(["I"], Simple("INTEGER"), whole(0))]
         spin.statements = [Repeat(None, None, None, None, chain(Variable("I", None), "<>", n), None,
                                   [Assignment("I", chain(Variable("I", None), "+", whole(1)))]), Return(Variable("I", None))]
+        self.schema.functions.update({name: it for name, it in read(SHOWING).functions.items() if name != "FALL"})
         anything = self.schema.functions["ANYTHING"] = Algorithm(None, [("X", Simple("GENERIC"))], Simple("GENERIC"))
         anything.statements = [Return(Variable("X", None))]
         self.callable = {"FALL": (["INTEGER"], "INTEGER")}
