@@ -4,38 +4,28 @@ steps. It is written from the description alone, and never from the program.
 A population is made of models as plain_model has them. Each check is a filter of its instances or of their values, in the order
 of the population; what is evaluated is told by plain_rules.
 """
-from enum import Enum
-
 from lib.plain_binding import DERIVED, UNSET, Enumeration, Reference, Typed
 from lib.plain_binding import Item as Word
-from lib.plain_trees import INDETERMINATE, Aggregate, Item, Logical, Simple
+from lib.plain_trees import INDETERMINATE, Absent, Aggregate, Item, Logical, Simple
 from lib.plain_rules import (
-    LIMIT, NOT_RUN, STEPS_OF_AN_EVALUATION, TRUE, Bits, Environment, Evaluation, Instance, Many, PastLimit, as_declared, bare, deep, fits,
-    length, once_each, rough, same, truth,
+    LIMIT, NOT_RUN, SIMPLE, STEPS_OF_AN_EVALUATION, TRUE, Environment, Evaluation, Instance, Many, PastLimit, as_declared, bare, deep,
+    fits, length, once_each, parts, rough, same, truth,
 )
 
 STEPS_BEFORE_THE_LAST = 19_800_000
-WITH_WIDTH = {"STRING": str, "BINARY": Bits}
+OUTSIDE = Absent.OUTSIDE
 LOGICAL_WORDS = {"T": Logical.TRUE, "F": Logical.FALSE, "U": Logical.UNKNOWN}
 
 # ---- populations
 
 
-class Outside(Enum):
-    """A reference that leaves the population, in a written value."""
-
-    OUTSIDE = "#"
-
-
-OUTSIDE = Outside.OUTSIDE
-
-
 def attributes_of(schema, types):
-    """The explicit attributes of an instance as they are written: by its leaf, where it has one alone, else type by type in the order
-    of their names."""
+    """The explicit attributes of an instance that aren't derived, in the order in which they are written: by its leaf, where it has
+    one alone, else type by type in the order of their names."""
     leaves = [it for it in types if not any(it in schema.entities[other].supertypes for other in types)]
     line = schema.line_of(leaves[0]) if len(leaves) == 1 else sorted(types)
-    return [(entity, name) for entity in line for name in schema.entities[entity].explicit]
+    derived = {place for it in types for place in schema.entities[it].derived_again}
+    return [(entity, name) for entity in line for name in schema.entities[entity].explicit if (entity, name) not in derived]
 
 
 def written(schema, declared, value, target):
@@ -67,14 +57,6 @@ def read(value):
     return INDETERMINATE if value is OUTSIDE else value
 
 
-def references_in(value):
-    """The instances that a written value refers to, each as often as it does."""
-    value = bare(value)
-    if isinstance(value, Many):
-        return [it for element in value.elements for it in references_in(element)]
-    return [value] if isinstance(value, Instance) else []
-
-
 def population_of(schema, models):
     """The instances of some models of a schema, in order of their owners, names and numbers."""
     models = sorted(models, key=lambda it: (it.owner, it.name))
@@ -85,9 +67,10 @@ def population_of(schema, models):
         target = lambda name: found.get(links.get((*place[:2], name), (*place[:2], name)), OUTSIDE)
         fill(schema, instance, bound[place].values, target)
     for user in found.values():
-        for attribute in user.attributes:
-            for used in references_in(user.written[attribute]):
-                used.users.append((user, attribute))
+        for attribute, value in user.written.items():
+            for used in parts(value):
+                if isinstance(used, Instance):
+                    used.users.append((user, attribute))
     return list(found.values())
 
 
@@ -102,9 +85,7 @@ def extents_of(schema, population):
 
 def fill(schema, instance, values, target):
     """The attributes of an instance with their values."""
-    instance.attributes = attributes_of(schema, instance.types)
-    instance.derived = {place for it in instance.types for place in schema.entities[it].derived_again}
-    for entity, name in instance.attributes:
+    for entity, name in attributes_of(schema, instance.types):
         declared = schema.entities[entity].explicit[name].type
         value = written(schema, declared, values[entity.lower(), name.lower()], target)
         instance.written[entity, name] = value
@@ -149,7 +130,7 @@ def has_unset(schema, declared, value):
 def is_out_of_bounds(schema, declared, value):
     """Whether a width or a bound doesn't hold, or something stands twice where it may not."""
     end, value = asked(schema, declared, value)
-    if isinstance(end, Simple) and end.width is not None and isinstance(value, WITH_WIDTH[end.word]):
+    if isinstance(end, Simple) and end.width is not None and isinstance(value, SIMPLE[end.word]):
         return length(value) > end.width or end.is_fixed and length(value) < end.width
     if not (isinstance(end, Aggregate) and isinstance(value, Many)):
         return False
@@ -181,19 +162,13 @@ def is_astray(schema, declared, value):
     end, inner = asked(schema, declared, value)
     if isinstance(end, Aggregate) and isinstance(inner, Many):
         return any(is_astray(schema, end.element, it) for it in inner.elements)
-    return refers(inner)
-
-
-def refers(value):
-    """Whether a written value holds a reference."""
-    value = bare(value)
-    return any(map(refers, value.elements)) if isinstance(value, Many) else value is OUTSIDE or isinstance(value, Instance)
+    return any(it is OUTSIDE or isinstance(it, Instance) for it in parts(inner))
 
 
 def rules_at(schema, declared, written_value, read_value):
     """The defined types by which a declaration has a value's rules tried, and the type that its elements are declared by, or None."""
     if not schema.is_select(declared):
-        if not fits(read_value, schema.kinds_of(declared)):
+        if not fits(schema, declared, read_value):
             return set(), None
         end = schema.end(declared)
         return set(schema.names_beneath(declared)), end.element if isinstance(end, Aggregate) else None
@@ -253,7 +228,7 @@ class Report:
 
     def condition(self, expression, self_value):
         """The verdict of a rule of WHERE on a value."""
-        return verdict_of(self.evaluated(lambda it: it.value(expression, Environment(self_value, {}, {}))))
+        return verdict_of(self.evaluated(lambda it: it.value(expression, Environment(self_value, {}))))
 
     def enter(self, check, culprits, **named):
         """An entry with culprits, each behind its verdict. Of equal ones in a list the first alone is told."""
@@ -275,9 +250,8 @@ class Report:
     def attributes(self):
         """The attributes of all instances that aren't derived, with what is told of them as culprits."""
         for instance in self.population:
-            for attribute in instance.attributes:
-                if attribute not in instance.derived:
-                    yield instance, attribute, [*instance.place, ".".join(attribute)]
+            for attribute in instance.written:
+                yield instance, attribute, [*instance.place, ".".join(attribute)]
 
     def enter_attributes(self, check, is_fault):
         culprits = []
@@ -334,7 +308,7 @@ class Report:
 
     def row(self, instance, attributes):
         """The values of the attributes of a rule of UNIQUE. Each costs a step beside its body or its results."""
-        environment = Environment(instance, {}, {})
+        environment = Environment(instance, {})
         return [self.evaluated(lambda it: it.value(attribute, environment)) for attribute in attributes]
 
     def inverse(self):
@@ -366,11 +340,11 @@ def are_same(row, others):
 
 def count_users(evaluation, instance, inverse):
     evaluation.charge(1)
-    return len(evaluation.users(instance, inverse))
+    return len(evaluation.users(instance, inverse).elements)
 
 
 def outcome_of_rule(evaluation, rule, expression):
-    environment = Environment(INDETERMINATE, {}, {})
+    environment = Environment(INDETERMINATE, {})
     evaluation.algorithm(rule, environment)
     return evaluation.value(expression, environment)
 
