@@ -105,7 +105,6 @@ class Reader:
         return found
 
     def skip(self, *texts):
-        """Takes these."""
         for text in texts:
             if not self.takes(text):
                 raise ValueError(f"{self.tokens[self.at]} in place of {text}")
@@ -132,7 +131,6 @@ class Reader:
     # -- declarations
 
     def read(self):
-        """The whole schema."""
         self.skip("SCHEMA")
         self.schema = Schema(self.take())
         self.skip(";")
@@ -289,14 +287,12 @@ class Reader:
         self.rules(algorithm)
 
     def rules(self, it):
-        """The rules of a type, an entity or a rule."""
         if self.takes("UNIQUE"):
             it.unique = self.labelled(lambda: self.listed(self.unique_attribute))
         if self.takes("WHERE"):
             it.rules = self.labelled(self.expression)
 
     def labelled(self, read):
-        """Rules by their labels or by their places."""
         found = []
         while not self.sees(*CLAUSES):
             label = f"#{len(found) + 1}"

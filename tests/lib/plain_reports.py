@@ -119,23 +119,27 @@ def asked(schema, declared, value):
     return (schema.end(value.keyword), value.value) if is_member else (None, value)
 
 
-def has_unset(schema, declared, value):
+def is_within(schema, declared, value, is_fault):
+    """Whether a fault is found in a value, or in one that it holds, by the type by which each is asked."""
+    end, value = asked(schema, declared, value)
+    if isinstance(end, Aggregate) and isinstance(value, Many):
+        return is_fault(end, value) or any(is_within(schema, end.element, it, is_fault) for it in value.elements)
+    return isinstance(end, Simple) and is_fault(end, value)
+
+
+def is_unset(end, value):
     """Whether an element isn't set that has to be."""
-    end, value = asked(schema, declared, value)
-    if not (isinstance(end, Aggregate) and isinstance(value, Many)):
-        return False
-    return any(it is INDETERMINATE and not end.is_optional or has_unset(schema, end.element, it) for it in value.elements)
+    return isinstance(end, Aggregate) and not end.is_optional and any(it is INDETERMINATE for it in value.elements)
 
 
-def is_out_of_bounds(schema, declared, value):
-    """Whether a width or a bound doesn't hold, or something stands twice where it may not."""
-    end, value = asked(schema, declared, value)
-    if isinstance(end, Simple) and end.width is not None and isinstance(value, SIMPLE[end.word]):
-        return length(value) > end.width or end.is_fixed and length(value) < end.width
-    if not (isinstance(end, Aggregate) and isinstance(value, Many)):
+def is_out_of_bounds(end, value):
+    """Whether a width or a bound doesn't hold, or something stands twice where it may not: in a SET, or in what is UNIQUE."""
+    if isinstance(end, Aggregate):
+        elements = read(value).elements
+        return breaks_count(end, len(elements)) or (end.kind == "SET" or end.is_unique) and len(once_each(elements)) < len(elements)
+    if end.width is None or not isinstance(value, SIMPLE[end.word]):
         return False
-    return breaks_count(end, len(value.elements)) or has_twice(end, value) or any(
-        is_out_of_bounds(schema, end.element, it) for it in value.elements)
+    return length(value) > end.width or end.is_fixed and length(value) < end.width
 
 
 def breaks_count(bounds, count):
@@ -143,12 +147,6 @@ def breaks_count(bounds, count):
     if bounds.kind == "ARRAY":
         return count != bounds.high - bounds.low + 1
     return count < bounds.low or bounds.high is not None and count > bounds.high
-
-
-def has_twice(end, value):
-    """Whether a SET, or what is UNIQUE, holds something twice. What isn't set equals nothing."""
-    elements = read(value).elements
-    return (end.kind == "SET" or end.is_unique) and len(once_each(elements)) < len(elements)
 
 
 def is_astray(schema, declared, value):
@@ -197,6 +195,11 @@ def values_tried(schema, declared_types, written_value, read_value):
 # ---- the report
 
 VERDICTS = ("FALSE", "LIMIT", "NOT_RUN", "UNKNOWN")
+FAULTS = {
+    "unset": lambda schema, it, value: value is INDETERMINATE and not it.is_optional or is_within(schema, it.type, value, is_unset),
+    "bounds": lambda schema, it, value: is_within(schema, it.type, value, is_out_of_bounds),
+    "reference": lambda schema, it, value: is_astray(schema, it.type, value),
+}
 
 
 class Report:
@@ -208,9 +211,8 @@ class Report:
         self.checks = []
 
     def make(self):
-        for check in (self.unset, self.bounds, self.references, self.rules_of_types, self.rules_of_entities, self.unique,
-                      self.inverse, self.global_rules):
-            check()
+        for checks in (self.faults_of_attributes, self.rules_of_types, self.rules_of_entities, self.unique, self.inverse, self.global_rules):
+            checks()
         return {"checks": self.checks, "steps": self.steps}
 
     def evaluated(self, run, *given):
@@ -253,23 +255,14 @@ class Report:
             for attribute in instance.written:
                 yield instance, attribute, [*instance.place, ".".join(attribute)]
 
-    def enter_attributes(self, check, is_fault):
-        culprits = []
-        for instance, attribute, culprit in self.attributes():
-            value = instance.written[attribute]
-            if any(is_fault(it, value) for it in self.declarations(instance, attribute)):
-                culprits.append(("FALSE", culprit))
-        self.enter(check, culprits)
-
-    def unset(self):
-        self.enter_attributes("unset", lambda it, value: (
-            value is INDETERMINATE and not it.is_optional or has_unset(self.schema, it.type, value)))
-
-    def bounds(self):
-        self.enter_attributes("bounds", lambda it, value: is_out_of_bounds(self.schema, it.type, value))
-
-    def references(self):
-        self.enter_attributes("reference", lambda it, value: is_astray(self.schema, it.type, value))
+    def faults_of_attributes(self):
+        for check, is_fault in FAULTS.items():
+            culprits = []
+            for instance, attribute, culprit in self.attributes():
+                value = instance.written[attribute]
+                if any(is_fault(self.schema, it, value) for it in self.declarations(instance, attribute)):
+                    culprits.append(("FALSE", culprit))
+            self.enter(check, culprits)
 
     # -- the checks by evaluations
 
@@ -302,6 +295,7 @@ class Report:
                     culprits += [(outcome.name, [*it.place]) for outcome in (LIMIT, NOT_RUN) if outcome in row]
                     if not {INDETERMINATE, LIMIT, NOT_RUN}.intersection(map(rough, row)):
                         alike.setdefault((*map(rough, row),), []).append((it, row))
+                are_same = lambda row, others: all(same(*its) is TRUE for its in zip(row, others))
                 agree = {it for its in alike.values() for it, row in its if any(it is not other and are_same(row, others) for other, others in its)}
                 culprits += [("FALSE", [*it.place]) for it, _ in rows if it in agree]
                 self.enter("unique", culprits, of=name, rule=label)
@@ -332,10 +326,6 @@ class Report:
 
 def verdict_of(value):
     return value.name if value in (LIMIT, NOT_RUN) else truth(value).name
-
-
-def are_same(row, others):
-    return all(same(*its) is TRUE for its in zip(row, others))
 
 
 def count_users(evaluation, instance, inverse):

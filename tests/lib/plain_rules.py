@@ -204,7 +204,6 @@ def power(base, exponent):
 
 
 def of_natural(meaning):
-    """DIV and MOD."""
     return of_integers(lambda dividend, divisor: meaning(dividend, divisor) if dividend >= 0 and divisor > 0 else None)
 
 
@@ -339,7 +338,6 @@ def length(value):
 
 
 def count_of(value):
-    """The count of an aggregate."""
     return len(bare(value).elements) if isinstance(bare(value), Many) else 0
 
 
@@ -494,25 +492,21 @@ class Evaluation:
         return as_declared(self.schema, derived.type, value)
 
     def attribute(self, instance, name, near):
-        """`x.a`: of the types that declare it those that are near come first, and then those that come first by their names."""
+        """`x.a`: of the types that declare it those that are near come first, and then those that come first by their names. Of the types
+        that redeclare it in DERIVE the one with most ancestors decides, and then the one that comes first by its name."""
+        entities = self.schema.entities
         declaring = [it for it in instance.types if self.schema.declares(it, name)] if isinstance(instance, Instance) else []
         if not declaring:
             return INDETERMINATE
-        return self.attribute_of(instance, min(declaring, key=lambda it: (it not in near, it)), name)
-
-    def attribute_of(self, instance, entity, name):
-        """The value of an attribute of the entity that declares it. Of the types that redeclare it in DERIVE the one with most ancestors
-        decides, and then the one that comes first by its name."""
-        entities, place = self.schema.entities, (entity, name)
+        place = (min(declaring, key=lambda it: (it not in near, it)), name)
+        first = entities[place[0]]
         again = [it for it in instance.types if place in entities[it].derived_again]
         if again:
             last = min(again, key=lambda it: (-len(self.schema.line_of(it)), it))
             return self.derived(entities[last].derived_again[place], instance)
-        if name in entities[entity].derived:
-            return self.derived(entities[entity].derived[name], instance)
-        if name in entities[entity].inverse:
-            return self.inverse(instance, entities[entity].inverse[name])
-        return instance.read[place]
+        if name in first.derived:
+            return self.derived(first.derived[name], instance)
+        return self.inverse(instance, first.inverse[name]) if name in first.inverse else instance.read[place]
 
     def users(self, instance, inverse):
         """The results of an inverse attribute: for a BAG one for each occurrence, else each user once."""
@@ -590,10 +584,8 @@ class Evaluation:
 
     def plays(self, user, used, role):
         """Whether a use by an attribute is one in a role, `SCHEMA.ENTITY.ATTRIBUTE`."""
-        parts = role.split(".")
-        if len(parts) != 3 or parts[0] != self.schema.name or parts[1] not in self.schema.entities:
-            return False
-        return parts[1] in user.types and used[0] in self.schema.line_of(parts[1]) and used[1] == parts[2]
+        entities = [it for it in user.types if used[0] in self.schema.line_of(it)]
+        return role in [".".join((self.schema.name, it, used[1])) for it in entities]
 
     def call(self, node, environment):
         return self.body(self.function, self.schema.functions[node.function], self.values(node.arguments, environment))

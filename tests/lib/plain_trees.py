@@ -175,7 +175,6 @@ class Schema:
     # -- kinds
 
     def kinds_of(self, declared):
-        """The kinds of a type."""
         end = self.end(declared)
         if isinstance(end, Select):
             return union(map(self.kinds_of, end.members))
