@@ -410,18 +410,15 @@ class Reader:
         return Literal(Real(-digits if operator == "-" else digits, exponent), NONE)
 
     def primary(self):
-        others = {"(": self.parenthesis, "[": self.initialiser, "{": self.interval, "QUERY": self.query}
+        if self.sees("("):
+            return self.in_parentheses(self.expression)[0]
+        others = {"[": self.initialiser, "{": self.interval, "QUERY": self.query}
         token = self.take()
         if isinstance(token, Literal):
             return token
         if token in Logical.__members__:
             return Literal(Logical[token], NONE)
         return others[token]() if token in others else self.accesses(self.named(token))
-
-    def parenthesis(self):
-        found = self.expression()
-        self.skip(")")
-        return found
 
     def initialiser(self):
         elements = [] if self.sees("]") else self.listed(self.expression)

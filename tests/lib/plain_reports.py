@@ -65,7 +65,11 @@ def population_of(schema, models):
     links = {(it.owner, it.name, link.name): (link.owner, link.model, link.instance) for it in models for link in it.links}
     for place, instance in found.items():
         target = lambda name: found.get(links.get((*place[:2], name), (*place[:2], name)), OUTSIDE)
-        fill(schema, instance, bound[place].values, target)
+        for entity, name in attributes_of(schema, instance.types):
+            declared = schema.entities[entity].explicit[name].type
+            value = written(schema, declared, bound[place].values[entity.lower(), name.lower()], target)
+            instance.written[entity, name] = value
+            instance.read[entity, name] = as_declared(schema, declared, read(value))
     for user in found.values():
         for attribute, value in user.written.items():
             for used in parts(value):
@@ -76,20 +80,7 @@ def population_of(schema, models):
 
 def extents_of(schema, population):
     """The instances of each entity."""
-    found = {it: [] for it in schema.entities}
-    for instance in population:
-        for it in instance.types:
-            found[it].append(instance)
-    return found
-
-
-def fill(schema, instance, values, target):
-    """The attributes of an instance with their values."""
-    for entity, name in attributes_of(schema, instance.types):
-        declared = schema.entities[entity].explicit[name].type
-        value = written(schema, declared, values[entity.lower(), name.lower()], target)
-        instance.written[entity, name] = value
-        instance.read[entity, name] = as_declared(schema, declared, read(value))
+    return {name: [it for it in population if name in it.types] for name in schema.entities}
 
 
 # ---- SELECTs
@@ -228,9 +219,10 @@ class Report:
         self.steps += evaluation.steps
         return value
 
-    def condition(self, expression, self_value):
-        """The verdict of a rule of WHERE on a value."""
-        return verdict_of(self.evaluated(lambda it: it.value(expression, Environment(self_value, {}))))
+    def verdict(self, run, *given):
+        """What the evaluation of a condition says."""
+        value = self.evaluated(run, *given)
+        return value.name if value in (LIMIT, NOT_RUN) else truth(value).name
 
     def enter(self, check, culprits, **named):
         """An entry with culprits, each behind its verdict. Of equal ones in a list the first alone is told."""
@@ -276,20 +268,21 @@ class Report:
                     tried.setdefault(name, []).append((value, culprit))
         for name, defined in sorted(self.schema.types.items()):
             for label, expression in defined.rules:
-                culprits = [(self.condition(expression, value), culprit) for value, culprit in tried.get(name, [])]
+                culprits = [(self.verdict(value_of, expression, value), culprit) for value, culprit in tried.get(name, [])]
                 self.enter("type", culprits, of=name, rule=label)
 
     def rules_of_entities(self):
         for name, entity in sorted(self.schema.entities.items()):
             for label, expression in entity.rules:
-                culprits = [(self.condition(expression, it), [*it.place]) for it in self.extents[name]]
+                culprits = [(self.verdict(value_of, expression, it), [*it.place]) for it in self.extents[name]]
                 self.enter("where", culprits, of=name, rule=label)
 
     def unique(self):
-        """Rows of values that are the same. One with no value isn't compared, nor one that isn't whole, which is told as such."""
+        """Rows of values that are the same. One with no value isn't compared, nor one that isn't whole, which is told as such. Each
+        attribute costs a step beside its body or its results."""
         for name, entity in sorted(self.schema.entities.items()):
             for label, attributes in entity.unique:
-                rows = [(it, self.row(it, attributes)) for it in self.extents[name]]
+                rows = [(it, [self.evaluated(value_of, one, it) for one in attributes]) for it in self.extents[name]]
                 alike, culprits = {}, []
                 for it, row in rows:
                     culprits += [(outcome.name, [*it.place]) for outcome in (LIMIT, NOT_RUN) if outcome in row]
@@ -299,11 +292,6 @@ class Report:
                 agree = {it for its in alike.values() for it, row in its if any(it is not other and are_same(row, others) for other, others in its)}
                 culprits += [("FALSE", [*it.place]) for it, _ in rows if it in agree]
                 self.enter("unique", culprits, of=name, rule=label)
-
-    def row(self, instance, attributes):
-        """The values of the attributes of a rule of UNIQUE. Each costs a step beside its body or its results."""
-        environment = Environment(instance, {})
-        return [self.evaluated(lambda it: it.value(attribute, environment)) for attribute in attributes]
 
     def inverse(self):
         """The counts of users. One is due where the attribute is no aggregate."""
@@ -320,12 +308,12 @@ class Report:
         """A rule's locals and statements are run before each of its conditions."""
         for name, rule in sorted(self.schema.rules.items()):
             for label, expression in rule.rules:
-                verdict = verdict_of(self.evaluated(outcome_of_rule, rule, expression))
+                verdict = self.verdict(outcome_of_rule, rule, expression)
                 self.checks.append({"check": "rule", "of": name, "rule": label, "verdict": verdict})
 
 
-def verdict_of(value):
-    return value.name if value in (LIMIT, NOT_RUN) else truth(value).name
+def value_of(evaluation, expression, self_value):
+    return evaluation.value(expression, Environment(self_value, {}))
 
 
 def count_users(evaluation, instance, inverse):

@@ -130,8 +130,8 @@ def agree(left, right, equality):
     if len(left.elements) != len(right.elements):
         return FALSE
     if not {"BAG", "SET"} & {left.kind, right.kind}:
-        return least(*(equality(*its) for its in zip(left.elements, right.elements)))
-    if any(it is INDETERMINATE for it in every):
+        return least(*map(equality, left.elements, right.elements))
+    if INDETERMINATE in every:
         return UNKNOWN
     occurrences = lambda value, aggregate: sum(equality(value, it) is TRUE for it in aggregate.elements)
     return logical(all(occurrences(it, left) == occurrences(it, right) for it in every))
@@ -310,7 +310,7 @@ def has(aggregate, value, is_equal):
         return INDETERMINATE
     if holds(aggregate.elements, value, is_equal):
         return TRUE
-    return UNKNOWN if any(it is INDETERMINATE for it in (value, *aggregate.elements)) else FALSE
+    return UNKNOWN if INDETERMINATE in (value, *aggregate.elements) else FALSE
 
 
 UNARY = {"NOT": negation, "+": summed, "-": of_integers(lambda it: -it)}
@@ -550,14 +550,9 @@ class Evaluation:
         source = bare(self.value(node.source, environment))
         if not isinstance(source, Many):
             return INDETERMINATE
-        found, variables = [], dict(environment.variables)
-        inside = environment._replace(variables=variables)
-        for it in source.elements:
-            self.charge(1)
-            variables[node.variable] = it
-            if self.is_so(node.condition, inside):
-                found.append(it)
-        return source._replace(elements=found)
+        self.charge(len(source.elements))
+        inside = lambda it: Environment(environment.self_value, {**environment.variables, node.variable: it})
+        return source._replace(elements=[it for it in source.elements if self.is_so(node.condition, inside(it))])
 
     def initialiser(self, node, environment):
         value = Many(INITIALISER, 1, self.values(node.elements, environment))
