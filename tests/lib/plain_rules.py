@@ -194,10 +194,6 @@ def least(*values):
     return min(values, key=rank, default=TRUE)
 
 
-def greatest(*values):
-    return max(values, key=rank)
-
-
 def power(base, exponent):
     """What is past 64 bits with the exponent 64 is so with each greater one, and the others repeat themselves."""
     return None if exponent < 0 else base ** (exponent if exponent <= 64 else 64 + exponent % 2)
@@ -208,8 +204,7 @@ def of_natural(meaning):
 
 
 conjunction, negation = of_truth_values(least), of_truth_values(lambda it: Logical(2 - it.value))
-summed, less, product = of_integers(lambda *its: sum(its)), of_integers(lambda left, right: left - right), of_integers(lambda left, right: left * right)
-
+summed, product = of_integers(lambda *its: sum(its)), of_integers(operator.mul)
 
 # ---- `+`, `*` and `-` with aggregates
 
@@ -258,7 +253,7 @@ def minus(left, right):
     """From an aggregate the first equal one left is taken for each element on the right."""
     one, other = bare(left), bare(right)
     if other is INDETERMINATE or not isinstance(one, Many):
-        return less(one, other)
+        return of_integers(operator.sub)(one, other)
     elements = list(one.elements)
     for it in elements_of(other):
         taken_from(elements, it)
@@ -315,7 +310,7 @@ def has(aggregate, value, is_equal):
 
 UNARY = {"NOT": negation, "+": summed, "-": of_integers(lambda it: -it)}
 OPERATORS = {
-    "AND": conjunction, "OR": of_truth_values(greatest),
+    "AND": conjunction, "OR": of_truth_values(lambda *its: max(its, key=rank)),
     "XOR": of_truth_values(lambda left, right: UNKNOWN if UNKNOWN in (left, right) else logical(left is not right)),
     "+": plus, "-": minus, "*": times, "**": of_integers(power), "DIV": of_natural(operator.floordiv), "MOD": of_natural(operator.mod),
     "=": equality, "<>": lambda left, right: not_so(equality(left, right)), ":=:": same, ":<>:": lambda left, right: not_so(same(left, right)),
@@ -583,13 +578,10 @@ class Evaluation:
         return role in [".".join((self.schema.name, it, used[1])) for it in entities]
 
     def call(self, node, environment):
-        return self.body(self.function, self.schema.functions[node.function], self.values(node.arguments, environment))
-
-    def function(self, function, arguments):
+        function, arguments = self.schema.functions[node.function], self.values(node.arguments, environment)
         variables = {name: as_declared(self.schema, declared, it) for (name, declared), it in zip(function.parameters, arguments)}
-        ended = self.algorithm(function, Environment(INDETERMINATE, variables))
-        value = ended.value if isinstance(ended, Returned) else INDETERMINATE
-        return as_declared(self.schema, function.result, value)
+        ended = self.body(self.algorithm, function, Environment(INDETERMINATE, variables))
+        return as_declared(self.schema, function.result, ended.value) if isinstance(ended, Returned) else INDETERMINATE
 
     def algorithm(self, algorithm, environment):
         """The locals of a function or of a rule, and then its statements."""
