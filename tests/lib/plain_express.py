@@ -36,7 +36,6 @@ def remark_end(text, at):
         depth += 1 if sign[0] == "(*" else -1
         if depth == 0:
             return sign.end()
-    raise ValueError("a remark doesn't end")
 
 
 def tokens_of(text):
@@ -216,7 +215,8 @@ class Reader:
 
     def entity_declaration(self):
         name = self.take()
-        entity = self.schema.entities[name] = Entity()
+        entity, scope = Entity(), Scope({}, name)
+        self.schema.entities[name] = entity
         while not self.sees("SUBTYPE", ";"):
             self.take()
         if self.takes("SUBTYPE"):
@@ -230,10 +230,6 @@ class Reader:
             self.skip(";")
             for it in names:
                 (entity.explicit if isinstance(it, str) else entity.redeclared)[it] = found
-        self.derive_and_inverse(entity, Scope({}, name))
-        self.later("END_ENTITY", Scope({}, name), lambda: self.rules(entity))
-
-    def derive_and_inverse(self, entity, scope):
         if self.takes("DERIVE"):
             while not self.sees(*CLAUSES):
                 name = self.attribute_name()
@@ -247,6 +243,7 @@ class Reader:
                 kind, low, high, user = users[:4] if isinstance(users, Aggregate) else (None, 1, 1, users)
                 entity.inverse[name] = Inverse(kind, low, high, user, self.take())
                 self.skip(";")
+        self.later("END_ENTITY", scope, lambda: self.rules(entity))
 
     def function_declaration(self):
         name, parameters = self.take(), []
