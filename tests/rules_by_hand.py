@@ -62,7 +62,7 @@ def evaluated(row):
         else:
             clause = next(it for entity in schema.entities.values() for label, it in entity.rules if label == name)
             itself = next(it for it in population if it.place[2] == row.self_name)
-            found = deep(evaluation.value, clause, Environment(itself, {}, {}))
+            found = deep(evaluation.value, clause, Environment(itself, {}))
     except PastLimit:
         return "LIMIT"
     return told(value_of(found), evaluation.steps)

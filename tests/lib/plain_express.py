@@ -1,37 +1,32 @@
 """Reads the text of a schema that `check` accepts into the trees of plain_trees, in Python, and tells no faults.
 
-It is written from the description of the language alone, and never from the program. The declarations are read first, then
-the expressions and statements, as a name may be used before it is declared. In a tree each name is bound, and each expression
-has its kinds, since what `x.a` means goes by the entities that x may be of.
+It is written from the description of the language alone, and never from the program. As a name may be used before it is declared,
+expressions and statements are read once all declarations are. In a tree each name is bound, and each expression has its kinds,
+since what `x.a` means goes by the entities that x may be of.
 """
 import re
 from collections import namedtuple
-from types import SimpleNamespace
 
-from lib.plain_binding import Bits, Enumeration, Real, Select, real_of
+from lib.plain_binding import SIMPLE, Bits, Enumeration, Real, Select, real_of
 from lib.plain_trees import (
-    BINARY, INDETERMINATE, INTEGER, KINDS_OF_WORDS, LOGICAL, LOGICALS, NO_KINDS, STRING, Aggregate, Algorithm, Assignment, BuiltIn, Call,
-    Case, Chain, Compound, Constant, Entity, Escape, Explicit, Extent, If, Initialiser, Interval, Inverse, Kinds, Literal, Local, Null,
-    OfAttribute, OfGroup, OfIndex, OfRange, OwnAttribute, Qualified, Query, Repeat, Return, Rule, Schema, Self, Simple, Skip, Unary, Variable, union,
+    INDETERMINATE, Aggregate, Algorithm, Assignment, Binary, BuiltIn, Call, Case, Compound, Constant, Defined, Entity, Escape, Explicit,
+    Extent, Given, If, Initialiser, Interval, Inverse, Item, Literal, Logical, Null, OfAttribute, OfGroup, OfIndex, OfRange, OwnAttribute,
+    Query, Repeat, Return, Rule, Schema, Self, Simple, Skip, Unary, Variable, aggregate_of, union,
 )
 
 # ---- tokens
 
 TOKEN = re.compile(r"""
     (?P<blank> [\0- ]+ | --[^\n]* ) | (?P<remark> \(\* ) | (?P<real> \d+\.\d*(?:[Ee][+-]?\d+)? ) | (?P<integer> \d+ )
-  | (?P<word> [A-Za-z]\w* ) | (?P<string> '(?:[^'\n]|'')*' ) | (?P<encoded> "[0-9A-Fa-f]*" ) | (?P<binary> %[01]+ )
-  | (?P<mark> :<>: | :=: | := | <= | <> | <\* | >= | \*\* | [-.,;:*+=\\/<>[\]{}|()?] )
+  | (?P<string> '(?:[^'\n]|'')*' ) | (?P<encoded> "[0-9A-Fa-f]*" ) | (?P<binary> %[01]+ )
+  | (?P<text> [A-Za-z]\w* | :<>: | :=: | := | <= | <> | <\* | >= | \*\* | [-.,;:*+=\\/<>[\]{}|()?] )
 """, re.VERBOSE | re.ASCII)
 
+NONE = frozenset()
 LITERALS = {
     "real": real_of, "integer": int, "string": lambda it: it[1:-1].replace("''", "'"), "binary": lambda it: Bits(it[1:]),
     "encoded": lambda it: "".join(chr(int(it[at:at + 8], 16)) for at in range(1, len(it) - 1, 8)),
 }
-KINDS_OF_LITERALS = {"real": Kinds(["REAL"]), "integer": INTEGER, "string": STRING, "binary": BINARY, "encoded": STRING}
-
-
-# a word in upper case, a mark, or a literal with its value
-Token = namedtuple("Token", "sort text")
 
 
 def remark_end(text, at):
@@ -41,21 +36,19 @@ def remark_end(text, at):
         depth += 1 if sign[0] == "(*" else -1
         if depth == 0:
             return sign.end()
-    raise ValueError("a remark doesn't end")
 
 
 def tokens_of(text):
+    """Literals, words in upper case, and marks."""
     found, at = [], 0
     while at < len(text):
         match = TOKEN.match(text, at)
-        if not match:
-            raise ValueError(f"no token begins with {text[at:at + 20]!r}")
         sort = match.lastgroup
         at = remark_end(text, at) if sort == "remark" else match.end()
         if sort in LITERALS:
-            found.append(Token(sort, LITERALS[sort](match[0])))
-        elif sort in ("word", "mark"):
-            found.append(Token(sort, match[0].upper()))
+            found.append(Literal(LITERALS[sort](match[0]), NONE))
+        elif sort == "text":
+            found.append(match[0].upper())
     return found
 
 
@@ -69,61 +62,40 @@ LEVELS = [
     ("**",),
 ]
 SIMPLE_EXPRESSION = 1
-AGGREGATES = ("ARRAY", "LIST", "BAG", "SET")
-FUNCTIONS = {
-    "ABS": INTEGER, "BLENGTH": INTEGER, "EXISTS": LOGICAL, "HIINDEX": INTEGER, "LENGTH": INTEGER, "LOINDEX": INTEGER, "NVL": None,
-    "ODD": LOGICAL, "SIZEOF": INTEGER, "TYPEOF": Kinds(elements=STRING), "USEDIN": None, "VALUE_IN": LOGICAL,
-}
+AGGREGATES = ("ARRAY", "LIST", "BAG", "SET", "AGGREGATE")
+CLAUSES = ("DERIVE", "INVERSE", "UNIQUE", "WHERE", "END_ENTITY", "END_TYPE", "END_RULE")
+FUNCTIONS = ("ABS", "BLENGTH", "EXISTS", "HIINDEX", "LENGTH", "LOINDEX", "NVL", "ODD", "SIZEOF", "TYPEOF", "USEDIN", "VALUE_IN")
 
 
 def kinds_of_operation(operator, left, right):
-    """The kinds of what an operator of two operands gives."""
+    """The aggregates that an operator of two operands gives. Beside an aggregate stands an element of its result."""
     if operator in LEVELS[0] or operator in ("AND", "OR", "XOR"):
-        return LOGICAL
-    elements = []
-    if operator == "+":
-        elements += [left.elements, right.elements or NO_KINDS, right.as_element()] if left.elements else []
-        elements += [left.as_element(), right.elements] if right.elements else []
-    elif left.elements:
-        elements.append(left.elements)
-    return Kinds(left.simple & right.simple, elements=union(*elements) if elements else None)
+        return NONE
+    found, others = ({it for it in kinds if isinstance(it, Aggregate)} for kinds in (left, right))
+    if operator != "+":
+        return frozenset(found)
+    beside = (right - others if found else NONE) | (left - found if others else NONE)
+    return aggregate_of(beside) | found | others if found or others else NONE
 
 
-# what names mean beside those of the schema: variables with their kinds, the entity whose attributes may be named alone, the kinds of
-# SELF, and the entities that a rule is for
-Scope = namedtuple("Scope", "variables entity self_kinds extents", defaults=(None, NO_KINDS, ()))
-
-
-def derived(declared, at):
-    """A derived attribute or a constant: its type and its expression, which stands at a place of the text."""
-    return SimpleNamespace(type=declared, at=at, expression=None)
+# what names mean beside those of the schema: variables by their types, the type of SELF, and the entities that a rule is for
+Scope = namedtuple("Scope", "variables me extents", defaults=(None, ()))
 
 
 class Reader:
-    """What is left of a schema's tokens."""
+    """The tokens of a schema, the place of the next one, and what is put off: its place, its scope, and how it is read."""
 
-    def __init__(self, text):
-        self.tokens = tokens_of(text)
-        self.at = 0
-        self.schema = None
-        self.scope = Scope({})
+    def __init__(self, text, schema=None):
+        self.tokens, self.at, self.put_off = tokens_of(text), 0, []
+        self.schema, self.scope = schema, Scope({})
 
     def sees(self, *texts):
-        token = self.tokens[self.at]
-        return token.sort in ("word", "mark") and token.text in texts
+        return self.tokens[self.at] in texts
 
-    def sees_label(self):
-        return self.tokens[self.at].sort == "word" and self.tokens[self.at + 1] == Token("mark", ":")
-
-    def take(self, *texts):
-        """The next token's text, which is the last of these where there are any."""
-        for text in texts:
-            if not self.sees(text):
-                raise ValueError(f"{self.tokens[self.at].text!r} in place of {text!r}")
-            self.at += 1
-        if not texts:
-            self.at += 1
-        return self.tokens[self.at - 1].text
+    def take(self):
+        """The next token."""
+        self.at += 1
+        return self.tokens[self.at - 1]
 
     def takes(self, text):
         """Whether the next token is this, which then is taken."""
@@ -131,11 +103,10 @@ class Reader:
         self.at += found
         return found
 
-    def name(self):
-        token = self.tokens[self.at]
-        if token.sort != "word":
-            raise ValueError(f"{token.text!r} in place of a name")
-        return self.take()
+    def skip(self, *texts):
+        for text in texts:
+            if not self.takes(text):
+                raise ValueError(f"{self.tokens[self.at]} in place of {text}")
 
     def listed(self, read):
         """One or more with commas between."""
@@ -145,245 +116,194 @@ class Reader:
         return found
 
     def in_parentheses(self, read):
-        self.take("(")
+        self.skip("(")
         found = self.listed(read)
-        self.take(")")
+        self.skip(")")
         return found
 
-    def put_off(self, *ends):
-        """The place of what is read later, up to one of these."""
-        at = self.at
-        while not self.sees(*ends):
+    def later(self, end, scope, read):
+        """Puts off what stands up to this end."""
+        self.put_off.append((self.at, scope, read))
+        while not self.sees(end):
             self.at += 1
-        return at
 
-    # -- declarations, without expressions and statements
+    # -- declarations
 
-    def declarations(self):
-        """The schema, whose expressions and statements aren't read."""
-        self.take("SCHEMA")
-        self.schema = Schema(self.name())
-        self.take(";")
-        if self.takes("CONSTANT"):
-            while not self.takes("END_CONSTANT"):
-                name, self.schema.constants[name] = self.named_derived()
-            self.take(";")
+    def read(self):
+        self.skip("SCHEMA")
+        self.schema = Schema(self.take())
+        self.skip(";")
+        declarations = {"CONSTANT": self.constants, "TYPE": self.type_declaration, "ENTITY": self.entity_declaration,
+                        "FUNCTION": self.function_declaration, "RULE": self.rule_declaration}
         while not self.takes("END_SCHEMA"):
-            {"TYPE": self.type_declaration, "ENTITY": self.entity_declaration, "FUNCTION": self.function_declaration,
-             "RULE": self.rule_declaration}[self.take()]()
-            self.take(";")
-        self.take(";")
-        self.schema.settle()
+            word = self.take()
+            declarations[word]()
+            self.skip(f"END_{word}", ";")
+        for entity in self.schema.entities.values():
+            entity.redeclared, entity.derived_again = map(self.by_declaring, (entity.redeclared, entity.derived_again))
+        for self.at, self.scope, read in self.put_off:
+            read()
+        return self.schema
 
-    def named_derived(self):
-        name = self.attribute_name()
-        self.take(":")
-        declared = self.type()
-        self.take(":=")
-        found = derived(declared, self.put_off(";"))
-        self.take(";")
-        return name, found
+    def by_declaring(self, redeclared):
+        """Redeclared attributes by the entities that declare them."""
+        return {(self.schema.declaring(above, name)[0], name): it for (above, name), it in redeclared.items()}
+
+    def given(self, scope):
+        """What stands behind the name of a constant, a derived attribute or a local."""
+        self.skip(":")
+        found = Given(self.type())
+        if self.takes(":="):
+            self.later(";", scope, lambda: setattr(found, "expression", self.expression()))
+        self.skip(";")
+        return found
+
+    def constants(self):
+        while not self.sees("END_CONSTANT"):
+            name = self.take()
+            self.schema.constants[name] = self.given(Scope({}))
 
     def type_declaration(self):
-        name = self.name()
-        self.take("=")
-        if self.takes("ENUMERATION"):
-            self.take("OF")
-            underlying = Enumeration(tuple(self.in_parentheses(self.name)))
-        elif self.takes("SELECT"):
-            underlying = Select(tuple(self.in_parentheses(self.name)))
-        else:
-            underlying = self.type()
-        self.take(";")
-        self.schema.types[name] = SimpleNamespace(underlying=underlying, at=self.put_off("END_TYPE"), rules=[])
-        self.take("END_TYPE")
+        name = self.take()
+        self.skip("=")
+        found = self.schema.types[name] = Defined(self.type())
+        self.skip(";")
+        self.later("END_TYPE", Scope({}, name), lambda: self.rules(found))
 
     def width(self):
         if not self.takes("("):
-            return ()
-        width = self.take()
-        self.take(")")
+            return None, False
+        width = self.take().value
+        self.skip(")")
         return width, self.takes("FIXED")
 
     def bounds(self):
         if not self.takes("["):
             return 0, None
-        low = self.take()
-        self.take(":")
+        low = self.take().value
+        self.skip(":")
         high = self.take()
-        self.take("]")
-        return low, None if high == "?" else high
+        self.skip("]")
+        return low, None if high == "?" else high.value
 
     def type(self):
         word = self.take()
-        if word in ("STRING", "BINARY"):
-            return Simple(word, *self.width())
-        if word in KINDS_OF_WORDS:
-            return Simple(word)
+        if word == "ENUMERATION":
+            self.skip("OF")
+            return Enumeration(tuple(self.in_parentheses(self.take)))
+        if word == "SELECT":
+            return Select(tuple(self.in_parentheses(self.take)))
         if word in ("GENERIC", "AGGREGATE") and self.takes(":"):
-            self.name()
-        if word == "GENERIC":
-            return Simple(word)
-        if word not in (*AGGREGATES, "AGGREGATE"):
+            self.take()
+        if word in (*SIMPLE, "GENERIC"):
+            return Simple(word, *self.width())
+        if word not in AGGREGATES:
             return word
         low, high = self.bounds()
-        self.take("OF")
+        self.skip("OF")
         is_optional, is_unique = self.takes("OPTIONAL"), self.takes("UNIQUE")
         return Aggregate(word, low, high, self.type(), is_optional, is_unique)
 
     def attribute_name(self):
         """A name, or the entity and the name of a redeclared attribute."""
         if not self.takes("SELF"):
-            return self.name()
-        self.take("\\")
-        above = self.name()
-        self.take(".")
-        return above, self.name()
+            return self.take()
+        self.skip("\\")
+        above = self.take()
+        self.skip(".")
+        return above, self.take()
 
     def entity_declaration(self):
-        name = self.name()
-        entity = self.schema.entities[name] = Entity()
-        self.put_off("SUBTYPE", ";")
+        name = self.take()
+        entity, scope = Entity(), Scope({}, name)
+        self.schema.entities[name] = entity
+        while not self.sees("SUBTYPE", ";"):
+            self.take()
         if self.takes("SUBTYPE"):
-            self.take("OF")
-            entity.supertypes = self.in_parentheses(self.name)
-        self.take(";")
-        while not self.sees("DERIVE", "INVERSE", "UNIQUE", "WHERE", "END_ENTITY"):
+            self.skip("OF")
+            entity.supertypes = self.in_parentheses(self.take)
+        self.skip(";")
+        while not self.sees(*CLAUSES):
             names = self.listed(self.attribute_name)
-            self.take(":")
+            self.skip(":")
             found = Explicit(is_optional=self.takes("OPTIONAL"), type=self.type())
-            self.take(";")
+            self.skip(";")
             for it in names:
                 (entity.explicit if isinstance(it, str) else entity.redeclared)[it] = found
-        self.derive_and_inverse(entity)
-        entity.at = self.put_off("END_ENTITY")
-        self.take("END_ENTITY")
-
-    def derive_and_inverse(self, entity):
         if self.takes("DERIVE"):
-            while not self.sees("INVERSE", "UNIQUE", "WHERE", "END_ENTITY"):
-                name, found = self.named_derived()
-                (entity.derived if isinstance(name, str) else entity.derived_again)[name] = found
+            while not self.sees(*CLAUSES):
+                name = self.attribute_name()
+                (entity.derived if isinstance(name, str) else entity.derived_again)[name] = self.given(scope)
         if self.takes("INVERSE"):
-            while not self.sees("UNIQUE", "WHERE", "END_ENTITY"):
-                name = self.name()
-                self.take(":")
-                entity.inverse[name] = self.inverse()
-                self.take(";")
-
-    def inverse(self):
-        kind, low, high = None, 1, 1
-        if self.sees("SET", "BAG"):
-            kind = self.take()
-            low, high = self.bounds()
-            self.take("OF")
-        entity = self.name()
-        self.take("FOR")
-        return Inverse(kind, low, high, entity, self.name())
-
-    def parameters(self):
-        """Names with their types."""
-        found = []
-        if self.takes("("):
-            while not found or self.takes(";"):
-                names = self.listed(self.name)
-                self.take(":")
-                declared = self.type()
-                found += [(it, declared) for it in names]
-            self.take(")")
-        return found
+            while not self.sees(*CLAUSES):
+                name = self.take()
+                self.skip(":")
+                users = self.type()
+                self.skip("FOR")
+                kind, low, high, user = users[:4] if isinstance(users, Aggregate) else (None, 1, 1, users)
+                entity.inverse[name] = Inverse(kind, low, high, user, self.take())
+                self.skip(";")
+        self.later("END_ENTITY", scope, lambda: self.rules(entity))
 
     def function_declaration(self):
-        name = self.name()
-        parameters = self.parameters()
-        self.take(":")
-        result = self.type()
-        self.take(";")
-        self.schema.functions[name] = Algorithm(self.put_off("END_FUNCTION"), parameters, result)
-        self.take("END_FUNCTION")
+        name, parameters = self.take(), []
+        if self.takes("("):
+            while not self.takes(")"):
+                names = self.listed(self.take)
+                self.skip(":")
+                declared = self.type()
+                parameters += [(it, declared) for it in names]
+                self.takes(";")
+        self.skip(":")
+        function = self.schema.functions[name] = Algorithm(parameters, self.type())
+        self.skip(";")
+        self.algorithm(function, Scope(dict(parameters)), "END_FUNCTION")
 
     def rule_declaration(self):
-        name = self.name()
-        self.take("FOR")
-        entities = self.in_parentheses(self.name)
-        self.take(";")
-        self.schema.rules[name] = Algorithm(self.put_off("END_RULE"), entities=entities)
-        self.take("END_RULE")
+        name = self.take()
+        self.skip("FOR")
+        rule = self.schema.rules[name] = Algorithm(entities=self.in_parentheses(self.take))
+        self.skip(";")
+        self.algorithm(rule, Scope({}, None, rule.entities), "END_RULE")
 
-    # -- what was put off
+    def algorithm(self, it, scope, end):
+        """All locals are known in the first values of each."""
+        if self.takes("LOCAL"):
+            while not self.takes("END_LOCAL"):
+                names = self.listed(self.take)
+                local = self.given(scope)
+                it.locals.append((names, local))
+                scope.variables.update(dict.fromkeys(names, local.type))
+            self.skip(";")
+        self.later(end, scope, lambda: self.body(it))
 
-    def bodies(self):
-        """The expressions and statements of all declarations."""
-        schema = self.schema
-        for constant in schema.constants.values():
-            self.derived_body(constant, Scope({}))
-        for name, defined in schema.types.items():
-            self.at, self.scope = defined.at, Scope({}, None, schema.kinds_of(name))
-            defined.rules = self.where()
-        for name, entity in schema.entities.items():
-            scope = Scope({}, name, schema.kinds_of(name))
-            for derived in (*entity.derived.values(), *entity.derived_again.values()):
-                self.derived_body(derived, scope)
-            self.at, self.scope = entity.at, scope
-            entity.unique = self.unique()
-            entity.rules = self.where()
-        for function in schema.functions.values():
-            self.algorithm(function, Scope({name: schema.kinds_of(declared) for name, declared in function.parameters}))
-        for rule in schema.rules.values():
-            self.algorithm(rule, Scope({}, extents=tuple(rule.entities)))
-            rule.rules = self.where()
+    # -- what is put off
 
-    def derived_body(self, derived, scope):
-        self.at, self.scope = derived.at, scope
-        derived.expression = self.expression()
+    def body(self, algorithm):
+        algorithm.statements = self.statements()
+        self.rules(algorithm)
 
-    def labelled(self, read, *ends):
-        """Rules up to one of these, each by its label or by its place."""
+    def rules(self, it):
+        if self.takes("UNIQUE"):
+            it.unique = self.labelled(lambda: self.listed(self.unique_attribute))
+        if self.takes("WHERE"):
+            it.rules = self.labelled(self.expression)
+
+    def labelled(self, read):
         found = []
-        while not self.sees(*ends):
+        while not self.sees(*CLAUSES):
             label = f"#{len(found) + 1}"
-            if self.sees_label():
+            if self.tokens[self.at + 1] == ":":
                 label = self.take()
-                self.take(":")
+                self.skip(":")
             found.append(Rule(label, read()))
-            self.take(";")
+            self.skip(";")
         return found
-
-    def where(self):
-        return self.labelled(self.expression, "END_TYPE", "END_ENTITY", "END_RULE") if self.takes("WHERE") else []
-
-    def unique(self):
-        return self.labelled(lambda: self.listed(self.unique_attribute), "WHERE", "END_ENTITY") if self.takes("UNIQUE") else []
 
     def unique_attribute(self):
         """An attribute of the entity, as one that is named alone."""
         name = self.attribute_name()
-        entity, name = (self.scope.entity, name) if isinstance(name, str) else name
-        return self.own_attribute(entity, name)
-
-    def algorithm(self, it, scope):
-        self.at, self.scope = it.at, scope
-        if self.takes("LOCAL"):
-            it.locals = self.local_declarations()
-        it.statements = self.statements()
-
-    def local_declarations(self):
-        """All locals are known in the first values of each. They are gone through twice, first for their types alone."""
-        begin, found = self.at, []
-        for is_read in (False, True):
-            self.at, found = begin, []
-            while not self.takes("END_LOCAL"):
-                names = self.listed(self.name)
-                self.take(":")
-                declared = self.type()
-                self.scope.variables.update((it, self.schema.kinds_of(declared)) for it in names)
-                value = None
-                if self.takes(":="):
-                    value = self.expression() if is_read else self.put_off(";")
-                self.take(";")
-                found.append(Local(names, declared, value))
-        self.take(";")
-        return found
+        return self.own_attribute(self.scope.me, name) if isinstance(name, str) else self.own_attribute(*name)
 
     # -- statements
 
@@ -396,64 +316,68 @@ class Reader:
 
     def statement(self):
         statements = {
-            ";": Null, "IF": self.if_statement, "CASE": self.case_statement, "REPEAT": self.repeat_statement,
-            "BEGIN": self.compound_statement, "SKIP": lambda: self.closed(Skip()), "ESCAPE": lambda: self.closed(Escape()),
-            "RETURN": lambda: self.closed(Return(self.expression())),
+            "IF": self.if_statement, "CASE": self.case_statement, "REPEAT": self.repeat_statement, "BEGIN": self.compound_statement,
+            "SKIP": Skip, "ESCAPE": Escape, "RETURN": lambda: Return(self.expression()),
         }
         word = self.take()
-        if word in statements:
-            return statements[word]()
-        self.take(":=")
-        return self.closed(Assignment(word, self.expression()))
+        if word == ";":
+            return Null()
+        found = statements[word]() if word in statements else self.assignment(word)
+        self.skip(";")
+        return found
 
-    def closed(self, statement):
-        self.take(";")
-        return statement
+    def assignment(self, name):
+        self.skip(":=")
+        return Assignment(name, self.scope.variables[name], self.expression())
 
     def compound_statement(self):
         found = self.statements()
-        self.take("END", ";")
+        self.skip("END")
         return Compound(found)
 
     def if_statement(self):
         condition = self.expression()
-        self.take("THEN")
+        self.skip("THEN")
         statements = self.statements()
         otherwise = self.statements() if self.takes("ELSE") else []
-        self.take("END_IF", ";")
+        self.skip("END_IF")
         return If(condition, statements, otherwise)
 
     def case_statement(self):
         selector = self.expression()
-        self.take("OF")
+        self.skip("OF")
         actions, otherwise = [], None
         while not self.sees("OTHERWISE", "END_CASE"):
             labels = self.listed(self.expression)
-            self.take(":")
+            self.skip(":")
             actions.append((labels, self.statement()))
         if self.takes("OTHERWISE"):
-            self.take(":")
+            self.skip(":")
             otherwise = self.statement()
-        self.take("END_CASE", ";")
+        self.skip("END_CASE")
         return Case(selector, actions, otherwise)
+
+    def within(self, variable, declared):
+        """The scope with one variable more."""
+        return self.scope._replace(variables={**self.scope.variables, variable: declared})
 
     def repeat_statement(self):
         """The variable is known in the conditions and in the statements."""
-        variable = first = last = step = condition = until = None
+        variable = first = last = step = None
         before = self.scope
         if not self.sees("WHILE", "UNTIL", ";"):
-            variable = self.name()
-            self.take(":=")
+            variable = self.take()
+            self.skip(":=")
             first = self.level(SIMPLE_EXPRESSION)
-            self.take("TO")
+            self.skip("TO")
             last = self.level(SIMPLE_EXPRESSION)
             step = self.level(SIMPLE_EXPRESSION) if self.takes("BY") else None
-            self.scope = before._replace(variables={**before.variables, variable: INTEGER})
+            self.scope = self.within(variable, Simple("INTEGER"))
         condition = self.expression() if self.takes("WHILE") else None
         until = self.expression() if self.takes("UNTIL") else None
-        self.take(";")
+        self.skip(";")
         statements = self.statements()
-        self.take("END_REPEAT", ";")
+        self.skip("END_REPEAT")
         self.scope = before
         return Repeat(variable, first, last, step, condition, until, statements)
 
@@ -466,153 +390,124 @@ class Reader:
         """Operators of one level go from left to right."""
         if place == len(LEVELS):
             return self.factor()
-        first = self.level(place + 1)
-        rest, kinds = [], first.kinds
+        found = self.level(place + 1)
         while self.sees(*LEVELS[place]):
             operator, right = self.take(), self.level(place + 1)
-            rest.append((operator, right))
-            kinds = kinds_of_operation(operator, kinds, right.kinds)
-        return Chain(first, rest, kinds) if rest else first
-
-    def sees_signed_real(self):
-        return self.sees("+", "-") and self.tokens[self.at + 1].sort == "real"
+            found = Binary(found, operator, right, kinds_of_operation(operator, found.kinds, right.kinds))
+        return found
 
     def factor(self):
-        """A sign before a real belongs to it, also where another operator stands before."""
-        if self.sees_signed_real():
-            return self.signed_real()
+        """A sign before a real belongs to it."""
         if not self.sees("+", "-", "NOT"):
             return self.primary()
-        operator = self.take()
-        operand = self.signed_real() if self.sees_signed_real() else self.primary()
-        return Unary(operator, operand, LOGICAL if operator == "NOT" else INTEGER)
-
-    def signed_real(self):
-        sign, (digits, exponent) = self.take(), self.take()
-        return Literal(Real(-digits if sign == "-" else digits, exponent), KINDS_OF_LITERALS["real"])
+        operator, operand = self.take(), self.factor()
+        if not (isinstance(operand, Literal) and isinstance(operand.value, Real)):
+            return Unary(operator, operand, NONE)
+        digits, exponent = operand.value
+        return Literal(Real(-digits if operator == "-" else digits, exponent), NONE)
 
     def primary(self):
-        token = self.tokens[self.at]
-        if token.sort in LITERALS:
-            return Literal(self.take(), KINDS_OF_LITERALS[token.sort])
-        if token.text in LOGICALS:
-            return Literal(LOGICALS[self.take()], LOGICAL)
-        without_accesses = {"(": self.parenthesis, "[": self.initialiser, "{": self.interval, "QUERY": self.query}
-        if token.text in without_accesses:
-            return without_accesses[self.take()]()
-        return self.qualified(self.named())
-
-    def parenthesis(self):
-        found = self.expression()
-        self.take(")")
-        return found
+        if self.sees("("):
+            return self.in_parentheses(self.expression)[0]
+        others = {"[": self.initialiser, "{": self.interval, "QUERY": self.query}
+        token = self.take()
+        if isinstance(token, Literal):
+            return token
+        if token in Logical.__members__:
+            return Literal(Logical[token], NONE)
+        return others[token]() if token in others else self.accesses(self.named(token))
 
     def initialiser(self):
         elements = [] if self.sees("]") else self.listed(self.expression)
-        self.take("]")
-        return Initialiser(elements, Kinds(elements=union(*(it.kinds for it in elements)) if elements else NO_KINDS))
+        self.skip("]")
+        return Initialiser(elements, aggregate_of(union(it.kinds for it in elements)))
 
     def interval(self):
         low, first, item, second, high = (self.level(SIMPLE_EXPRESSION) if place % 2 == 0 else self.take() for place in range(5))
-        self.take("}")
-        return Interval(low, first, item, second, high, LOGICAL)
+        self.skip("}")
+        return Interval(low, first, item, second, high, NONE)
 
     def query(self):
-        self.take("(")
-        variable = self.name()
-        self.take("<*")
+        self.skip("(")
+        variable = self.take()
+        self.skip("<*")
         source = self.level(SIMPLE_EXPRESSION)
-        self.take("|")
-        before, elements = self.scope, source.kinds.elements
-        self.scope = before._replace(variables={**before.variables, variable: elements or NO_KINDS})
+        self.skip("|")
+        before = self.scope
+        self.scope = self.within(variable, Select(self.schema.kinds_of_elements(source.kinds)))
         condition = self.expression()
         self.scope = before
-        self.take(")")
-        return Query(variable, source, condition, Kinds(elements=elements))
+        self.skip(")")
+        return Query(variable, source, condition, frozenset(it for it in source.kinds if isinstance(it, Aggregate)))
 
-    def named(self):
+    def named(self, name):
         """What a name, a call, SELF or `?` stands for: the innermost variable of a name, else an attribute of the entity at hand, else
         a declaration of the schema, and last an item."""
-        name, schema, scope = self.take(), self.schema, self.scope
+        schema, scope = self.schema, self.scope
         if name == "?":
-            return Literal(INDETERMINATE, NO_KINDS)
+            return Literal(INDETERMINATE, NONE)
         if name == "SELF":
-            return Self(scope.self_kinds)
+            return Self(schema.kinds_of(scope.me))
         if name in FUNCTIONS:
             return self.built_in(name)
         if name in scope.variables:
-            return Variable(name, scope.variables[name])
-        if scope.entity and schema.declaring(scope.entity, name):
-            return self.own_attribute(scope.entity, name)
+            return Variable(name, schema.kinds_of(scope.variables[name]))
+        if scope.me in schema.entities and schema.declaring(scope.me, name):
+            return self.own_attribute(scope.me, name)
         if name in schema.constants:
             return Constant(name, schema.kinds_of(schema.constants[name].type))
         if name in schema.functions:
             arguments = self.in_parentheses(self.expression) if self.sees("(") else []
             return Call(name, arguments, schema.kinds_of(schema.functions[name].result))
-        if name in scope.extents:
-            return Extent(name, Kinds(elements=schema.kinds_of(name)))
-        return self.item(name)
+        return Extent(name, aggregate_of([name])) if name in scope.extents else self.item(name)
 
-    def item(self, name):
+    def item(self, word):
         """An item, alone or behind its type."""
-        found = self.schema.items.get(name)
-        if self.sees(".") and name in self.schema.types:
-            self.take(".")
-            word = self.name()
-            found = [it for it in self.schema.items[word] if it.type == name]
-        (item,) = found
-        return Literal(item, Kinds([item.type]))
+        types = self.schema.types
+        if self.takes("."):
+            types, word = [word], self.take()
+        for name in types:
+            underlying = self.schema.types[name].underlying
+            if isinstance(underlying, Enumeration) and word in underlying.items:
+                return Literal(Item(name, underlying.items.index(word), word), NONE)
+        raise ValueError(f"{word} names nothing")
 
     def own_attribute(self, entity, name):
-        return OwnAttribute(name, frozenset(self.schema.line_of(entity)), self.schema.attribute_kinds(entity, name))
+        return OwnAttribute(name, self.schema.near([entity]), self.schema.attribute_kinds(entity, name))
 
     def built_in(self, name):
         arguments = self.in_parentheses(self.expression)
-        kinds = FUNCTIONS[name]
-        if name == "NVL":
-            kinds = union(*(it.kinds for it in arguments))
-        if name == "USEDIN":
-            kinds = Kinds(elements=Kinds(entities=self.schema.entities))
-        return BuiltIn(name, arguments, kinds)
+        kinds = {"NVL": union(it.kinds for it in arguments), "TYPEOF": aggregate_of([]), "USEDIN": aggregate_of(self.schema.entities)}
+        return BuiltIn(name, arguments, kinds.get(name, NONE))
 
-    def qualified(self, first):
-        accesses, kinds = [], first.kinds
+    def accesses(self, found):
+        """Accesses go from left to right."""
         while self.sees(".", "\\", "["):
-            access, kinds = {".": self.of_attribute, "\\": self.of_group, "[": self.of_index}[self.take()](kinds)
-            accesses.append(access)
-        return Qualified(first, accesses, kinds) if accesses else first
+            found = {".": self.of_attribute, "\\": self.of_group, "[": self.of_index}[self.take()](found)
+        return found
 
-    def of_attribute(self, kinds):
-        name = self.name()
-        return OfAttribute(name, self.schema.near(kinds)), self.schema.kinds_of_access(kinds, name)
+    def of_attribute(self, first):
+        name = self.take()
+        return OfAttribute(first, name, self.schema.near(first.kinds), self.schema.kinds_of_access(first.kinds, name))
 
-    def of_group(self, _):
-        name = self.name()
-        return OfGroup(name), Kinds(entities=[name])
+    def of_group(self, first):
+        name = self.take()
+        return OfGroup(first, name, frozenset([name]))
 
-    def of_index(self, kinds):
-        first = self.level(SIMPLE_EXPRESSION)
+    def of_index(self, first):
+        index = self.level(SIMPLE_EXPRESSION)
         last = self.level(SIMPLE_EXPRESSION) if self.takes(":") else None
-        self.take("]")
-        characters = Kinds(kinds.simple & {"STRING", "BINARY"})
-        if last:
-            return OfRange(first, last), characters
-        return OfIndex(first), union(characters, kinds.elements or NO_KINDS)
+        self.skip("]")
+        return OfRange(first, index, last, NONE) if last else OfIndex(first, index, self.schema.kinds_of_elements(first.kinds))
 
 
 def read(text):
     """The schema that a text says."""
-    reader = Reader(text)
-    reader.declarations()
-    reader.bodies()
-    return reader.schema
+    return Reader(text).read()
 
 
 def read_expression(schema, text, entity=None, extents=()):
     """An expression of an entity's WHERE, or, without one, of that of a rule for these entities."""
-    reader = Reader(f"{text};")
-    reader.schema = schema
-    reader.scope = Scope({}, entity, schema.kinds_of(entity), ()) if entity else Scope({}, extents=tuple(extents))
-    found = reader.expression()
-    reader.take(";")
-    return found
+    reader = Reader(f"{text};", schema)
+    reader.scope = Scope({}, entity, () if entity else extents)
+    return reader.expression()

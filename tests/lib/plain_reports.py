@@ -4,38 +4,28 @@ steps. It is written from the description alone, and never from the program.
 A population is made of models as plain_model has them. Each check is a filter of its instances or of their values, in the order
 of the population; what is evaluated is told by plain_rules.
 """
-from enum import Enum
-
 from lib.plain_binding import DERIVED, UNSET, Enumeration, Reference, Typed
 from lib.plain_binding import Item as Word
-from lib.plain_trees import INDETERMINATE, Aggregate, Item, Logical, Simple
+from lib.plain_trees import INDETERMINATE, Absent, Aggregate, Item, Logical, Simple
 from lib.plain_rules import (
-    LIMIT, NOT_RUN, STEPS_OF_AN_EVALUATION, TRUE, Bits, Environment, Evaluation, Instance, Many, PastLimit, as_declared, bare, deep, fits,
-    length, once_each, rough, same, truth,
+    LIMIT, NOT_RUN, SIMPLE, STEPS_OF_AN_EVALUATION, TRUE, Environment, Evaluation, Instance, Many, PastLimit, as_declared, bare, deep,
+    fits, length, once_each, parts, rough, same, truth,
 )
 
 STEPS_BEFORE_THE_LAST = 19_800_000
-WITH_WIDTH = {"STRING": str, "BINARY": Bits}
+OUTSIDE = Absent.OUTSIDE
 LOGICAL_WORDS = {"T": Logical.TRUE, "F": Logical.FALSE, "U": Logical.UNKNOWN}
 
 # ---- populations
 
 
-class Outside(Enum):
-    """A reference that leaves the population, in a written value."""
-
-    OUTSIDE = "#"
-
-
-OUTSIDE = Outside.OUTSIDE
-
-
 def attributes_of(schema, types):
-    """The explicit attributes of an instance as they are written: by its leaf, where it has one alone, else type by type in the order
-    of their names."""
+    """The explicit attributes of an instance that aren't derived, in the order in which they are written: by its leaf, where it has
+    one alone, else type by type in the order of their names."""
     leaves = [it for it in types if not any(it in schema.entities[other].supertypes for other in types)]
     line = schema.line_of(leaves[0]) if len(leaves) == 1 else sorted(types)
-    return [(entity, name) for entity in line for name in schema.entities[entity].explicit]
+    derived = {place for it in types for place in schema.entities[it].derived_again}
+    return [(entity, name) for entity in line for name in schema.entities[entity].explicit if (entity, name) not in derived]
 
 
 def written(schema, declared, value, target):
@@ -67,14 +57,6 @@ def read(value):
     return INDETERMINATE if value is OUTSIDE else value
 
 
-def references_in(value):
-    """The instances that a written value refers to, each as often as it does."""
-    value = bare(value)
-    if isinstance(value, Many):
-        return [it for element in value.elements for it in references_in(element)]
-    return [value] if isinstance(value, Instance) else []
-
-
 def population_of(schema, models):
     """The instances of some models of a schema, in order of their owners, names and numbers."""
     models = sorted(models, key=lambda it: (it.owner, it.name))
@@ -83,32 +65,22 @@ def population_of(schema, models):
     links = {(it.owner, it.name, link.name): (link.owner, link.model, link.instance) for it in models for link in it.links}
     for place, instance in found.items():
         target = lambda name: found.get(links.get((*place[:2], name), (*place[:2], name)), OUTSIDE)
-        fill(schema, instance, bound[place].values, target)
+        for entity, name in attributes_of(schema, instance.types):
+            declared = schema.entities[entity].explicit[name].type
+            value = written(schema, declared, bound[place].values[entity.lower(), name.lower()], target)
+            instance.written[entity, name] = value
+            instance.read[entity, name] = as_declared(schema, declared, read(value))
     for user in found.values():
-        for attribute in user.attributes:
-            for used in references_in(user.written[attribute]):
-                used.users.append((user, attribute))
+        for attribute, value in user.written.items():
+            for used in parts(value):
+                if isinstance(used, Instance):
+                    used.users.append((user, attribute))
     return list(found.values())
 
 
 def extents_of(schema, population):
     """The instances of each entity."""
-    found = {it: [] for it in schema.entities}
-    for instance in population:
-        for it in instance.types:
-            found[it].append(instance)
-    return found
-
-
-def fill(schema, instance, values, target):
-    """The attributes of an instance with their values."""
-    instance.attributes = attributes_of(schema, instance.types)
-    instance.derived = {place for it in instance.types for place in schema.entities[it].derived_again}
-    for entity, name in instance.attributes:
-        declared = schema.entities[entity].explicit[name].type
-        value = written(schema, declared, values[entity.lower(), name.lower()], target)
-        instance.written[entity, name] = value
-        instance.read[entity, name] = as_declared(schema, declared, read(value))
+    return {name: [it for it in population if name in it.types] for name in schema.entities}
 
 
 # ---- SELECTs
@@ -138,23 +110,27 @@ def asked(schema, declared, value):
     return (schema.end(value.keyword), value.value) if is_member else (None, value)
 
 
-def has_unset(schema, declared, value):
+def is_within(schema, declared, value, is_fault):
+    """Whether a fault is found in a value, or in one that it holds, by the type by which each is asked."""
+    end, value = asked(schema, declared, value)
+    if isinstance(end, Aggregate) and isinstance(value, Many):
+        return is_fault(end, value) or any(is_within(schema, end.element, it, is_fault) for it in value.elements)
+    return isinstance(end, Simple) and is_fault(end, value)
+
+
+def is_unset(end, value):
     """Whether an element isn't set that has to be."""
-    end, value = asked(schema, declared, value)
-    if not (isinstance(end, Aggregate) and isinstance(value, Many)):
-        return False
-    return any(it is INDETERMINATE and not end.is_optional or has_unset(schema, end.element, it) for it in value.elements)
+    return isinstance(end, Aggregate) and not end.is_optional and any(it is INDETERMINATE for it in value.elements)
 
 
-def is_out_of_bounds(schema, declared, value):
-    """Whether a width or a bound doesn't hold, or something stands twice where it may not."""
-    end, value = asked(schema, declared, value)
-    if isinstance(end, Simple) and end.width is not None and isinstance(value, WITH_WIDTH[end.word]):
-        return length(value) > end.width or end.is_fixed and length(value) < end.width
-    if not (isinstance(end, Aggregate) and isinstance(value, Many)):
+def is_out_of_bounds(end, value):
+    """Whether a width or a bound doesn't hold, or something stands twice where it may not: in a SET, or in what is UNIQUE."""
+    if isinstance(end, Aggregate):
+        elements = read(value).elements
+        return breaks_count(end, len(elements)) or (end.kind == "SET" or end.is_unique) and len(once_each(elements)) < len(elements)
+    if end.width is None or not isinstance(value, SIMPLE[end.word]):
         return False
-    return breaks_count(end, len(value.elements)) or has_twice(end, value) or any(
-        is_out_of_bounds(schema, end.element, it) for it in value.elements)
+    return length(value) > end.width or end.is_fixed and length(value) < end.width
 
 
 def breaks_count(bounds, count):
@@ -162,12 +138,6 @@ def breaks_count(bounds, count):
     if bounds.kind == "ARRAY":
         return count != bounds.high - bounds.low + 1
     return count < bounds.low or bounds.high is not None and count > bounds.high
-
-
-def has_twice(end, value):
-    """Whether a SET, or what is UNIQUE, holds something twice. What isn't set equals nothing."""
-    elements = read(value).elements
-    return (end.kind == "SET" or end.is_unique) and len(once_each(elements)) < len(elements)
 
 
 def is_astray(schema, declared, value):
@@ -181,19 +151,13 @@ def is_astray(schema, declared, value):
     end, inner = asked(schema, declared, value)
     if isinstance(end, Aggregate) and isinstance(inner, Many):
         return any(is_astray(schema, end.element, it) for it in inner.elements)
-    return refers(inner)
-
-
-def refers(value):
-    """Whether a written value holds a reference."""
-    value = bare(value)
-    return any(map(refers, value.elements)) if isinstance(value, Many) else value is OUTSIDE or isinstance(value, Instance)
+    return any(it is OUTSIDE or isinstance(it, Instance) for it in parts(inner))
 
 
 def rules_at(schema, declared, written_value, read_value):
     """The defined types by which a declaration has a value's rules tried, and the type that its elements are declared by, or None."""
     if not schema.is_select(declared):
-        if not fits(read_value, schema.kinds_of(declared)):
+        if not fits(schema, declared, read_value):
             return set(), None
         end = schema.end(declared)
         return set(schema.names_beneath(declared)), end.element if isinstance(end, Aggregate) else None
@@ -222,6 +186,11 @@ def values_tried(schema, declared_types, written_value, read_value):
 # ---- the report
 
 VERDICTS = ("FALSE", "LIMIT", "NOT_RUN", "UNKNOWN")
+FAULTS = {
+    "unset": lambda schema, it, value: value is INDETERMINATE and not it.is_optional or is_within(schema, it.type, value, is_unset),
+    "bounds": lambda schema, it, value: is_within(schema, it.type, value, is_out_of_bounds),
+    "reference": lambda schema, it, value: is_astray(schema, it.type, value),
+}
 
 
 class Report:
@@ -233,9 +202,8 @@ class Report:
         self.checks = []
 
     def make(self):
-        for check in (self.unset, self.bounds, self.references, self.rules_of_types, self.rules_of_entities, self.unique,
-                      self.inverse, self.global_rules):
-            check()
+        for checks in (self.faults_of_attributes, self.rules_of_types, self.rules_of_entities, self.unique, self.inverse, self.global_rules):
+            checks()
         return {"checks": self.checks, "steps": self.steps}
 
     def evaluated(self, run, *given):
@@ -251,9 +219,10 @@ class Report:
         self.steps += evaluation.steps
         return value
 
-    def condition(self, expression, self_value):
-        """The verdict of a rule of WHERE on a value."""
-        return verdict_of(self.evaluated(lambda it: it.value(expression, Environment(self_value, {}, {}))))
+    def verdict(self, run, *given):
+        """What the evaluation of a condition says."""
+        value = self.evaluated(run, *given)
+        return value.name if value in (LIMIT, NOT_RUN) else truth(value).name
 
     def enter(self, check, culprits, **named):
         """An entry with culprits, each behind its verdict. Of equal ones in a list the first alone is told."""
@@ -275,27 +244,17 @@ class Report:
     def attributes(self):
         """The attributes of all instances that aren't derived, with what is told of them as culprits."""
         for instance in self.population:
-            for attribute in instance.attributes:
-                if attribute not in instance.derived:
-                    yield instance, attribute, [*instance.place, ".".join(attribute)]
+            for attribute in instance.written:
+                yield instance, attribute, [*instance.place, ".".join(attribute)]
 
-    def enter_attributes(self, check, is_fault):
-        culprits = []
-        for instance, attribute, culprit in self.attributes():
-            value = instance.written[attribute]
-            if any(is_fault(it, value) for it in self.declarations(instance, attribute)):
-                culprits.append(("FALSE", culprit))
-        self.enter(check, culprits)
-
-    def unset(self):
-        self.enter_attributes("unset", lambda it, value: (
-            value is INDETERMINATE and not it.is_optional or has_unset(self.schema, it.type, value)))
-
-    def bounds(self):
-        self.enter_attributes("bounds", lambda it, value: is_out_of_bounds(self.schema, it.type, value))
-
-    def references(self):
-        self.enter_attributes("reference", lambda it, value: is_astray(self.schema, it.type, value))
+    def faults_of_attributes(self):
+        for check, is_fault in FAULTS.items():
+            culprits = []
+            for instance, attribute, culprit in self.attributes():
+                value = instance.written[attribute]
+                if any(is_fault(self.schema, it, value) for it in self.declarations(instance, attribute)):
+                    culprits.append(("FALSE", culprit))
+            self.enter(check, culprits)
 
     # -- the checks by evaluations
 
@@ -309,33 +268,30 @@ class Report:
                     tried.setdefault(name, []).append((value, culprit))
         for name, defined in sorted(self.schema.types.items()):
             for label, expression in defined.rules:
-                culprits = [(self.condition(expression, value), culprit) for value, culprit in tried.get(name, [])]
+                culprits = [(self.verdict(value_of, expression, value), culprit) for value, culprit in tried.get(name, [])]
                 self.enter("type", culprits, of=name, rule=label)
 
     def rules_of_entities(self):
         for name, entity in sorted(self.schema.entities.items()):
             for label, expression in entity.rules:
-                culprits = [(self.condition(expression, it), [*it.place]) for it in self.extents[name]]
+                culprits = [(self.verdict(value_of, expression, it), [*it.place]) for it in self.extents[name]]
                 self.enter("where", culprits, of=name, rule=label)
 
     def unique(self):
-        """Rows of values that are the same. One with no value isn't compared, nor one that isn't whole, which is told as such."""
+        """Rows of values that are the same. One with no value isn't compared, nor one that isn't whole, which is told as such. Each
+        attribute costs a step beside its body or its results."""
         for name, entity in sorted(self.schema.entities.items()):
             for label, attributes in entity.unique:
-                rows = [(it, self.row(it, attributes)) for it in self.extents[name]]
+                rows = [(it, [self.evaluated(value_of, one, it) for one in attributes]) for it in self.extents[name]]
                 alike, culprits = {}, []
                 for it, row in rows:
                     culprits += [(outcome.name, [*it.place]) for outcome in (LIMIT, NOT_RUN) if outcome in row]
                     if not {INDETERMINATE, LIMIT, NOT_RUN}.intersection(map(rough, row)):
                         alike.setdefault((*map(rough, row),), []).append((it, row))
+                are_same = lambda row, others: all(same(*its) is TRUE for its in zip(row, others))
                 agree = {it for its in alike.values() for it, row in its if any(it is not other and are_same(row, others) for other, others in its)}
                 culprits += [("FALSE", [*it.place]) for it, _ in rows if it in agree]
                 self.enter("unique", culprits, of=name, rule=label)
-
-    def row(self, instance, attributes):
-        """The values of the attributes of a rule of UNIQUE. Each costs a step beside its body or its results."""
-        environment = Environment(instance, {}, {})
-        return [self.evaluated(lambda it: it.value(attribute, environment)) for attribute in attributes]
 
     def inverse(self):
         """The counts of users. One is due where the attribute is no aggregate."""
@@ -352,25 +308,21 @@ class Report:
         """A rule's locals and statements are run before each of its conditions."""
         for name, rule in sorted(self.schema.rules.items()):
             for label, expression in rule.rules:
-                verdict = verdict_of(self.evaluated(outcome_of_rule, rule, expression))
+                verdict = self.verdict(outcome_of_rule, rule, expression)
                 self.checks.append({"check": "rule", "of": name, "rule": label, "verdict": verdict})
 
 
-def verdict_of(value):
-    return value.name if value in (LIMIT, NOT_RUN) else truth(value).name
-
-
-def are_same(row, others):
-    return all(same(*its) is TRUE for its in zip(row, others))
+def value_of(evaluation, expression, self_value):
+    return evaluation.value(expression, Environment(self_value, {}))
 
 
 def count_users(evaluation, instance, inverse):
     evaluation.charge(1)
-    return len(evaluation.users(instance, inverse))
+    return len(evaluation.users(instance, inverse).elements)
 
 
 def outcome_of_rule(evaluation, rule, expression):
-    environment = Environment(INDETERMINATE, {}, {})
+    environment = Environment(INDETERMINATE, {})
     evaluation.algorithm(rule, environment)
     return evaluation.value(expression, environment)
 

@@ -6,15 +6,18 @@ here. Nothing is compiled, and nothing is remembered from one evaluation to anot
 A value is a Python value: int, Real, str, Bits, Logical, Item, an Instance, a Many, INDETERMINATE, or Typed, which is one
 of these with the name of the defined type that it carries.
 """
+import itertools
+import operator
 import sys
 import threading
 from collections import namedtuple
 from concurrent.futures import ThreadPoolExecutor
 from enum import Enum
+from fractions import Fraction
 
 from lib import plain_trees as trees
-from lib.plain_binding import Bits, Enumeration, Real, Typed, real
-from lib.plain_trees import INDETERMINATE, Aggregate, Item, Logical
+from lib.plain_binding import Bits, Enumeration, Real, Select, Typed
+from lib.plain_trees import INDETERMINATE, Aggregate, Item, Logical, Simple
 
 TRUE, FALSE, UNKNOWN = Logical.TRUE, Logical.FALSE, Logical.UNKNOWN
 STEPS_OF_AN_EVALUATION = 200_000
@@ -26,12 +29,11 @@ FRAMES, STACK = 1_000_000, 512 * 1024 * 1024
 def deep(meaning, *given):
     """What a function gives that goes down deep: 200 bodies, each of 64 levels."""
     sys.setrecursionlimit(FRAMES)
-    before = threading.stack_size(STACK)
-    try:
-        with ThreadPoolExecutor(1) as pool:
-            return pool.submit(meaning, *given).result()
-    finally:
-        threading.stack_size(before)
+    threading.stack_size(STACK)
+    with ThreadPoolExecutor(1) as pool:
+        found = pool.submit(meaning, *given)
+        threading.stack_size(0)
+        return found.result()
 
 
 # ---- values
@@ -42,24 +44,21 @@ INITIALISER = "INITIALISER"
 
 
 class Instance:
-    """An instance of a population: its place, its types, its attributes in the order in which they are written, its values as
-    they are written and as they are read, those of its attributes that are redeclared in DERIVE, and its users: each with the
-    attribute that uses it, once for each occurrence."""
+    """An instance of a population: its place, its types, its values as they are written, in their order, and as they are read, and
+    its users: each with the attribute that uses it, once for each occurrence. What is redeclared in DERIVE isn't among its values."""
 
     def __init__(self, place, types):
         self.place, self.types = place, types
-        self.attributes, self.written, self.read, self.derived, self.users = [], {}, {}, set(), []
+        self.written, self.read, self.users = {}, {}, []
 
 
-class Outcome(Enum):
-    """What an evaluation comes to that has no value."""
-
-    LIMIT = "limit"
-    NOT_RUN = "not_run"
-
-
+# what an evaluation comes to that has no value
+Outcome = Enum("Outcome", "LIMIT NOT_RUN")
 LIMIT, NOT_RUN = Outcome.LIMIT, Outcome.NOT_RUN
 KINDS = {int: "INTEGER", Real: "REAL", str: "STRING", Bits: "BINARY", Logical: "LOGICAL", Instance: "entity", Many: "aggregate"}
+# the values that a simple type may have
+SIMPLE = {"INTEGER": int, "REAL": (int, Real), "NUMBER": (int, Real), "STRING": str, "BINARY": Bits, "BOOLEAN": Logical, "LOGICAL": Logical,
+          "GENERIC": object}
 
 
 def bare(value):
@@ -87,48 +86,42 @@ def truth(value):
     return bare(value) if isinstance(bare(value), Logical) else UNKNOWN
 
 
-def holds_instance(value):
+def parts(value):
+    """A bare value, or those that an aggregate holds at any depth."""
     value = bare(value)
-    return isinstance(value, Instance) or isinstance(value, Many) and any(map(holds_instance, value.elements))
+    return [it for element in value.elements for it in parts(element)] if isinstance(value, Many) else [value]
 
 
 # ---- equality and order
 
 
-def order(left, right):
-    """Below, at or above zero as the left one comes before, with or behind the right one, of two bare values of one kind: numbers by
-    value, strings by characters, binaries by bits, truth values and items in their order."""
-    if isinstance(left, (int, Real)):
-        (digits, exponent), (others, other) = (it if isinstance(it, Real) else (it, 0) for it in (left, right))
-        least = min(exponent, other)
-        left, right = digits * 10 ** (exponent - least), others * 10 ** (other - least)
-    elif isinstance(left, Logical):
-        left, right = left.value, right.value
-    elif isinstance(left, Item):
-        left, right = left.place, right.place
-    return (left > right) - (left < right)
+def rank(value):
+    """What the order of bare values of one kind goes by: numbers by value, strings by characters, binaries by bits, truth values and
+    items in their order."""
+    if isinstance(value, Real):
+        return value.digits * Fraction(10) ** value.exponent
+    if isinstance(value, Logical):
+        return value.value
+    return value.place if isinstance(value, Item) else value
 
 
 def same(left, right):
     """`:=:`: identity of instances, else equality, where values of two kinds are unequal."""
     left, right = bare(left), bare(right)
-    if left is INDETERMINATE or right is INDETERMINATE:
+    if INDETERMINATE in (left, right):
         return UNKNOWN
     if not are_of_one_kind(left, right):
         return FALSE
-    if isinstance(left, Instance):
-        return logical(left is right)
-    return agree(left, right, same) if isinstance(left, Many) else logical(order(left, right) == 0)
+    return agree(left, right, same) if isinstance(left, Many) else logical(rank(left) == rank(right))
 
 
 def equal(left, right):
     """Equality by value within aggregates: unknown with no value, with an instance at any depth, and of two kinds."""
     left, right = bare(left), bare(right)
-    if left is INDETERMINATE or right is INDETERMINATE or holds_instance(left) or holds_instance(right):
+    every = parts(left) + parts(right)
+    if INDETERMINATE in (left, right) or any(isinstance(it, Instance) for it in every) or not are_of_one_kind(left, right):
         return UNKNOWN
-    if not are_of_one_kind(left, right):
-        return UNKNOWN
-    return agree(left, right, equal) if isinstance(left, Many) else logical(order(left, right) == 0)
+    return agree(left, right, equal) if isinstance(left, Many) else same(left, right)
 
 
 def agree(left, right, equality):
@@ -137,39 +130,38 @@ def agree(left, right, equality):
     if len(left.elements) != len(right.elements):
         return FALSE
     if not {"BAG", "SET"} & {left.kind, right.kind}:
-        return least(*(equality(*its) for its in zip(left.elements, right.elements)))
-    if any(it is INDETERMINATE for it in every):
+        return least(*map(equality, left.elements, right.elements))
+    if INDETERMINATE in every:
         return UNKNOWN
     occurrences = lambda value, aggregate: sum(equality(value, it) is TRUE for it in aggregate.elements)
     return logical(all(occurrences(it, left) == occurrences(it, right) for it in every))
 
 
-def place_in(elements, value):
-    """The place of the first element that is the same as a value, or None. No value is the same as nothing."""
-    return next((place for place, it in enumerate(elements) if same(it, value) is TRUE), None)
+def holds(elements, value, equality=same):
+    """Whether an element equals a value. No value equals nothing."""
+    return any(equality(value, it) is TRUE for it in elements)
 
 
 def taken_from(elements, value):
     """Whether an element is the same as a value: the first such is taken out."""
-    place = place_in(elements, value)
-    if place is not None:
-        del elements[place]
-    return place is not None
+    for place, it in enumerate(elements):
+        if same(it, value) is TRUE:
+            del elements[place]
+            return True
+    return False
 
 
 def rough(value):
     """Something that values which are the same have in common."""
     value = bare(value)
-    if isinstance(value, Many):
-        return len(value.elements)
-    return real(value) if isinstance(value, int) else value
+    return len(value.elements) if isinstance(value, Many) else rank(value)
 
 
 def once_each(elements):
     found, alike = [], {}
     for it in elements:
         others = alike.setdefault(rough(it), [])
-        if place_in(others, it) is None:
+        if not holds(others, it):
             others.append(it)
             found.append(it)
     return found
@@ -178,12 +170,28 @@ def once_each(elements):
 # ---- operators on truth values and on integers
 
 
+def of_truth_values(meaning):
+    """An operator: no value counts as unknown, and a value of another kind gives none."""
+    def checked(*values):
+        values = [UNKNOWN if it is INDETERMINATE else bare(it) for it in values]
+        return meaning(*values) if all(isinstance(it, Logical) for it in values) else INDETERMINATE
+    return checked
+
+
+def of_integers(meaning):
+    """An operator: a value of another kind gives none, and so does a result that is None or out of 64 bits."""
+    def checked(*values):
+        values = [bare(it) for it in values]
+        return whole(meaning(*values)) if all(isinstance(it, int) for it in values) else INDETERMINATE
+    return checked
+
+
+def whole(number):
+    return number if number is not None and SMALLEST <= number <= GREATEST else INDETERMINATE
+
+
 def least(*values):
-    return min(values, key=lambda it: it.value, default=TRUE)
-
-
-def greatest(*values):
-    return max(values, key=lambda it: it.value)
+    return min(values, key=rank, default=TRUE)
 
 
 def power(base, exponent):
@@ -191,45 +199,25 @@ def power(base, exponent):
     return None if exponent < 0 else base ** (exponent if exponent <= 64 else 64 + exponent % 2)
 
 
-TRUTH_OPERATORS = {
-    "NOT": lambda it: Logical(2 - it.value), "AND": least, "OR": greatest,
-    "XOR": lambda left, right: UNKNOWN if UNKNOWN in (left, right) else logical(left is not right),
-}
-INTEGER_OPERATORS = {
-    "+": lambda *its: sum(its), "-": lambda *its: its[0] - its[1] if len(its) > 1 else -its[0], "*": lambda left, right: left * right,
-    "DIV": lambda dividend, divisor: dividend // divisor if dividend >= 0 and divisor > 0 else None,
-    "MOD": lambda dividend, divisor: dividend % divisor if dividend >= 0 and divisor > 0 else None, "**": power,
-}
+def of_natural(meaning):
+    return of_integers(lambda dividend, divisor: meaning(dividend, divisor) if dividend >= 0 and divisor > 0 else None)
 
 
-def of_truth_values(operator, *values):
-    """No value counts as unknown, and a value of another kind gives none."""
-    values = [UNKNOWN if it is INDETERMINATE else bare(it) for it in values]
-    return TRUTH_OPERATORS[operator](*values) if all(isinstance(it, Logical) for it in values) else INDETERMINATE
-
-
-def of_integers(operator, *values):
-    """A value of another kind gives none, and so does a result out of 64 bits."""
-    values = [bare(it) for it in values]
-    return whole(INTEGER_OPERATORS[operator](*values)) if all(isinstance(it, int) for it in values) else INDETERMINATE
-
-
-def whole(number):
-    return number if number is not None and SMALLEST <= number <= GREATEST else INDETERMINATE
-
+conjunction, negation = of_truth_values(least), of_truth_values(lambda it: Logical(2 - it.value))
+summed, product = of_integers(lambda *its: sum(its)), of_integers(operator.mul)
 
 # ---- `+`, `*` and `-` with aggregates
 
 
 def plus(left, right):
     one, other = bare(left), bare(right)
-    if one is INDETERMINATE or other is INDETERMINATE:
+    if INDETERMINATE in (one, other):
         return INDETERMINATE
     if isinstance(one, Many) or isinstance(other, Many):
         return joined(one if isinstance(one, Many) else left, other if isinstance(other, Many) else right)
     if isinstance(one, Bits) and isinstance(other, Bits):
         return Bits(one.text + other.text)
-    return one + other if isinstance(one, str) and isinstance(other, str) else of_integers("+", one, other)
+    return one + other if isinstance(one, str) and isinstance(other, str) else summed(one, other)
 
 
 def joined(left, right):
@@ -237,7 +225,7 @@ def joined(left, right):
     is_set = isinstance(left, Many) and left.kind == "SET"
     elements = list(elements_of(left))
     for it in elements_of(right):
-        if not (is_set and place_in(elements, it) is not None):
+        if not (is_set and holds(elements, it)):
             elements.append(it)
     return giving_kind(left, right)._replace(elements=elements)
 
@@ -256,7 +244,7 @@ def times(left, right):
     """Of two aggregates the left's elements that find an equal one left on the right."""
     left, right = bare(left), bare(right)
     if not (isinstance(left, Many) and isinstance(right, Many)):
-        return of_integers("*", left, right)
+        return product(left, right)
     free = list(right.elements)
     return Many("SET" if "SET" in (left.kind, right.kind) else "BAG", 1, [it for it in left.elements if taken_from(free, it)])
 
@@ -265,7 +253,7 @@ def minus(left, right):
     """From an aggregate the first equal one left is taken for each element on the right."""
     one, other = bare(left), bare(right)
     if other is INDETERMINATE or not isinstance(one, Many):
-        return of_integers("-", one, other)
+        return of_integers(operator.sub)(one, other)
     elements = list(one.elements)
     for it in elements_of(other):
         taken_from(elements, it)
@@ -278,7 +266,7 @@ def minus(left, right):
 def compared(left, right, meaning):
     """A comparison by value: unknown with no value; none with an instance on a side, or of two kinds."""
     left, right = bare(left), bare(right)
-    if left is INDETERMINATE or right is INDETERMINATE:
+    if INDETERMINATE in (left, right):
         return UNKNOWN
     if isinstance(left, Instance) or not are_of_one_kind(left, right):
         return INDETERMINATE
@@ -290,13 +278,13 @@ def equality(left, right):
 
 
 def not_so(value):
-    return value if value is INDETERMINATE else of_truth_values("NOT", value)
+    return value if value is INDETERMINATE else negation(value)
 
 
 def ordered(is_so, within=lambda left, right: INDETERMINATE):
     """One of `<`, `>`, `<=` and `>=`. Of two aggregates `within` decides."""
     def meaning(left, right):
-        return within(left, right) if isinstance(left, Many) else logical(is_so(order(left, right)))
+        return within(left, right) if isinstance(left, Many) else logical(is_so(rank(left), rank(right)))
     return lambda left, right: compared(left, right, meaning)
 
 
@@ -315,17 +303,19 @@ def has(aggregate, value, is_equal):
         return UNKNOWN
     if not isinstance(aggregate, Many):
         return INDETERMINATE
-    if any(is_equal(value, it) is TRUE for it in aggregate.elements):
+    if holds(aggregate.elements, value, is_equal):
         return TRUE
-    return UNKNOWN if any(it is INDETERMINATE for it in (value, *aggregate.elements)) else FALSE
+    return UNKNOWN if INDETERMINATE in (value, *aggregate.elements) else FALSE
 
 
+UNARY = {"NOT": negation, "+": summed, "-": of_integers(lambda it: -it)}
 OPERATORS = {
-    "+": plus, "-": minus, "*": times, **{it: lambda *its, it=it: of_integers(it, *its) for it in ("DIV", "MOD", "**")},
-    **{it: lambda *its, it=it: of_truth_values(it, *its) for it in ("AND", "OR", "XOR")},
+    "AND": conjunction, "OR": of_truth_values(lambda *its: max(its, key=rank)),
+    "XOR": of_truth_values(lambda left, right: UNKNOWN if UNKNOWN in (left, right) else logical(left is not right)),
+    "+": plus, "-": minus, "*": times, "**": of_integers(power), "DIV": of_natural(operator.floordiv), "MOD": of_natural(operator.mod),
     "=": equality, "<>": lambda left, right: not_so(equality(left, right)), ":=:": same, ":<>:": lambda left, right: not_so(same(left, right)),
-    "<": ordered(lambda it: it < 0), ">": ordered(lambda it: it > 0), "<=": ordered(lambda it: it <= 0, is_within),
-    ">=": ordered(lambda it: it >= 0, lambda left, right: is_within(right, left)), "IN": lambda value, many: has(many, value, same),
+    "<": ordered(operator.lt), ">": ordered(operator.gt), "<=": ordered(operator.le, is_within),
+    ">=": ordered(operator.ge, lambda left, right: is_within(right, left)), "IN": lambda value, many: has(many, value, same),
 }
 
 
@@ -343,7 +333,6 @@ def length(value):
 
 
 def count_of(value):
-    """The count of an aggregate."""
     return len(bare(value).elements) if isinstance(bare(value), Many) else 0
 
 
@@ -384,41 +373,40 @@ def part_of(value, low, high):
 # ---- what is declared
 
 
-def fits(value, kinds):
-    """Whether a value, which isn't none, is of a declaration's kinds. An integer fits a real."""
-    value = bare(value)
-    if isinstance(value, Many):
-        return kinds.elements is not None
-    if isinstance(value, Instance):
-        return bool(kinds.entities)
-    return kind(value) in kinds.simple or isinstance(value, int) and "REAL" in kinds.simple
+def fits(schema, declared, value):
+    """Whether a value, which isn't none, is of a kind that a type has. An integer fits a real."""
+    end, value = schema.end(declared), bare(value)
+    if isinstance(end, Select):
+        return any(fits(schema, it, value) for it in end.members)
+    if isinstance(end, Simple):
+        return isinstance(value, SIMPLE[end.word])
+    if isinstance(end, Enumeration):
+        return isinstance(value, Item) and value.type in schema.names_beneath(declared)
+    return isinstance(value, Many if isinstance(end, Aggregate) else Instance)
 
 
 def as_declared(schema, declared, value):
     """What a value is once it is that of an attribute, a local, a parameter, a result or a constant of this type."""
-    if value is INDETERMINATE or not fits(value, schema.kinds_of(declared)):
-        return INDETERMINATE
-    return carrying(schema, declared, value)
+    return carrying(schema, declared, value) if value is not INDETERMINATE and fits(schema, declared, value) else INDETERMINATE
 
 
 def carrying(schema, declared, value):
-    """A value that fits a type, with the defined type that it carries behind it."""
-    end = schema.end(declared)
-    if schema.is_select(declared):
-        return Typed(value.keyword, inner_by(schema, schema.end(value.keyword), value.value)) if isinstance(value, Typed) else value
-    inner = inner_by(schema, end, bare(value))
-    if declared not in schema.types:
-        return Typed(value.keyword, inner) if isinstance(value, Typed) else inner
-    is_own = isinstance(schema.types[declared].underlying, Enumeration)
-    return inner if is_own else Typed(declared, inner)
+    """A value that fits a type, with the defined type that it carries behind it: in a SELECT and in a type that is written out its own,
+    and in an enumeration's own type none."""
+    is_select, name = schema.is_select(declared), declared
+    if is_select or declared not in schema.types:
+        name = value.keyword if isinstance(value, Typed) else None
+    elif isinstance(schema.types[declared].underlying, Enumeration):
+        name = None
+    inner = with_elements(schema, schema.end(name if is_select else declared), bare(value))
+    return Typed(name, inner) if name else inner
 
 
-def inner_by(schema, end, value):
+def with_elements(schema, end, value):
     """A bare value whose elements carry what a type declares. An initialiser takes the kind of a declared aggregate."""
     if not (isinstance(end, Aggregate) and isinstance(value, Many)):
         return value
-    kinds = schema.kinds_of(end.element)
-    elements = [it if it is INDETERMINATE or not fits(it, kinds) else carrying(schema, end.element, it) for it in value.elements]
+    elements = [carrying(schema, end.element, it) if it is not INDETERMINATE and fits(schema, end.element, it) else it for it in value.elements]
     if value.kind != INITIALISER or end.kind == "AGGREGATE":
         return value._replace(elements=elements)
     return Many(end.kind, end.low if end.kind == "ARRAY" else 1, once_each(elements) if end.kind == "SET" else elements)
@@ -426,21 +414,17 @@ def inner_by(schema, end, value):
 
 def types_told(schema, value):
     """TYPEOF: the names of a value's types."""
-    if value is INDETERMINATE:
-        return []
     it = bare(value)
-    if isinstance(it, Instance):
-        return [f"{schema.name}.{name}" for name in sorted(it.types)]
-    names = schema.names_beneath(value.keyword) if isinstance(value, Typed) else []
-    if isinstance(it, Item):
-        names += [it.type] if it.type not in names else []
-        return [f"{schema.name}.{name}" for name in names]
+    if it is INDETERMINATE:
+        return []
+    names = schema.names_beneath(value.keyword) if isinstance(value, Typed) else sorted(it.types) if isinstance(it, Instance) else []
+    if isinstance(it, Item) and it.type not in names:
+        names.append(it.type)
+    simple = [] if isinstance(it, (Instance, Item)) else [kind(it)]
     if isinstance(it, Logical):
         simple = ["LOGICAL"] if it is UNKNOWN else ["BOOLEAN", "LOGICAL"]
     elif isinstance(it, Many):
         simple = ["LIST" if it.kind == INITIALISER else it.kind]
-    else:
-        simple = [kind(it)]
     return [f"{schema.name}.{name}" for name in names] + simple
 
 
@@ -451,8 +435,8 @@ class PastLimit(Exception):
     """An evaluation takes more steps or nests more bodies than it may."""
 
 
-# what SELF is, the variables by their names, and the types of those that may be assigned
-Environment = namedtuple("Environment", "self_value variables types")
+# what SELF is, and the variables by their names
+Environment = namedtuple("Environment", "self_value variables")
 # how a list of statements ends early
 Returned = namedtuple("Returned", "value")
 SKIPPED, ESCAPED = "SKIP", "ESCAPE"
@@ -470,6 +454,11 @@ class Evaluation:
         if self.steps > self.limit:
             raise PastLimit
 
+    def charged(self, kind_of_many, elements):
+        """An aggregate that costs a step for each element."""
+        self.charge(len(elements))
+        return Many(kind_of_many, 1, elements)
+
     def body(self, run, *given):
         """What a derived attribute, a constant or a function gives."""
         self.bodies += 1
@@ -481,202 +470,126 @@ class Evaluation:
 
     def value(self, node, environment):
         """Each node costs one step beside its parts."""
-        self.steps += 1
-        if self.steps > self.limit:
-            raise PastLimit
+        self.charge(1)
         return EVALUATED[type(node)](self, node, environment)
 
-    def of_condition(self, node, environment):
-        return truth(self.value(node, environment))
+    def values(self, nodes, environment):
+        return [self.value(it, environment) for it in nodes]
 
-    # -- names
-
-    def literal(self, node, _):
-        return node.value
-
-    def variable(self, node, environment):
-        return environment.variables[node.name]
-
-    def self_value(self, _, environment):
-        return environment.self_value
-
-    def own_attribute(self, node, environment):
-        return self.attribute(environment.self_value, node.name, node.near)
-
-    def constant(self, node, _):
-        return self.derived(self.schema.constants[node.name], INDETERMINATE)
-
-    def derived(self, derived, self_value):
-        """The value of a derived attribute or a constant."""
-        value = self.body(self.value, derived.expression, Environment(self_value, {}, {}))
-        return as_declared(self.schema, derived.type, value)
-
-    def extent(self, node, _):
-        found = self.extents[node.entity]
-        self.charge(len(found))
-        return Many("SET", 1, found)
+    def is_so(self, node, environment):
+        return truth(self.value(node, environment)) is TRUE
 
     # -- attributes
 
+    def derived(self, derived, self_value):
+        """The value of a derived attribute or a constant."""
+        value = self.body(self.value, derived.expression, Environment(self_value, {}))
+        return as_declared(self.schema, derived.type, value)
+
     def attribute(self, instance, name, near):
-        """`x.a`: of the types that declare it those that are near come first, and then those that come first by their names."""
-        if not isinstance(instance, Instance):
-            return INDETERMINATE
-        declaring = [it for it in instance.types if self.schema.declares(it, name)]
+        """`x.a`: of the types that declare it those that are near come first, and then those that come first by their names. Of the types
+        that redeclare it in DERIVE the one with most ancestors decides, and then the one that comes first by its name."""
+        entities = self.schema.entities
+        declaring = [it for it in instance.types if self.schema.declares(it, name)] if isinstance(instance, Instance) else []
         if not declaring:
             return INDETERMINATE
-        return self.attribute_of(instance, min(declaring, key=lambda it: (it not in near, it)), name)
-
-    def attribute_of(self, instance, entity, name):
-        """The value of an attribute of the entity that declares it. Of the types that redeclare it in DERIVE the one with most ancestors
-        decides, and then the one that comes first by its name."""
-        entities, place = self.schema.entities, (entity, name)
+        place = (min(declaring, key=lambda it: (it not in near, it)), name)
+        first = entities[place[0]]
         again = [it for it in instance.types if place in entities[it].derived_again]
         if again:
             last = min(again, key=lambda it: (-len(self.schema.line_of(it)), it))
             return self.derived(entities[last].derived_again[place], instance)
-        if name in entities[entity].derived:
-            return self.derived(entities[entity].derived[name], instance)
-        if name in entities[entity].inverse:
-            return self.inverse(instance, entities[entity].inverse[name])
-        return instance.read[place]
+        if name in first.derived:
+            return self.derived(first.derived[name], instance)
+        return self.inverse(instance, first.inverse[name]) if name in first.inverse else instance.read[place]
 
     def users(self, instance, inverse):
         """The results of an inverse attribute: for a BAG one for each occurrence, else each user once."""
         place = (self.schema.declaring(inverse.entity, inverse.attribute)[0], inverse.attribute)
         found = [user for user, used in instance.users if used == place and inverse.entity in user.types]
-        if inverse.kind != "BAG":
-            found = list(dict.fromkeys(found))
-        self.charge(len(found))
-        return found
+        return self.charged(inverse.kind, found if inverse.kind == "BAG" else list(dict.fromkeys(found)))
 
     def inverse(self, instance, inverse):
         found = self.users(instance, inverse)
         if inverse.kind:
-            return Many(inverse.kind, 1, found)
-        return found[0] if len(found) == 1 else INDETERMINATE
+            return found
+        return found.elements[0] if len(found.elements) == 1 else INDETERMINATE
 
     # -- accesses
 
-    def qualified(self, node, environment):
-        """Accesses from the left. The last one's step is that of the whole node."""
+    def of_group(self, node, environment):
         value = self.value(node.first, environment)
-        self.charge(len(node.accesses) - 1)
-        for access in node.accesses:
-            value = ACCESSES[type(access)](self, value, access, environment)
-        return value
-
-    def of_attribute(self, value, access, _):
-        return self.attribute(value, access.name, access.near)
-
-    def of_group(self, value, access, _):
-        return value if isinstance(value, Instance) and access.entity in value.types else INDETERMINATE
-
-    def of_index(self, value, access, environment):
-        return at_index(value, self.value(access.index, environment))
-
-    def of_range(self, value, access, environment):
-        low = self.value(access.low, environment)
-        return part_of(value, low, self.value(access.high, environment))
+        return value if isinstance(value, Instance) and node.entity in value.types else INDETERMINATE
 
     # -- operators
-
-    def unary(self, node, environment):
-        of = of_truth_values if node.operator == "NOT" else of_integers
-        return of(node.operator, self.value(node.operand, environment))
-
-    def chain(self, node, environment):
-        """Operators from the left. The last one's step is that of the whole node."""
-        value = self.value(node.first, environment)
-        self.charge(len(node.rest) - 1)
-        for operator, operand in node.rest:
-            value = self.operation(operator, value, self.value(operand, environment))
-        return value
 
     def operation(self, operator, left, right):
         """Both operands are evaluated, whatever they are."""
         if operator == "IN":
             self.charge(count_of(right))
-        elif operator not in TRUTH_OPERATORS and isinstance(bare(left), Many) and isinstance(bare(right), Many):
+        elif operator not in ("AND", "OR", "XOR") and isinstance(bare(left), Many) and isinstance(bare(right), Many):
             self.charge(count_of(left) * count_of(right) + count_of(left) + count_of(right))
         value = OPERATORS[operator](left, right)
         if operator == "+" and isinstance(value, (str, Bits)):
             self.charge(length(value))
         return value
 
+    def binary(self, node, environment):
+        return self.operation(node.operator, self.value(node.left, environment), self.value(node.right, environment))
+
     def interval(self, node, environment):
-        low, item, high = (self.value(it, environment) for it in (node.low, node.item, node.high))
-        return of_truth_values("AND", self.operation(node.low_operator, low, item), self.operation(node.high_operator, item, high))
+        low, item, high = self.values((node.low, node.item, node.high), environment)
+        return conjunction(self.operation(node.low_operator, low, item), self.operation(node.high_operator, item, high))
 
     def query(self, node, environment):
         source = bare(self.value(node.source, environment))
         if not isinstance(source, Many):
             return INDETERMINATE
-        found, variables = [], dict(environment.variables)
-        inside = environment._replace(variables=variables)
-        for it in source.elements:
-            self.charge(1)
-            variables[node.variable] = it
-            if self.of_condition(node.condition, inside) is TRUE:
-                found.append(it)
-        return source._replace(elements=found)
+        self.charge(len(source.elements))
+        inside = lambda it: Environment(environment.self_value, {**environment.variables, node.variable: it})
+        return source._replace(elements=[it for it in source.elements if self.is_so(node.condition, inside(it))])
 
     def initialiser(self, node, environment):
-        value = Many(INITIALISER, 1, [self.value(it, environment) for it in node.elements])
+        value = Many(INITIALISER, 1, self.values(node.elements, environment))
         self.charge(size(value))
         return value
 
     # -- calls
 
     def built_in(self, node, environment):
-        arguments = [self.value(it, environment) for it in node.arguments]
+        arguments = self.values(node.arguments, environment)
         if node.function == "TYPEOF":
-            return self.types_of(*arguments)
+            return self.charged("SET", types_told(self.schema, *arguments))
         if node.function == "USEDIN":
             return self.used_in(*arguments)
         if node.function == "VALUE_IN":
             self.charge(count_of(arguments[0]))
         return FUNCTIONS[node.function](*arguments)
 
-    def types_of(self, value):
-        names = types_told(self.schema, value)
-        self.charge(len(names))
-        return Many("SET", 1, names)
-
     def used_in(self, instance, role):
         role = bare(role)
         if not (isinstance(instance, Instance) and isinstance(role, str)):
             return INDETERMINATE
-        found = [user for user, used in instance.users if not role or self.plays(user, used, role)]
-        self.charge(len(found))
-        return Many("BAG", 1, found)
+        return self.charged("BAG", [user for user, used in instance.users if not role or self.plays(user, used, role)])
 
     def plays(self, user, used, role):
         """Whether a use by an attribute is one in a role, `SCHEMA.ENTITY.ATTRIBUTE`."""
-        parts = role.split(".")
-        if len(parts) != 3 or parts[0] != self.schema.name or parts[1] not in self.schema.entities:
-            return False
-        return parts[1] in user.types and used[0] in self.schema.line_of(parts[1]) and used[1] == parts[2]
+        entities = [it for it in user.types if used[0] in self.schema.line_of(it)]
+        return role in [".".join((self.schema.name, it, used[1])) for it in entities]
 
     def call(self, node, environment):
-        function = self.schema.functions[node.function]
-        arguments = [self.value(it, environment) for it in node.arguments]
-        return self.body(self.function, function, arguments)
-
-    def function(self, function, arguments):
+        function, arguments = self.schema.functions[node.function], self.values(node.arguments, environment)
         variables = {name: as_declared(self.schema, declared, it) for (name, declared), it in zip(function.parameters, arguments)}
-        ended = self.algorithm(function, Environment(INDETERMINATE, variables, dict(function.parameters)))
-        value = ended.value if isinstance(ended, Returned) else INDETERMINATE
-        return as_declared(self.schema, function.result, value)
+        ended = self.body(self.algorithm, function, Environment(INDETERMINATE, variables))
+        return as_declared(self.schema, function.result, ended.value) if isinstance(ended, Returned) else INDETERMINATE
 
     def algorithm(self, algorithm, environment):
         """The locals of a function or of a rule, and then its statements."""
-        for names, declared, _ in algorithm.locals:
+        for names, _ in algorithm.locals:
             environment.variables.update(dict.fromkeys(names, INDETERMINATE))
-            environment.types.update(dict.fromkeys(names, declared))
-        for names, declared, first in algorithm.locals:
-            if first:
-                value = as_declared(self.schema, declared, self.value(first, environment))
+        for names, local in algorithm.locals:
+            if local.expression:
+                value = as_declared(self.schema, local.type, self.value(local.expression, environment))
                 environment.variables.update(dict.fromkeys(names, value))
         return self.run(algorithm.statements, environment)
 
@@ -694,69 +607,66 @@ class Evaluation:
         return EXECUTED[type(statement)](self, statement, environment)
 
     def assignment(self, statement, environment):
-        declared = environment.types[statement.name]
-        environment.variables[statement.name] = as_declared(self.schema, declared, self.value(statement.value, environment))
+        value = self.value(statement.value, environment)
+        environment.variables[statement.name] = as_declared(self.schema, statement.type, value)
 
     def if_statement(self, statement, environment):
-        is_so = self.of_condition(statement.condition, environment) is TRUE
-        return self.run(statement.statements if is_so else statement.otherwise, environment)
+        return self.run(statement.statements if self.is_so(statement.condition, environment) else statement.otherwise, environment)
 
     def case_statement(self, statement, environment):
         """The first label that equals the selector decides. The comparisons cost nothing."""
         selector = self.value(statement.selector, environment)
         for labels, action in statement.actions:
-            for label in labels:
-                if equality(selector, self.value(label, environment)) is TRUE:
-                    return self.execute(action, environment)
+            if any(equality(selector, self.value(it, environment)) is TRUE for it in labels):
+                return self.execute(action, environment)
         return None if statement.otherwise is None else self.execute(statement.otherwise, environment)
-
-    def compound(self, statement, environment):
-        return self.run(statement.statements, environment)
 
     def repeat(self, statement, environment):
         """By increment the variable is known in the turns alone, where it may hide another."""
         if not statement.variable:
-            return self.turns(statement, environment, None, None, None)
-        first, last = (bare(self.value(it, environment)) for it in (statement.first, statement.last))
+            return self.turns(statement, environment, itertools.repeat(None))
+        first, last = (bare(it) for it in self.values((statement.first, statement.last), environment))
         step = bare(self.value(statement.step, environment)) if statement.step else 1
         if not all(isinstance(it, int) for it in (first, last, step)) or step == 0:
             return None
         hidden = {name: it for name, it in environment.variables.items() if name == statement.variable}
-        ended = self.turns(statement, environment, first, last, step)
+        ended = self.turns(statement, environment, range(first, last + (1 if step > 0 else -1), step))
         environment.variables.update(hidden)
         return ended
 
-    def turns(self, statement, environment, value, last, step):
-        """A turn tests the bound and WHILE, runs the statements, tests UNTIL, and adds the step."""
-        while True:
+    def turns(self, statement, environment, values):
+        """A turn tests WHILE, runs the statements, and tests UNTIL."""
+        for value in values:
             if statement.variable:
-                if value > last if step > 0 else value < last:
-                    return None
                 environment.variables[statement.variable] = value
-                value += step
-            if statement.condition and self.of_condition(statement.condition, environment) is not TRUE:
+            if statement.condition and not self.is_so(statement.condition, environment):
                 return None
             ended = self.run(statement.statements, environment)
             if ended and ended is not SKIPPED:
                 return None if ended is ESCAPED else ended
-            if statement.until and self.of_condition(statement.until, environment) is TRUE:
+            if statement.until and self.is_so(statement.until, environment):
                 return None
+        return None
 
 
 EVALUATED = {
-    trees.Literal: Evaluation.literal, trees.Variable: Evaluation.variable, trees.Self: Evaluation.self_value,
-    trees.OwnAttribute: Evaluation.own_attribute, trees.Constant: Evaluation.constant, trees.Extent: Evaluation.extent,
-    trees.Call: Evaluation.call, trees.BuiltIn: Evaluation.built_in, trees.Qualified: Evaluation.qualified,
-    trees.Unary: Evaluation.unary, trees.Chain: Evaluation.chain, trees.Interval: Evaluation.interval,
-    trees.Query: Evaluation.query, trees.Initialiser: Evaluation.initialiser,
-}
-ACCESSES = {
-    trees.OfAttribute: Evaluation.of_attribute, trees.OfGroup: Evaluation.of_group, trees.OfIndex: Evaluation.of_index,
-    trees.OfRange: Evaluation.of_range,
+    trees.Literal: lambda it, node, at: node.value,
+    trees.Variable: lambda it, node, at: at.variables[node.name],
+    trees.Self: lambda it, node, at: at.self_value,
+    trees.Constant: lambda it, node, at: it.derived(it.schema.constants[node.name], INDETERMINATE),
+    trees.Extent: lambda it, node, at: it.charged("SET", it.extents[node.entity]),
+    trees.OwnAttribute: lambda it, node, at: it.attribute(at.self_value, node.name, node.near),
+    trees.OfAttribute: lambda it, node, at: it.attribute(it.value(node.first, at), node.name, node.near),
+    trees.OfGroup: Evaluation.of_group,
+    trees.OfIndex: lambda it, node, at: at_index(it.value(node.first, at), it.value(node.index, at)),
+    trees.OfRange: lambda it, node, at: part_of(*it.values((node.first, node.low, node.high), at)),
+    trees.Unary: lambda it, node, at: UNARY[node.operator](it.value(node.operand, at)),
+    trees.Binary: Evaluation.binary, trees.Interval: Evaluation.interval, trees.Query: Evaluation.query,
+    trees.Initialiser: Evaluation.initialiser, trees.BuiltIn: Evaluation.built_in, trees.Call: Evaluation.call,
 }
 EXECUTED = {
     trees.Assignment: Evaluation.assignment, trees.If: Evaluation.if_statement, trees.Case: Evaluation.case_statement,
-    trees.Repeat: Evaluation.repeat, trees.Compound: Evaluation.compound, trees.Null: lambda *_: None,
-    trees.Skip: lambda *_: SKIPPED, trees.Escape: lambda *_: ESCAPED,
-    trees.Return: lambda it, statement, environment: Returned(it.value(statement.value, environment)),
+    trees.Repeat: Evaluation.repeat, trees.Compound: lambda it, statement, at: it.run(statement.statements, at),
+    trees.Null: lambda *_: None, trees.Skip: lambda *_: SKIPPED, trees.Escape: lambda *_: ESCAPED,
+    trees.Return: lambda it, statement, at: Returned(it.value(statement.value, at)),
 }

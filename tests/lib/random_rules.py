@@ -13,7 +13,6 @@ import os
 import random
 import sys
 import time
-from types import SimpleNamespace
 
 sys.path.insert(0, os.path.dirname(os.path.dirname(os.path.abspath(__file__))))
 
@@ -21,9 +20,9 @@ from lib import plain_binding  # noqa: E402
 from lib.plain_binding import DERIVED, UNSET, Bits, Enumeration, Real, Reference, Select, Typed  # noqa: E402
 from lib.plain_express import read  # noqa: E402
 from lib.plain_trees import (  # noqa: E402
-    INDETERMINATE, Aggregate, Algorithm, Assignment, BuiltIn, Call, Case, Chain, Compound, Constant, Entity, Escape, Explicit, Extent, If,
-    Initialiser, Interval, Inverse, Item, Literal, Local, Logical, Null, OfAttribute, OfGroup, OfIndex, OfRange, OwnAttribute, Qualified,
-    Query, Repeat, Return, Rule, Schema, Self, Simple, Skip, Unary, Variable,
+    INDETERMINATE, Aggregate, Algorithm, Assignment, Binary, BuiltIn, Call, Case, Compound, Constant, Defined, Entity, Escape, Explicit, Extent,
+    Given, If, Initialiser, Interval, Inverse, Item, Literal, Logical, Null, OfAttribute, OfGroup, OfIndex, OfRange, OwnAttribute, Query, Repeat,
+    Return, Rule, Schema, Self, Simple, Skip, Unary, Variable,
 )
 from lib.rule_texts import binding_schema, report  # noqa: E402
 from lib.schema_text import schema_text  # noqa: E402
@@ -36,6 +35,7 @@ ELEMENTS = {"integers": "INTEGER", "entities": "entity"}
 # functions of SHOWING that give back what is of a sort, as what they declare
 DECLARED = {"INTEGER": ["AS_COUNT", "AS_SMALL"], "STRING": ["AS_LABEL"], "REAL": ["AS_REAL"], "select": ["AS_SELECT"],
             "integers": ["AS_SET", "AS_BAG", "AS_ARRAY", "AS_COUNTS"], "entities": ["AS_PARTS"]}
+ACCESSES = (OfAttribute, OfGroup, OfIndex, OfRange)
 Scope = collections.namedtuple("Scope", "variables entity extents", defaults=(None, ()))
 
 # Functions that give aggregates their kinds, and one whose steps tell a value apart from most others, so that what an expression gives is
@@ -74,11 +74,15 @@ def whole(number):
 
 
 def chain(left, operator, right):
-    return Chain(left, [(operator, right)], None)
+    return Binary(left, operator, right, None)
 
 
 def built_in(name, *arguments):
     return BuiltIn(name, list(arguments), None)
+
+
+def attribute_of(first, name):
+    return OfAttribute(first, name, None, None)
 
 
 class Maker:
@@ -111,7 +115,7 @@ class Maker:
             line = self.schema.line_of(scope.entity)
             names = {name for it in line for of in self.attributes(it) for name in of if SORTS[name[0]] == sort}
             found += [OwnAttribute(name, None, None) for name in sorted(names)]
-            found += [Qualified(Self(None), [OfGroup(it), OfAttribute(name, None)], None) for it in line[:1]
+            found += [attribute_of(OfGroup(Self(None), it, None), name) for it in line[:1]
                       for of in self.attributes(it) for name in of if SORTS[name[0]] == sort][:1]
         return self.choice(found) if found else None
 
@@ -125,16 +129,13 @@ class Maker:
         first = self.entity(scope, depth - 1)
         near = self.likely(first, scope) if self.happens(0.8) else self.schema.entities
         names = sorted({name for it in near for of in self.attributes(it) for name in of if SORTS[name[0]] == sort})
-        if not names or not isinstance(first, (Variable, Self, OwnAttribute, Call, BuiltIn, Qualified)):
+        if not names or not isinstance(first, (Variable, Self, OwnAttribute, Call, BuiltIn, *ACCESSES)):
             return None
         name = self.choice(names)
         if self.happens(0.3):
-            return Qualified(Call("ANYTHING", [first], None), [OfAttribute(name, None)], None)
+            return attribute_of(Call("ANYTHING", [first], None), name)
         owners = [it for it in near if self.schema.declares(it, name)]
-        accesses = [OfGroup(self.choice(owners)), OfAttribute(name, None)]
-        if isinstance(first, Qualified):
-            return Qualified(first.first, [*first.accesses, *accesses], None)
-        return Qualified(first, accesses, None)
+        return attribute_of(OfGroup(first, self.choice(owners), None), name)
 
     def likely(self, node, scope):
         """Entities that an instance likely is of: those of SELF, or of what an attribute is declared to hold, with those below."""
@@ -190,8 +191,7 @@ class Maker:
         name = self.named({"INTEGER": "integers", "entity": "entities"}[sort], scope)
         if not name:
             return self.expression(sort, scope, 0)
-        index = OfIndex(self.integer(scope, 0) if self.happens(0.8) else self.integer(scope, 1))
-        return Qualified(name.first, [*name.accesses, index], None) if isinstance(name, Qualified) else Qualified(name, [index], None)
+        return OfIndex(name, self.integer(scope, 0) if self.happens(0.8) else self.integer(scope, 1), None)
 
     def string(self, scope, depth):
         if depth <= 0:
@@ -200,7 +200,7 @@ class Maker:
         name = self.named("STRING", scope)
         if isinstance(name, (Variable, OwnAttribute)) and self.happens(0.5):
             low, high = whole(self.choice([0, 1, 2])), whole(self.choice([1, 2, 3]))
-            return Qualified(name, [self.choice([OfIndex(low), OfRange(low, high)])], None)
+            return self.choice([OfIndex(name, low, None), OfRange(name, low, high, None)])
         return self.choice([lambda: chain(part(), "+", part()), lambda: built_in("NVL", part(), part())])()
 
     def binary(self, scope, depth):
@@ -223,7 +223,7 @@ class Maker:
     def entity(self, scope, depth):
         found = [Self(None)] if scope.entity else []
         if scope.extents:
-            found.append(Qualified(Extent(self.choice(scope.extents), None), [OfIndex(whole(self.choice([1, 1, 2])))], None))
+            found.append(OfIndex(Extent(self.choice(scope.extents), None), whole(self.choice([1, 1, 2])), None))
         found += [it for it in [self.named("entity", scope)] if it]
         if depth > 0 and self.happens(0.3):
             found.append(built_in("NVL", self.expression("entity", scope, depth - 1), self.expression("entity", scope, depth - 1)))
@@ -318,7 +318,7 @@ class Maker:
             "PARTS": of("SET", 0, None, "ENTITY_1"), "INNER": Select(("LABEL", "COUNT_SET", "ENTITY_2")),
             "ANY_ONE": Select(("SMALL_COUNT", "INNER", "ENTITY_1", "COLOUR", "PARTS")), "RENAMED": "ANY_ONE",
         }
-        self.schema.types = {name: SimpleNamespace(underlying=it, at=None, rules=[]) for name, it in underlying.items()}
+        self.schema.types = {name: Defined(it) for name, it in underlying.items()}
 
     def declared(self, letter, place):
         """A type of a name's sort."""
@@ -374,7 +374,7 @@ class Maker:
             declared = self.schema.entities[it].explicit[attribute].type
             if attribute != "E_NEXT" and self.happens(0.6) and SORTS[attribute[0]] in ("INTEGER", "STRING", "LOGICAL"):
                 expression = self.expression(SORTS[attribute[0]], scope, 2)
-                entity.derived_again[it, attribute] = SimpleNamespace(type=declared, at=None, expression=expression)
+                entity.derived_again[it, attribute] = Given(declared, expression)
             else:
                 type_again = self.declared(attribute[0], 60) if attribute[0] in "NSLEX" else declared
                 entity.redeclared[it, attribute] = Explicit(type_again, self.happens(0.5))
@@ -403,7 +403,7 @@ class Maker:
             self.entity_declaration(name, place)
         for name in self.entities[1:]:
             self.inverse_parts(name, self.names_beside(name))
-        depth = Qualified(OwnAttribute("E_NEXT", None, None), [OfAttribute("N_DEPTH", None)], None)
+        depth = attribute_of(OwnAttribute("E_NEXT", None, None), "N_DEPTH")
         depth_of = chain(built_in("NVL", depth, whole(0)), "+", whole(1))
         first = self.schema.entities["ENTITY_1"]
         derived = {}
@@ -415,10 +415,10 @@ class Maker:
                 attribute = self.new_name(taken | {it for of in derived.values() for it, _ in of}, "NSQM")
                 expression = self.expression(SORTS[attribute[0]], Scope({}, name), 3)
                 declared = self.declared(attribute[0], 60) if attribute[0] != "M" else Aggregate("SET", 0, None, "ENTITY_1", False, False)
-                derived.setdefault(name, []).append((attribute, SimpleNamespace(type=declared, at=None, expression=expression)))
+                derived.setdefault(name, []).append((attribute, Given(declared, expression)))
         for name, its in derived.items():
             self.schema.entities[name].derived.update(its)
-        first.derived["N_DEPTH"] = SimpleNamespace(type="COUNT", at=None, expression=depth_of)
+        first.derived["N_DEPTH"] = Given("COUNT", depth_of)
 
     def rules_of(self, count, scope, make):
         """Rules, some with labels."""
@@ -445,17 +445,17 @@ class Maker:
             entities = tuple(self.random.sample(self.entities, self.choice([1, 1, 2])))
             if place == 0:
                 entities = ("ENTITY_1",)
-            rule = self.schema.rules[f"RULE_{place + 1}"] = Algorithm(None, entities=entities)
+            rule = self.schema.rules[f"RULE_{place + 1}"] = Algorithm(entities=entities)
             scope = Scope({}, None, entities)
             rule.locals, rule.statements, scope = self.body(scope, self.choice([0, 1, 2]), False)
             rule.rules = self.rules_of(self.choice([1, 2]), scope, condition)
-        depth = Qualified(Variable("X", None), [OfAttribute("N_DEPTH", None)], None)
+        depth = attribute_of(Variable("X", None), "N_DEPTH")
         rounds = Query("X", Extent("ENTITY_1", None), chain(depth, ">", whole(3)), None)
         self.schema.rules["RULE_1"].rules.append(Rule("ROUND", chain(built_in("SIZEOF", rounds), "=", whole(0))))
         # with one instance of this entity 200,000 steps, or one more
         last = self.entities[-1]
         turns = chain(chain(built_in("SIZEOF", Extent(last, None)), "*", whole(28_569)), "+", whole(0))
-        spin = self.schema.rules["RULE_SPIN"] = Algorithm(None, entities=(last,))
+        spin = self.schema.rules["RULE_SPIN"] = Algorithm(entities=(last,))
         said = chain(Call("SPIN", [turns], None), "=", whole(0))
         spin.rules = [Rule("#1", said if self.happens(0.5) else Unary("NOT", said, None))]
 
@@ -469,8 +469,8 @@ class Maker:
             "LABEL": [chain(built_in("LENGTH", me), ">", whole(0)), chain(me, "<>", Literal("a", None))],
             "COLOUR": [chain(me, "<", Literal(Item("COLOUR", 2, "BLUE"), None))],
             "PAINT": [chain(me, ":<>:", Literal(Item("COLOUR", 0, "RED"), None))],
-            "COUNTS": [chain(Qualified(me, [OfIndex(whole(1))], None), "=", whole(1))], "COUNT_SET": [chain(whole(3), "IN", me)],
-            "ROW": [built_in("EXISTS", Qualified(me, [OfIndex(whole(2))], None)), chain(built_in("LOINDEX", me), "=", whole(2))],
+            "COUNTS": [chain(OfIndex(me, whole(1), None), "=", whole(1))], "COUNT_SET": [chain(whole(3), "IN", me)],
+            "ROW": [built_in("EXISTS", OfIndex(me, whole(2), None)), chain(built_in("LOINDEX", me), "=", whole(2))],
             "INNER": [typed("LABEL")], "ANY_ONE": [chain(typed("SMALL_COUNT"), "OR", built_in("EXISTS", me)), chain(me, ":<>:", whole(7))],
             "RENAMED": [Unary("NOT", typed("COLOUR"), None)], "PARTS": [chain(built_in("SIZEOF", me), "<", whole(3))],
         }
@@ -483,14 +483,14 @@ class Maker:
         """One that calls itself, one that goes round as often as it is told to, and others."""
         n = Variable("N", None)
         less = Call("FALL", [chain(n, "-", whole(1))], None)
-        fall = self.schema.functions["FALL"] = Algorithm(None, [("N", Simple("INTEGER"))], Simple("INTEGER"))
+        fall = self.schema.functions["FALL"] = Algorithm([("N", Simple("INTEGER"))], Simple("INTEGER"))
         fall.statements = [If(chain(n, "<=", whole(0)), [Return(whole(0))], []), Return(less)]
-        spin = self.schema.functions["SPIN"] = Algorithm(None, [("N", "COUNT")], Simple("INTEGER"))
-        spin.locals = [Local(["I"], Simple("INTEGER"), whole(0))]
+        spin = self.schema.functions["SPIN"] = Algorithm([("N", "COUNT")], Simple("INTEGER"))
+        spin.locals = [(["I"], Given(Simple("INTEGER"), whole(0)))]
         spin.statements = [Repeat(None, None, None, None, chain(Variable("I", None), "<>", n), None,
-                                  [Assignment("I", chain(Variable("I", None), "+", whole(1)))]), Return(Variable("I", None))]
+                                  [Assignment("I", None, chain(Variable("I", None), "+", whole(1)))]), Return(Variable("I", None))]
         self.schema.functions.update({name: it for name, it in read(SHOWING).functions.items() if name != "FALL"})
-        anything = self.schema.functions["ANYTHING"] = Algorithm(None, [("X", Simple("GENERIC"))], Simple("GENERIC"))
+        anything = self.schema.functions["ANYTHING"] = Algorithm([("X", Simple("GENERIC"))], Simple("GENERIC"))
         anything.statements = [Return(Variable("X", None))]
         self.callable = {"FALL": (["INTEGER"], "INTEGER")}
         sorts = {"INTEGER": "COUNT", "STRING": "LABEL", "LOGICAL": Simple("LOGICAL"), "entity": "ENTITY_1", "select": "ANY_ONE",
@@ -500,7 +500,7 @@ class Maker:
             result = self.choice(["INTEGER", "STRING", "LOGICAL", "entity", "integers", "entities"])
             parameters = [(f"P{at}", sorts[it] if self.happens(0.8) else Simple("GENERIC")) for at, it in enumerate(own)]
             variables = {name: sort for (name, declared), sort in zip(parameters, own) if declared != Simple("GENERIC")}
-            function = Algorithm(None, parameters, sorts[result])
+            function = Algorithm(parameters, sorts[result])
             function.locals, function.statements, scope = self.body(Scope(variables), 3, True)
             function.statements.append(Return(self.expression(result, scope, 2)))
             self.schema.functions[f"FUNCTION_{place + 1}"] = function
@@ -510,7 +510,7 @@ class Maker:
         """Locals, statements, and the scope in which they are known."""
         sorts = {"INTEGER": Simple("INTEGER"), "STRING": "LABEL", "integers": Aggregate("SET", 0, None, Simple("INTEGER"), False, False)}
         named = {self.variable(): self.choice(list(sorts)) for _ in range(count)}
-        found = [Local([name], sorts[sort], self.expression(sort, scope, 1) if self.happens(0.8) else None) for name, sort in named.items()]
+        found = [([name], Given(sorts[sort], self.expression(sort, scope, 1) if self.happens(0.8) else None)) for name, sort in named.items()]
         inside = scope._replace(variables={**scope.variables, **named})
         statements = [self.statement(inside, named, 2, is_function) for _ in range(count)]
         return found, statements, inside
@@ -522,7 +522,7 @@ class Maker:
         value = self.expression(named[name], scope, 2)
         if named[name] == "integers" and self.happens(0.6):
             value = chain(Variable(name, None), "+", self.expression("INTEGER", scope, 1))
-        return Assignment(name, value)
+        return Assignment(name, None, value)
 
     def statement(self, scope, named, depth, is_function, in_repeat=False):
         part = lambda: self.statement(scope, named, depth - 1, is_function, in_repeat)
@@ -550,7 +550,7 @@ class Maker:
         self.all_entities()
         self.functions()
         self.all_rules()
-        ten = SimpleNamespace(type="COUNT", at=None, expression=chain(Call("FALL", [whole(4)], None), "+", whole(10)))
+        ten = Given("COUNT", chain(Call("FALL", [whole(4)], None), "+", whole(10)))
         self.schema.constants = {"TEN": ten}
         users = built_in("SIZEOF", built_in("USEDIN", Self(None), Literal("", None)))
         self.schema.entities["ENTITY_2"].rules.append(Rule("WITH_TEN", chain(users, "<", Constant("TEN", None))))

@@ -91,7 +91,7 @@ def evaluate(schema_text, expression, instances="", self_name=None, entity=None,
     tree = plain_express.read_expression(schema, expression, entity, tuple(schema.entities))
     evaluation = plain_rules.Evaluation(schema, plain_reports.extents_of(schema, population), limit)
     try:
-        value = deep(evaluation.value, tree, plain_rules.Environment(me, {}, {}))
+        value = deep(evaluation.value, tree, plain_rules.Environment(me, {}))
     except plain_rules.PastLimit:
         return LIMIT
     return value, evaluation.steps

@@ -1,9 +1,8 @@
 """The text of a schema of plain_trees, which plain_express reads again as the same trees."""
 from lib.plain_binding import Bits, Enumeration, Real, Select
 from lib.plain_trees import (
-    INDETERMINATE, Aggregate, Assignment, BuiltIn, Call, Case, Chain, Compound, Constant, Escape, Extent, If, Initialiser, Interval, Item,
-    Literal, Logical, Null, OfAttribute, OfGroup, OfIndex, OfRange, OwnAttribute, Qualified, Query, Repeat, Return, Self, Simple, Skip, Unary,
-    Variable,
+    INDETERMINATE, Aggregate, Assignment, Binary, BuiltIn, Call, Case, Compound, Constant, Escape, Extent, If, Initialiser, Interval, Item,
+    Literal, Logical, Null, OfAttribute, OfGroup, OfIndex, OfRange, OwnAttribute, Query, Repeat, Return, Self, Simple, Skip, Unary, Variable,
 )
 
 # ---- expressions
@@ -25,9 +24,12 @@ def literal(value):
     return value.name if isinstance(value, Logical) else "?" if value is INDETERMINATE else str(value)
 
 
+PLAIN = (Variable, Self, OwnAttribute, Constant, Extent, Call, BuiltIn, OfAttribute, OfGroup, OfIndex, OfRange)
+
+
 def operand(node):
     """An operand stands in parentheses unless it is a name, a call, an access, or a literal without a sign."""
-    is_plain = isinstance(node, (Variable, Self, OwnAttribute, Constant, Extent, Call, BuiltIn, Qualified)) or (
+    is_plain = isinstance(node, PLAIN) or (
         isinstance(node, Literal) and not isinstance(node.value, Real))
     return text_of(node) if is_plain else f"({text_of(node)})"
 
@@ -39,10 +41,11 @@ def called(node):
 EXPRESSIONS = {
     Literal: lambda it: literal(it.value), Variable: lambda it: it.name, Self: lambda _: "SELF", OwnAttribute: lambda it: it.name,
     Constant: lambda it: it.name, Extent: lambda it: it.entity, Call: called, BuiltIn: called,
-    Qualified: lambda it: text_of(it.first) + "".join(map(text_of, it.accesses)), OfAttribute: lambda it: f".{it.name}",
-    OfGroup: lambda it: f"\\{it.entity}", OfIndex: lambda it: f"[{operand(it.index)}]",
-    OfRange: lambda it: f"[{operand(it.low)} : {operand(it.high)}]", Unary: lambda it: f"{it.operator} {operand(it.operand)}",
-    Chain: lambda it: operand(it.first) + "".join(f" {operator} {operand(right)}" for operator, right in it.rest),
+    OfAttribute: lambda it: f"{text_of(it.first)}.{it.name}", OfGroup: lambda it: f"{text_of(it.first)}\\{it.entity}",
+    OfIndex: lambda it: f"{text_of(it.first)}[{operand(it.index)}]",
+    OfRange: lambda it: f"{text_of(it.first)}[{operand(it.low)} : {operand(it.high)}]",
+    Unary: lambda it: f"{it.operator} {operand(it.operand)}",
+    Binary: lambda it: f"{operand(it.left)} {it.operator} {operand(it.right)}",
     Interval: lambda it: f"{{{operand(it.low)} {it.low_operator} {operand(it.item)} {it.high_operator} {operand(it.high)}}}",
     Query: lambda it: f"QUERY({it.variable} <* {operand(it.source)} | {text_of(it.condition)})",
     Initialiser: lambda it: f"[{listed(it.elements)}]",
@@ -132,8 +135,8 @@ def entity_text(name, entity):
 
 def algorithm_text(it):
     text = ""
-    for names, declared, first in it.locals:
-        text += f"  {', '.join(names)} : {type_text(declared)}{f' := {text_of(first)}' if first else ''};\n"
+    for names, local in it.locals:
+        text += f"  {', '.join(names)} : {type_text(local.type)}{f' := {text_of(local.expression)}' if local.expression else ''};\n"
     return (f"LOCAL\n{text}END_LOCAL;\n" if it.locals else "") + "".join(f"  {text_of(one)}\n" for one in it.statements)
 
 
