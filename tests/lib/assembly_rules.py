@@ -741,12 +741,11 @@ def one_unit_of_length_wr1(instances):
         bodies.append(body)
     alike, steps = True, 7 + len(contexts) + 9 + sum(bodies[:1])
     for prefix, body in zip(prefixes[1:], bodies[1:]):
-        # each turn WHILE: alike; and if so IF, <>, `.`, `\`, `[]`, `.`, `[]`, contexts, i, 1, and the body of lengths, prefix: 11;
-        # the assignment, FALSE where they differ
+        # each turn WHILE: alike; and if that is TRUE the assignment, =, `.`, `\`, `[]`, `.`, `[]`, contexts, i, 1, and the body of lengths,
+        # prefix: 11
         steps += 1
-        if not alike:
+        if alike is not True:
             break
         steps += 11 + body
-        if equal(prefix, prefixes[0]) is False:
-            alike, steps = False, steps + 2
+        alike = equal(prefix, prefixes[0])
     return alike, steps
