@@ -6,7 +6,7 @@ of the population; what is evaluated is told by plain_rules.
 """
 from lib.plain_binding import DERIVED, UNSET, Enumeration, Reference, Typed
 from lib.plain_binding import Item as Word
-from lib.plain_trees import INDETERMINATE, Absent, Aggregate, Item, Logical, Simple
+from lib.plain_express import INDETERMINATE, Absent, Aggregate, Item, Logical, Simple
 from lib.plain_rules import (
     LIMIT, NOT_RUN, SIMPLE, STEPS_OF_AN_EVALUATION, TRUE, Environment, Evaluation, Instance, Many, PastLimit, as_declared, bare, deep,
     fits, length, once_each, parts, rough, same, truth,

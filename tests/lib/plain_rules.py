@@ -1,4 +1,4 @@
-"""What the trees of plain_trees mean over a population, with steps and nesting, in Python.
+"""What the trees of plain_express mean over a population, with steps and nesting, in Python.
 
 It is written from the description alone, and never from the program: each operator, function and statement is a function
 here. Nothing is compiled, and nothing is remembered from one evaluation to another.
@@ -15,9 +15,9 @@ from concurrent.futures import ThreadPoolExecutor
 from enum import Enum
 from fractions import Fraction
 
-from lib import plain_trees as trees
+from lib import plain_express as trees
 from lib.plain_binding import Bits, Enumeration, Real, Select, Typed
-from lib.plain_trees import INDETERMINATE, Aggregate, Item, Logical, Simple
+from lib.plain_express import INDETERMINATE, Aggregate, Item, Logical, Simple
 
 TRUE, FALSE, UNKNOWN = Logical.TRUE, Logical.FALSE, Logical.UNKNOWN
 STEPS_OF_AN_EVALUATION = 200_000
