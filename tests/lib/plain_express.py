@@ -227,7 +227,6 @@ LEVELS = [
     ("*", "/", "DIV", "MOD", "AND"),
     ("**",),
 ]
-SIMPLE_EXPRESSION = 1
 AGGREGATES = ("ARRAY", "LIST", "BAG", "SET", "AGGREGATE")
 CLAUSES = ("DERIVE", "INVERSE", "UNIQUE", "WHERE", "END_ENTITY", "END_TYPE", "END_RULE")
 FUNCTIONS = ("ABS", "BLENGTH", "EXISTS", "HIINDEX", "LENGTH", "LOINDEX", "NVL", "ODD", "SIZEOF", "TYPEOF", "USEDIN", "VALUE_IN")
@@ -281,11 +280,15 @@ class Reader:
             found.append(read())
         return found
 
+    def up_to(self, end, read=None):
+        """What is read, or the next token, up to this one, which is taken."""
+        found = (read or self.take)()
+        self.skip(end)
+        return found
+
     def in_parentheses(self, read):
         self.skip("(")
-        found = self.listed(read)
-        self.skip(")")
-        return found
+        return self.up_to(")", lambda: self.listed(read))
 
     def later(self, end, scope, read):
         """Puts off what stands up to this end."""
@@ -297,8 +300,7 @@ class Reader:
 
     def read(self):
         self.skip("SCHEMA")
-        self.schema = Schema(self.take())
-        self.skip(";")
+        self.schema = Schema(self.up_to(";"))
         declarations = {"CONSTANT": self.constants, "TYPE": self.type_declaration, "ENTITY": self.entity_declaration,
                         "FUNCTION": self.function_declaration, "RULE": self.rule_declaration}
         while not self.takes("END_SCHEMA"):
@@ -330,27 +332,20 @@ class Reader:
             self.schema.constants[name] = self.given(Scope({}))
 
     def type_declaration(self):
-        name = self.take()
-        self.skip("=")
-        found = self.schema.types[name] = Defined(self.type())
-        self.skip(";")
+        name = self.up_to("=")
+        found = self.schema.types[name] = Defined(self.up_to(";", self.type))
         self.later("END_TYPE", Scope({}, name), lambda: self.rules(found))
 
     def width(self):
         if not self.takes("("):
             return None, False
-        width = self.take().value
-        self.skip(")")
-        return width, self.takes("FIXED")
+        return self.up_to(")").value, self.takes("FIXED")
 
     def bounds(self):
         if not self.takes("["):
             return 0, None
-        low = self.take().value
-        self.skip(":")
-        high = self.take()
-        self.skip("]")
-        return low, None if high == "?" else high.value
+        low, high = self.up_to(":"), self.up_to("]")
+        return low.value, None if high == "?" else high.value
 
     def type(self):
         word = self.take()
@@ -375,9 +370,7 @@ class Reader:
         if not self.takes("SELF"):
             return self.take()
         self.skip("\\")
-        above = self.take()
-        self.skip(".")
-        return above, self.take()
+        return self.up_to("."), self.take()
 
     def entity_declaration(self):
         name = self.take()
@@ -390,8 +383,7 @@ class Reader:
             entity.supertypes = self.in_parentheses(self.take)
         self.skip(";")
         while not self.sees(*CLAUSES):
-            names = self.listed(self.attribute_name)
-            self.skip(":")
+            names = self.up_to(":", lambda: self.listed(self.attribute_name))
             found = Explicit(is_optional=self.takes("OPTIONAL"), type=self.type())
             self.skip(";")
             for it in names:
@@ -402,32 +394,24 @@ class Reader:
                 (entity.derived if isinstance(name, str) else entity.derived_again)[name] = self.given(scope)
         if self.takes("INVERSE"):
             while not self.sees(*CLAUSES):
-                name = self.take()
-                self.skip(":")
-                users = self.type()
-                self.skip("FOR")
+                name, users = self.up_to(":"), self.up_to("FOR", self.type)
                 kind, low, high, user = users[:4] if isinstance(users, Aggregate) else (None, 1, 1, users)
-                entity.inverse[name] = Inverse(kind, low, high, user, self.take())
-                self.skip(";")
+                entity.inverse[name] = Inverse(kind, low, high, user, self.up_to(";"))
         self.later("END_ENTITY", scope, lambda: self.rules(entity))
 
     def function_declaration(self):
         name, parameters = self.take(), []
         if self.takes("("):
             while not self.takes(")"):
-                names = self.listed(self.take)
-                self.skip(":")
-                declared = self.type()
+                names, declared = self.up_to(":", lambda: self.listed(self.take)), self.type()
                 parameters += [(it, declared) for it in names]
                 self.takes(";")
         self.skip(":")
-        function = self.schema.functions[name] = Algorithm(parameters, self.type())
-        self.skip(";")
+        function = self.schema.functions[name] = Algorithm(parameters, self.up_to(";", self.type))
         self.algorithm(function, Scope(dict(parameters)), "END_FUNCTION")
 
     def rule_declaration(self):
-        name = self.take()
-        self.skip("FOR")
+        name = self.up_to("FOR")
         rule = self.schema.rules[name] = Algorithm(entities=self.in_parentheses(self.take))
         self.skip(";")
         self.algorithm(rule, Scope({}, None, rule.entities), "END_RULE")
@@ -458,12 +442,8 @@ class Reader:
     def labelled(self, read):
         found = []
         while not self.sees(*CLAUSES):
-            label = f"#{len(found) + 1}"
-            if self.tokens[self.at + 1] == ":":
-                label = self.take()
-                self.skip(":")
-            found.append(Rule(label, read()))
-            self.skip(";")
+            label = self.up_to(":") if self.tokens[self.at + 1] == ":" else f"#{len(found) + 1}"
+            found.append(Rule(label, self.up_to(";", read)))
         return found
 
     def unique_attribute(self):
@@ -482,44 +462,32 @@ class Reader:
 
     def statement(self):
         statements = {
-            "IF": self.if_statement, "CASE": self.case_statement, "REPEAT": self.repeat_statement, "BEGIN": self.compound_statement,
+            "IF": self.if_statement, "CASE": self.case_statement, "REPEAT": self.repeat_statement,
+            "BEGIN": lambda: Compound(self.up_to("END", self.statements)),
             "SKIP": Skip, "ESCAPE": Escape, "RETURN": lambda: Return(self.expression()),
         }
         word = self.take()
         if word == ";":
             return Null()
-        found = statements[word]() if word in statements else self.assignment(word)
-        self.skip(";")
-        return found
+        return self.up_to(";", statements[word] if word in statements else lambda: self.assignment(word))
 
     def assignment(self, name):
         self.skip(":=")
         return Assignment(name, self.scope.variables[name], self.expression())
 
-    def compound_statement(self):
-        found = self.statements()
-        self.skip("END")
-        return Compound(found)
-
     def if_statement(self):
-        condition = self.expression()
-        self.skip("THEN")
-        statements = self.statements()
+        condition, statements = self.up_to("THEN", self.expression), self.statements()
         otherwise = self.statements() if self.takes("ELSE") else []
         self.skip("END_IF")
         return If(condition, statements, otherwise)
 
     def case_statement(self):
-        selector = self.expression()
-        self.skip("OF")
-        actions, otherwise = [], None
+        selector, actions = self.up_to("OF", self.expression), []
         while not self.sees("OTHERWISE", "END_CASE"):
-            labels = self.listed(self.expression)
-            self.skip(":")
+            labels = self.up_to(":", lambda: self.listed(self.expression))
             actions.append((labels, self.statement()))
-        if self.takes("OTHERWISE"):
-            self.skip(":")
-            otherwise = self.statement()
+        has_otherwise = self.takes("OTHERWISE") and self.takes(":")
+        otherwise = self.statement() if has_otherwise else None
         self.skip("END_CASE")
         return Case(selector, actions, otherwise)
 
@@ -532,18 +500,13 @@ class Reader:
         variable = first = last = step = None
         before = self.scope
         if not self.sees("WHILE", "UNTIL", ";"):
-            variable = self.take()
-            self.skip(":=")
-            first = self.level(SIMPLE_EXPRESSION)
-            self.skip("TO")
-            last = self.level(SIMPLE_EXPRESSION)
-            step = self.level(SIMPLE_EXPRESSION) if self.takes("BY") else None
+            variable, first, last = self.up_to(":="), self.up_to("TO", self.simple_expression), self.simple_expression()
+            step = self.simple_expression() if self.takes("BY") else None
             self.scope = self.within(variable, Simple("INTEGER"))
         condition = self.expression() if self.takes("WHILE") else None
         until = self.expression() if self.takes("UNTIL") else None
         self.skip(";")
-        statements = self.statements()
-        self.skip("END_REPEAT")
+        statements = self.up_to("END_REPEAT", self.statements)
         self.scope = before
         return Repeat(variable, first, last, step, condition, until, statements)
 
@@ -551,6 +514,9 @@ class Reader:
 
     def expression(self):
         return self.level(0)
+
+    def simple_expression(self):
+        return self.level(1)
 
     def level(self, place):
         """Operators of one level go from left to right."""
@@ -584,26 +550,20 @@ class Reader:
         return others[token]() if token in others else self.accesses(self.named(token))
 
     def initialiser(self):
-        elements = [] if self.sees("]") else self.listed(self.expression)
-        self.skip("]")
+        elements = self.up_to("]", lambda: [] if self.sees("]") else self.listed(self.expression))
         return Initialiser(elements, aggregate_of(union(it.kinds for it in elements)))
 
     def interval(self):
-        low, first, item, second, high = (self.level(SIMPLE_EXPRESSION) if place % 2 == 0 else self.take() for place in range(5))
+        low, first, item, second, high = (self.simple_expression() if place % 2 == 0 else self.take() for place in range(5))
         self.skip("}")
         return Interval(low, first, item, second, high, NONE)
 
     def query(self):
         self.skip("(")
-        variable = self.take()
-        self.skip("<*")
-        source = self.level(SIMPLE_EXPRESSION)
-        self.skip("|")
-        before = self.scope
+        variable, source, before = self.up_to("<*"), self.up_to("|", self.simple_expression), self.scope
         self.scope = self.within(variable, Select(self.schema.kinds_of_elements(source.kinds)))
-        condition = self.expression()
+        condition = self.up_to(")", self.expression)
         self.scope = before
-        self.skip(")")
         return Query(variable, source, condition, frozenset(it for it in source.kinds if isinstance(it, Aggregate)))
 
     def named(self, name):
@@ -661,8 +621,8 @@ class Reader:
         return OfGroup(first, name, frozenset([name]))
 
     def of_index(self, first):
-        index = self.level(SIMPLE_EXPRESSION)
-        last = self.level(SIMPLE_EXPRESSION) if self.takes(":") else None
+        index = self.simple_expression()
+        last = self.simple_expression() if self.takes(":") else None
         self.skip("]")
         return OfRange(first, index, last, NONE) if last else OfIndex(first, index, self.schema.kinds_of_elements(first.kinds))
 
