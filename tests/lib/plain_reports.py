@@ -9,7 +9,7 @@ from lib.plain_binding import Item as Word
 from lib.plain_express import INDETERMINATE, Absent, Aggregate, Item, Logical, Simple
 from lib.plain_rules import (
     LIMIT, NOT_RUN, SIMPLE, STEPS_OF_AN_EVALUATION, TRUE, Environment, Evaluation, Instance, Many, PastLimit, as_declared, bare, deep,
-    fits, length, once_each, parts, rough, same, truth,
+    fits, length, logical, once_each, parts, rough, same, truth,
 )
 
 STEPS_BEFORE_THE_LAST = 19_800_000
@@ -202,8 +202,14 @@ class Report:
         self.checks = []
 
     def make(self):
-        for checks in (self.faults_of_attributes, self.rules_of_types, self.rules_of_entities, self.unique, self.inverse, self.global_rules):
-            checks()
+        types, entities, tried = self.schema.types, self.schema.entities, self.tried()
+        self.faults_of_attributes()
+        self.each_rule("type", types, lambda it: it.rules, lambda name, rule: self.verdicts(value_of, rule, tried.get(name, [])))
+        self.each_rule("where", entities, lambda it: it.rules, lambda name, rule: self.verdicts(value_of, rule, self.owners(name)))
+        self.each_rule("unique", entities, lambda it: it.unique, self.unique)
+        self.each_rule("inverse", entities, lambda it: it.inverse.items(),
+                       lambda name, rule: self.verdicts(users_hold, rule, self.owners(name)))
+        self.global_rules()
         return {"checks": self.checks, "steps": self.steps}
 
     def evaluated(self, run, *given):
@@ -258,51 +264,41 @@ class Report:
 
     # -- the checks by evaluations
 
-    def rules_of_types(self):
-        """The rules of defined types, on each value of an attribute that is declared, or written, by the type."""
+    def each_rule(self, check, declared, rules, culprits):
+        """The entries of the rules, or what else is checked, of what is declared, by its names."""
+        for name, it in sorted(declared.items()):
+            for label, rule in rules(it):
+                self.enter(check, culprits(name, rule), of=name, rule=label)
+
+    def verdicts(self, run, rule, tried):
+        return [(self.verdict(run, rule, it), culprit) for it, culprit in tried]
+
+    def owners(self, name):
+        """The instances of an entity, each with its culprit."""
+        return [(it, [*it.place]) for it in self.extents[name]]
+
+    def tried(self):
+        """The values on which the rules of each defined type are tried: those of attributes that are declared, or written, by it."""
         tried = {}
         for instance, attribute, culprit in self.attributes():
             types = [it.type for it in self.declarations(instance, attribute)]
             for value, names in values_tried(self.schema, types, instance.written[attribute], instance.read[attribute]):
                 for name in names:
                     tried.setdefault(name, []).append((value, culprit))
-        for name, defined in sorted(self.schema.types.items()):
-            for label, expression in defined.rules:
-                culprits = [(self.verdict(value_of, expression, value), culprit) for value, culprit in tried.get(name, [])]
-                self.enter("type", culprits, of=name, rule=label)
+        return tried
 
-    def rules_of_entities(self):
-        for name, entity in sorted(self.schema.entities.items()):
-            for label, expression in entity.rules:
-                culprits = [(self.verdict(value_of, expression, it), [*it.place]) for it in self.extents[name]]
-                self.enter("where", culprits, of=name, rule=label)
-
-    def unique(self):
+    def unique(self, name, attributes):
         """Rows of values that are the same. One with no value isn't compared, nor one that isn't whole, which is told as such. Each
         attribute costs a step beside its body or its results."""
-        for name, entity in sorted(self.schema.entities.items()):
-            for label, attributes in entity.unique:
-                rows = [(it, [self.evaluated(value_of, one, it) for one in attributes]) for it in self.extents[name]]
-                alike, culprits = {}, []
-                for it, row in rows:
-                    culprits += [(outcome.name, [*it.place]) for outcome in (LIMIT, NOT_RUN) if outcome in row]
-                    if not {INDETERMINATE, LIMIT, NOT_RUN}.intersection(map(rough, row)):
-                        alike.setdefault((*map(rough, row),), []).append((it, row))
-                are_same = lambda row, others: all(same(*its) is TRUE for its in zip(row, others))
-                agree = {it for its in alike.values() for it, row in its if any(it is not other and are_same(row, others) for other, others in its)}
-                culprits += [("FALSE", [*it.place]) for it, _ in rows if it in agree]
-                self.enter("unique", culprits, of=name, rule=label)
-
-    def inverse(self):
-        """The counts of users. One is due where the attribute is no aggregate."""
-        for name, entity in sorted(self.schema.entities.items()):
-            for label, inverse in entity.inverse.items():
-                culprits = []
-                for it in self.extents[name]:
-                    found = self.evaluated(count_users, it, inverse)
-                    outcome = found.name if found in (LIMIT, NOT_RUN) else "FALSE" if breaks_count(inverse, found) else "TRUE"
-                    culprits.append((outcome, [*it.place]))
-                self.enter("inverse", culprits, of=name, rule=label)
+        rows = [(it, [self.evaluated(value_of, one, it) for one in attributes]) for it in self.extents[name]]
+        alike, culprits = {}, []
+        for it, row in rows:
+            culprits += [(outcome.name, [*it.place]) for outcome in (LIMIT, NOT_RUN) if outcome in row]
+            if not {INDETERMINATE, LIMIT, NOT_RUN}.intersection(map(rough, row)):
+                alike.setdefault((*map(rough, row),), []).append((it, row))
+        are_same = lambda row, others: all(same(*its) is TRUE for its in zip(row, others))
+        agree = {it for its in alike.values() for it, row in its if any(it is not other and are_same(row, others) for other, others in its)}
+        return culprits + [("FALSE", [*it.place]) for it, _ in rows if it in agree]
 
     def global_rules(self):
         """A rule's locals and statements are run before each of its conditions."""
@@ -316,9 +312,10 @@ def value_of(evaluation, expression, self_value):
     return evaluation.value(expression, Environment(self_value, {}))
 
 
-def count_users(evaluation, instance, inverse):
+def users_hold(evaluation, inverse, instance):
+    """Whether the count of users is what it has to be: one, where the attribute is no aggregate."""
     evaluation.charge(1)
-    return len(evaluation.users(instance, inverse).elements)
+    return logical(not breaks_count(inverse, len(evaluation.users(instance, inverse).elements)))
 
 
 def outcome_of_rule(evaluation, rule, expression):

@@ -17,7 +17,7 @@ from fractions import Fraction
 
 from lib import plain_express as trees
 from lib.plain_binding import Bits, Enumeration, Real, Select, Typed
-from lib.plain_express import INDETERMINATE, Aggregate, Item, Logical, Simple
+from lib.plain_express import INDETERMINATE, Absent, Aggregate, Item, Logical, Simple
 
 TRUE, FALSE, UNKNOWN = Logical.TRUE, Logical.FALSE, Logical.UNKNOWN
 STEPS_OF_AN_EVALUATION = 200_000
@@ -170,20 +170,22 @@ def once_each(elements):
 # ---- operators on truth values and on integers
 
 
-def of_truth_values(meaning):
-    """An operator: no value counts as unknown, and a value of another kind gives none."""
+def of_kind(kinds, meaning):
+    """An operator or a function of values of these kinds: a value of another kind gives none."""
     def checked(*values):
-        values = [UNKNOWN if it is INDETERMINATE else bare(it) for it in values]
-        return meaning(*values) if all(isinstance(it, Logical) for it in values) else INDETERMINATE
+        values = [bare(it) for it in values]
+        return meaning(*values) if all(isinstance(it, kinds) for it in values) else INDETERMINATE
     return checked
+
+
+def of_truth_values(meaning):
+    """No value counts as unknown."""
+    return of_kind((Logical, Absent), lambda *its: meaning(*map(truth, its)))
 
 
 def of_integers(meaning):
-    """An operator: a value of another kind gives none, and so does a result that is None or out of 64 bits."""
-    def checked(*values):
-        values = [bare(it) for it in values]
-        return whole(meaning(*values)) if all(isinstance(it, int) for it in values) else INDETERMINATE
-    return checked
+    """A result that is None or out of 64 bits is none."""
+    return of_kind(int, lambda *its: whole(meaning(*its)))
 
 
 def whole(number):
@@ -204,7 +206,7 @@ def of_natural(meaning):
 
 
 conjunction, negation = of_truth_values(least), of_truth_values(lambda it: Logical(2 - it.value))
-summed, product = of_integers(lambda *its: sum(its)), of_integers(operator.mul)
+summed = of_integers(lambda *its: sum(its))
 
 # ---- `+`, `*` and `-` with aggregates
 
@@ -244,7 +246,7 @@ def times(left, right):
     """Of two aggregates the left's elements that find an equal one left on the right."""
     left, right = bare(left), bare(right)
     if not (isinstance(left, Many) and isinstance(right, Many)):
-        return product(left, right)
+        return of_integers(operator.mul)(left, right)
     free = list(right.elements)
     return Many("SET" if "SET" in (left.kind, right.kind) else "BAG", 1, [it for it in left.elements if taken_from(free, it)])
 
@@ -263,7 +265,7 @@ def minus(left, right):
 # ---- relations
 
 
-def compared(left, right, meaning):
+def compared(left, right, meaning=equal):
     """A comparison by value: unknown with no value; none with an instance on a side, or of two kinds."""
     left, right = bare(left), bare(right)
     if INDETERMINATE in (left, right):
@@ -271,14 +273,6 @@ def compared(left, right, meaning):
     if isinstance(left, Instance) or not are_of_one_kind(left, right):
         return INDETERMINATE
     return meaning(left, right)
-
-
-def equality(left, right):
-    return compared(left, right, equal)
-
-
-def not_so(value):
-    return value if value is INDETERMINATE else negation(value)
 
 
 def ordered(is_so, within=lambda left, right: INDETERMINATE):
@@ -313,7 +307,8 @@ OPERATORS = {
     "AND": conjunction, "OR": of_truth_values(lambda *its: max(its, key=rank)),
     "XOR": of_truth_values(lambda left, right: UNKNOWN if UNKNOWN in (left, right) else logical(left is not right)),
     "+": plus, "-": minus, "*": times, "**": of_integers(power), "DIV": of_natural(operator.floordiv), "MOD": of_natural(operator.mod),
-    "=": equality, "<>": lambda left, right: not_so(equality(left, right)), ":=:": same, ":<>:": lambda left, right: not_so(same(left, right)),
+    "=": compared, "<>": lambda left, right: compared(left, right, lambda *its: negation(equal(*its))),
+    ":=:": same, ":<>:": lambda left, right: negation(same(left, right)),
     "<": ordered(operator.lt), ">": ordered(operator.gt), "<=": ordered(operator.le, is_within),
     ">=": ordered(operator.ge, lambda left, right: is_within(right, left)), "IN": lambda value, many: has(many, value, same),
 }
@@ -336,21 +331,16 @@ def count_of(value):
     return len(bare(value).elements) if isinstance(bare(value), Many) else 0
 
 
-def of_kind(kinds, meaning):
-    """A function that takes a value of these kinds, and gives none for any other."""
-    return lambda value: meaning(bare(value)) if isinstance(bare(value), kinds) else INDETERMINATE
-
-
 def high_index(aggregate):
     return aggregate.low + len(aggregate.elements) - 1
 
 
 FUNCTIONS = {
-    "ABS": of_kind(int, lambda it: whole(abs(it))), "ODD": of_kind(int, lambda it: logical(it % 2 == 1)),
+    "ABS": of_integers(abs), "ODD": of_kind(int, lambda it: logical(it % 2 == 1)),
     "LENGTH": of_kind(str, length), "BLENGTH": of_kind(Bits, length), "SIZEOF": of_kind(Many, count_of),
     "LOINDEX": of_kind(Many, lambda it: it.low), "HIINDEX": of_kind(Many, high_index),
     "EXISTS": lambda it: logical(it is not INDETERMINATE), "NVL": lambda value, other: other if value is INDETERMINATE else value,
-    "VALUE_IN": lambda aggregate, value: has(aggregate, value, equality),
+    "VALUE_IN": lambda aggregate, value: has(aggregate, value, compared),
 }
 
 
@@ -368,6 +358,10 @@ def part_of(value, low, high):
     if not (isinstance(value, (str, Bits)) and isinstance(low, int) and isinstance(high, int) and 1 <= low <= high <= length(value)):
         return INDETERMINATE
     return Bits(value.text[low - 1:high]) if isinstance(value, Bits) else value[low - 1:high]
+
+
+def in_group(value, entity):
+    return value if isinstance(value, Instance) and entity in value.types else INDETERMINATE
 
 
 # ---- what is declared
@@ -515,12 +509,6 @@ class Evaluation:
             return found
         return found.elements[0] if len(found.elements) == 1 else INDETERMINATE
 
-    # -- accesses
-
-    def of_group(self, node, environment):
-        value = self.value(node.first, environment)
-        return value if isinstance(value, Instance) and node.entity in value.types else INDETERMINATE
-
     # -- operators
 
     def operation(self, operator, left, right):
@@ -617,7 +605,7 @@ class Evaluation:
         """The first label that equals the selector decides. The comparisons cost nothing."""
         selector = self.value(statement.selector, environment)
         for labels, action in statement.actions:
-            if any(equality(selector, self.value(it, environment)) is TRUE for it in labels):
+            if any(compared(selector, self.value(it, environment)) is TRUE for it in labels):
                 return self.execute(action, environment)
         return None if statement.otherwise is None else self.execute(statement.otherwise, environment)
 
@@ -657,7 +645,7 @@ EVALUATED = {
     trees.Extent: lambda it, node, at: it.charged("SET", it.extents[node.entity]),
     trees.OwnAttribute: lambda it, node, at: it.attribute(at.self_value, node.name, node.near),
     trees.OfAttribute: lambda it, node, at: it.attribute(it.value(node.first, at), node.name, node.near),
-    trees.OfGroup: Evaluation.of_group,
+    trees.OfGroup: lambda it, node, at: in_group(it.value(node.first, at), node.entity),
     trees.OfIndex: lambda it, node, at: at_index(it.value(node.first, at), it.value(node.index, at)),
     trees.OfRange: lambda it, node, at: part_of(*it.values((node.first, node.low, node.high), at)),
     trees.Unary: lambda it, node, at: UNARY[node.operator](it.value(node.operand, at)),
