@@ -250,9 +250,8 @@ Scope = namedtuple("Scope", "variables me extents", defaults=(None, ()))
 class Reader:
     """The tokens of a schema, the place of the next one, and what is put off: its place, its scope, and how it is read."""
 
-    def __init__(self, text, schema=None):
-        self.tokens, self.at, self.put_off = tokens_of(text), 0, []
-        self.schema, self.scope = schema, Scope({})
+    def __init__(self, text, schema=None, scope=None):
+        self.tokens, self.at, self.put_off, self.schema, self.scope = tokens_of(text), 0, [], schema, scope
 
     def sees(self, *texts):
         return self.tokens[self.at] in texts
@@ -512,21 +511,18 @@ class Reader:
 
     # -- expressions
 
-    def expression(self):
-        return self.level(0)
-
-    def simple_expression(self):
-        return self.level(1)
-
-    def level(self, place):
+    def expression(self, level=0):
         """Operators of one level go from left to right."""
-        if place == len(LEVELS):
+        if level == len(LEVELS):
             return self.factor()
-        found = self.level(place + 1)
-        while self.sees(*LEVELS[place]):
-            operator, right = self.take(), self.level(place + 1)
+        found = self.expression(level + 1)
+        while self.sees(*LEVELS[level]):
+            operator, right = self.take(), self.expression(level + 1)
             found = Binary(found, operator, right, kinds_of_operation(operator, found.kinds, right.kinds))
         return found
+
+    def simple_expression(self):
+        return self.expression(1)
 
     def factor(self):
         """A sign before a real belongs to it."""
@@ -547,7 +543,10 @@ class Reader:
             return token
         if token in Logical.__members__:
             return Literal(Logical[token], NONE)
-        return others[token]() if token in others else self.accesses(self.named(token))
+        found = others[token]() if token in others else self.named(token)
+        while self.sees(".", "\\", "["):
+            found = self.access(found)
+        return found
 
     def initialiser(self):
         elements = self.up_to("]", lambda: [] if self.sees("]") else self.listed(self.expression))
@@ -592,11 +591,9 @@ class Reader:
         types = self.schema.types
         if self.takes("."):
             types, word = [word], self.take()
-        for name in types:
-            underlying = self.schema.types[name].underlying
-            if isinstance(underlying, Enumeration) and word in underlying.items:
-                return Literal(Item(name, underlying.items.index(word), word), NONE)
-        raise ValueError(f"{word} names nothing")
+        enumerations = [(name, it) for name in types for it in [self.schema.types[name].underlying] if isinstance(it, Enumeration)]
+        name, items = next((name, it.items) for name, it in enumerations if word in it.items)
+        return Literal(Item(name, items.index(word), word), NONE)
 
     def own_attribute(self, entity, name):
         return OwnAttribute(name, self.schema.near([entity]), self.schema.attribute_kinds(entity, name))
@@ -606,25 +603,17 @@ class Reader:
         kinds = {"NVL": union(it.kinds for it in arguments), "TYPEOF": aggregate_of([]), "USEDIN": aggregate_of(self.schema.entities)}
         return BuiltIn(name, arguments, kinds.get(name, NONE))
 
-    def accesses(self, found):
-        """Accesses go from left to right."""
-        while self.sees(".", "\\", "["):
-            found = {".": self.of_attribute, "\\": self.of_group, "[": self.of_index}[self.take()](found)
-        return found
-
-    def of_attribute(self, first):
-        name = self.take()
-        return OfAttribute(first, name, self.schema.near(first.kinds), self.schema.kinds_of_access(first.kinds, name))
-
-    def of_group(self, first):
-        name = self.take()
-        return OfGroup(first, name, frozenset([name]))
-
-    def of_index(self, first):
-        index = self.simple_expression()
+    def access(self, first):
+        """What stands behind a mark: the name of an attribute or of an entity, or an index or two."""
+        mark, schema = self.take(), self.schema
+        behind = self.simple_expression() if mark == "[" else self.take()
+        if mark == ".":
+            return OfAttribute(first, behind, schema.near(first.kinds), schema.kinds_of_access(first.kinds, behind))
+        if mark == "\\":
+            return OfGroup(first, behind, frozenset([behind]))
         last = self.simple_expression() if self.takes(":") else None
         self.skip("]")
-        return OfRange(first, index, last, NONE) if last else OfIndex(first, index, self.schema.kinds_of_elements(first.kinds))
+        return OfRange(first, behind, last, NONE) if last else OfIndex(first, behind, schema.kinds_of_elements(first.kinds))
 
 
 def read(text):
@@ -634,6 +623,4 @@ def read(text):
 
 def read_expression(schema, text, entity=None, extents=()):
     """An expression of an entity's WHERE, or, without one, of that of a rule for these entities."""
-    reader = Reader(f"{text};", schema)
-    reader.scope = Scope({}, entity, () if entity else extents)
-    return reader.expression()
+    return Reader(f"{text};", schema, Scope({}, entity, () if entity else extents)).expression()

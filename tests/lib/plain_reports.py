@@ -156,19 +156,16 @@ def is_astray(schema, declared, value):
 
 def rules_at(schema, declared, written_value, read_value):
     """The defined types by which a declaration has a value's rules tried, and the type that its elements are declared by, or None."""
-    if not schema.is_select(declared):
-        if not fits(schema, declared, read_value):
-            return set(), None
-        end = schema.end(declared)
-        return set(schema.names_beneath(declared)), end.element if isinstance(end, Aggregate) else None
-    if isinstance(written_value, Instance):
-        return {declared} | selects_to(schema, declared, written_value.types), None
-    between = selects_to(schema, declared, {written_value.keyword}) if isinstance(written_value, Typed) else set()
-    if not between:
-        return {declared}, None
-    end = schema.end(written_value.keyword)
-    beneath = schema.names_beneath(written_value.keyword)
-    return {*between, *beneath}, end.element if isinstance(end, Aggregate) else None
+    between, underlying = set(), declared
+    if schema.is_select(declared):
+        is_instance, keyword = isinstance(written_value, Instance), written_value.keyword if isinstance(written_value, Typed) else None
+        between, underlying = selects_to(schema, declared, written_value.types if is_instance else {keyword}), keyword
+        if is_instance or not between:
+            return {declared, *between}, None
+    elif not fits(schema, declared, read_value):
+        return between, None
+    end = schema.end(underlying)
+    return between.union(schema.names_beneath(underlying)), end.element if isinstance(end, Aggregate) else None
 
 
 def values_tried(schema, declared_types, written_value, read_value):
@@ -255,12 +252,8 @@ class Report:
 
     def faults_of_attributes(self):
         for check, is_fault in FAULTS.items():
-            culprits = []
-            for instance, attribute, culprit in self.attributes():
-                value = instance.written[attribute]
-                if any(is_fault(self.schema, it, value) for it in self.declarations(instance, attribute)):
-                    culprits.append(("FALSE", culprit))
-            self.enter(check, culprits)
+            self.enter(check, [("FALSE", culprit) for instance, attribute, culprit in self.attributes() if any(
+                is_fault(self.schema, it, instance.written[attribute]) for it in self.declarations(instance, attribute))])
 
     # -- the checks by evaluations
 

@@ -522,9 +522,6 @@ class Evaluation:
             self.charge(length(value))
         return value
 
-    def binary(self, node, environment):
-        return self.operation(node.operator, self.value(node.left, environment), self.value(node.right, environment))
-
     def interval(self, node, environment):
         low, item, high = self.values((node.low, node.item, node.high), environment)
         return conjunction(self.operation(node.low_operator, low, item), self.operation(node.high_operator, item, high))
@@ -555,15 +552,12 @@ class Evaluation:
         return FUNCTIONS[node.function](*arguments)
 
     def used_in(self, instance, role):
-        role = bare(role)
+        """The uses in a role, `SCHEMA.ENTITY.ATTRIBUTE`, or all."""
+        name, role = self.schema.name, bare(role)
         if not (isinstance(instance, Instance) and isinstance(role, str)):
             return INDETERMINATE
-        return self.charged("BAG", [user for user, used in instance.users if not role or self.plays(user, used, role)])
-
-    def plays(self, user, used, role):
-        """Whether a use by an attribute is one in a role, `SCHEMA.ENTITY.ATTRIBUTE`."""
-        entities = [it for it in user.types if used[0] in self.schema.line_of(it)]
-        return role in [".".join((self.schema.name, it, used[1])) for it in entities]
+        roles = lambda user, used: [f"{name}.{it}.{used[1]}" for it in user.types if used[0] in self.schema.line_of(it)]
+        return self.charged("BAG", [user for user, used in instance.users if not role or role in roles(user, used)])
 
     def call(self, node, environment):
         function, arguments = self.schema.functions[node.function], self.values(node.arguments, environment)
@@ -597,9 +591,6 @@ class Evaluation:
     def assignment(self, statement, environment):
         value = self.value(statement.value, environment)
         environment.variables[statement.name] = as_declared(self.schema, statement.type, value)
-
-    def if_statement(self, statement, environment):
-        return self.run(statement.statements if self.is_so(statement.condition, environment) else statement.otherwise, environment)
 
     def case_statement(self, statement, environment):
         """The first label that equals the selector decides. The comparisons cost nothing."""
@@ -649,12 +640,14 @@ EVALUATED = {
     trees.OfIndex: lambda it, node, at: at_index(it.value(node.first, at), it.value(node.index, at)),
     trees.OfRange: lambda it, node, at: part_of(*it.values((node.first, node.low, node.high), at)),
     trees.Unary: lambda it, node, at: UNARY[node.operator](it.value(node.operand, at)),
-    trees.Binary: Evaluation.binary, trees.Interval: Evaluation.interval, trees.Query: Evaluation.query,
+    trees.Binary: lambda it, node, at: it.operation(node.operator, *it.values((node.left, node.right), at)),
+    trees.Interval: Evaluation.interval, trees.Query: Evaluation.query,
     trees.Initialiser: Evaluation.initialiser, trees.BuiltIn: Evaluation.built_in, trees.Call: Evaluation.call,
 }
 EXECUTED = {
-    trees.Assignment: Evaluation.assignment, trees.If: Evaluation.if_statement, trees.Case: Evaluation.case_statement,
-    trees.Repeat: Evaluation.repeat, trees.Compound: lambda it, statement, at: it.run(statement.statements, at),
+    trees.Assignment: Evaluation.assignment, trees.Case: Evaluation.case_statement, trees.Repeat: Evaluation.repeat,
+    trees.If: lambda it, statement, at: it.run(statement.statements if it.is_so(statement.condition, at) else statement.otherwise, at),
+    trees.Compound: lambda it, statement, at: it.run(statement.statements, at),
     trees.Null: lambda *_: None, trees.Skip: lambda *_: SKIPPED, trees.Escape: lambda *_: ESCAPED,
     trees.Return: lambda it, statement, at: Returned(it.value(statement.value, at)),
 }
