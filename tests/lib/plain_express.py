@@ -589,11 +589,10 @@ class Reader:
     def item(self, word):
         """An item, alone or behind its type."""
         types = self.schema.types
-        if self.takes("."):
-            types, word = [word], self.take()
-        enumerations = [(name, it) for name in types for it in [self.schema.types[name].underlying] if isinstance(it, Enumeration)]
-        name, items = next((name, it.items) for name, it in enumerations if word in it.items)
-        return Literal(Item(name, items.index(word), word), NONE)
+        among, word = ([word], self.take()) if self.takes(".") else (types, word)
+        has_word = lambda it: isinstance(it, Enumeration) and word in it.items
+        name = next(it for it in among if has_word(types[it].underlying))
+        return Literal(Item(name, types[name].underlying.items.index(word), word), NONE)
 
     def own_attribute(self, entity, name):
         return OwnAttribute(name, self.schema.near([entity]), self.schema.attribute_kinds(entity, name))

@@ -238,22 +238,23 @@ class Report:
 
     # -- the checks without steps
 
-    def declarations(self, instance, attribute):
-        """How an attribute is declared, and redeclared by types of the instance."""
-        entity, name = attribute
-        again = [self.schema.entities[it].redeclared.get(attribute) for it in sorted(instance.types)]
-        return [self.schema.entities[entity].explicit[name], *(it for it in again if it)]
-
     def attributes(self):
-        """The attributes of all instances that aren't derived, with what is told of them as culprits."""
+        """The attributes of all instances that aren't derived: how each is declared, and redeclared by types of the instance, its value as
+        it is written and as it is read, and what is told of it as a culprit."""
+        entities = self.schema.entities
         for instance in self.population:
-            for attribute in instance.written:
-                yield instance, attribute, [*instance.place, ".".join(attribute)]
+            for place, value in instance.written.items():
+                again = [entities[it].redeclared.get(place) for it in sorted(instance.types)]
+                declarations = [entities[place[0]].explicit[place[1]], *(it for it in again if it)]
+                yield declarations, value, instance.read[place], [*instance.place, ".".join(place)]
 
     def faults_of_attributes(self):
         for check, is_fault in FAULTS.items():
-            self.enter(check, [("FALSE", culprit) for instance, attribute, culprit in self.attributes() if any(
-                is_fault(self.schema, it, instance.written[attribute]) for it in self.declarations(instance, attribute))])
+            culprits = []
+            for declarations, value, _, culprit in self.attributes():
+                if any(is_fault(self.schema, it, value) for it in declarations):
+                    culprits.append(("FALSE", culprit))
+            self.enter(check, culprits)
 
     # -- the checks by evaluations
 
@@ -273,9 +274,8 @@ class Report:
     def tried(self):
         """The values on which the rules of each defined type are tried: those of attributes that are declared, or written, by it."""
         tried = {}
-        for instance, attribute, culprit in self.attributes():
-            types = [it.type for it in self.declarations(instance, attribute)]
-            for value, names in values_tried(self.schema, types, instance.written[attribute], instance.read[attribute]):
+        for declarations, *values, culprit in self.attributes():
+            for value, names in values_tried(self.schema, [it.type for it in declarations], *values):
                 for name in names:
                     tried.setdefault(name, []).append((value, culprit))
         return tried

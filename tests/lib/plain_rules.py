@@ -19,7 +19,7 @@ from lib import plain_express as trees
 from lib.plain_binding import Bits, Enumeration, Real, Select, Typed
 from lib.plain_express import INDETERMINATE, Absent, Aggregate, Item, Logical, Simple
 
-TRUE, FALSE, UNKNOWN = Logical.TRUE, Logical.FALSE, Logical.UNKNOWN
+FALSE, UNKNOWN, TRUE = Logical
 STEPS_OF_AN_EVALUATION = 200_000
 NESTED_BODIES = 200
 SMALLEST, GREATEST = -2**63, 2**63 - 1
@@ -53,8 +53,7 @@ class Instance:
 
 
 # what an evaluation comes to that has no value
-Outcome = Enum("Outcome", "LIMIT NOT_RUN")
-LIMIT, NOT_RUN = Outcome.LIMIT, Outcome.NOT_RUN
+LIMIT, NOT_RUN = Enum("Outcome", "LIMIT NOT_RUN")
 KINDS = {int: "INTEGER", Real: "REAL", str: "STRING", Bits: "BINARY", Logical: "LOGICAL", Instance: "entity", Many: "aggregate"}
 # the values that a simple type may have
 SIMPLE = {"INTEGER": int, "REAL": (int, Real), "NUMBER": (int, Real), "STRING": str, "BINARY": Bits, "BOOLEAN": Logical, "LOGICAL": Logical,
@@ -185,11 +184,10 @@ def of_truth_values(meaning):
 
 def of_integers(meaning):
     """A result that is None or out of 64 bits is none."""
-    return of_kind(int, lambda *its: whole(meaning(*its)))
-
-
-def whole(number):
-    return number if number is not None and SMALLEST <= number <= GREATEST else INDETERMINATE
+    def checked(*values):
+        found = meaning(*values)
+        return found if found is not None and SMALLEST <= found <= GREATEST else INDETERMINATE
+    return of_kind(int, checked)
 
 
 def least(*values):
