@@ -16,7 +16,7 @@ from lib.plain_binding import SIMPLE, Bits, Enumeration, Real, Select, real_of
 Logical = Enum("Logical", "FALSE UNKNOWN TRUE", start=0)
 # what stands in place of a value: none, or a reference that leaves the population
 Absent = Enum("Absent", "INDETERMINATE OUTSIDE")
-INDETERMINATE = Absent.INDETERMINATE
+INDETERMINATE, OUTSIDE = Absent
 # an item of an enumeration: its type, its place in the declaration, and its word
 Item = namedtuple("Item", "type place word")
 
@@ -75,9 +75,8 @@ Inverse = namedtuple("Inverse", "kind low high entity attribute")
 
 # ---- declarations that are filled while they are read
 
-# a constant, a derived attribute, or a local, whose expression may be None
+# a constant, a derived attribute, or a local, whose expression may be None; and a defined type
 Given = lambda declared, expression=None: SimpleNamespace(type=declared, expression=expression)
-# a defined type
 Defined = lambda underlying: SimpleNamespace(underlying=underlying, rules=[])
 # attributes stand by their names; redeclared ones by the entity that declares them, or while the text is read by one that has them,
 # and by their names
@@ -490,9 +489,9 @@ class Reader:
         self.skip("END_CASE")
         return Case(selector, actions, otherwise)
 
-    def within(self, variable, declared):
-        """The scope with one variable more."""
-        return self.scope._replace(variables={**self.scope.variables, variable: declared})
+    def knows(self, variable, declared):
+        """From here on the scope has one variable more."""
+        self.scope = self.scope._replace(variables={**self.scope.variables, variable: declared})
 
     def repeat_statement(self):
         """The variable is known in the conditions and in the statements."""
@@ -501,7 +500,7 @@ class Reader:
         if not self.sees("WHILE", "UNTIL", ";"):
             variable, first, last = self.up_to(":="), self.up_to("TO", self.simple_expression), self.simple_expression()
             step = self.simple_expression() if self.takes("BY") else None
-            self.scope = self.within(variable, Simple("INTEGER"))
+            self.knows(variable, Simple("INTEGER"))
         condition = self.expression() if self.takes("WHILE") else None
         until = self.expression() if self.takes("UNTIL") else None
         self.skip(";")
@@ -560,7 +559,7 @@ class Reader:
     def query(self):
         self.skip("(")
         variable, source, before = self.up_to("<*"), self.up_to("|", self.simple_expression), self.scope
-        self.scope = self.within(variable, Select(self.schema.kinds_of_elements(source.kinds)))
+        self.knows(variable, Select(self.schema.kinds_of_elements(source.kinds)))
         condition = self.up_to(")", self.expression)
         self.scope = before
         return Query(variable, source, condition, frozenset(it for it in source.kinds if isinstance(it, Aggregate)))

@@ -6,14 +6,13 @@ of the population; what is evaluated is told by plain_rules.
 """
 from lib.plain_binding import DERIVED, UNSET, Enumeration, Reference, Typed
 from lib.plain_binding import Item as Word
-from lib.plain_express import INDETERMINATE, Absent, Aggregate, Item, Logical, Simple
+from lib.plain_express import INDETERMINATE, OUTSIDE, Aggregate, Item, Logical, Simple
 from lib.plain_rules import (
     LIMIT, NOT_RUN, SIMPLE, STEPS_OF_AN_EVALUATION, TRUE, Environment, Evaluation, Instance, Many, PastLimit, as_declared, bare, deep,
     fits, length, logical, once_each, parts, rough, same, truth,
 )
 
 STEPS_BEFORE_THE_LAST = 19_800_000
-OUTSIDE = Absent.OUTSIDE
 LOGICAL_WORDS = {"T": Logical.TRUE, "F": Logical.FALSE, "U": Logical.UNKNOWN}
 
 # ---- populations
@@ -199,10 +198,12 @@ class Report:
         self.checks = []
 
     def make(self):
-        types, entities, tried = self.schema.types, self.schema.entities, self.tried()
+        entities, tried = self.schema.entities, self.tried()
         self.faults_of_attributes()
-        self.each_rule("type", types, lambda it: it.rules, lambda name, rule: self.verdicts(value_of, rule, tried.get(name, [])))
-        self.each_rule("where", entities, lambda it: it.rules, lambda name, rule: self.verdicts(value_of, rule, self.owners(name)))
+        self.each_rule("type", self.schema.types, lambda it: it.rules,
+                       lambda name, rule: self.verdicts(value_of, rule, tried.get(name, [])))
+        self.each_rule("where", entities, lambda it: it.rules,
+                       lambda name, rule: self.verdicts(value_of, rule, self.owners(name)))
         self.each_rule("unique", entities, lambda it: it.unique, self.unique)
         self.each_rule("inverse", entities, lambda it: it.inverse.items(),
                        lambda name, rule: self.verdicts(users_hold, rule, self.owners(name)))
