@@ -194,19 +194,16 @@ class Report:
 
     def __init__(self, schema, population):
         self.schema, self.population, self.extents = schema, population, extents_of(schema, population)
-        self.steps = 0
-        self.checks = []
+        self.steps, self.checks = 0, []
 
     def make(self):
-        entities, tried = self.schema.entities, self.tried()
+        types, entities = self.schema.types, self.schema.entities
+        owners = {name: [(it, [*it.place]) for it in its] for name, its in self.extents.items()}
         self.faults_of_attributes()
-        self.each_rule("type", self.schema.types, lambda it: it.rules,
-                       lambda name, rule: self.verdicts(value_of, rule, tried.get(name, [])))
-        self.each_rule("where", entities, lambda it: it.rules,
-                       lambda name, rule: self.verdicts(value_of, rule, self.owners(name)))
+        self.each_rule("type", types, lambda it: it.rules, self.verdicts(value_of, self.tried()))
+        self.each_rule("where", entities, lambda it: it.rules, self.verdicts(value_of, owners))
         self.each_rule("unique", entities, lambda it: it.unique, self.unique)
-        self.each_rule("inverse", entities, lambda it: it.inverse.items(),
-                       lambda name, rule: self.verdicts(users_hold, rule, self.owners(name)))
+        self.each_rule("inverse", entities, lambda it: it.inverse.items(), self.verdicts(users_hold, owners))
         self.global_rules()
         return {"checks": self.checks, "steps": self.steps}
 
@@ -265,12 +262,9 @@ class Report:
             for label, rule in rules(it):
                 self.enter(check, culprits(name, rule), of=name, rule=label)
 
-    def verdicts(self, run, rule, tried):
-        return [(self.verdict(run, rule, it), culprit) for it, culprit in tried]
-
-    def owners(self, name):
-        """The instances of an entity, each with its culprit."""
-        return [(it, [*it.place]) for it in self.extents[name]]
+    def verdicts(self, run, tried):
+        """What gives the verdicts of a rule on all that it is tried on, which stands by the name of the rule's owner."""
+        return lambda name, rule: [(self.verdict(run, rule, it), culprit) for it, culprit in tried.get(name, [])]
 
     def tried(self):
         """The values on which the rules of each defined type are tried: those of attributes that are declared, or written, by it."""
