@@ -10,7 +10,7 @@ import os
 import sys
 
 from expression_rows import NONE, Value, read_rows, written
-from lib import plain_binding, plain_reports, plain_rules, plain_trees
+from lib import plain_binding, plain_express, plain_reports, plain_rules
 from lib.harness import TOP, run_parts
 from lib.plain_model import compact
 from lib.plain_rules import Environment, Evaluation, PastLimit, deep
@@ -34,9 +34,9 @@ def value_of(found):
         return Value("AGGREGATE", (kind, found.low, tuple(map(value_of, found.elements))))
     if isinstance(found, plain_rules.Instance):
         return Value("INSTANCE", (found.place[2],))
-    if isinstance(found, plain_trees.Item):
+    if isinstance(found, plain_express.Item):
         return Value("ITEM", (found.type, found.word))
-    if isinstance(found, plain_trees.Logical):
+    if isinstance(found, plain_express.Logical):
         return Value("LOGICAL", (found.name,))
     if isinstance(found, plain_binding.Bits):
         return Value("BINARY", (found.text,))

@@ -1,18 +1,183 @@
-"""Reads the text of a schema that `check` accepts into the trees of plain_trees, in Python, and tells no faults.
+"""Reads the text of a schema that `check` accepts into trees, in Python, and tells no faults; and what follows from declarations alone.
 
 It is written from the description of the language alone, and never from the program. As a name may be used before it is declared,
-expressions and statements are read once all declarations are. In a tree each name is bound, and each expression has its kinds,
-since what `x.a` means goes by the entities that x may be of.
+expressions and statements are read once all declarations are. In a tree each name is bound and in upper case, and each expression
+has its kinds, since what `x.a` means goes by the entities that x may be of.
 """
 import re
 from collections import namedtuple
+from enum import Enum
+from types import SimpleNamespace
 
 from lib.plain_binding import SIMPLE, Bits, Enumeration, Real, Select, real_of
-from lib.plain_trees import (
-    INDETERMINATE, Aggregate, Algorithm, Assignment, Binary, BuiltIn, Call, Case, Compound, Constant, Defined, Entity, Escape, Explicit,
-    Extent, Given, If, Initialiser, Interval, Inverse, Item, Literal, Logical, Null, OfAttribute, OfGroup, OfIndex, OfRange, OwnAttribute,
-    Query, Repeat, Return, Rule, Schema, Self, Simple, Skip, Unary, Variable, aggregate_of, union,
-)
+
+# ---- values that literals have; numbers, strings, Real and Bits are the others
+
+Logical = Enum("Logical", "FALSE UNKNOWN TRUE", start=0)
+# what stands in place of a value: none, or a reference that leaves the population
+Absent = Enum("Absent", "INDETERMINATE OUTSIDE")
+INDETERMINATE, OUTSIDE = Absent
+# an item of an enumeration: its type, its place in the declaration, and its word
+Item = namedtuple("Item", "type place word")
+
+# ---- types; a name is that of a defined type or of an entity
+
+# a simple type by its word, or GENERIC; a string's or a binary's width is the most that it may have, or all
+Simple = namedtuple("Simple", "word width is_fixed", defaults=(None, False))
+# ARRAY, LIST, BAG, SET or AGGREGATE; a high bound that is None is none
+Aggregate = namedtuple("Aggregate", "kind low high element is_optional is_unique", defaults=(False, False))
+
+# ---- expressions, whose names are bound. `kinds` are the entities that the value may be of and the types of the aggregates that it
+# may be; `near` are the entities that the owner of an attribute may be of, with their ancestors
+
+Literal = namedtuple("Literal", "value kinds")
+# a parameter, a local, or the variable of a QUERY or a REPEAT
+Variable = namedtuple("Variable", "name kinds")
+Self = namedtuple("Self", "kinds")
+# an attribute of SELF that is named alone
+OwnAttribute = namedtuple("OwnAttribute", "name near kinds")
+Constant = namedtuple("Constant", "name kinds")
+# the name of an entity in a rule
+Extent = namedtuple("Extent", "entity kinds")
+# a call of a function of the schema, and one of a function of the language
+Call = namedtuple("Call", "function arguments kinds")
+BuiltIn = namedtuple("BuiltIn", "function arguments kinds")
+# `x.a`, `x\e`, `x[i]` and `x[i:j]`
+OfAttribute = namedtuple("OfAttribute", "first name near kinds")
+OfGroup = namedtuple("OfGroup", "first entity kinds")
+OfIndex = namedtuple("OfIndex", "first index kinds")
+OfRange = namedtuple("OfRange", "first low high kinds")
+Unary = namedtuple("Unary", "operator operand kinds")
+Binary = namedtuple("Binary", "left operator right kinds")
+Interval = namedtuple("Interval", "low low_operator item high_operator high kinds")
+Query = namedtuple("Query", "variable source condition kinds")
+Initialiser = namedtuple("Initialiser", "elements kinds")
+
+# ---- statements
+
+Assignment = namedtuple("Assignment", "name type value")
+If = namedtuple("If", "condition statements otherwise")
+# actions are labels with a statement, and `otherwise` is a statement or None
+Case = namedtuple("Case", "selector actions otherwise")
+# what isn't written is None
+Repeat = namedtuple("Repeat", "variable first last step condition until statements")
+Compound = namedtuple("Compound", "statements")
+Null, Skip, Escape = (namedtuple(name, "") for name in ("Null", "Skip", "Escape"))
+Return = namedtuple("Return", "value")
+
+# ---- declarations
+
+# its label, or its place as `#k`, and its expression, or the attributes that one of UNIQUE lists
+Rule = namedtuple("Rule", "label told")
+Explicit = namedtuple("Explicit", "type is_optional")
+# BAG or SET with its bounds, or None for one user; the entity of the users, and their attribute
+Inverse = namedtuple("Inverse", "kind low high entity attribute")
+
+# ---- declarations that are filled while they are read
+
+# a constant, a derived attribute, or a local, whose expression may be None; and a defined type
+Given = lambda declared, expression=None: SimpleNamespace(type=declared, expression=expression)
+Defined = lambda underlying: SimpleNamespace(underlying=underlying, rules=[])
+# attributes stand by their names; redeclared ones by the entity that declares them, or while the text is read by one that has them,
+# and by their names
+Entity = lambda: SimpleNamespace(
+    explicit={}, redeclared={}, derived={}, derived_again={}, inverse={}, supertypes=[], unique=[], rules=[])
+# a function with parameters and a result, or a rule with the entities that it is for and the rules of its WHERE; locals stand by the
+# names that are declared together
+Algorithm = lambda parameters=(), result=None, entities=(): SimpleNamespace(
+    parameters=parameters, result=result, entities=entities, locals=[], statements=[], rules=[])
+
+
+def union(sets):
+    return frozenset().union(*sets)
+
+
+def aggregate_of(kinds):
+    """The kinds of an aggregate whose elements are of these."""
+    return frozenset([Aggregate("AGGREGATE", 0, None, Select(frozenset(kinds)))])
+
+
+class Schema:
+    """The declarations of a schema by their names, and what follows from them alone."""
+
+    def __init__(self, name):
+        self.name, self.lines = name, {}
+        self.constants, self.types, self.entities, self.functions, self.rules = {}, {}, {}, {}, {}
+
+    # -- entities
+
+    def line_of(self, name):
+        """An entity behind its supertypes, depth first, each at its first place."""
+        if name not in self.lines:
+            above = [it for one in self.entities[name].supertypes for it in self.line_of(one)]
+            self.lines[name] = [*dict.fromkeys(above), name]
+        return self.lines[name]
+
+    def declares(self, name, attribute):
+        entity = self.entities[name]
+        return attribute in entity.explicit or attribute in entity.derived or attribute in entity.inverse
+
+    def declaring(self, name, attribute):
+        """The entities that declare an attribute of this name among an entity and its ancestors."""
+        return [it for it in self.line_of(name) if self.declares(it, attribute)]
+
+    def attribute_kinds(self, name, attribute):
+        """The kinds of an attribute that an entity has: of its redeclarations, but for those that a later one overrides, or else of
+        its declaration."""
+        declaring = self.declaring(name, attribute)[0]
+        entity = self.entities[declaring]
+        if attribute in entity.inverse:
+            inverse = entity.inverse[attribute]
+            return aggregate_of([inverse.entity]) if inverse.kind else frozenset([inverse.entity])
+        types = {declaring: (entity.explicit.get(attribute) or entity.derived[attribute]).type}
+        for above in self.line_of(name):
+            entity = self.entities[above]
+            again = entity.redeclared.get((declaring, attribute)) or entity.derived_again.get((declaring, attribute))
+            if again:
+                types[above] = again.type
+        last = [it for it in types if not any(it in self.line_of(other) for other in types if other != it)]
+        return union(self.kinds_of(types[it]) for it in last)
+
+    # -- types
+
+    def end(self, declared):
+        """What a type means once it is no defined type's name: a type that is written out, or an entity's name."""
+        while declared in self.types:
+            declared = self.types[declared].underlying
+        return declared
+
+    def names_beneath(self, declared):
+        """A defined type's name and those of the types beneath it."""
+        return [declared, *self.names_beneath(self.types[declared].underlying)] if declared in self.types else []
+
+    def is_select(self, declared):
+        return isinstance(self.end(declared), Select)
+
+    def select_members(self, name):
+        """The members of a SELECT. One that renames another has it as its one member."""
+        underlying = self.types[name].underlying
+        return underlying.members if isinstance(underlying, Select) else [underlying]
+
+    # -- kinds
+
+    def kinds_of(self, declared):
+        end = self.end(declared)
+        if isinstance(end, Select):
+            return union(map(self.kinds_of, end.members))
+        if end == Simple("GENERIC"):
+            return aggregate_of([end]).union(self.entities)
+        return frozenset() if isinstance(end, (Simple, Enumeration)) else frozenset([end])
+
+    def kinds_of_elements(self, kinds):
+        return union(self.kinds_of(it.element) for it in kinds if isinstance(it, Aggregate))
+
+    def kinds_of_access(self, kinds, attribute):
+        return union(self.attribute_kinds(it, attribute) for it in kinds if it in self.entities and self.declaring(it, attribute))
+
+    def near(self, kinds):
+        """The entities among some kinds, and their ancestors."""
+        return union(self.line_of(it) for it in kinds if it in self.entities)
+
 
 # ---- tokens
 
@@ -61,7 +226,6 @@ LEVELS = [
     ("*", "/", "DIV", "MOD", "AND"),
     ("**",),
 ]
-SIMPLE_EXPRESSION = 1
 AGGREGATES = ("ARRAY", "LIST", "BAG", "SET", "AGGREGATE")
 CLAUSES = ("DERIVE", "INVERSE", "UNIQUE", "WHERE", "END_ENTITY", "END_TYPE", "END_RULE")
 FUNCTIONS = ("ABS", "BLENGTH", "EXISTS", "HIINDEX", "LENGTH", "LOINDEX", "NVL", "ODD", "SIZEOF", "TYPEOF", "USEDIN", "VALUE_IN")
@@ -85,9 +249,8 @@ Scope = namedtuple("Scope", "variables me extents", defaults=(None, ()))
 class Reader:
     """The tokens of a schema, the place of the next one, and what is put off: its place, its scope, and how it is read."""
 
-    def __init__(self, text, schema=None):
-        self.tokens, self.at, self.put_off = tokens_of(text), 0, []
-        self.schema, self.scope = schema, Scope({})
+    def __init__(self, text, schema=None, scope=None):
+        self.tokens, self.at, self.put_off, self.schema, self.scope = tokens_of(text), 0, [], schema, scope
 
     def sees(self, *texts):
         return self.tokens[self.at] in texts
@@ -115,11 +278,15 @@ class Reader:
             found.append(read())
         return found
 
+    def up_to(self, end, read=None):
+        """What is read, or the next token, up to this one, which is taken."""
+        found = (read or self.take)()
+        self.skip(end)
+        return found
+
     def in_parentheses(self, read):
         self.skip("(")
-        found = self.listed(read)
-        self.skip(")")
-        return found
+        return self.up_to(")", lambda: self.listed(read))
 
     def later(self, end, scope, read):
         """Puts off what stands up to this end."""
@@ -131,8 +298,7 @@ class Reader:
 
     def read(self):
         self.skip("SCHEMA")
-        self.schema = Schema(self.take())
-        self.skip(";")
+        self.schema = Schema(self.up_to(";"))
         declarations = {"CONSTANT": self.constants, "TYPE": self.type_declaration, "ENTITY": self.entity_declaration,
                         "FUNCTION": self.function_declaration, "RULE": self.rule_declaration}
         while not self.takes("END_SCHEMA"):
@@ -164,27 +330,20 @@ class Reader:
             self.schema.constants[name] = self.given(Scope({}))
 
     def type_declaration(self):
-        name = self.take()
-        self.skip("=")
-        found = self.schema.types[name] = Defined(self.type())
-        self.skip(";")
+        name = self.up_to("=")
+        found = self.schema.types[name] = Defined(self.up_to(";", self.type))
         self.later("END_TYPE", Scope({}, name), lambda: self.rules(found))
 
     def width(self):
         if not self.takes("("):
             return None, False
-        width = self.take().value
-        self.skip(")")
-        return width, self.takes("FIXED")
+        return self.up_to(")").value, self.takes("FIXED")
 
     def bounds(self):
         if not self.takes("["):
             return 0, None
-        low = self.take().value
-        self.skip(":")
-        high = self.take()
-        self.skip("]")
-        return low, None if high == "?" else high.value
+        low, high = self.up_to(":"), self.up_to("]")
+        return low.value, None if high == "?" else high.value
 
     def type(self):
         word = self.take()
@@ -209,9 +368,7 @@ class Reader:
         if not self.takes("SELF"):
             return self.take()
         self.skip("\\")
-        above = self.take()
-        self.skip(".")
-        return above, self.take()
+        return self.up_to("."), self.take()
 
     def entity_declaration(self):
         name = self.take()
@@ -224,8 +381,7 @@ class Reader:
             entity.supertypes = self.in_parentheses(self.take)
         self.skip(";")
         while not self.sees(*CLAUSES):
-            names = self.listed(self.attribute_name)
-            self.skip(":")
+            names = self.up_to(":", lambda: self.listed(self.attribute_name))
             found = Explicit(is_optional=self.takes("OPTIONAL"), type=self.type())
             self.skip(";")
             for it in names:
@@ -236,32 +392,24 @@ class Reader:
                 (entity.derived if isinstance(name, str) else entity.derived_again)[name] = self.given(scope)
         if self.takes("INVERSE"):
             while not self.sees(*CLAUSES):
-                name = self.take()
-                self.skip(":")
-                users = self.type()
-                self.skip("FOR")
+                name, users = self.up_to(":"), self.up_to("FOR", self.type)
                 kind, low, high, user = users[:4] if isinstance(users, Aggregate) else (None, 1, 1, users)
-                entity.inverse[name] = Inverse(kind, low, high, user, self.take())
-                self.skip(";")
+                entity.inverse[name] = Inverse(kind, low, high, user, self.up_to(";"))
         self.later("END_ENTITY", scope, lambda: self.rules(entity))
 
     def function_declaration(self):
         name, parameters = self.take(), []
         if self.takes("("):
             while not self.takes(")"):
-                names = self.listed(self.take)
-                self.skip(":")
-                declared = self.type()
+                names, declared = self.up_to(":", lambda: self.listed(self.take)), self.type()
                 parameters += [(it, declared) for it in names]
                 self.takes(";")
         self.skip(":")
-        function = self.schema.functions[name] = Algorithm(parameters, self.type())
-        self.skip(";")
+        function = self.schema.functions[name] = Algorithm(parameters, self.up_to(";", self.type))
         self.algorithm(function, Scope(dict(parameters)), "END_FUNCTION")
 
     def rule_declaration(self):
-        name = self.take()
-        self.skip("FOR")
+        name = self.up_to("FOR")
         rule = self.schema.rules[name] = Algorithm(entities=self.in_parentheses(self.take))
         self.skip(";")
         self.algorithm(rule, Scope({}, None, rule.entities), "END_RULE")
@@ -292,12 +440,8 @@ class Reader:
     def labelled(self, read):
         found = []
         while not self.sees(*CLAUSES):
-            label = f"#{len(found) + 1}"
-            if self.tokens[self.at + 1] == ":":
-                label = self.take()
-                self.skip(":")
-            found.append(Rule(label, read()))
-            self.skip(";")
+            label = self.up_to(":") if self.tokens[self.at + 1] == ":" else f"#{len(found) + 1}"
+            found.append(Rule(label, self.up_to(";", read)))
         return found
 
     def unique_attribute(self):
@@ -316,85 +460,68 @@ class Reader:
 
     def statement(self):
         statements = {
-            "IF": self.if_statement, "CASE": self.case_statement, "REPEAT": self.repeat_statement, "BEGIN": self.compound_statement,
+            "IF": self.if_statement, "CASE": self.case_statement, "REPEAT": self.repeat_statement,
+            "BEGIN": lambda: Compound(self.up_to("END", self.statements)),
             "SKIP": Skip, "ESCAPE": Escape, "RETURN": lambda: Return(self.expression()),
         }
         word = self.take()
         if word == ";":
             return Null()
-        found = statements[word]() if word in statements else self.assignment(word)
-        self.skip(";")
-        return found
+        return self.up_to(";", statements[word] if word in statements else lambda: self.assignment(word))
 
     def assignment(self, name):
         self.skip(":=")
         return Assignment(name, self.scope.variables[name], self.expression())
 
-    def compound_statement(self):
-        found = self.statements()
-        self.skip("END")
-        return Compound(found)
-
     def if_statement(self):
-        condition = self.expression()
-        self.skip("THEN")
-        statements = self.statements()
+        condition, statements = self.up_to("THEN", self.expression), self.statements()
         otherwise = self.statements() if self.takes("ELSE") else []
         self.skip("END_IF")
         return If(condition, statements, otherwise)
 
     def case_statement(self):
-        selector = self.expression()
-        self.skip("OF")
-        actions, otherwise = [], None
+        selector, actions = self.up_to("OF", self.expression), []
         while not self.sees("OTHERWISE", "END_CASE"):
-            labels = self.listed(self.expression)
-            self.skip(":")
+            labels = self.up_to(":", lambda: self.listed(self.expression))
             actions.append((labels, self.statement()))
-        if self.takes("OTHERWISE"):
-            self.skip(":")
-            otherwise = self.statement()
+        has_otherwise = self.takes("OTHERWISE") and self.takes(":")
+        otherwise = self.statement() if has_otherwise else None
         self.skip("END_CASE")
         return Case(selector, actions, otherwise)
 
-    def within(self, variable, declared):
-        """The scope with one variable more."""
-        return self.scope._replace(variables={**self.scope.variables, variable: declared})
+    def knows(self, variable, declared):
+        """From here on the scope has one variable more."""
+        self.scope = self.scope._replace(variables={**self.scope.variables, variable: declared})
 
     def repeat_statement(self):
         """The variable is known in the conditions and in the statements."""
         variable = first = last = step = None
         before = self.scope
         if not self.sees("WHILE", "UNTIL", ";"):
-            variable = self.take()
-            self.skip(":=")
-            first = self.level(SIMPLE_EXPRESSION)
-            self.skip("TO")
-            last = self.level(SIMPLE_EXPRESSION)
-            step = self.level(SIMPLE_EXPRESSION) if self.takes("BY") else None
-            self.scope = self.within(variable, Simple("INTEGER"))
+            variable, first, last = self.up_to(":="), self.up_to("TO", self.simple_expression), self.simple_expression()
+            step = self.simple_expression() if self.takes("BY") else None
+            self.knows(variable, Simple("INTEGER"))
         condition = self.expression() if self.takes("WHILE") else None
         until = self.expression() if self.takes("UNTIL") else None
         self.skip(";")
-        statements = self.statements()
-        self.skip("END_REPEAT")
+        statements = self.up_to("END_REPEAT", self.statements)
         self.scope = before
         return Repeat(variable, first, last, step, condition, until, statements)
 
     # -- expressions
 
-    def expression(self):
-        return self.level(0)
-
-    def level(self, place):
+    def expression(self, level=0):
         """Operators of one level go from left to right."""
-        if place == len(LEVELS):
+        if level == len(LEVELS):
             return self.factor()
-        found = self.level(place + 1)
-        while self.sees(*LEVELS[place]):
-            operator, right = self.take(), self.level(place + 1)
+        found = self.expression(level + 1)
+        while self.sees(*LEVELS[level]):
+            operator, right = self.take(), self.expression(level + 1)
             found = Binary(found, operator, right, kinds_of_operation(operator, found.kinds, right.kinds))
         return found
+
+    def simple_expression(self):
+        return self.expression(1)
 
     def factor(self):
         """A sign before a real belongs to it."""
@@ -415,29 +542,26 @@ class Reader:
             return token
         if token in Logical.__members__:
             return Literal(Logical[token], NONE)
-        return others[token]() if token in others else self.accesses(self.named(token))
+        found = others[token]() if token in others else self.named(token)
+        while self.sees(".", "\\", "["):
+            found = self.access(found)
+        return found
 
     def initialiser(self):
-        elements = [] if self.sees("]") else self.listed(self.expression)
-        self.skip("]")
+        elements = self.up_to("]", lambda: [] if self.sees("]") else self.listed(self.expression))
         return Initialiser(elements, aggregate_of(union(it.kinds for it in elements)))
 
     def interval(self):
-        low, first, item, second, high = (self.level(SIMPLE_EXPRESSION) if place % 2 == 0 else self.take() for place in range(5))
+        low, first, item, second, high = (self.simple_expression() if place % 2 == 0 else self.take() for place in range(5))
         self.skip("}")
         return Interval(low, first, item, second, high, NONE)
 
     def query(self):
         self.skip("(")
-        variable = self.take()
-        self.skip("<*")
-        source = self.level(SIMPLE_EXPRESSION)
-        self.skip("|")
-        before = self.scope
-        self.scope = self.within(variable, Select(self.schema.kinds_of_elements(source.kinds)))
-        condition = self.expression()
+        variable, source, before = self.up_to("<*"), self.up_to("|", self.simple_expression), self.scope
+        self.knows(variable, Select(self.schema.kinds_of_elements(source.kinds)))
+        condition = self.up_to(")", self.expression)
         self.scope = before
-        self.skip(")")
         return Query(variable, source, condition, frozenset(it for it in source.kinds if isinstance(it, Aggregate)))
 
     def named(self, name):
@@ -464,13 +588,10 @@ class Reader:
     def item(self, word):
         """An item, alone or behind its type."""
         types = self.schema.types
-        if self.takes("."):
-            types, word = [word], self.take()
-        for name in types:
-            underlying = self.schema.types[name].underlying
-            if isinstance(underlying, Enumeration) and word in underlying.items:
-                return Literal(Item(name, underlying.items.index(word), word), NONE)
-        raise ValueError(f"{word} names nothing")
+        among, word = ([word], self.take()) if self.takes(".") else (types, word)
+        has_word = lambda it: isinstance(it, Enumeration) and word in it.items
+        name = next(it for it in among if has_word(types[it].underlying))
+        return Literal(Item(name, types[name].underlying.items.index(word), word), NONE)
 
     def own_attribute(self, entity, name):
         return OwnAttribute(name, self.schema.near([entity]), self.schema.attribute_kinds(entity, name))
@@ -480,25 +601,17 @@ class Reader:
         kinds = {"NVL": union(it.kinds for it in arguments), "TYPEOF": aggregate_of([]), "USEDIN": aggregate_of(self.schema.entities)}
         return BuiltIn(name, arguments, kinds.get(name, NONE))
 
-    def accesses(self, found):
-        """Accesses go from left to right."""
-        while self.sees(".", "\\", "["):
-            found = {".": self.of_attribute, "\\": self.of_group, "[": self.of_index}[self.take()](found)
-        return found
-
-    def of_attribute(self, first):
-        name = self.take()
-        return OfAttribute(first, name, self.schema.near(first.kinds), self.schema.kinds_of_access(first.kinds, name))
-
-    def of_group(self, first):
-        name = self.take()
-        return OfGroup(first, name, frozenset([name]))
-
-    def of_index(self, first):
-        index = self.level(SIMPLE_EXPRESSION)
-        last = self.level(SIMPLE_EXPRESSION) if self.takes(":") else None
+    def access(self, first):
+        """What stands behind a mark: the name of an attribute or of an entity, or an index or two."""
+        mark, schema = self.take(), self.schema
+        behind = self.simple_expression() if mark == "[" else self.take()
+        if mark == ".":
+            return OfAttribute(first, behind, schema.near(first.kinds), schema.kinds_of_access(first.kinds, behind))
+        if mark == "\\":
+            return OfGroup(first, behind, frozenset([behind]))
+        last = self.simple_expression() if self.takes(":") else None
         self.skip("]")
-        return OfRange(first, index, last, NONE) if last else OfIndex(first, index, self.schema.kinds_of_elements(first.kinds))
+        return OfRange(first, behind, last, NONE) if last else OfIndex(first, behind, schema.kinds_of_elements(first.kinds))
 
 
 def read(text):
@@ -508,6 +621,4 @@ def read(text):
 
 def read_expression(schema, text, entity=None, extents=()):
     """An expression of an entity's WHERE, or, without one, of that of a rule for these entities."""
-    reader = Reader(f"{text};", schema)
-    reader.scope = Scope({}, entity, () if entity else extents)
-    return reader.expression()
+    return Reader(f"{text};", schema, Scope({}, entity, () if entity else extents)).expression()

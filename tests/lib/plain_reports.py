@@ -6,14 +6,13 @@ of the population; what is evaluated is told by plain_rules.
 """
 from lib.plain_binding import DERIVED, UNSET, Enumeration, Reference, Typed
 from lib.plain_binding import Item as Word
-from lib.plain_trees import INDETERMINATE, Absent, Aggregate, Item, Logical, Simple
+from lib.plain_express import INDETERMINATE, OUTSIDE, Aggregate, Item, Logical, Simple
 from lib.plain_rules import (
     LIMIT, NOT_RUN, SIMPLE, STEPS_OF_AN_EVALUATION, TRUE, Environment, Evaluation, Instance, Many, PastLimit, as_declared, bare, deep,
-    fits, length, once_each, parts, rough, same, truth,
+    fits, length, logical, once_each, parts, rough, same, truth,
 )
 
 STEPS_BEFORE_THE_LAST = 19_800_000
-OUTSIDE = Absent.OUTSIDE
 LOGICAL_WORDS = {"T": Logical.TRUE, "F": Logical.FALSE, "U": Logical.UNKNOWN}
 
 # ---- populations
@@ -156,19 +155,16 @@ def is_astray(schema, declared, value):
 
 def rules_at(schema, declared, written_value, read_value):
     """The defined types by which a declaration has a value's rules tried, and the type that its elements are declared by, or None."""
-    if not schema.is_select(declared):
-        if not fits(schema, declared, read_value):
-            return set(), None
-        end = schema.end(declared)
-        return set(schema.names_beneath(declared)), end.element if isinstance(end, Aggregate) else None
-    if isinstance(written_value, Instance):
-        return {declared} | selects_to(schema, declared, written_value.types), None
-    between = selects_to(schema, declared, {written_value.keyword}) if isinstance(written_value, Typed) else set()
-    if not between:
-        return {declared}, None
-    end = schema.end(written_value.keyword)
-    beneath = schema.names_beneath(written_value.keyword)
-    return {*between, *beneath}, end.element if isinstance(end, Aggregate) else None
+    between, underlying = set(), declared
+    if schema.is_select(declared):
+        is_instance, keyword = isinstance(written_value, Instance), written_value.keyword if isinstance(written_value, Typed) else None
+        between, underlying = selects_to(schema, declared, written_value.types if is_instance else {keyword}), keyword
+        if is_instance or not between:
+            return {declared, *between}, None
+    elif not fits(schema, declared, read_value):
+        return between, None
+    end = schema.end(underlying)
+    return between.union(schema.names_beneath(underlying)), end.element if isinstance(end, Aggregate) else None
 
 
 def values_tried(schema, declared_types, written_value, read_value):
@@ -198,12 +194,17 @@ class Report:
 
     def __init__(self, schema, population):
         self.schema, self.population, self.extents = schema, population, extents_of(schema, population)
-        self.steps = 0
-        self.checks = []
+        self.steps, self.checks = 0, []
 
     def make(self):
-        for checks in (self.faults_of_attributes, self.rules_of_types, self.rules_of_entities, self.unique, self.inverse, self.global_rules):
-            checks()
+        types, entities = self.schema.types, self.schema.entities
+        owners = {name: [(it, [*it.place]) for it in its] for name, its in self.extents.items()}
+        self.faults_of_attributes()
+        self.each_rule("type", types, lambda it: it.rules, self.verdicts(value_of, self.tried()))
+        self.each_rule("where", entities, lambda it: it.rules, self.verdicts(value_of, owners))
+        self.each_rule("unique", entities, lambda it: it.unique, self.unique)
+        self.each_rule("inverse", entities, lambda it: it.inverse.items(), self.verdicts(users_hold, owners))
+        self.global_rules()
         return {"checks": self.checks, "steps": self.steps}
 
     def evaluated(self, run, *given):
@@ -235,74 +236,57 @@ class Report:
 
     # -- the checks without steps
 
-    def declarations(self, instance, attribute):
-        """How an attribute is declared, and redeclared by types of the instance."""
-        entity, name = attribute
-        again = [self.schema.entities[it].redeclared.get(attribute) for it in sorted(instance.types)]
-        return [self.schema.entities[entity].explicit[name], *(it for it in again if it)]
-
     def attributes(self):
-        """The attributes of all instances that aren't derived, with what is told of them as culprits."""
+        """The attributes of all instances that aren't derived: how each is declared, and redeclared by types of the instance, its value as
+        it is written and as it is read, and what is told of it as a culprit."""
+        entities = self.schema.entities
         for instance in self.population:
-            for attribute in instance.written:
-                yield instance, attribute, [*instance.place, ".".join(attribute)]
+            for place, value in instance.written.items():
+                again = [entities[it].redeclared.get(place) for it in sorted(instance.types)]
+                declarations = [entities[place[0]].explicit[place[1]], *(it for it in again if it)]
+                yield declarations, value, instance.read[place], [*instance.place, ".".join(place)]
 
     def faults_of_attributes(self):
         for check, is_fault in FAULTS.items():
             culprits = []
-            for instance, attribute, culprit in self.attributes():
-                value = instance.written[attribute]
-                if any(is_fault(self.schema, it, value) for it in self.declarations(instance, attribute)):
+            for declarations, value, _, culprit in self.attributes():
+                if any(is_fault(self.schema, it, value) for it in declarations):
                     culprits.append(("FALSE", culprit))
             self.enter(check, culprits)
 
     # -- the checks by evaluations
 
-    def rules_of_types(self):
-        """The rules of defined types, on each value of an attribute that is declared, or written, by the type."""
+    def each_rule(self, check, declared, rules, culprits):
+        """The entries of the rules, or what else is checked, of what is declared, by its names."""
+        for name, it in sorted(declared.items()):
+            for label, rule in rules(it):
+                self.enter(check, culprits(name, rule), of=name, rule=label)
+
+    def verdicts(self, run, tried):
+        """What gives the verdicts of a rule on all that it is tried on, which stands by the name of the rule's owner."""
+        return lambda name, rule: [(self.verdict(run, rule, it), culprit) for it, culprit in tried.get(name, [])]
+
+    def tried(self):
+        """The values on which the rules of each defined type are tried: those of attributes that are declared, or written, by it."""
         tried = {}
-        for instance, attribute, culprit in self.attributes():
-            types = [it.type for it in self.declarations(instance, attribute)]
-            for value, names in values_tried(self.schema, types, instance.written[attribute], instance.read[attribute]):
+        for declarations, *values, culprit in self.attributes():
+            for value, names in values_tried(self.schema, [it.type for it in declarations], *values):
                 for name in names:
                     tried.setdefault(name, []).append((value, culprit))
-        for name, defined in sorted(self.schema.types.items()):
-            for label, expression in defined.rules:
-                culprits = [(self.verdict(value_of, expression, value), culprit) for value, culprit in tried.get(name, [])]
-                self.enter("type", culprits, of=name, rule=label)
+        return tried
 
-    def rules_of_entities(self):
-        for name, entity in sorted(self.schema.entities.items()):
-            for label, expression in entity.rules:
-                culprits = [(self.verdict(value_of, expression, it), [*it.place]) for it in self.extents[name]]
-                self.enter("where", culprits, of=name, rule=label)
-
-    def unique(self):
+    def unique(self, name, attributes):
         """Rows of values that are the same. One with no value isn't compared, nor one that isn't whole, which is told as such. Each
         attribute costs a step beside its body or its results."""
-        for name, entity in sorted(self.schema.entities.items()):
-            for label, attributes in entity.unique:
-                rows = [(it, [self.evaluated(value_of, one, it) for one in attributes]) for it in self.extents[name]]
-                alike, culprits = {}, []
-                for it, row in rows:
-                    culprits += [(outcome.name, [*it.place]) for outcome in (LIMIT, NOT_RUN) if outcome in row]
-                    if not {INDETERMINATE, LIMIT, NOT_RUN}.intersection(map(rough, row)):
-                        alike.setdefault((*map(rough, row),), []).append((it, row))
-                are_same = lambda row, others: all(same(*its) is TRUE for its in zip(row, others))
-                agree = {it for its in alike.values() for it, row in its if any(it is not other and are_same(row, others) for other, others in its)}
-                culprits += [("FALSE", [*it.place]) for it, _ in rows if it in agree]
-                self.enter("unique", culprits, of=name, rule=label)
-
-    def inverse(self):
-        """The counts of users. One is due where the attribute is no aggregate."""
-        for name, entity in sorted(self.schema.entities.items()):
-            for label, inverse in entity.inverse.items():
-                culprits = []
-                for it in self.extents[name]:
-                    found = self.evaluated(count_users, it, inverse)
-                    outcome = found.name if found in (LIMIT, NOT_RUN) else "FALSE" if breaks_count(inverse, found) else "TRUE"
-                    culprits.append((outcome, [*it.place]))
-                self.enter("inverse", culprits, of=name, rule=label)
+        rows = [(it, [self.evaluated(value_of, one, it) for one in attributes]) for it in self.extents[name]]
+        alike, culprits = {}, []
+        for it, row in rows:
+            culprits += [(outcome.name, [*it.place]) for outcome in (LIMIT, NOT_RUN) if outcome in row]
+            if not {INDETERMINATE, LIMIT, NOT_RUN}.intersection(map(rough, row)):
+                alike.setdefault((*map(rough, row),), []).append((it, row))
+        are_same = lambda row, others: all(same(*its) is TRUE for its in zip(row, others))
+        agree = {it for its in alike.values() for it, row in its if any(it is not other and are_same(row, others) for other, others in its)}
+        return culprits + [("FALSE", [*it.place]) for it, _ in rows if it in agree]
 
     def global_rules(self):
         """A rule's locals and statements are run before each of its conditions."""
@@ -316,9 +300,10 @@ def value_of(evaluation, expression, self_value):
     return evaluation.value(expression, Environment(self_value, {}))
 
 
-def count_users(evaluation, instance, inverse):
+def users_hold(evaluation, inverse, instance):
+    """Whether the count of users is what it has to be: one, where the attribute is no aggregate."""
     evaluation.charge(1)
-    return len(evaluation.users(instance, inverse).elements)
+    return logical(not breaks_count(inverse, len(evaluation.users(instance, inverse).elements)))
 
 
 def outcome_of_rule(evaluation, rule, expression):

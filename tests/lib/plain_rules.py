@@ -1,4 +1,4 @@
-"""What the trees of plain_trees mean over a population, with steps and nesting, in Python.
+"""What the trees of plain_express mean over a population, with steps and nesting, in Python.
 
 It is written from the description alone, and never from the program: each operator, function and statement is a function
 here. Nothing is compiled, and nothing is remembered from one evaluation to another.
@@ -15,11 +15,11 @@ from concurrent.futures import ThreadPoolExecutor
 from enum import Enum
 from fractions import Fraction
 
-from lib import plain_trees as trees
+from lib import plain_express as trees
 from lib.plain_binding import Bits, Enumeration, Real, Select, Typed
-from lib.plain_trees import INDETERMINATE, Aggregate, Item, Logical, Simple
+from lib.plain_express import INDETERMINATE, Absent, Aggregate, Item, Logical, Simple
 
-TRUE, FALSE, UNKNOWN = Logical.TRUE, Logical.FALSE, Logical.UNKNOWN
+FALSE, UNKNOWN, TRUE = Logical
 STEPS_OF_AN_EVALUATION = 200_000
 NESTED_BODIES = 200
 SMALLEST, GREATEST = -2**63, 2**63 - 1
@@ -53,8 +53,7 @@ class Instance:
 
 
 # what an evaluation comes to that has no value
-Outcome = Enum("Outcome", "LIMIT NOT_RUN")
-LIMIT, NOT_RUN = Outcome.LIMIT, Outcome.NOT_RUN
+LIMIT, NOT_RUN = Enum("Outcome", "LIMIT NOT_RUN")
 KINDS = {int: "INTEGER", Real: "REAL", str: "STRING", Bits: "BINARY", Logical: "LOGICAL", Instance: "entity", Many: "aggregate"}
 # the values that a simple type may have
 SIMPLE = {"INTEGER": int, "REAL": (int, Real), "NUMBER": (int, Real), "STRING": str, "BINARY": Bits, "BOOLEAN": Logical, "LOGICAL": Logical,
@@ -170,24 +169,25 @@ def once_each(elements):
 # ---- operators on truth values and on integers
 
 
-def of_truth_values(meaning):
-    """An operator: no value counts as unknown, and a value of another kind gives none."""
+def of_kind(kinds, meaning):
+    """An operator or a function of values of these kinds: a value of another kind gives none."""
     def checked(*values):
-        values = [UNKNOWN if it is INDETERMINATE else bare(it) for it in values]
-        return meaning(*values) if all(isinstance(it, Logical) for it in values) else INDETERMINATE
+        values = [bare(it) for it in values]
+        return meaning(*values) if all(isinstance(it, kinds) for it in values) else INDETERMINATE
     return checked
+
+
+def of_truth_values(meaning):
+    """No value counts as unknown."""
+    return of_kind((Logical, Absent), lambda *its: meaning(*map(truth, its)))
 
 
 def of_integers(meaning):
-    """An operator: a value of another kind gives none, and so does a result that is None or out of 64 bits."""
+    """A result that is None or out of 64 bits is none."""
     def checked(*values):
-        values = [bare(it) for it in values]
-        return whole(meaning(*values)) if all(isinstance(it, int) for it in values) else INDETERMINATE
-    return checked
-
-
-def whole(number):
-    return number if number is not None and SMALLEST <= number <= GREATEST else INDETERMINATE
+        found = meaning(*values)
+        return found if found is not None and SMALLEST <= found <= GREATEST else INDETERMINATE
+    return of_kind(int, checked)
 
 
 def least(*values):
@@ -204,7 +204,7 @@ def of_natural(meaning):
 
 
 conjunction, negation = of_truth_values(least), of_truth_values(lambda it: Logical(2 - it.value))
-summed, product = of_integers(lambda *its: sum(its)), of_integers(operator.mul)
+summed = of_integers(lambda *its: sum(its))
 
 # ---- `+`, `*` and `-` with aggregates
 
@@ -244,7 +244,7 @@ def times(left, right):
     """Of two aggregates the left's elements that find an equal one left on the right."""
     left, right = bare(left), bare(right)
     if not (isinstance(left, Many) and isinstance(right, Many)):
-        return product(left, right)
+        return of_integers(operator.mul)(left, right)
     free = list(right.elements)
     return Many("SET" if "SET" in (left.kind, right.kind) else "BAG", 1, [it for it in left.elements if taken_from(free, it)])
 
@@ -263,7 +263,7 @@ def minus(left, right):
 # ---- relations
 
 
-def compared(left, right, meaning):
+def compared(left, right, meaning=equal):
     """A comparison by value: unknown with no value; none with an instance on a side, or of two kinds."""
     left, right = bare(left), bare(right)
     if INDETERMINATE in (left, right):
@@ -271,14 +271,6 @@ def compared(left, right, meaning):
     if isinstance(left, Instance) or not are_of_one_kind(left, right):
         return INDETERMINATE
     return meaning(left, right)
-
-
-def equality(left, right):
-    return compared(left, right, equal)
-
-
-def not_so(value):
-    return value if value is INDETERMINATE else negation(value)
 
 
 def ordered(is_so, within=lambda left, right: INDETERMINATE):
@@ -313,7 +305,8 @@ OPERATORS = {
     "AND": conjunction, "OR": of_truth_values(lambda *its: max(its, key=rank)),
     "XOR": of_truth_values(lambda left, right: UNKNOWN if UNKNOWN in (left, right) else logical(left is not right)),
     "+": plus, "-": minus, "*": times, "**": of_integers(power), "DIV": of_natural(operator.floordiv), "MOD": of_natural(operator.mod),
-    "=": equality, "<>": lambda left, right: not_so(equality(left, right)), ":=:": same, ":<>:": lambda left, right: not_so(same(left, right)),
+    "=": compared, "<>": lambda left, right: compared(left, right, lambda *its: negation(equal(*its))),
+    ":=:": same, ":<>:": lambda left, right: negation(same(left, right)),
     "<": ordered(operator.lt), ">": ordered(operator.gt), "<=": ordered(operator.le, is_within),
     ">=": ordered(operator.ge, lambda left, right: is_within(right, left)), "IN": lambda value, many: has(many, value, same),
 }
@@ -336,21 +329,16 @@ def count_of(value):
     return len(bare(value).elements) if isinstance(bare(value), Many) else 0
 
 
-def of_kind(kinds, meaning):
-    """A function that takes a value of these kinds, and gives none for any other."""
-    return lambda value: meaning(bare(value)) if isinstance(bare(value), kinds) else INDETERMINATE
-
-
 def high_index(aggregate):
     return aggregate.low + len(aggregate.elements) - 1
 
 
 FUNCTIONS = {
-    "ABS": of_kind(int, lambda it: whole(abs(it))), "ODD": of_kind(int, lambda it: logical(it % 2 == 1)),
+    "ABS": of_integers(abs), "ODD": of_kind(int, lambda it: logical(it % 2 == 1)),
     "LENGTH": of_kind(str, length), "BLENGTH": of_kind(Bits, length), "SIZEOF": of_kind(Many, count_of),
     "LOINDEX": of_kind(Many, lambda it: it.low), "HIINDEX": of_kind(Many, high_index),
     "EXISTS": lambda it: logical(it is not INDETERMINATE), "NVL": lambda value, other: other if value is INDETERMINATE else value,
-    "VALUE_IN": lambda aggregate, value: has(aggregate, value, equality),
+    "VALUE_IN": lambda aggregate, value: has(aggregate, value, compared),
 }
 
 
@@ -368,6 +356,10 @@ def part_of(value, low, high):
     if not (isinstance(value, (str, Bits)) and isinstance(low, int) and isinstance(high, int) and 1 <= low <= high <= length(value)):
         return INDETERMINATE
     return Bits(value.text[low - 1:high]) if isinstance(value, Bits) else value[low - 1:high]
+
+
+def in_group(value, entity):
+    return value if isinstance(value, Instance) and entity in value.types else INDETERMINATE
 
 
 # ---- what is declared
@@ -515,12 +507,6 @@ class Evaluation:
             return found
         return found.elements[0] if len(found.elements) == 1 else INDETERMINATE
 
-    # -- accesses
-
-    def of_group(self, node, environment):
-        value = self.value(node.first, environment)
-        return value if isinstance(value, Instance) and node.entity in value.types else INDETERMINATE
-
     # -- operators
 
     def operation(self, operator, left, right):
@@ -533,9 +519,6 @@ class Evaluation:
         if operator == "+" and isinstance(value, (str, Bits)):
             self.charge(length(value))
         return value
-
-    def binary(self, node, environment):
-        return self.operation(node.operator, self.value(node.left, environment), self.value(node.right, environment))
 
     def interval(self, node, environment):
         low, item, high = self.values((node.low, node.item, node.high), environment)
@@ -567,15 +550,12 @@ class Evaluation:
         return FUNCTIONS[node.function](*arguments)
 
     def used_in(self, instance, role):
-        role = bare(role)
+        """The uses in a role, `SCHEMA.ENTITY.ATTRIBUTE`, or all."""
+        name, role = self.schema.name, bare(role)
         if not (isinstance(instance, Instance) and isinstance(role, str)):
             return INDETERMINATE
-        return self.charged("BAG", [user for user, used in instance.users if not role or self.plays(user, used, role)])
-
-    def plays(self, user, used, role):
-        """Whether a use by an attribute is one in a role, `SCHEMA.ENTITY.ATTRIBUTE`."""
-        entities = [it for it in user.types if used[0] in self.schema.line_of(it)]
-        return role in [".".join((self.schema.name, it, used[1])) for it in entities]
+        roles = lambda user, used: [f"{name}.{it}.{used[1]}" for it in user.types if used[0] in self.schema.line_of(it)]
+        return self.charged("BAG", [user for user, used in instance.users if not role or role in roles(user, used)])
 
     def call(self, node, environment):
         function, arguments = self.schema.functions[node.function], self.values(node.arguments, environment)
@@ -610,14 +590,11 @@ class Evaluation:
         value = self.value(statement.value, environment)
         environment.variables[statement.name] = as_declared(self.schema, statement.type, value)
 
-    def if_statement(self, statement, environment):
-        return self.run(statement.statements if self.is_so(statement.condition, environment) else statement.otherwise, environment)
-
     def case_statement(self, statement, environment):
         """The first label that equals the selector decides. The comparisons cost nothing."""
         selector = self.value(statement.selector, environment)
         for labels, action in statement.actions:
-            if any(equality(selector, self.value(it, environment)) is TRUE for it in labels):
+            if any(compared(selector, self.value(it, environment)) is TRUE for it in labels):
                 return self.execute(action, environment)
         return None if statement.otherwise is None else self.execute(statement.otherwise, environment)
 
@@ -657,16 +634,18 @@ EVALUATED = {
     trees.Extent: lambda it, node, at: it.charged("SET", it.extents[node.entity]),
     trees.OwnAttribute: lambda it, node, at: it.attribute(at.self_value, node.name, node.near),
     trees.OfAttribute: lambda it, node, at: it.attribute(it.value(node.first, at), node.name, node.near),
-    trees.OfGroup: Evaluation.of_group,
+    trees.OfGroup: lambda it, node, at: in_group(it.value(node.first, at), node.entity),
     trees.OfIndex: lambda it, node, at: at_index(it.value(node.first, at), it.value(node.index, at)),
     trees.OfRange: lambda it, node, at: part_of(*it.values((node.first, node.low, node.high), at)),
     trees.Unary: lambda it, node, at: UNARY[node.operator](it.value(node.operand, at)),
-    trees.Binary: Evaluation.binary, trees.Interval: Evaluation.interval, trees.Query: Evaluation.query,
+    trees.Binary: lambda it, node, at: it.operation(node.operator, *it.values((node.left, node.right), at)),
+    trees.Interval: Evaluation.interval, trees.Query: Evaluation.query,
     trees.Initialiser: Evaluation.initialiser, trees.BuiltIn: Evaluation.built_in, trees.Call: Evaluation.call,
 }
 EXECUTED = {
-    trees.Assignment: Evaluation.assignment, trees.If: Evaluation.if_statement, trees.Case: Evaluation.case_statement,
-    trees.Repeat: Evaluation.repeat, trees.Compound: lambda it, statement, at: it.run(statement.statements, at),
+    trees.Assignment: Evaluation.assignment, trees.Case: Evaluation.case_statement, trees.Repeat: Evaluation.repeat,
+    trees.If: lambda it, statement, at: it.run(statement.statements if it.is_so(statement.condition, at) else statement.otherwise, at),
+    trees.Compound: lambda it, statement, at: it.run(statement.statements, at),
     trees.Null: lambda *_: None, trees.Skip: lambda *_: SKIPPED, trees.Escape: lambda *_: ESCAPED,
     trees.Return: lambda it, statement, at: Returned(it.value(statement.value, at)),
 }

@@ -18,11 +18,10 @@ sys.path.insert(0, os.path.dirname(os.path.dirname(os.path.abspath(__file__))))
 
 from lib import plain_binding  # noqa: E402
 from lib.plain_binding import DERIVED, UNSET, Bits, Enumeration, Real, Reference, Select, Typed  # noqa: E402
-from lib.plain_express import read  # noqa: E402
-from lib.plain_trees import (  # noqa: E402
+from lib.plain_express import (  # noqa: E402
     INDETERMINATE, Aggregate, Algorithm, Assignment, Binary, BuiltIn, Call, Case, Compound, Constant, Defined, Entity, Escape, Explicit, Extent,
     Given, If, Initialiser, Interval, Inverse, Item, Literal, Logical, Null, OfAttribute, OfGroup, OfIndex, OfRange, OwnAttribute, Query, Repeat,
-    Return, Rule, Schema, Self, Simple, Skip, Unary, Variable,
+    Return, Rule, Schema, Self, Simple, Skip, Unary, Variable, read,
 )
 from lib.rule_texts import binding_schema, report  # noqa: E402
 from lib.schema_text import schema_text  # noqa: E402

@@ -11,19 +11,19 @@ import functools
 import re
 from types import SimpleNamespace
 
-from lib import plain_binding, plain_express, plain_files, plain_reports, plain_rules, plain_trees
+from lib import plain_binding, plain_express, plain_files, plain_reports, plain_rules
+from lib.plain_express import INDETERMINATE
 from lib.plain_model import Link
 from lib.plain_rules import LIMIT, deep
-from lib.plain_trees import INDETERMINATE
 
 # ---- the schema that files are read by
 
 
 def binding_type(declared):
     """A type as plain_binding has it."""
-    if isinstance(declared, plain_trees.Simple):
+    if isinstance(declared, plain_express.Simple):
         return declared.word
-    if isinstance(declared, plain_trees.Aggregate):
+    if isinstance(declared, plain_express.Aggregate):
         high = "?" if declared.high is None else declared.high
         return plain_binding.Aggregate(f"{declared.kind} [{declared.low}:{high}]", binding_type(declared.element))
     if isinstance(declared, (plain_binding.Enumeration, plain_binding.Select)):
@@ -107,9 +107,9 @@ def told(value):
         return f"{name}[{','.join(map(told, value.elements))}]"
     if isinstance(value, plain_rules.Instance):
         return f"#{value.place[2]}"
-    if isinstance(value, plain_trees.Item):
+    if isinstance(value, plain_express.Item):
         return f"{value.type}.{value.word}"
-    if isinstance(value, plain_trees.Logical):
+    if isinstance(value, plain_express.Logical):
         return value.name
     if isinstance(value, plain_binding.Bits):
         return f"%{value.text}"

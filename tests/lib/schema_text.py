@@ -1,6 +1,6 @@
-"""The text of a schema of plain_trees, which plain_express reads again as the same trees."""
+"""The text of a schema as trees, which plain_express reads again as the same trees."""
 from lib.plain_binding import Bits, Enumeration, Real, Select
-from lib.plain_trees import (
+from lib.plain_express import (
     INDETERMINATE, Aggregate, Assignment, Binary, BuiltIn, Call, Case, Compound, Constant, Escape, Extent, If, Initialiser, Interval, Item,
     Literal, Logical, Null, OfAttribute, OfGroup, OfIndex, OfRange, OwnAttribute, Query, Repeat, Return, Self, Simple, Skip, Unary, Variable,
 )
