@@ -28,7 +28,7 @@ from lib.schema_text import schema_text  # noqa: E402
 
 # ---- what a name's first letter says: attributes of one name have one sort of values, so that any `x.a` has it
 
-SORTS = {"N": "INTEGER", "S": "STRING", "Q": "LOGICAL", "R": "REAL", "B": "BINARY", "E": "entity", "L": "integers", "M": "entities",
+SORTS = {"Y": "mixed", "N": "INTEGER", "S": "STRING", "Q": "LOGICAL", "R": "REAL", "B": "BINARY", "E": "entity", "L": "integers", "M": "entities",
          "C": "item", "X": "select"}
 ELEMENTS = {"integers": "INTEGER", "entities": "entity"}
 # functions of SHOWING that give back what is of a sort, as what they declare
@@ -62,7 +62,8 @@ LOCAL n : INTEGER := SIZEOF(TYPEOF(x)); END_LOCAL;
   IF 'BINARY' IN TYPEOF(x) THEN REPEAT i := 1 TO BLENGTH(x); IF x[i] :=: %1 THEN ; END_IF; END_REPEAT; END_IF;
   IF 'LOGICAL' IN TYPEOF(x) THEN IF x THEN ; END_IF; IF NOT x THEN ; ; END_IF; END_IF;
   CASE TRUE OF x :=: colour.red : ; x :=: colour.green : BEGIN ; ; END; OTHERWISE : ; END_CASE;
-  IF SIZEOF(TYPEOF(x) * ['ARRAY', 'BAG', 'LIST', 'SET']) > 0 THEN n := HIINDEX(x) + SIZEOF(QUERY(v <* x | show(v))); END_IF;
+  IF 'SET' IN TYPEOF(x) THEN ; END_IF; IF 'BAG' IN TYPEOF(x) THEN ; ; END_IF; IF 'ARRAY' IN TYPEOF(x) THEN ; ; ; END_IF;
+  IF SIZEOF(TYPEOF(x) * ['ARRAY', 'BAG', 'LIST', 'SET']) > 0 THEN n := fall(HIINDEX(x)) + SIZEOF(QUERY(v <* x | show(v))); END_IF;
   n := SIZEOF(USEDIN(x, ''));
   RETURN (TRUE);
 END_FUNCTION; END_SCHEMA;"""
@@ -144,14 +145,13 @@ class Maker:
             entity = self.schema.entities[it]
             held = entity.explicit[node.name].type if node.name in entity.explicit else getattr(entity.inverse.get(node.name), "entity", None)
             if held in self.schema.entities:
-                below = [one for one in self.schema.entities if held in self.schema.line_of(one)]
-                return self.schema.line_of(held) if self.happens(0.5) else self.schema.line_of(self.choice(below))
+                return self.schema.line_of(held) if self.happens(0.5) else self.schema.line_of(self.choice(self.below(held)))
         return self.schema.entities
 
     def expression(self, sort, scope, depth):
         """An expression that may be of a sort."""
         make = {"INTEGER": self.integer, "STRING": self.string, "LOGICAL": self.condition, "REAL": self.real, "BINARY": self.binary,
-                "entity": self.entity, "item": self.item, "select": self.select}.get(sort)
+                "entity": self.entity, "item": self.item, "select": self.select, "mixed": self.mixed}.get(sort)
         if self.happens(0.01):
             return Literal(INDETERMINATE, None)
         found = None
@@ -219,6 +219,9 @@ class Maker:
     def select(self, scope, depth):
         return self.named("select", scope) or self.expression(self.choice(["INTEGER", "STRING", "entity"]), scope, min(depth - 1, 0))
 
+    def mixed(self, scope, depth):
+        return self.named("mixed", scope) or self.expression(self.choice(["INTEGER", "STRING", "LOGICAL"]), scope, min(depth - 1, 0))
+
     def entity(self, scope, depth):
         found = [Self(None)] if scope.entity else []
         if scope.extents:
@@ -253,9 +256,15 @@ class Maker:
         return self.choice(ways)()
 
     def used_in(self, scope, depth):
-        place = self.choice([(entity, name) for entity, it in self.schema.entities.items() for name in it.explicit])
+        holders = [(entity, name) for entity, it in self.schema.entities.items() for name in it.explicit if name[0] in "EMX"]
+        entity, name = self.choice(holders)
+        place = self.choice(self.below(entity)), name
         role = self.choice(["", ".".join(("R", *place)), ".".join(("R", *place)), "R.ENTITY_1.NEXT", "r.entity_1.next", "R.NOTHING"])
         return built_in("USEDIN", self.entity(scope, depth - 1), Literal(role, None))
+
+    def below(self, entity):
+        """An entity and those below it."""
+        return [it for it in self.schema.entities if entity in self.schema.line_of(it)]
 
     def query(self, element, scope, depth):
         variable = self.variable()
@@ -281,9 +290,12 @@ class Maker:
         return Call("SHOW", [self.any_value(scope, depth - 1)], None)
 
     def comparison(self, scope, depth):
-        sort = self.choice(["INTEGER"] * 4 + ["STRING", "REAL", "BINARY", "item", "LOGICAL", "any", "integers", "sets"])
+        sort = self.choice(["INTEGER"] * 4 + ["STRING", "REAL", "BINARY", "item", "LOGICAL", "any", "integers", "sets", "mixed"])
         part = lambda of: self.expression(of, scope, depth - 1)
-        if sort == "any":
+        if sort == "mixed" and self.named("mixed", scope):
+            other = self.expression(self.choice(["INTEGER", "STRING"]), scope, depth - 1)
+            return chain(self.named("mixed", scope), self.choice(["=", "<>", "<", ">="]), other)
+        if sort in ("any", "mixed"):
             return chain(self.any_value(scope, depth - 1), self.choice([":=:", ":<>:"]), self.any_value(scope, depth - 1))
         if sort == "integers":
             several = lambda: self.aggregate("INTEGER", scope, depth - 1)
@@ -314,7 +326,7 @@ class Maker:
             "CODE": simple("STRING", 2, True), "BITS": simple("BINARY", 3), "FLAG": simple("BOOLEAN"),
             "COLOUR": Enumeration(("RED", "GREEN", "BLUE")), "PAINT": "COLOUR",
             "COUNTS": of("LIST", 1, 3, "COUNT"), "COUNT_SET": of("SET", 0, 3, "COUNT"), "ROW": of("ARRAY", 2, 4, simple("INTEGER"), True, True),
-            "PARTS": of("SET", 0, None, "ENTITY_1"), "INNER": Select(("LABEL", "COUNT_SET", "ENTITY_2")),
+            "PARTS": of("SET", 0, None, "ENTITY_1"), "MIXED": Select(("COUNT", "LABEL", "FLAG")), "INNER": Select(("LABEL", "COUNT_SET", "ENTITY_2")),
             "ANY_ONE": Select(("SMALL_COUNT", "INNER", "ENTITY_1", "COLOUR", "PARTS")), "RENAMED": "ANY_ONE",
         }
         self.schema.types = {name: Defined(it) for name, it in underlying.items()}
@@ -330,7 +342,7 @@ class Maker:
             "B": ["BITS", simple("BINARY")], "E": [entity], "C": ["COLOUR", "PAINT"], "X": ["ANY_ONE", "RENAMED"],
             "L": ["COUNTS", "COUNT_SET", "ROW", Aggregate("LIST", 0, 4, simple("INTEGER"), False, True),
                   Aggregate("BAG", 0, None, "COUNT", False, False)],
-            "M": [entities(), "PARTS"],
+            "M": [entities(), "PARTS"], "Y": ["MIXED"],
         }[letter])
 
     # -- entities
@@ -345,7 +357,7 @@ class Maker:
         is_chained = any(one in self.schema.line_of(other) for one in above for other in above if one != other)
         return above if len(names) == len(set(names)) and not is_chained else above[:1]
 
-    def new_name(self, taken, letters="NNNSSQRBEEELMMCX"):
+    def new_name(self, taken, letters="NNNSSQRBEEELMMCXY"):
         while True:
             name = f"{self.choice(letters)}{self.random.randrange(12)}"
             if name not in taken:
@@ -375,7 +387,7 @@ class Maker:
                 expression = self.expression(SORTS[attribute[0]], scope, 2)
                 entity.derived_again[it, attribute] = Given(declared, expression)
             else:
-                type_again = self.declared(attribute[0], 60) if attribute[0] in "NSLEX" else declared
+                type_again = self.declared(attribute[0], 60) if attribute[0] in "NSLEX" else "ANY_ONE" if attribute[0] == "M" else declared
                 entity.redeclared[it, attribute] = Explicit(type_again, self.happens(0.5))
 
     def inverse_parts(self, name, taken):
@@ -387,7 +399,7 @@ class Maker:
             inverse = self.new_name(taken, "M" if kind else "E")
             taken.add(inverse)
             low, high = (self.choice([0, 0, 1]), self.choice([None, 1, 3])) if kind else (1, 1)
-            entity.inverse[inverse] = Inverse(kind, low, high, user, attribute)
+            entity.inverse[inverse] = Inverse(kind, low, high, self.choice(self.below(user)), attribute)
 
     def names_beside(self, name):
         """Names of attributes that an entity's line, its subtypes' lines have."""
@@ -509,8 +521,8 @@ class Maker:
         """Locals, statements, and the scope in which they are known."""
         sorts = {"INTEGER": Simple("INTEGER"), "STRING": "LABEL", "integers": Aggregate("SET", 0, None, Simple("INTEGER"), False, False)}
         named = {self.variable(): self.choice(list(sorts)) for _ in range(count)}
-        found = [([name], Given(sorts[sort], self.expression(sort, scope, 1) if self.happens(0.8) else None)) for name, sort in named.items()]
         inside = scope._replace(variables={**scope.variables, **named})
+        found = [([name], Given(sorts[sort], self.expression(sort, inside, 2) if self.happens(0.8) else None)) for name, sort in named.items()]
         statements = [self.statement(inside, named, 2, is_function) for _ in range(count)]
         return found, statements, inside
 
@@ -540,7 +552,7 @@ class Maker:
         variable = self.variable()
         inside = scope._replace(variables={**scope.variables, variable: "INTEGER"})
         last = built_in("SIZEOF", self.aggregate("INTEGER", scope, 1)) if way == "repeat" else whole(6)
-        return Repeat(variable, whole(self.choice([0, 1])), last, self.choice([None, whole(2), Unary("-", whole(1), None)]),
+        return Repeat(variable, whole(self.choice([0, 1])), last, self.choice([None, None, whole(2), whole(0), Unary("-", whole(1), None)]),
                       self.condition(inside, 1) if way == "while" else None, self.condition(inside, 1) if self.happens(0.3) else None,
                       [self.statement(inside, named, depth - 1, is_function, True)])
 
