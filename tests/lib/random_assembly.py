@@ -1,0 +1,378 @@
+#!/usr/bin/env python3
+"""Random populations of example/assembly/assembly.exp, for what is compared with the plain reading of rules.
+
+    tests/lib/random_assembly.py [--populations N] [--instances N] [--seed S] [--entries] [--show]
+
+evaluates N populations, and tells how often each check had each verdict, how many steps were taken, how long the longest one took,
+and which entries of reports were never FALSE; with --entries also how often each entry had each verdict. What is told by the seed
+alone is a population (`random_population`).
+
+Instances are copied from the example's files, with what they refer to and some of their users, or made by the schema's declarations.
+What is copied or made is at times changed for a fault. A seventh of the populations has a scene, in which evaluations come to a
+limit: references go round, or a value is very long. A third of these are crowds of up to twice as many instances, of which a hundred
+come to a limit cheaply, so that others aren't evaluated any more: NOT_RUN. Reports have no other verdicts than these: no rule over
+all instances of this schema can be UNKNOWN, and no inverse attribute of [0:?] FALSE.
+"""
+import argparse
+import collections
+import functools
+import glob
+import itertools
+import os
+import random
+import re
+import sys
+import time
+
+sys.path.insert(0, os.path.dirname(os.path.dirname(os.path.abspath(__file__))))
+
+from lib import plain_binding, plain_files  # noqa: E402
+from lib.harness import TOP  # noqa: E402
+from lib.plain_binding import DERIVED, UNSET, Bits, Enumeration, Item, Reference, Select, Typed, real, within  # noqa: E402
+from lib.plain_trees import Aggregate, Simple  # noqa: E402
+from lib.random_rules import ALONE, MODELS, OUTSIDE  # noqa: E402
+from lib.rule_texts import binding_schema, report, tree_of  # noqa: E402
+
+FOLDER = os.path.join(TOP, "example/assembly")
+# the instance of the model OUTSIDE, and what may stand for any other one while models are filled
+INSTANCE_OUTSIDE = f"#{ALONE}=APPLICATION_CONTEXT('');"
+
+
+@functools.lru_cache
+def text_of(name):
+    with open(os.path.join(FOLDER, name), encoding="utf-8") as it:
+        return it.read()
+
+
+def schema_text():
+    return text_of("assembly.exp")
+
+
+@functools.lru_cache
+def example():
+    """The instances of the example's files by names that no two of them share, where links lead to the instances that they name."""
+    links = dict(re.findall(r'"name":(\d+),[^}]*"instance":(\d+)', text_of("requests.txt")))
+    found = []
+    for place, name in enumerate(["part.step", "assembly.step", *sorted(glob.glob("broken/*.step", root_dir=FOLDER))]):
+        renamed = re.sub(r"#(\d+)", lambda it, place=place: f"#{links.get(it[1]) or int(it[1]) + 10_000 * place}", text_of(name))
+        found += plain_files.read(renamed).instances
+    return {it.name: it for it in plain_binding.bound(binding_schema(tree_of(schema_text())), found)}
+
+
+@functools.lru_cache
+def users_in_example():
+    found = {it: [] for it in example()}
+    for name, it in example().items():
+        for used in plain_binding.references_of(it):
+            found[used.name].append(name)
+    return found
+
+
+# ---- which entities an instance may have
+
+# those that are abstract, and units, which are of a sort and of a quantity
+NEVER_ALONE = set("""APPLICATION_CONTEXT_ELEMENT ADDRESS ASSEMBLY_USAGE NAMED_UNIT SI_UNIT CONVERSION_BASED_UNIT CONTEXT_DEPENDENT_UNIT
+    LENGTH_UNIT MASS_UNIT PLANE_ANGLE_UNIT RATIO_UNIT REPRESENTATION_ITEM GEOMETRIC_ITEM TOPOLOGICAL_ITEM CURVE SURFACE""".split())
+CONTEXTS = ("GEOMETRIC_CONTEXT", "UNIT_CONTEXT", "UNCERTAINTY_CONTEXT")
+TOGETHER = [
+    *itertools.product(("SI_UNIT", "CONVERSION_BASED_UNIT", "CONTEXT_DEPENDENT_UNIT"),
+                       ("LENGTH_UNIT", "MASS_UNIT", "PLANE_ANGLE_UNIT", "RATIO_UNIT")),
+    *itertools.combinations(CONTEXTS, 2), CONTEXTS, ("NEXT_ASSEMBLY_USAGE", "QUANTIFIED_USAGE"), ("PROMISSORY_USAGE", "QUANTIFIED_USAGE"),
+    ("SHAPE_REPRESENTATION_RELATIONSHIP", "TRANSFORMED_RELATIONSHIP"), ("HOLE", "HOLE_PATTERN"), ("MEASURE_ITEM", "UNCERTAINTY_MEASURE"),
+    ("BREP_REPRESENTATION", "MEASURE_REPRESENTATION"), ("CARTESIAN_POINT", "VERTEX"), ("PLACEMENT", "EDGE_LOOP"), ("LINE", "ORIENTED_EDGE"),
+]
+
+
+@functools.lru_cache
+def combinations_with(entity=None):
+    """The sets of entities that instances have here, or those of them with this one."""
+    schema = tree_of(schema_text())
+    leaves = [*((it,) for it in schema.entities if it not in NEVER_ALONE), *TOGETHER]
+    found = [frozenset().union(*map(schema.line_of, its)) for its in leaves]
+    return [it for it in found if entity is None or entity in it]
+
+
+# ---- values, by the name of an attribute or of a type: those that rules want, and then others
+
+MARK = "1000100101010000"
+
+
+def pool(good, bad=()):
+    good = list(good)
+    return good, list(bad) or good
+
+
+def reals(*numbers):
+    return [plain_binding.real_of(f"{it:.3f}") for it in numbers]
+
+
+POOLS = {
+    "COUNTRY_CODE": pool(["CH", "DE"], ["ch", "C", "", "C1", "CHE"]),
+    "CHECKSUM": pool([Bits("10" * 16)], [Bits("0" * 32), Bits("1"), Bits("1" * 33)]),
+    "PICTURE": pool([Bits(MARK), Bits(MARK + "0" * 8)], [Bits(MARK + "1"), Bits(MARK[:8]), Bits("01" * 8), Bits("")]),
+    "MONTH_NUMBER": pool([1, 2, 2, 4, 12], [0, 13, -1]), "DAY_NUMBER": pool([1, 28, 29, 30, 31], [0, 32]),
+    "HOUR_NUMBER": pool([0, 12, 23], [-1, 24]), "DIMENSION_COUNT": pool([2, 3, 3], [0, 4]),
+    "POSITIVE_LENGTH_MEASURE": pool(reals(6.6, 4), reals(0, -1)), "MASS_MEASURE": pool(reals(0, 1.5), reals(-0.1, 1e12)),
+    "COUNT_MEASURE": pool([1, 4], [0, -1, 10**12, *reals(4, 0.5)]), "LENGTH_MEASURE": pool(reals(0, 1, -1, 12.5), reals(1e12, 1e15)),
+    "YEAR_COMPONENT": pool([2024, 2023, 2000, 1900], [0, -4, 2**63 - 1]), "HOUR_OFFSET": pool([0, 0, 1, 3, 12], [-1, 15, 2**62]),
+    "MINUTE_OFFSET": pool([0, 30, 45], [7, 60, -15]), "EXPONENT": pool([1, 1, 3, -1], [0, 2**62]),
+    "DIMENSIONS": pool([[0, 0], [0, 0], [1, 0], [0, 1]], [[3, 0], [1], [0, 0, 1], [UNSET, 0]]),
+    "SCHEMA_NAME": pool(["mechanical_assembly"], ["automotive_design"]), "MAIL": pool(["a@b.example"], ["a", "", "@"]),
+    "ROLE": pool(["creator", "owner", "design", "check"], ["", "anyone"]), "FILE_NAME": pool(["a.png", "b.x.jpg"], ["c.pdf", "d", "e."]),
+    "REQUIRED_ROLES": pool([["design"], ["design", "check"]], [[], ["check", "check"], ["owner", UNSET]]),
+    "FURTHER_ROLES": pool([["creator", "owner"], ["creator", "owner", "design", "check"]], [[], ["anyone", "anyone"]]),
+    "RATIOS": pool([reals(0, 0, 1), reals(1, 0, 0), reals(0, 1)], [reals(0, 0, 0), reals(1), [], [UNSET, *reals(1)]]),
+    "MAGNITUDE": pool(reals(0, 50), reals(-1)), "DENSITY": pool(reals(7.81, 2.7), reals(0, 23)),
+    "LINES": pool([[UNSET] * 4, [UNSET, "N1", UNSET, UNSET], ["N1", "N2", "", UNSET]], [[UNSET], ["N1"] * 5]), "CALLOUT": pool(["\u23006.6 H13"], ["6.6", "", "\u2205"]),
+    "INTEGER": pool([0, 1, 2], [2**63 - 1, -2**63]), "REAL": pool(reals(0, 1, -1, 12.5), reals(1e12, 1e15)),
+    "BOOLEAN": pool(map(Item, "TF")), "LOGICAL": pool(map(Item, "TF"), [Item("U")]),
+}
+
+# ---- scenes
+
+# an entity of which there are many, or few where their evaluations take their time; entities to which some attributes refer so that
+# they go round; and a place where values are so long: in each instance where that isn't much, else in one alone
+Scene = collections.namedtuple("Scene", "crowd ways long length are_few", defaults=({}, None, 0, False))
+UNITS = {"BASE": "DERIVED_UNIT", "UNIT_COMPONENT": "DERIVED_UNIT"}
+# each product definition is a component of all before it, so that there are very many ways up
+LADDER = Scene("PRODUCT_DEFINITION")
+STEPS_OF_THE_LADDER = 13
+SCENES = [
+    LADDER, Scene("PRODUCT_CATEGORY", {"PARENT": "PRODUCT_CATEGORY"}), Scene("EDGE_LOOP", {"ELEMENT": "ORIENTED_EDGE"}),
+    Scene("CONVERSION_BASED_UNIT", UNITS), Scene("MEASURE_WITH_UNIT", UNITS), Scene("PLACEMENT", {"AXIS": "PLACEMENT"}),
+    Scene("APPROVAL", {}, "ROLES", 450), Scene("SPARE_KIT", {}, "CONTENTS", 450), Scene("PLACEMENT", {}, "RATIOS", 450),
+    Scene("PERSON", {}, "FIRST_NAME", 100_000), Scene("PRODUCT_DEFINITION", {}, "PRODUCT.ID", 100_000),
+    Scene("SPARE_KIT", {}, "CONTENTS", 201_000, True), Scene("TRANSFORMED_RELATIONSHIP", {}, "REPRESENTATION.ITEMS", 201_000, True),
+    *(Scene(entity, {}, place, 30_000, True) for entity, place in (
+        ("ORGANIZATIONAL_ADDRESS", "MAIL"), ("ORGANIZATIONAL_ADDRESS", "LINES"), ("DOCUMENT_FILE", "FILE_NAME"), ("UNIT_CONTEXT", "UNITS"),
+        ("BREP_REPRESENTATION", "REPRESENTATION.ITEMS"), ("MEASURE_REPRESENTATION", "REPRESENTATION.ITEMS"), ("HOLE_PATTERN", "HOLES"),
+        ("DIRECTION", "RATIOS"), ("EDGE_LOOP", "EDGES"), ("FACE_SURFACE", "BOUNDS"), ("MEASURE_WITH_UNIT", "DERIVED_UNIT.ELEMENTS"))),
+]
+
+# ---- populations
+
+
+def renamed(value, names):
+    """A value whose references are by other names."""
+    if isinstance(value, list):
+        return [renamed(it, names) for it in value]
+    return Reference(names[value.name]) if isinstance(value, Reference) else value
+
+
+class Population:
+    """Random instances in two models. How often values have faults is chosen anew for each population, and so is how often something
+    new is referred to where there already is something."""
+
+    def __init__(self, seed, most):
+        self.random = random.Random(seed)
+        self.schema = tree_of(schema_text())
+        self.faults, self.fresh = self.random.choice([0, 0, 0.02, 0.1, 0.3]), self.random.choice([0.1, 0.5])
+        words = self.random.choice([4, 1000])
+        self.pools = {**POOLS, "STRING": pool([*(f"N{it}" for it in range(words)), "it's", "\u00d6l"], [""]),
+                      "IDENTIFIER": pool([*(f"P{it}" for it in range(words)), "x" * 40], ["", "x" * 41])}
+        self.scene, self.most, self.longs = None, most, 0
+        # the types of each instance, its values by their places, and those that have no values yet, with values that are given
+        self.types, self.values, self.waiting = {}, {}, []
+        if self.happens(1 / 7):
+            self.set_scene(self.random.choice(SCENES))
+        else:
+            self.copy(self.random.choice([0, 0, most // 2, most]))
+        # room is left for what others need
+        self.fill_up(self.random.choice([0, 5, most // 3, 2 * most // 3, 2 * most // 3]))
+
+    def happens(self, probability):
+        return self.random.random() < probability
+
+    def set_scene(self, scene):
+        self.scene, self.longs = scene, 1 if scene.length > 500 else 1000
+        is_great = scene is LADDER or not scene.are_few and self.happens(0.3)
+        if is_great:
+            self.most, self.fresh = 2 * self.most, 0.02
+        if scene is LADDER:
+            names = [self.add({"PRODUCT_DEFINITION"}) for _ in range(min(STEPS_OF_THE_LADDER, self.most // 9))]
+            for above, below in itertools.combinations(map(Reference, names), 2):
+                places = [("PRODUCT_DEFINITION_RELATIONSHIP", it) for it in ("RELATING_DEFINITION", "RELATED_DEFINITION")]
+                self.add(self.schema.line_of("NEXT_ASSEMBLY_USAGE"), dict(zip(places, (above, below))))
+            return
+        others = [None] * (self.most // 12)
+        for entity in [scene.crowd] * (8 if scene.are_few else int(self.most * (0.86 if is_great else 0.4))) + others:
+            self.add(self.random.choice(combinations_with(entity)))
+
+    def copy(self, count):
+        """Instances of the example, with what they refer to and some of their users."""
+        it = self.random.choice([*example()])
+        waiting, found = [it] * (count > 0), []
+        while waiting and len(found) < count:
+            it = waiting.pop(0)
+            if it not in found:
+                found.append(it)
+                waiting += [used.name for used in plain_binding.references_of(example()[it])]
+                waiting += [user for user in users_in_example()[it] if self.happens(0.3)]
+        names = {it: place for place, it in enumerate(found, 1)}
+        for it in found:
+            given = {(entity.upper(), attribute.upper()): renamed(value, names) for (entity, attribute), value in example()[it].values.items()
+                     if all(used.name in names for used in within(value) if isinstance(used, Reference))}
+            self.add({it.upper() for it in example()[it].types}, given)
+
+    def add(self, types, given=None):
+        """A new instance: its values come later."""
+        name = len(self.types) + 1
+        self.types[name] = frozenset(types)
+        self.waiting.append((name, given or {}))
+        return name
+
+    def fill_up(self, count):
+        """Instances, until there are as many, and the values of all."""
+        while self.waiting or len(self.types) < count:
+            if not self.waiting:
+                self.add(self.random.choice(combinations_with()))
+            self.fill(*self.waiting.pop())
+
+    def is_full(self):
+        return len(self.types) >= self.most
+
+    def fill(self, name, given):
+        """The values of an instance, and mostly a user where an inverse attribute asks for one."""
+        types = self.types[name]
+        self.values[name] = values = {}
+        derived = {place for it in types for place in self.schema.entities[it].derived_again}
+        for entity in sorted(types):
+            for attribute, declared in self.schema.entities[entity].explicit.items():
+                place = (entity, attribute)
+                is_given = place in given and not self.happens(self.faults / 2)
+                values[place] = DERIVED if place in derived else given[place] if is_given else self.value_at(place, types, declared)
+        for inverse in (it for entity in sorted(types) for it in self.schema.entities[entity].inverse.values()):
+            place = (self.schema.declaring(inverse.entity, inverse.attribute)[0], inverse.attribute)
+            if inverse.low != 0 and not self.is_full() and not self.has_user(name, place) and self.happens(0.8 - self.faults):
+                is_many = isinstance(self.schema.end(self.schema.entities[place[0]].explicit[place[1]].type), Aggregate)
+                self.add(self.random.choice(combinations_with(inverse.entity)), {place: [Reference(name)] if is_many else Reference(name)})
+
+    def has_user(self, name, place):
+        return any(Reference(name) in within(values.get(place)) for values in self.values.values())
+
+    # -- values
+
+    def value_at(self, place, types, declared):
+        """A value of an attribute, by the type that a subtype redeclares it by, if one does."""
+        again = [self.schema.entities[it].redeclared[place] for it in sorted(types) if place in self.schema.entities[it].redeclared]
+        entity, attribute = place
+        scene = self.scene or Scene(None)
+        if attribute in scene.ways:
+            return self.reference([scene.ways[attribute]])
+        if self.happens(0.3 if declared.is_optional else self.faults / 2):
+            return UNSET
+        value = self.pooled(attribute) if attribute in self.pools else self.value((again or [declared])[0].type)
+        if value and scene.long and self.longs and f"{entity}.{attribute}".endswith(scene.long):
+            self.longs -= 1
+            value = self.lengthened(value, self.schema.end(declared.type))
+        return value
+
+    def lengthened(self, value, end):
+        """A value that is as long as the scene wants it. Many elements of no value take the plain reading too long, but for an ARRAY's."""
+        if isinstance(end, Aggregate) and end.kind != "ARRAY":
+            value = [it for it in value if it not in (UNSET, Reference(ALONE))]
+        return value * (self.scene.length // max(len(value), 1) + 1)
+
+    def pooled(self, name):
+        good, bad = self.pools[name]
+        return self.random.choice(bad if self.happens(self.faults) else good)
+
+    def value(self, declared):
+        name = next((it for it in self.schema.names_beneath(declared) if it in self.pools), None)
+        end = self.schema.end(declared)
+        if name:
+            return self.pooled(name)
+        if isinstance(end, Select):
+            return self.selected(declared)
+        if isinstance(end, Aggregate):
+            return self.elements(end)
+        if isinstance(end, Enumeration):
+            return Item(self.random.choice(end.items))
+        return self.pooled(end.word) if isinstance(end, Simple) else self.reference([end])
+
+    def selected(self, name):
+        """A value of a member of a SELECT, at any depth."""
+        member = self.random.choice(self.schema.select_members(name))
+        if self.schema.is_select(member):
+            return self.selected(member)
+        return self.reference([member]) if member in self.schema.entities else Typed(member.lower(), self.value(member))
+
+    def elements(self, end):
+        high = end.low + 2 if end.high is None else end.high
+        count = high if end.kind == "ARRAY" else self.random.randint(end.low, high)
+        if self.happens(self.faults / 2):
+            count = self.random.choice([0, high + 1])
+        found = []
+        for _ in range(count):
+            value = UNSET if self.happens(0.3 if end.is_optional else self.faults / 4) else self.value(end.element)
+            if value not in found or end.kind in ("ARRAY", "BAG") or self.happens(0.1):
+                found.append(value)
+        return found
+
+    def reference(self, entities):
+        """A reference to an instance of one of these, which may be new, or to any, or to one that isn't in the population."""
+        if self.happens(self.faults / 3):
+            return Reference(self.random.choice([*self.types, ALONE]))
+        fitting = [name for name, types in self.types.items() if types.intersection(entities)]
+        if fitting and (self.is_full() or not self.happens(self.fresh)):
+            return Reference(self.random.choice(fitting))
+        if self.is_full():
+            return Reference(self.random.choice([*self.types, ALONE]))
+        return Reference(self.add(self.random.choice(combinations_with(self.random.choice(entities)))))
+
+    # -- models
+
+    def models(self):
+        """Owner, name, instances as a file has them, and links."""
+        lines, links = {it: "" for it in MODELS}, {it: {} for it in MODELS}
+        share = self.random.choice([0, 0.3])
+        place_of = {name: MODELS[self.happens(share)] for name in self.types}
+        for name, types in self.types.items():
+            values = {(entity.lower(), attribute.lower()): it for (entity, attribute), it in self.values[name].items()}
+            bound = plain_binding.Bound(name, {it.lower() for it in types}, values)
+            at = place_of[name]
+            for used in sorted({it.name for it in plain_binding.references_of(bound)}):
+                target = place_of.get(used, OUTSIDE)
+                if target != at:
+                    links[at][used] = (used, *target, used)
+            lines[at] += plain_binding.instance_text(binding_schema(self.schema), bound) + "\n"
+        return [(*it, lines[it], list(links[it].values())) for it in MODELS]
+
+
+def random_population(seed, most=60):
+    """Models as rule_texts takes them; some links lead to the model OUTSIDE."""
+    return Population(seed, most).models()
+
+
+# ---- counting
+
+
+def main(words):
+    parser = argparse.ArgumentParser(prog="tests/lib/random_assembly.py", allow_abbrev=False)
+    for name, number in (("populations", 100), ("instances", 60), ("seed", 1)):
+        parser.add_argument(f"--{name}", type=int, default=number)
+    parser.add_argument("--entries", action="store_true", help="tells how often each entry had each verdict, too")
+    parser.add_argument("--show", action="store_true", help="prints the first population, and nothing else")
+    given = parser.parse_args(words)
+    checks, entries, longest, steps, begin = collections.Counter(), collections.Counter(), (0, None), 0, time.process_time()
+    for number in range(given.populations):
+        seed = f"{given.seed} {number}"
+        models = random_population(seed, given.instances)
+        if given.show:
+            print(*(part for model in models for part in model))
+            return
+        before = time.process_time()
+        found = report(schema_text(), models)
+        longest = max(longest, (time.process_time() - before, seed))
+        steps += found["steps"]
+        for it in found["checks"]:
+            checks[it["check"], it["verdict"]] += 1
+            entries[" ".join(it[key] for key in ("check", "of", "rule") if key in it), it["verdict"]] += 1
+    for (name, verdict), count in sorted(checks.items()) + sorted(entries.items()) * given.entries:
+        print(f"{name:40} {verdict:8} {count:8}")
+    print("never FALSE:", *(f"{name};" for name in sorted({it for it, _ in entries}) if not entries[name, "FALSE"]))
+    print(f"{given.populations} populations, {steps} steps, {time.process_time() - begin:.1f} s, at most {longest[0]:.2f} s for {longest[1]!r}")
+
+
+if __name__ == "__main__":
+    main(sys.argv[1:])
