@@ -1,7 +1,7 @@
 #!/usr/bin/env python3
 """Random populations of example/assembly/assembly.exp, for what is compared with the plain reading of rules.
 
-    tests/lib/random_assembly.py [--populations N] [--instances N] [--seed S] [--entries] [--show]
+    tests/lib/random_assembly.py [--populations N] [--instances N] [--seed S] [--entries]
 
 evaluates N populations, and tells how often each check had each verdict, how many steps were taken, how long the longest one took,
 and which entries of reports were never FALSE; with --entries also how often each entry had each verdict. What is told by the seed
@@ -16,9 +16,9 @@ all instances of this schema can be UNKNOWN, and no inverse attribute of [0:?] F
 import argparse
 import collections
 import functools
-import glob
 import itertools
 import os
+import pathlib
 import random
 import re
 import sys
@@ -28,44 +28,32 @@ sys.path.insert(0, os.path.dirname(os.path.dirname(os.path.abspath(__file__))))
 
 from lib import plain_binding, plain_files  # noqa: E402
 from lib.harness import TOP  # noqa: E402
-from lib.plain_binding import DERIVED, UNSET, Bits, Enumeration, Item, Reference, Select, Typed, real, within  # noqa: E402
+from lib.plain_binding import DERIVED, UNSET, Bits, Enumeration, Item, Reference, Select, Typed, within  # noqa: E402
 from lib.plain_trees import Aggregate, Simple  # noqa: E402
 from lib.random_rules import ALONE, MODELS, OUTSIDE  # noqa: E402
 from lib.rule_texts import binding_schema, report, tree_of  # noqa: E402
 
-FOLDER = os.path.join(TOP, "example/assembly")
+FOLDER = pathlib.Path(TOP, "example/assembly")
+SCHEMA_TEXT = (FOLDER / "assembly.exp").read_text("utf-8")
+SCHEMA = tree_of(SCHEMA_TEXT)
 # the instance of the model OUTSIDE, and what may stand for any other one while models are filled
 INSTANCE_OUTSIDE = f"#{ALONE}=APPLICATION_CONTEXT('');"
 
 
 @functools.lru_cache
-def text_of(name):
-    with open(os.path.join(FOLDER, name), encoding="utf-8") as it:
-        return it.read()
-
-
-def schema_text():
-    return text_of("assembly.exp")
-
-
-@functools.lru_cache
 def example():
-    """The instances of the example's files by names that no two of them share, where links lead to the instances that they name."""
-    links = dict(re.findall(r'"name":(\d+),[^}]*"instance":(\d+)', text_of("requests.txt")))
-    found = []
-    for place, name in enumerate(["part.step", "assembly.step", *sorted(glob.glob("broken/*.step", root_dir=FOLDER))]):
-        renamed = re.sub(r"#(\d+)", lambda it, place=place: f"#{links.get(it[1]) or int(it[1]) + 10_000 * place}", text_of(name))
-        found += plain_files.read(renamed).instances
-    return {it.name: it for it in plain_binding.bound(binding_schema(tree_of(schema_text())), found)}
-
-
-@functools.lru_cache
-def users_in_example():
-    found = {it: [] for it in example()}
-    for name, it in example().items():
+    """The instances of the example's files by names that no two of them share, where links lead to the instances that they name, and
+    the users of each."""
+    links = dict(re.findall(r'"name":(\d+),[^}]*"instance":(\d+)', (FOLDER / "requests.txt").read_text("utf-8")))
+    found, users = [], collections.defaultdict(list)
+    for place, name in enumerate(["part.step", "assembly.step", *sorted(FOLDER.glob("broken/*.step"))]):
+        new_name = lambda it, place=place: f"#{links.get(it[1]) or int(it[1]) + 10_000 * place}"
+        found += plain_files.read(re.sub(r"#(\d+)", new_name, (FOLDER / name).read_text("utf-8"))).instances
+    instances = {it.name: it for it in plain_binding.bound(binding_schema(SCHEMA), found)}
+    for name, it in instances.items():
         for used in plain_binding.references_of(it):
-            found[used.name].append(name)
-    return found
+            users[used.name].append(name)
+    return instances, users
 
 
 # ---- which entities an instance may have
@@ -86,11 +74,13 @@ TOGETHER = [
 @functools.lru_cache
 def combinations_with(entity=None):
     """The sets of entities that instances have here, or those of them with this one."""
-    schema = tree_of(schema_text())
-    leaves = [*((it,) for it in schema.entities if it not in NEVER_ALONE), *TOGETHER]
-    found = [frozenset().union(*map(schema.line_of, its)) for its in leaves]
+    leaves = [*((it,) for it in SCHEMA.entities if it not in NEVER_ALONE), *TOGETHER]
+    found = [frozenset().union(*map(SCHEMA.line_of, its)) for its in leaves]
     return [it for it in found if entity is None or entity in it]
 
+
+# to what is mostly referred where one of these may be
+USUAL = {"EDGE": ["EDGE_CURVE"], "REPRESENTATION_CONTEXT": ["GEOMETRIC_CONTEXT"], "REPRESENTATION_ITEM": ["PLACEMENT", "MEASURE_ITEM"]}
 
 # ---- values, by the name of an attribute or of a type: those that rules want, and then others
 
@@ -123,7 +113,8 @@ POOLS = {
     "FURTHER_ROLES": pool([["creator", "owner"], ["creator", "owner", "design", "check"]], [[], ["anyone", "anyone"]]),
     "RATIOS": pool([reals(0, 0, 1), reals(1, 0, 0), reals(0, 1)], [reals(0, 0, 0), reals(1), [], [UNSET, *reals(1)]]),
     "MAGNITUDE": pool(reals(0, 50), reals(-1)), "DENSITY": pool(reals(7.81, 2.7), reals(0, 23)),
-    "LINES": pool([[UNSET] * 4, [UNSET, "N1", UNSET, UNSET], ["N1", "N2", "", UNSET]], [[UNSET], ["N1"] * 5]), "CALLOUT": pool(["\u23006.6 H13"], ["6.6", "", "\u2205"]),
+    "LINES": pool([[UNSET] * 4, [UNSET, "N1", UNSET, UNSET], ["N1", "N2", "", UNSET]], [[UNSET], ["N1"] * 5]),
+    "CALLOUT": pool(["\u23006.6 H13"], ["6.6", "", "\u2205"]),
     "INTEGER": pool([0, 1, 2], [2**63 - 1, -2**63]), "REAL": pool(reals(0, 1, -1, 12.5), reals(1e12, 1e15)),
     "BOOLEAN": pool(map(Item, "TF")), "LOGICAL": pool(map(Item, "TF"), [Item("U")]),
 }
@@ -165,12 +156,13 @@ class Population:
 
     def __init__(self, seed, most):
         self.random = random.Random(seed)
-        self.schema = tree_of(schema_text())
         self.faults, self.fresh = self.random.choice([0, 0, 0.02, 0.1, 0.3]), self.random.choice([0.1, 0.5])
         words = self.random.choice([4, 1000])
-        self.pools = {**POOLS, "STRING": pool([*(f"N{it}" for it in range(words)), "it's", "\u00d6l"], [""]),
+        self.pools = {**POOLS, "STRING": pool([*(f"N{it}" for it in range(words)), "it's", "\u00d6l"], ["", "n" * 61]),
                       "IDENTIFIER": pool([*(f"P{it}" for it in range(words)), "x" * 40], ["", "x" * 41])}
-        self.scene, self.most, self.longs = None, most, 0
+        self.scene, self.most, self.longs = Scene(None), most, 0
+        self.few = self.random.sample(combinations_with(), 4) if self.happens(0.4) else combinations_with()
+        self.usual = {it: self.random.choice(its) for it, its in USUAL.items()}
         # the types of each instance, its values by their places, and those that have no values yet, with values that are given
         self.types, self.values, self.waiting = {}, {}, []
         if self.happens(1 / 7):
@@ -184,7 +176,7 @@ class Population:
         return self.random.random() < probability
 
     def set_scene(self, scene):
-        self.scene, self.longs = scene, 1 if scene.length > 500 else 1000
+        self.scene, self.longs = scene, 0 if not scene.long else 1 if scene.length > 500 else 1000
         is_great = scene is LADDER or not scene.are_few and self.happens(0.3)
         if is_great:
             self.most, self.fresh = 2 * self.most, 0.02
@@ -192,7 +184,7 @@ class Population:
             names = [self.add({"PRODUCT_DEFINITION"}) for _ in range(min(STEPS_OF_THE_LADDER, self.most // 9))]
             for above, below in itertools.combinations(map(Reference, names), 2):
                 places = [("PRODUCT_DEFINITION_RELATIONSHIP", it) for it in ("RELATING_DEFINITION", "RELATED_DEFINITION")]
-                self.add(self.schema.line_of("NEXT_ASSEMBLY_USAGE"), dict(zip(places, (above, below))))
+                self.add(SCHEMA.line_of("NEXT_ASSEMBLY_USAGE"), dict(zip(places, (above, below))))
             return
         others = [None] * (self.most // 12)
         for entity in [scene.crowd] * (8 if scene.are_few else int(self.most * (0.86 if is_great else 0.4))) + others:
@@ -200,19 +192,19 @@ class Population:
 
     def copy(self, count):
         """Instances of the example, with what they refer to and some of their users."""
-        it = self.random.choice([*example()])
-        waiting, found = [it] * (count > 0), []
+        instances, users = example()
+        waiting, found = [self.random.choice([*instances])], []
         while waiting and len(found) < count:
             it = waiting.pop(0)
             if it not in found:
                 found.append(it)
-                waiting += [used.name for used in plain_binding.references_of(example()[it])]
-                waiting += [user for user in users_in_example()[it] if self.happens(0.3)]
+                waiting += [used.name for used in plain_binding.references_of(instances[it])]
+                waiting += [user for user in users[it] if self.happens(0.3)]
         names = {it: place for place, it in enumerate(found, 1)}
-        for it in found:
-            given = {(entity.upper(), attribute.upper()): renamed(value, names) for (entity, attribute), value in example()[it].values.items()
+        for it in map(instances.get, found):
+            given = {(entity.upper(), attribute.upper()): renamed(value, names) for (entity, attribute), value in it.values.items()
                      if all(used.name in names for used in within(value) if isinstance(used, Reference))}
-            self.add({it.upper() for it in example()[it].types}, given)
+            self.add({it.upper() for it in it.types}, given)
 
     def add(self, types, given=None):
         """A new instance: its values come later."""
@@ -225,7 +217,7 @@ class Population:
         """Instances, until there are as many, and the values of all."""
         while self.waiting or len(self.types) < count:
             if not self.waiting:
-                self.add(self.random.choice(combinations_with()))
+                self.add(self.random.choice(self.few))
             self.fill(*self.waiting.pop())
 
     def is_full(self):
@@ -235,41 +227,36 @@ class Population:
         """The values of an instance, and mostly a user where an inverse attribute asks for one."""
         types = self.types[name]
         self.values[name] = values = {}
-        derived = {place for it in types for place in self.schema.entities[it].derived_again}
+        derived = {place for it in types for place in SCHEMA.entities[it].derived_again}
         for entity in sorted(types):
-            for attribute, declared in self.schema.entities[entity].explicit.items():
+            for attribute, declared in SCHEMA.entities[entity].explicit.items():
                 place = (entity, attribute)
                 is_given = place in given and not self.happens(self.faults / 2)
                 values[place] = DERIVED if place in derived else given[place] if is_given else self.value_at(place, types, declared)
-        for inverse in (it for entity in sorted(types) for it in self.schema.entities[entity].inverse.values()):
-            place = (self.schema.declaring(inverse.entity, inverse.attribute)[0], inverse.attribute)
-            if inverse.low != 0 and not self.is_full() and not self.has_user(name, place) and self.happens(0.8 - self.faults):
-                is_many = isinstance(self.schema.end(self.schema.entities[place[0]].explicit[place[1]].type), Aggregate)
-                self.add(self.random.choice(combinations_with(inverse.entity)), {place: [Reference(name)] if is_many else Reference(name)})
-
-    def has_user(self, name, place):
-        return any(Reference(name) in within(values.get(place)) for values in self.values.values())
+        for inverse in (it for entity in sorted(types) for it in SCHEMA.entities[entity].inverse.values()):
+            place = (SCHEMA.declaring(inverse.entity, inverse.attribute)[0], inverse.attribute)
+            has_user = any(Reference(name) in within(it.get(place)) for it in self.values.values())
+            if inverse.low != 0 and not has_user and not self.is_full() and self.happens(0.8 - self.faults):
+                is_many = isinstance(SCHEMA.end(SCHEMA.entities[place[0]].explicit[inverse.attribute].type), Aggregate)
+                used = [Reference(name)] if is_many else Reference(name)
+                self.add(self.random.choice(combinations_with(inverse.entity)), {place: used})
 
     # -- values
 
     def value_at(self, place, types, declared):
         """A value of an attribute, by the type that a subtype redeclares it by, if one does."""
-        again = [self.schema.entities[it].redeclared[place] for it in sorted(types) if place in self.schema.entities[it].redeclared]
+        again = [SCHEMA.entities[it].redeclared[place] for it in sorted(types) if place in SCHEMA.entities[it].redeclared]
         entity, attribute = place
-        scene = self.scene or Scene(None)
-        if attribute in scene.ways:
-            return self.reference([scene.ways[attribute]])
+        if attribute in self.scene.ways:
+            return self.reference(self.scene.ways[attribute])
         if self.happens(0.3 if declared.is_optional else self.faults / 2):
             return UNSET
         value = self.pooled(attribute) if attribute in self.pools else self.value((again or [declared])[0].type)
-        if value and scene.long and self.longs and f"{entity}.{attribute}".endswith(scene.long):
-            self.longs -= 1
-            value = self.lengthened(value, self.schema.end(declared.type))
-        return value
-
-    def lengthened(self, value, end):
-        """A value that is as long as the scene wants it. Many elements of no value take the plain reading too long, but for an ARRAY's."""
-        if isinstance(end, Aggregate) and end.kind != "ARRAY":
+        if not (value and self.longs and f"{entity}.{attribute}".endswith(self.scene.long)):
+            return value
+        self.longs -= 1
+        if isinstance(value, list) and attribute != "LINES":
+            # many elements of no value would take the plain reading too long, but for an ARRAY's
             value = [it for it in value if it not in (UNSET, Reference(ALONE))]
         return value * (self.scene.length // max(len(value), 1) + 1)
 
@@ -278,24 +265,21 @@ class Population:
         return self.random.choice(bad if self.happens(self.faults) else good)
 
     def value(self, declared):
-        name = next((it for it in self.schema.names_beneath(declared) if it in self.pools), None)
-        end = self.schema.end(declared)
+        name = next((it for it in SCHEMA.names_beneath(declared) if it in self.pools), None)
+        end = SCHEMA.end(declared)
         if name:
             return self.pooled(name)
         if isinstance(end, Select):
-            return self.selected(declared)
+            member = self.random.choice(SCHEMA.select_members(declared))
+            value = self.value(member)
+            return value if member in SCHEMA.entities or SCHEMA.is_select(member) else Typed(member.lower(), value)
         if isinstance(end, Aggregate):
             return self.elements(end)
         if isinstance(end, Enumeration):
             return Item(self.random.choice(end.items))
-        return self.pooled(end.word) if isinstance(end, Simple) else self.reference([end])
-
-    def selected(self, name):
-        """A value of a member of a SELECT, at any depth."""
-        member = self.random.choice(self.schema.select_members(name))
-        if self.schema.is_select(member):
-            return self.selected(member)
-        return self.reference([member]) if member in self.schema.entities else Typed(member.lower(), self.value(member))
+        if isinstance(end, Simple):
+            return self.pooled(end.word)
+        return self.reference(self.usual[end] if end in USUAL and self.happens(0.8) else end)
 
     def elements(self, end):
         high = end.low + 2 if end.high is None else end.high
@@ -309,39 +293,31 @@ class Population:
                 found.append(value)
         return found
 
-    def reference(self, entities):
-        """A reference to an instance of one of these, which may be new, or to any, or to one that isn't in the population."""
-        if self.happens(self.faults / 3):
+    def reference(self, entity):
+        """A reference to an instance of an entity, which may be new, or to any, or to one that isn't in the population."""
+        fitting = [name for name, types in self.types.items() if entity in types]
+        if self.happens(self.faults / 3) or not fitting and self.is_full():
             return Reference(self.random.choice([*self.types, ALONE]))
-        fitting = [name for name, types in self.types.items() if types.intersection(entities)]
         if fitting and (self.is_full() or not self.happens(self.fresh)):
             return Reference(self.random.choice(fitting))
-        if self.is_full():
-            return Reference(self.random.choice([*self.types, ALONE]))
-        return Reference(self.add(self.random.choice(combinations_with(self.random.choice(entities)))))
-
-    # -- models
-
-    def models(self):
-        """Owner, name, instances as a file has them, and links."""
-        lines, links = {it: "" for it in MODELS}, {it: {} for it in MODELS}
-        share = self.random.choice([0, 0.3])
-        place_of = {name: MODELS[self.happens(share)] for name in self.types}
-        for name, types in self.types.items():
-            values = {(entity.lower(), attribute.lower()): it for (entity, attribute), it in self.values[name].items()}
-            bound = plain_binding.Bound(name, {it.lower() for it in types}, values)
-            at = place_of[name]
-            for used in sorted({it.name for it in plain_binding.references_of(bound)}):
-                target = place_of.get(used, OUTSIDE)
-                if target != at:
-                    links[at][used] = (used, *target, used)
-            lines[at] += plain_binding.instance_text(binding_schema(self.schema), bound) + "\n"
-        return [(*it, lines[it], list(links[it].values())) for it in MODELS]
+        return Reference(self.add(self.random.choice(combinations_with(entity))))
 
 
 def random_population(seed, most=60):
-    """Models as rule_texts takes them; some links lead to the model OUTSIDE."""
-    return Population(seed, most).models()
+    """Models as rule_texts takes them: owner, name, instances as a file has them, and links, of which some lead to the model OUTSIDE."""
+    made = Population(seed, most)
+    lines, links = {it: "" for it in MODELS}, {it: {} for it in MODELS}
+    share = made.random.choice([0, 0.3])
+    places = {name: MODELS[made.happens(share)] for name in made.types}
+    for name, types in made.types.items():
+        values = {(entity.lower(), attribute.lower()): it for (entity, attribute), it in made.values[name].items()}
+        bound = plain_binding.Bound(name, {it.lower() for it in types}, values)
+        for used in sorted({it.name for it in plain_binding.references_of(bound)}):
+            target = places.get(used, OUTSIDE)
+            if target != places[name]:
+                links[places[name]][used] = (used, *target, used)
+        lines[places[name]] += plain_binding.instance_text(binding_schema(SCHEMA), bound) + "\n"
+    return [(*it, lines[it], list(links[it].values())) for it in MODELS]
 
 
 # ---- counting
@@ -352,17 +328,13 @@ def main(words):
     for name, number in (("populations", 100), ("instances", 60), ("seed", 1)):
         parser.add_argument(f"--{name}", type=int, default=number)
     parser.add_argument("--entries", action="store_true", help="tells how often each entry had each verdict, too")
-    parser.add_argument("--show", action="store_true", help="prints the first population, and nothing else")
     given = parser.parse_args(words)
     checks, entries, longest, steps, begin = collections.Counter(), collections.Counter(), (0, None), 0, time.process_time()
     for number in range(given.populations):
         seed = f"{given.seed} {number}"
         models = random_population(seed, given.instances)
-        if given.show:
-            print(*(part for model in models for part in model))
-            return
         before = time.process_time()
-        found = report(schema_text(), models)
+        found = report(SCHEMA_TEXT, models)
         longest = max(longest, (time.process_time() - before, seed))
         steps += found["steps"]
         for it in found["checks"]:
