@@ -67,7 +67,7 @@ TOGETHER = [
                        ("LENGTH_UNIT", "MASS_UNIT", "PLANE_ANGLE_UNIT", "RATIO_UNIT")),
     *itertools.combinations(CONTEXTS, 2), CONTEXTS, ("NEXT_ASSEMBLY_USAGE", "QUANTIFIED_USAGE"), ("PROMISSORY_USAGE", "QUANTIFIED_USAGE"),
     ("SHAPE_REPRESENTATION_RELATIONSHIP", "TRANSFORMED_RELATIONSHIP"), ("HOLE", "HOLE_PATTERN"), ("MEASURE_ITEM", "UNCERTAINTY_MEASURE"),
-    ("BREP_REPRESENTATION", "MEASURE_REPRESENTATION"), ("CARTESIAN_POINT", "VERTEX"), ("PLACEMENT", "EDGE_LOOP"), ("LINE", "ORIENTED_EDGE"),
+    ("BREP_REPRESENTATION", "MEASURE_REPRESENTATION"), ("CARTESIAN_POINT", "VERTEX"), ("DIRECTION", "EDGE_LOOP"), ("LINE", "ORIENTED_EDGE"),
 ]
 
 
@@ -80,16 +80,12 @@ def combinations_with(entity=None):
 
 
 # to what is mostly referred where one of these may be
-USUAL = {"EDGE": ["EDGE_CURVE"], "REPRESENTATION_CONTEXT": ["GEOMETRIC_CONTEXT"], "REPRESENTATION_ITEM": ["PLACEMENT", "MEASURE_ITEM"]}
+USUAL = {"EDGE": ["EDGE_CURVE"], "REPRESENTATION_CONTEXT": ["GEOMETRIC_CONTEXT", "UNIT_CONTEXT"],
+         "REPRESENTATION_ITEM": ["PLACEMENT", "MEASURE_ITEM"], "NAMED_UNIT": ["NAMED_UNIT", "LENGTH_UNIT", "SI_UNIT"]}
 
 # ---- values, by the name of an attribute or of a type: those that rules want, and then others
 
 MARK = "1000100101010000"
-
-
-def pool(good, bad=()):
-    good = list(good)
-    return good, list(bad) or good
 
 
 def reals(*numbers):
@@ -97,26 +93,26 @@ def reals(*numbers):
 
 
 POOLS = {
-    "COUNTRY_CODE": pool(["CH", "DE"], ["ch", "C", "", "C1", "CHE"]),
-    "CHECKSUM": pool([Bits("10" * 16)], [Bits("0" * 32), Bits("1"), Bits("1" * 33)]),
-    "PICTURE": pool([Bits(MARK), Bits(MARK + "0" * 8)], [Bits(MARK + "1"), Bits(MARK[:8]), Bits("01" * 8), Bits("")]),
-    "MONTH_NUMBER": pool([1, 2, 2, 4, 12], [0, 13, -1]), "DAY_NUMBER": pool([1, 28, 29, 30, 31], [0, 32]),
-    "HOUR_NUMBER": pool([0, 12, 23], [-1, 24]), "DIMENSION_COUNT": pool([2, 3, 3], [0, 4]),
-    "POSITIVE_LENGTH_MEASURE": pool(reals(6.6, 4), reals(0, -1)), "MASS_MEASURE": pool(reals(0, 1.5), reals(-0.1, 1e12)),
-    "COUNT_MEASURE": pool([1, 4], [0, -1, 10**12, *reals(4, 0.5)]), "LENGTH_MEASURE": pool(reals(0, 1, -1, 12.5), reals(1e12, 1e15)),
-    "YEAR_COMPONENT": pool([2024, 2023, 2000, 1900], [0, -4, 2**63 - 1]), "HOUR_OFFSET": pool([0, 0, 1, 3, 12], [-1, 15, 2**62]),
-    "MINUTE_OFFSET": pool([0, 30, 45], [7, 60, -15]), "EXPONENT": pool([1, 1, 3, -1], [0, 2**62]),
-    "DIMENSIONS": pool([[0, 0], [0, 0], [1, 0], [0, 1]], [[3, 0], [1], [0, 0, 1], [UNSET, 0]]),
-    "SCHEMA_NAME": pool(["mechanical_assembly"], ["automotive_design"]), "MAIL": pool(["a@b.example"], ["a", "", "@"]),
-    "ROLE": pool(["creator", "owner", "design", "check"], ["", "anyone"]), "FILE_NAME": pool(["a.png", "b.x.jpg"], ["c.pdf", "d", "e."]),
-    "REQUIRED_ROLES": pool([["design"], ["design", "check"]], [[], ["check", "check"], ["owner", UNSET]]),
-    "FURTHER_ROLES": pool([["creator", "owner"], ["creator", "owner", "design", "check"]], [[], ["anyone", "anyone"]]),
-    "RATIOS": pool([reals(0, 0, 1), reals(1, 0, 0), reals(0, 1)], [reals(0, 0, 0), reals(1), [], [UNSET, *reals(1)]]),
-    "MAGNITUDE": pool(reals(0, 50), reals(-1)), "DENSITY": pool(reals(7.81, 2.7), reals(0, 23)),
-    "LINES": pool([[UNSET] * 4, [UNSET, "N1", UNSET, UNSET], ["N1", "N2", "", UNSET]], [[UNSET], ["N1"] * 5]),
-    "CALLOUT": pool(["\u23006.6 H13"], ["6.6", "", "\u2205"]),
-    "INTEGER": pool([0, 1, 2], [2**63 - 1, -2**63]), "REAL": pool(reals(0, 1, -1, 12.5), reals(1e12, 1e15)),
-    "BOOLEAN": pool(map(Item, "TF")), "LOGICAL": pool(map(Item, "TF"), [Item("U")]),
+    "COUNTRY_CODE": (["CH", "DE"], ["ch", "C", "", "C1", "CHE"]),
+    "CHECKSUM": ([Bits("10" * 16)], [Bits("0" * 32), Bits("1"), Bits("1" * 33)]),
+    "PICTURE": ([Bits(MARK), Bits(MARK + "0" * 8)], [Bits(MARK + "1"), Bits(MARK[:8]), Bits("01" * 8), Bits("")]),
+    "MONTH_NUMBER": ([1, 2, 2, 4, 12], [0, 13, -1]), "DAY_NUMBER": ([1, 28, 29, 30, 31], [0, 32]),
+    "HOUR_NUMBER": ([0, 12, 23], [-1, 24]), "DIMENSION_COUNT": ([2, 3, 3], [0, 4]),
+    "POSITIVE_LENGTH_MEASURE": (reals(6.6, 4), reals(0, -1)), "MASS_MEASURE": (reals(0, 1.5), reals(-0.1, 1e12)),
+    "COUNT_MEASURE": ([1, 4], [0, -1, 10**12, *reals(4, 0.5)]), "LENGTH_MEASURE": (reals(0, 1, -1, 12.5), reals(1e12, 1e15)),
+    "YEAR_COMPONENT": ([2024, 2023, 2000, 1900], [0, -4, 2**63 - 1]), "HOUR_OFFSET": ([0, 0, 1, 3, 12], [-1, 15, 2**62]),
+    "MINUTE_OFFSET": ([0, 30, 45], [7, 60, -15]), "EXPONENT": ([1, 1, 3, -1], [0, 2**62]),
+    "DIMENSIONS": ([[0, 0], [0, 0], [1, 0], [0, 1]], [[3, 0], [1], [0, 0, 1], [UNSET, 0]]),
+    "SCHEMA_NAME": (["mechanical_assembly"] * 4 + ["automotive_design"], [""]), "MAIL": (["a@b.example"], ["a", "", "@"]),
+    "ROLE": (["creator", "owner", "design", "check"], ["", "anyone"]), "FILE_NAME": (["a.png", "b.x.jpg"], ["c.pdf", "d", "e."]),
+    "REQUIRED_ROLES": ([["design"], ["design", "check"]], [[], ["check", "check"], ["owner", UNSET]]),
+    "FURTHER_ROLES": ([["creator", "owner"], ["creator", "owner", "design", "check"]], [[], ["anyone", "anyone"]]),
+    "RATIOS": ([reals(0, 0, 1), reals(1, 0, 0), reals(0, 1)], [reals(0, 0, 0), reals(1), [], [UNSET, *reals(1)]]),
+    "MAGNITUDE": (reals(0, 50), reals(-1)), "DENSITY": (reals(7.81, 2.7), reals(0, 23)),
+    "LINES": ([[UNSET] * 4, [UNSET, "N1", UNSET, UNSET], ["N1", "N2", "", UNSET]], [[UNSET], ["N1"] * 5]),
+    "CALLOUT": (["\u23006.6 H13"], ["6.6", "", "\u2205"]),
+    "INTEGER": ([0, 1, 2], [2**63 - 1, -2**63]), "REAL": (reals(0, 1, -1, 12.5), reals(1e12, 1e15)),
+    "BOOLEAN": ([Item("T"), Item("F")], [Item("F")]), "LOGICAL": ([Item("T"), Item("F")], [Item("U")]),
 }
 
 # ---- scenes
@@ -127,18 +123,18 @@ Scene = collections.namedtuple("Scene", "crowd ways long length are_few", defaul
 UNITS = {"BASE": "DERIVED_UNIT", "UNIT_COMPONENT": "DERIVED_UNIT"}
 # each product definition is a component of all before it, so that there are very many ways up
 LADDER = Scene("PRODUCT_DEFINITION")
-STEPS_OF_THE_LADDER = 13
 SCENES = [
     LADDER, Scene("PRODUCT_CATEGORY", {"PARENT": "PRODUCT_CATEGORY"}), Scene("EDGE_LOOP", {"ELEMENT": "ORIENTED_EDGE"}),
-    Scene("CONVERSION_BASED_UNIT", UNITS), Scene("MEASURE_WITH_UNIT", UNITS), Scene("PLACEMENT", {"AXIS": "PLACEMENT"}),
+    Scene("CONVERSION_BASED_UNIT", UNITS), Scene("MEASURE_WITH_UNIT", UNITS), Scene("PLACEMENT", {"AXIS": "PLACEMENT"}, are_few=True),
     Scene("APPROVAL", {}, "ROLES", 450), Scene("SPARE_KIT", {}, "CONTENTS", 450), Scene("PLACEMENT", {}, "RATIOS", 450),
     Scene("PERSON", {}, "FIRST_NAME", 100_000), Scene("PRODUCT_DEFINITION", {}, "PRODUCT.ID", 100_000),
-    Scene("SPARE_KIT", {}, "CONTENTS", 201_000, True), Scene("TRANSFORMED_RELATIONSHIP", {}, "REPRESENTATION.ITEMS", 201_000, True),
-    *(Scene(entity, {}, place, 30_000, True) for entity, place in (
-        ("ORGANIZATIONAL_ADDRESS", "MAIL"), ("ORGANIZATIONAL_ADDRESS", "LINES"), ("DOCUMENT_FILE", "FILE_NAME"), ("UNIT_CONTEXT", "UNITS"),
-        ("BREP_REPRESENTATION", "REPRESENTATION.ITEMS"), ("MEASURE_REPRESENTATION", "REPRESENTATION.ITEMS"), ("HOLE_PATTERN", "HOLES"),
-        ("DIRECTION", "RATIOS"), ("EDGE_LOOP", "EDGES"), ("FACE_SURFACE", "BOUNDS"), ("MEASURE_WITH_UNIT", "DERIVED_UNIT.ELEMENTS"))),
 ]
+LONG_SCENES = [Scene(entity, {}, place, length, True) for entity, place, length in (
+    ("ORGANIZATIONAL_ADDRESS", "MAIL", 30_000), ("ORGANIZATIONAL_ADDRESS", "LINES", 30_000), ("DOCUMENT_FILE", "FILE_NAME", 30_000),
+    ("DIRECTION", "RATIOS", 51_000), ("HOLE_PATTERN", "HOLES", 26_000), ("UNIT_CONTEXT", "UNITS", 20_000),
+    ("BREP_REPRESENTATION", "REPRESENTATION.ITEMS", 10_000), ("MEASURE_REPRESENTATION", "REPRESENTATION.ITEMS", 20_000),
+    ("EDGE_LOOP", "EDGES", 10_000), ("FACE_SURFACE", "BOUNDS", 20_000), ("MEASURE_WITH_UNIT", "DERIVED_UNIT.ELEMENTS", 10_000))]
+LONGEST_SCENES = [Scene("SPARE_KIT", {}, "CONTENTS", 201_000, True), Scene("TRANSFORMED_RELATIONSHIP", {}, "REPRESENTATION.ITEMS", 201_000, True)]
 
 # ---- populations
 
@@ -158,15 +154,17 @@ class Population:
         self.random = random.Random(seed)
         self.faults, self.fresh = self.random.choice([0, 0, 0.02, 0.1, 0.3]), self.random.choice([0.1, 0.5])
         words = self.random.choice([4, 1000])
-        self.pools = {**POOLS, "STRING": pool([*(f"N{it}" for it in range(words)), "it's", "\u00d6l"], ["", "n" * 61]),
-                      "IDENTIFIER": pool([*(f"P{it}" for it in range(words)), "x" * 40], ["", "x" * 41])}
+        self.pools = {**POOLS, "STRING": ([*(f"N{it}" for it in range(words)), "it's", "\u00d6l"], ["", "n" * 61]),
+                      "IDENTIFIER": ([*(f"P{it}" for it in range(words)), "x" * 40], ["", "x" * 41])}
         self.scene, self.most, self.longs = Scene(None), most, 0
         self.few = self.random.sample(combinations_with(), 4) if self.happens(0.4) else combinations_with()
+        self.has_chains = self.happens(0.5)
         self.usual = {it: self.random.choice(its) for it, its in USUAL.items()}
-        # the types of each instance, its values by their places, and those that have no values yet, with values that are given
-        self.types, self.values, self.waiting = {}, {}, []
+        # the types of each instance, its values by their places, what is used at which, and those that have no values yet, with those
+        # that are given
+        self.types, self.values, self.used, self.waiting = {}, {}, set(), []
         if self.happens(1 / 7):
-            self.set_scene(self.random.choice(SCENES))
+            self.set_scene(self.random.choice(3 * SCENES + 2 * LONG_SCENES + LONGEST_SCENES))
         else:
             self.copy(self.random.choice([0, 0, most // 2, most]))
         # room is left for what others need
@@ -177,11 +175,11 @@ class Population:
 
     def set_scene(self, scene):
         self.scene, self.longs = scene, 0 if not scene.long else 1 if scene.length > 500 else 1000
-        is_great = scene is LADDER or not scene.are_few and self.happens(0.3)
+        is_great = scene is LADDER or not scene.are_few and self.happens(0.35)
         if is_great:
-            self.most, self.fresh = 2 * self.most, 0.02
+            self.most, self.fresh, self.faults = 2 * self.most, 0.02, min(self.faults, 0.02)
         if scene is LADDER:
-            names = [self.add({"PRODUCT_DEFINITION"}) for _ in range(min(STEPS_OF_THE_LADDER, self.most // 9))]
+            names = [self.add({"PRODUCT_DEFINITION"}) for _ in range(min(14, self.most // 8))]
             for above, below in itertools.combinations(map(Reference, names), 2):
                 places = [("PRODUCT_DEFINITION_RELATIONSHIP", it) for it in ("RELATING_DEFINITION", "RELATED_DEFINITION")]
                 self.add(SCHEMA.line_of("NEXT_ASSEMBLY_USAGE"), dict(zip(places, (above, below))))
@@ -216,12 +214,12 @@ class Population:
     def fill_up(self, count):
         """Instances, until there are as many, and the values of all."""
         while self.waiting or len(self.types) < count:
-            if not self.waiting:
+            if not self.waiting and self.values and self.happens(0.1):
+                twin = self.random.choice([*self.values])
+                self.add(self.types[twin], self.values[twin])
+            elif not self.waiting:
                 self.add(self.random.choice(self.few))
             self.fill(*self.waiting.pop())
-
-    def is_full(self):
-        return len(self.types) >= self.most
 
     def fill(self, name, given):
         """The values of an instance, and mostly a user where an inverse attribute asks for one."""
@@ -232,21 +230,23 @@ class Population:
             for attribute, declared in SCHEMA.entities[entity].explicit.items():
                 place = (entity, attribute)
                 is_given = place in given and not self.happens(self.faults / 2)
-                values[place] = DERIVED if place in derived else given[place] if is_given else self.value_at(place, types, declared)
+                values[place] = DERIVED if place in derived else given[place] if is_given else self.value_at(name, place, declared)
+                self.used.update((it.name, place) for it in within(values[place]) if isinstance(it, Reference))
         for inverse in (it for entity in sorted(types) for it in SCHEMA.entities[entity].inverse.values()):
             place = (SCHEMA.declaring(inverse.entity, inverse.attribute)[0], inverse.attribute)
-            has_user = any(Reference(name) in within(it.get(place)) for it in self.values.values())
-            if inverse.low != 0 and not has_user and not self.is_full() and self.happens(0.8 - self.faults):
+            if inverse.low != 0 and (name, place) not in self.used and len(self.types) < self.most and self.happens(0.8 - self.faults):
                 is_many = isinstance(SCHEMA.end(SCHEMA.entities[place[0]].explicit[inverse.attribute].type), Aggregate)
                 used = [Reference(name)] if is_many else Reference(name)
                 self.add(self.random.choice(combinations_with(inverse.entity)), {place: used})
 
     # -- values
 
-    def value_at(self, place, types, declared):
-        """A value of an attribute, by the type that a subtype redeclares it by, if one does."""
-        again = [SCHEMA.entities[it].redeclared[place] for it in sorted(types) if place in SCHEMA.entities[it].redeclared]
+    def value_at(self, name, place, declared):
+        """A value of an attribute, by the type that a subtype redeclares it by, if one does. Categories stand in chains, or anyhow."""
+        again = [SCHEMA.entities[it].redeclared[place] for it in sorted(self.types[name]) if place in SCHEMA.entities[it].redeclared]
         entity, attribute = place
+        if attribute == "PARENT" and self.has_chains:
+            return Reference(name - 1) if entity in self.types.get(name - 1, ()) else UNSET
         if attribute in self.scene.ways:
             return self.reference(self.scene.ways[attribute])
         if self.happens(0.3 if declared.is_optional else self.faults / 2):
@@ -258,7 +258,7 @@ class Population:
         if isinstance(value, list) and attribute != "LINES":
             # many elements of no value would take the plain reading too long, but for an ARRAY's
             value = [it for it in value if it not in (UNSET, Reference(ALONE))]
-        return value * (self.scene.length // max(len(value), 1) + 1)
+        return value[:1] * self.scene.length
 
     def pooled(self, name):
         good, bad = self.pools[name]
@@ -295,10 +295,10 @@ class Population:
 
     def reference(self, entity):
         """A reference to an instance of an entity, which may be new, or to any, or to one that isn't in the population."""
-        fitting = [name for name, types in self.types.items() if entity in types]
-        if self.happens(self.faults / 3) or not fitting and self.is_full():
+        fitting, is_full = [name for name, types in self.types.items() if entity in types], len(self.types) >= self.most
+        if self.happens(self.faults / 3) or not fitting and is_full:
             return Reference(self.random.choice([*self.types, ALONE]))
-        if fitting and (self.is_full() or not self.happens(self.fresh)):
+        if fitting and (is_full or not self.happens(self.fresh)):
             return Reference(self.random.choice(fitting))
         return Reference(self.add(self.random.choice(combinations_with(entity))))
 
