@@ -81,7 +81,7 @@ def combinations_with(entity=None):
 
 # to what is mostly referred where one of these may be
 USUAL = {"EDGE": ["EDGE_CURVE"], "REPRESENTATION_CONTEXT": ["GEOMETRIC_CONTEXT", "UNIT_CONTEXT"],
-         "REPRESENTATION_ITEM": ["PLACEMENT", "MEASURE_ITEM"], "NAMED_UNIT": ["NAMED_UNIT", "LENGTH_UNIT", "SI_UNIT"]}
+         "REPRESENTATION_ITEM": ["PLACEMENT", "MEASURE_ITEM"], "NAMED_UNIT": ["NAMED_UNIT", "LENGTH_UNIT", "LENGTH_UNIT"]}
 
 # ---- values, by the name of an attribute or of a type: those that rules want, and then others
 
@@ -95,7 +95,7 @@ def reals(*numbers):
 POOLS = {
     "COUNTRY_CODE": (["CH", "DE"], ["ch", "C", "", "C1", "CHE"]),
     "CHECKSUM": ([Bits("10" * 16)], [Bits("0" * 32), Bits("1"), Bits("1" * 33)]),
-    "PICTURE": ([Bits(MARK), Bits(MARK + "0" * 8)], [Bits(MARK + "1"), Bits(MARK[:8]), Bits("01" * 8), Bits("")]),
+    "PICTURE": ([Bits(MARK), Bits(MARK + "0" * 8), Bits(MARK + "1")], [Bits(MARK[:8]), Bits("01" * 8), Bits("")]),
     "MONTH_NUMBER": ([1, 2, 2, 4, 12], [0, 13, -1]), "DAY_NUMBER": ([1, 28, 29, 30, 31], [0, 32]),
     "HOUR_NUMBER": ([0, 12, 23], [-1, 24]), "DIMENSION_COUNT": ([2, 3, 3], [0, 4]),
     "POSITIVE_LENGTH_MEASURE": (reals(6.6, 4), reals(0, -1)), "MASS_MEASURE": (reals(0, 1.5), reals(-0.1, 1e12)),
@@ -103,7 +103,7 @@ POOLS = {
     "YEAR_COMPONENT": ([2024, 2023, 2000, 1900], [0, -4, 2**63 - 1]), "HOUR_OFFSET": ([0, 0, 1, 3, 12], [-1, 15, 2**62]),
     "MINUTE_OFFSET": ([0, 30, 45], [7, 60, -15]), "EXPONENT": ([1, 1, 3, -1], [0, 2**62]),
     "DIMENSIONS": ([[0, 0], [0, 0], [1, 0], [0, 1]], [[3, 0], [1], [0, 0, 1], [UNSET, 0]]),
-    "SCHEMA_NAME": (["mechanical_assembly"] * 4 + ["automotive_design"], [""]), "MAIL": (["a@b.example"], ["a", "", "@"]),
+    "SCHEMA_NAME": (["mechanical_assembly", "automotive_design"], [""]), "MAIL": (["a@b.example"], ["a", "", "@"]),
     "ROLE": (["creator", "owner", "design", "check"], ["", "anyone"]), "FILE_NAME": (["a.png", "b.x.jpg"], ["c.pdf", "d", "e."]),
     "REQUIRED_ROLES": ([["design"], ["design", "check"]], [[], ["check", "check"], ["owner", UNSET]]),
     "FURTHER_ROLES": ([["creator", "owner"], ["creator", "owner", "design", "check"]], [[], ["anyone", "anyone"]]),
@@ -174,19 +174,22 @@ class Population:
         return self.random.random() < probability
 
     def set_scene(self, scene):
-        self.scene, self.longs = scene, 0 if not scene.long else 1 if scene.length > 500 else 1000
+        """A crowd with what it refers to, and some others."""
+        most, self.scene, self.longs = self.most, scene, 0 if not scene.long else 1 if scene.length > 500 else 1000
         is_great = scene is LADDER or not scene.are_few and self.happens(0.35)
         if is_great:
-            self.most, self.fresh, self.faults = 2 * self.most, 0.02, min(self.faults, 0.02)
+            self.most, self.fresh, self.faults = 15 * most // 8, 0.02, min(self.faults, 0.02)
         if scene is LADDER:
-            names = [self.add({"PRODUCT_DEFINITION"}) for _ in range(min(14, self.most // 8))]
+            names = [self.add({"PRODUCT_DEFINITION"}) for _ in range(min(14, most // 4))]
             for above, below in itertools.combinations(map(Reference, names), 2):
                 places = [("PRODUCT_DEFINITION_RELATIONSHIP", it) for it in ("RELATING_DEFINITION", "RELATED_DEFINITION")]
                 self.add(SCHEMA.line_of("NEXT_ASSEMBLY_USAGE"), dict(zip(places, (above, below))))
-            return
-        others = [None] * (self.most // 12)
-        for entity in [scene.crowd] * (8 if scene.are_few else int(self.most * (0.86 if is_great else 0.4))) + others:
-            self.add(self.random.choice(combinations_with(entity)))
+        else:
+            for _ in range(8 if scene.are_few else 7 * most // 4 if is_great else most // 2):
+                self.add(self.random.choice(combinations_with(scene.crowd)))
+        self.fill_up(0)
+        self.most = 2 * most if is_great else most
+        self.fill_up(self.most if is_great else 2 * most // 3)
 
     def copy(self, count):
         """Instances of the example, with what they refer to and some of their users."""
