@@ -9,14 +9,14 @@ alone is a population (`random_population`).
 
 Instances are copied from the example's files, with what they refer to and some of their users, or made by the schema's declarations.
 What is copied or made is at times changed for a fault. A seventh of the populations has a scene, in which evaluations come to a
-limit: references go round, or a value is very long. A third of these are crowds of up to twice as many instances, of which a hundred
-come to a limit cheaply, so that others aren't evaluated any more: NOT_RUN. Reports have no other verdicts than these: no rule over
-all instances of this schema can be UNKNOWN, and no inverse attribute of [0:?] FALSE.
+limit: references go round, or a value is very long. A third of these are crowds, of which some have a hundred evaluations that come to
+a limit cheaply, so that others aren't evaluated any more: NOT_RUN. No inverse attribute of [0:?] can be FALSE.
 """
 import argparse
 import collections
 import functools
 import itertools
+import math
 import os
 import pathlib
 import random
@@ -83,6 +83,9 @@ def combinations_with(entity=None):
 USUAL = {"EDGE": ["EDGE_CURVE"], "REPRESENTATION_CONTEXT": ["GEOMETRIC_CONTEXT", "UNIT_CONTEXT"],
          "REPRESENTATION_ITEM": ["PLACEMENT", "MEASURE_ITEM"], "NAMED_UNIT": ["NAMED_UNIT", "LENGTH_UNIT", "LENGTH_UNIT"]}
 
+# about which the rules over all instances are
+RULED = ("APPLICATION_PROTOCOL", "UNIT_CONTEXT", "UNIT_CONTEXT", "NEXT_ASSEMBLY_USAGE")
+
 # ---- values, by the name of an attribute or of a type: those that rules want, and then others
 
 MARK = "1000100101010000"
@@ -123,11 +126,13 @@ Scene = collections.namedtuple("Scene", "crowd ways long length are_few", defaul
 UNITS = {"BASE": "DERIVED_UNIT", "UNIT_COMPONENT": "DERIVED_UNIT"}
 # each product definition is a component of all before it, so that there are very many ways up
 LADDER = Scene("PRODUCT_DEFINITION")
+# each product definition has two evaluations that come to a limit
+NUMBERS = Scene("PRODUCT_DEFINITION", {}, "PRODUCT.ID", 100_000)
 SCENES = [
-    LADDER, Scene("PRODUCT_CATEGORY", {"PARENT": "PRODUCT_CATEGORY"}), Scene("EDGE_LOOP", {"ELEMENT": "ORIENTED_EDGE"}),
+    LADDER, NUMBERS, Scene("PRODUCT_CATEGORY", {"PARENT": "PRODUCT_CATEGORY"}), Scene("EDGE_LOOP", {"ELEMENT": "ORIENTED_EDGE"}),
     Scene("CONVERSION_BASED_UNIT", UNITS), Scene("MEASURE_WITH_UNIT", UNITS), Scene("PLACEMENT", {"AXIS": "PLACEMENT"}, are_few=True),
     Scene("APPROVAL", {}, "ROLES", 450), Scene("SPARE_KIT", {}, "CONTENTS", 450), Scene("PLACEMENT", {}, "RATIOS", 450),
-    Scene("PERSON", {}, "FIRST_NAME", 100_000), Scene("PRODUCT_DEFINITION", {}, "PRODUCT.ID", 100_000),
+    Scene("PERSON", {}, "FIRST_NAME", 100_000),
 ]
 LONG_SCENES = [Scene(entity, {}, place, length, True) for entity, place, length in (
     ("ORGANIZATIONAL_ADDRESS", "MAIL", 30_000), ("ORGANIZATIONAL_ADDRESS", "LINES", 30_000), ("DOCUMENT_FILE", "FILE_NAME", 30_000),
@@ -166,7 +171,9 @@ class Population:
         if self.happens(1 / 7):
             self.set_scene(self.random.choice(3 * SCENES + 2 * LONG_SCENES + LONGEST_SCENES))
         else:
-            self.copy(self.random.choice([0, 0, most // 2, most]))
+            self.copy(self.random.choice([0, 0, most // 2, most - len(RULED)]))
+            for entity in RULED if self.happens(0.2) else ():
+                self.add(self.random.choice(combinations_with(entity)))
         # room is left for what others need
         self.fill_up(self.random.choice([0, 5, most // 3, 2 * most // 3, 2 * most // 3]))
 
@@ -176,20 +183,19 @@ class Population:
     def set_scene(self, scene):
         """A crowd with what it refers to, and some others."""
         most, self.scene, self.longs = self.most, scene, 0 if not scene.long else 1 if scene.length > 500 else 1000
-        is_great = scene is LADDER or not scene.are_few and self.happens(0.35)
+        is_great = scene in (LADDER, NUMBERS) or not scene.are_few and self.happens(0.35)
         if is_great:
-            self.most, self.fresh, self.faults = 15 * most // 8, 0.02, min(self.faults, 0.02)
+            self.fresh, self.faults = 0.02, min(self.faults, 0.02)
         if scene is LADDER:
-            names = [self.add({"PRODUCT_DEFINITION"}) for _ in range(min(14, most // 4))]
+            names = [self.add({"PRODUCT_DEFINITION"}) for _ in range(min(14, math.isqrt(2 * most) - 1))]
             for above, below in itertools.combinations(map(Reference, names), 2):
                 places = [("PRODUCT_DEFINITION_RELATIONSHIP", it) for it in ("RELATING_DEFINITION", "RELATED_DEFINITION")]
                 self.add(SCHEMA.line_of("NEXT_ASSEMBLY_USAGE"), dict(zip(places, (above, below))))
         else:
-            for _ in range(8 if scene.are_few else 7 * most // 4 if is_great else most // 2):
+            for _ in range(8 if scene.are_few else 7 * most // 8 if is_great else most // 2):
                 self.add(self.random.choice(combinations_with(scene.crowd)))
         self.fill_up(0)
-        self.most = 2 * most if is_great else most
-        self.fill_up(self.most if is_great else 2 * most // 3)
+        self.fill_up(most if is_great else 2 * most // 3)
 
     def copy(self, count):
         """Instances of the example, with what they refer to and some of their users."""
