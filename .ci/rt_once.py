@@ -1,12 +1,11 @@
 #!/usr/bin/env python3
-"""Runs rt, and has it sum the files of each crate once.
+"""Runs rt, and has it look at each crate once where it goes down through crates.txt.
 
     .ci/rt_once.py WORDS ..      as rt WORDS ..
 
-Before and after rt builds a library it sums the library's files and those of all crates below, to notice what changed in
-between. The rt of some kits, rattle-kit-13b among them, does so once for each way down through crates.txt: for our crates it reads
-80,000,000 files, which takes an hour of a processor. Here each crate is summed once within one sum, which comes to the same.
-Nothing else of rt is touched, and an rt whose sums aren't made so is run as it is.
+The rt of some kits asks which crates stand below one, and sums the files of these, once for each way down: for our crates
+that is tens of millions of ways, and an hour of a processor. Here the crates below one are found once for each, and each is
+summed once within one sum, which comes to the same. Nothing else of rt is touched, and what an rt does in one way is left as it is.
 """
 import importlib.machinery
 import importlib.util
@@ -17,6 +16,7 @@ import sys
 import threading
 
 SUMS_EACH_WAY = "[dep.stamp() for dep in self.deps]"
+LOOKS_EACH_WAY = "for it in [*dep.below(), dep] if it not in found"
 
 
 def loaded(path):
@@ -46,16 +46,30 @@ def once_each(stamp):
     return told
 
 
+def below_once(crate):
+    """The libraries below a crate, each after those that it uses, which are found once."""
+    at_hand = getattr(crate, "found_below", None)
+    if at_hand is None:
+        at_hand = list(dict.fromkeys(it for dep in crate.deps for it in [*below_once(dep), dep]))
+        crate.found_below = at_hand
+    return list(at_hand)
+
+
+def is_made_so(method, words):
+    """Whether the text of a method of rt has these words."""
+    return method is not None and words in inspect.getsource(method)
+
+
 def main(words):
     path = shutil.which("rt")
     if not path:
         sys.exit("rt_once: rt isn't there")
     rt = loaded(os.path.realpath(path))
     crate = getattr(getattr(rt, "rtlib", None), "Crate", None)
-    stamp = getattr(crate, "stamp", None)
-    if stamp is None or SUMS_EACH_WAY not in inspect.getsource(stamp):
-        os.execv(path, [path, *words])
-    crate.stamp = once_each(stamp)
+    if is_made_so(getattr(crate, "below", None), LOOKS_EACH_WAY):
+        crate.below = below_once
+    if is_made_so(getattr(crate, "stamp", None), SUMS_EACH_WAY):
+        crate.stamp = once_each(crate.stamp)
     return rt.main(words)
 
 
