@@ -8,20 +8,11 @@ use Rattle.std.specs.Cmp.{unsigned_ties}
 use Rattle.std.specs.List.{dedup, dedup_from}
 use Rattle.std.specs.List.Sorted.{IsSorted, IsPermutation, IsStrictlySortedBy}
 use Rattle.std.specs.Ordering.{nat_cmp}
-use Rattle.lineage.specs.Lineage.{is_among, family}
+use Rattle.plain_data.specs.Numbers.{is_among}
+use Rattle.lineage.specs.Lineage.{family}
 use Rattle.lineage.proofs.Families.{family_sorted, in_family}
-use Rattle.lineage.proofs.Sets.{is_among-append}
 use Rattle.descent.specs.Kept.{AreAbove}
 use Rattle.descent.proofs.Members.{same_keys}
-
-pub among_pushed : (found : List ℕ) (next n : ℕ) → is_among (found ++ next ∷ []) n ≡ ((next == n) || is_among found n)
-among_pushed found next n = is_among-append found (next ∷ []) n ∙ turned (is_among found n) (next == n)
-  where
-    turned : (a b : Bool) → (a || (b || false)) ≡ (b || a)
-    turned true true = refl
-    turned true false = refl
-    turned false true = refl
-    turned false false = refl
 
 among_from : (k : ℕ) (xs : List ℕ) (n : ℕ) → is_among (dedup_from eqb k xs) n ≡ is_among (k ∷ xs) n
 among_from k [] n = refl

@@ -10,7 +10,8 @@ use Rattle.std.specs.BTreeSet.{insert_key}
 use Rattle.std.specs.List.{list_any}
 use Rattle.std.specs.List.Sorted.{IsStrictlySortedBy}
 use Rattle.std.specs.Ordering.{nat_cmp}
-use Rattle.lineage.specs.Lineage.{is_among, supertypes, reaches, IsAncestor, is_ancestor, family}
+use Rattle.plain_data.specs.Numbers.{is_among}
+use Rattle.lineage.specs.Lineage.{supertypes, reaches, IsAncestor, is_ancestor, family}
 use Rattle.lineage.proofs.Bounded.{is_member, is_ancestor_exact, answer_is}
 use Rattle.lineage.proofs.Families.{is_among-filter, family_sorted, in_family}
 use Rattle.lineage.proofs.Marks.{none_beyond}

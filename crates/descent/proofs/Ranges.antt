@@ -3,7 +3,8 @@ use Rattle.std.proofs.Common.{◌≡◌, ℕ, zero, suc, ◌<◌, ◌≤◌, tru
 use Rattle.std.proofs.lemmas.Bool.{cases_Bool, eq-eqb, eqb-true, leb-true}
 use Rattle.std.proofs.lemmas.Bool.Decides.{nat_tests}
 use Rattle.std.proofs.lemmas.List.{get_or_past}
-use Rattle.lineage.specs.Lineage.{is_among, supertypes, Reaches, IsAncestor, is_ancestor}
+use Rattle.plain_data.specs.Numbers.{is_among}
+use Rattle.lineage.specs.Lineage.{supertypes, Reaches, IsAncestor, is_ancestor}
 use Rattle.lineage.specs.Traces.{trace_of}
 use Rattle.descent.specs.Labels as labelled
 use Rattle.descent.specs.Labels.{IsSure, label_of, unlabelled}

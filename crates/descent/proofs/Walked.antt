@@ -1,7 +1,8 @@
 -- What is told of a walk down is told of who stands above whom.
 use Rattle.std.proofs.Common.{◌≡◌, ℕ, ◌<◌, Bool, true, ◌==◌, List, length, Option, Some, None, [], MatchOption, ◌⊎◌, inl, inr, ⊎_elim, refl, sym, ◌∙◌, arith}
 use Rattle.std.proofs.lemmas.Bool.Decides.{nat_tests}
-use Rattle.lineage.specs.Lineage.{is_among, supertypes, IsAncestor, is_ancestor}
+use Rattle.plain_data.specs.Numbers.{is_among}
+use Rattle.lineage.specs.Lineage.{supertypes, IsAncestor, is_ancestor}
 use Rattle.lineage.proofs.Bounded.{is_ancestor_exact, answer_is}
 use Rattle.lineage.proofs.Certain.{through}
 use Rattle.lineage.proofs.Search.{Search, search_exact}

@@ -1,8 +1,9 @@
 -- What is kept to answer who stands above whom.
 use Rattle.std.specs.Prelude.{◌≡◌, ℕ, ◌&&◌, ◌==◌, nat_lt, Bool, IsTrue, length, List, [], Option, None, Some, if◌then◌else◌}
 use Rattle.std.specs.Borrow.{Bor}
+use Rattle.plain_data.specs.Numbers.{is_among}
 use Rattle.lineage.specs.declared.walks.Trace.{Trace}
-use Rattle.lineage.specs.Lineage.{is_among, supertypes, is_ancestor, family}
+use Rattle.lineage.specs.Lineage.{supertypes, is_ancestor, family}
 use Rattle.descent.specs.declared.trees.Tree.{Tree}
 use Rattle.descent.specs.declared.trees.Trees.{Trees}
 use Rattle.descent.specs.Labels.{IsSure}

@@ -1,10 +1,11 @@
 -- What is tested of the labels of a graph's rings.
 use Rattle.std.specs.Prelude.{ℕ, zero, ◌<◌, Bool, ◌||◌, ◌&&◌, ◌==◌, nat_lt, leb, IsTrue, length, List, slice_index_or}
 use Rattle.std.specs.List.{list_all}
+use Rattle.plain_data.specs.Numbers.{is_among}
 use Rattle.lineage.specs.declared.walks.Trace.{Trace}
 use Rattle.lineage.specs.declared.walks.TheConstants.{NONE}
 use Rattle.descent.specs.declared.ways.Label.{Label}
-use Rattle.lineage.specs.Lineage.{is_among, supertypes, is_ancestor}
+use Rattle.lineage.specs.Lineage.{supertypes, is_ancestor}
 use Rattle.lineage.specs.Traces.{trace_of, is_certain}
 
 unfoldable pub unlabelled : ℕ → Label

@@ -2,6 +2,7 @@
 
 ghost use Rattle.std.specs.Prelude.{◌≡◌, ◌<◌, ℕ, length, MatchOption, IfOk, IfSome};
 ghost use Rattle.std.specs.List.Sorted.{IsStrictlyIncreasing};
+ghost use Rattle.plain_data.specs.Numbers.{is_among};
 ghost use Rattle.lineage.specs.Lineage as graphs;
 ghost use Rattle.descent.specs.Kept as spec;
 
@@ -33,7 +34,7 @@ impl Model for Descent {
 /// Whether a member's family has a number.
 fn is_in(alloc: Global, trees: &Trees, member: usize, number: usize) -> Result<bool, AllocError>
     requires { spec.IsKept trees.now }
-    ensures { IfOk result (λ told. told ≡ graphs.is_among (graphs.family trees.now.graph.items member) number) }
+    ensures { IfOk result (λ told. told ≡ is_among (graphs.family trees.now.graph.items member) number) }
 {
     let count = member_count(trees);
     if member >= count {
@@ -100,7 +101,7 @@ fn all_within(
 
 /// Whether a number stands in a list.
 fn is_listed(numbers: &[usize], number: usize) -> bool
-    ensures { result ≡ graphs.is_among numbers.now number }
+    ensures { result ≡ is_among numbers.now number }
 {
     numbers.iter().any(|other| *other == number)
 }
@@ -203,7 +204,7 @@ impl Descent {
         member: usize,
         number: usize,
     ) -> Result<bool, AllocError>
-        ensures { IfOk result (λ told. told ≡ graphs.is_among (graphs.family self.now member) number) }
+        ensures { IfOk result (λ told. told ≡ is_among (graphs.family self.now member) number) }
     {
         is_in(alloc, &self.trees, member, number)
     }

@@ -2,6 +2,7 @@
 
 ghost use Rattle.std.specs.Prelude.{◌≡◌, ◌<◌, [], length, MatchOption, IfOk, IfSome};
 ghost use Rattle.std.specs.List.Sorted.{IsStrictlyIncreasing};
+ghost use Rattle.plain_data.specs.Numbers.{is_among};
 ghost use Rattle.lineage.specs.Lineage as graphs;
 
 use crate::descents::Descent;
@@ -49,7 +50,7 @@ impl<'d> Family<'d> {
     /// Whether a number is in it: by what is known of the graph, and where that doesn't tell it by a
     /// walk.
     pub fn has(&self, alloc: Global, number: usize) -> Result<bool, AllocError>
-        ensures { IfOk result (λ told. told ≡ graphs.is_among self.now number) }
+        ensures { IfOk result (λ told. told ≡ is_among self.now number) }
     {
         match self.descent {
             Some(descent) => descent.is_in_family(alloc, self.member, number),

@@ -1,6 +1,7 @@
 //! What was found of the rings of a graph, which is tested here.
 
 ghost use Rattle.std.specs.Prelude.{◌≡◌, ◌<◌, ℕ, length, IsTrue};
+ghost use Rattle.plain_data.specs.Numbers.{is_among};
 ghost use Rattle.lineage.specs.Lineage as graphs;
 ghost use Rattle.descent.specs.Labels as spec;
 
@@ -21,7 +22,7 @@ pub fn label_of(labels: &[Label], root: usize) -> Label
 
 /// Whether a member's list has this one.
 fn lists(graph: &[Rows<usize>], member: usize, above: usize) -> bool
-    ensures { result ≡ graphs.is_among (graphs.supertypes graph.now member) above }
+    ensures { result ≡ is_among (graphs.supertypes graph.now member) above }
 {
     supertypes(graph, member)
         .iter()

@@ -3,8 +3,9 @@
 ghost use Rattle.std.specs.Prelude.{◌≡◌, ℕ, ◌==◌, ◌||◌, [], false, IfOk, OnOk};
 ghost use Rattle.std.specs.List.Sorted.{IsStrictlySortedBy};
 ghost use Rattle.std.specs.Ordering.{nat_cmp};
+ghost use Rattle.plain_data.specs.Numbers.{is_among};
 ghost use Rattle.ex_named.specs.Outcomes.{Binds, each};
-ghost use Rattle.ex_named.specs.Scopes.{entity as entity_named, is_among};
+ghost use Rattle.ex_named.specs.Scopes.{entity as entity_named};
 ghost use Rattle.ex_bind_algorithms.specs.Algorithms as spec;
 
 use crate::variables::{frame_of, local_variables, push_labels, push_local_names};

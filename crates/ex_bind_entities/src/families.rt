@@ -1,7 +1,7 @@
 //! An entity together with its ancestors.
 
 ghost use Rattle.std.specs.Prelude.{◌≡◌, ◌&&◌, nat_lt, length, IfOk};
-ghost use Rattle.ex_named.specs.Scopes.{is_among};
+ghost use Rattle.plain_data.specs.Numbers.{is_among};
 ghost use Rattle.lineage.specs.Lineage as lineage;
 
 use descent::{Descent, Family};

@@ -2,7 +2,8 @@
 
 ghost use Rattle.std.specs.Prelude.{◌≡◌, ℕ, List, Some, None, IfOk, IsTrue};
 ghost use Rattle.std.specs.List.Sorted.{IsStrictlyIncreasing};
-ghost use Rattle.lineage.specs.Lineage.{is_among, line as line_of};
+ghost use Rattle.plain_data.specs.Numbers.{is_among};
+ghost use Rattle.lineage.specs.Lineage.{line as line_of};
 ghost use Rattle.text_forms.specs.Gives.{Gives};
 ghost use Rattle.ex_subtypes.specs.Legal as legal;
 ghost use Rattle.ex_compiled.specs.Compiling as spec;

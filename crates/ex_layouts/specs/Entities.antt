@@ -3,10 +3,11 @@
 use Rattle.std.specs.Prelude.{ℕ, zero, suc, max, Bool, not, List, [], filter, fold, Option, is_some, slice_get}
 use Rattle.std.specs.Option.{option_map_or, unwrap_or}
 use Rattle.std.specs.Str.{str_to_ascii_uppercase}
+use Rattle.plain_data.specs.Numbers.{is_among}
 use Rattle.ex_named.specs.declared.declaration.NamedEntity.{NamedEntity}
 use Rattle.ex_subtypes.specs.Legal.{refusal}
 use Rattle.ex_types.specs.Checked.{Checked, entity_names}
-use Rattle.lineage.specs.Lineage.{is_among, line, numbers_from}
+use Rattle.lineage.specs.Lineage.{line, numbers_from}
 use Rattle.name_order.specs.Order.{rank}
 use Rattle.name_tables.specs.Names.{place_of}
 use Rattle.rp_content.specs.declared.instance.Types.{Types}

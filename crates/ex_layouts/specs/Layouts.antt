@@ -2,13 +2,13 @@
 -- each record that a file writes of them (ISO 10303-11:1994, 9.2.1; ISO 10303-21:2002, 10.2.5).
 use Rattle.std.specs.Prelude.{◌≡◌, ℕ, zero, ◌==◌, nat_lt, if◌then◌else◌, List, [], ◌∷◌, map, Option, Some, None}
 use Rattle.std.specs.List.{find, flat_map, list_all, position_or_len}
+use Rattle.plain_data.specs.Numbers.{is_among}
 use Rattle.ex_layouts.specs.Entities.{entities, is_legal, line_of, name_rank}
 use Rattle.ex_layouts.specs.declared.layout.Layout.{Layout}
 use Rattle.ex_layouts.specs.declared.read_slot.ReadSlot.{ReadSlot}
 use Rattle.ex_selects.specs.Ends.{target}
 use Rattle.ex_slots.specs.Slots.{Slot, slots, slots_of, is_derived, derived_by}
 use Rattle.ex_types.specs.Checked.{Checked}
-use Rattle.lineage.specs.Lineage.{is_among}
 use Rattle.p21_instances.specs.Instances.{in_order}
 use Rattle.rp_content.specs.declared.instance.Types.{Types}
 use Rattle.rp_content.specs.declared.instance.Types.TheVariants.{Leaf, Several}

@@ -5,7 +5,7 @@ ghost use Rattle.std.specs.BTreeMap.{get};
 ghost use Rattle.std.specs.List.{flat_map, list_all, find};
 ghost use Rattle.std.specs.Option.{option_or, unwrap_or};
 ghost use Rattle.std.specs.Ordering.{nat_cmp};
-ghost use Rattle.lineage.specs.Lineage.{is_among};
+ghost use Rattle.plain_data.specs.Numbers.{is_among};
 ghost use Rattle.ex_layouts.specs.Entities as entities_spec;
 ghost use Rattle.ex_layouts.specs.Entities.{line_of};
 ghost use Rattle.ex_layouts.specs.Layouts as spec;

@@ -3,8 +3,7 @@ use Rattle.std.proofs.Common.{◌≡◌, ℕ, zero, suc, ◌+◌, ◌<◌, ◌�
 use Rattle.std.specs.Prelude.{Some, None}
 use Rattle.std.specs.List.{list_any, filter_map}
 use Rattle.std.proofs.lemmas.Bool.Decides.{nat_tests}
-use Rattle.std.proofs.Math.Seq.{drop-cons}
-use Rattle.ex_named.specs.Scopes.{is_among}
+use Rattle.plain_data.specs.Numbers.{is_among}
 use Rattle.ex_kinds.specs.declared.kind.Sort.{Sort}
 use Rattle.ex_kinds.specs.declared.kind.Sort.TheVariants as k
 use Rattle.ex_kinds.specs.declared.kind.PlainSort.{PlainSort}
@@ -85,21 +84,6 @@ none_second first (y ∷ ys) none = let there = some_there ys in absurd cc
 pub enumerations_are : (kinds : Kinds) → filter_map enumeration kinds ≡ (possible kinds).enumerations
 unfolding possible
 enumerations_are kinds = refl
-
-swap_or : (a b c : Bool) → ((a || b) || c) ≡ (b || (a || c))
-swap_or true true c = refl
-swap_or true false c = refl
-swap_or false b c = refl
-
--- one number more that is put into the set
-pub set_next : (i : ℕ) (numbers keys more : List ℕ) (k : ℕ) → i < length numbers → is_among more k ≡ ((get_or numbers i 0 == k) || is_among keys k)
-    → (is_among more k || is_among (drop (i + 1) numbers) k) ≡ (is_among keys k || is_among (drop i numbers) k)
-set_next i numbers keys more k within is =
-    let later : suc i ≡ i + 1 = omega arith in
-    let rest = is_among (drop (i + 1) numbers) k in
-    ap (λ b. b || rest) is
-    ∙ swap_or (get_or numbers i 0 == k) (is_among keys k) rest
-    ∙ ap (λ b. is_among keys k || b) (sym (ap (λ l. is_among l k) (drop-cons numbers i 0 within) ∙ ap (λ j. (get_or numbers i 0 == k) || is_among (drop j numbers) k) later))
 
 -- ---- a first kind of no defined type
 

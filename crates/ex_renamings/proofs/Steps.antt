@@ -2,7 +2,8 @@
 use Rattle.std.proofs.Common.{◌≡◌, ℕ, zero, suc, ◌<◌, ◌≤◌, Bool, true, false, not, ◌||◌, ◌&&◌, ◌==◌, nat_lt, List, length, ⊎_elim, refl, sym, ◌∙◌, arith}
 use Rattle.std.proofs.lemmas.Bool.{cases_Bool, eqb-true}
 use Rattle.std.proofs.lemmas.Bool.Decides.{nat_tests}
-use Rattle.lineage.specs.Lineage.{is_among, supertypes, Reaches, IsAncestor, is_ancestor, family}
+use Rattle.plain_data.specs.Numbers.{is_among}
+use Rattle.lineage.specs.Lineage.{supertypes, Reaches, IsAncestor, is_ancestor, family}
 use Rattle.lineage.proofs.Bounded.{any_at, any_where, is_member, is_ancestor_exact}
 use Rattle.lineage.proofs.Certain.{both, is_less, each_passes}
 use Rattle.lineage.proofs.Families.{in_family}

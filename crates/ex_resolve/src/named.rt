@@ -3,8 +3,8 @@
 ghost use Rattle.std.specs.Prelude.{◌≡◌, ◌↔◌, ◌++◌, ◌≤◌, ◌-◌, ℕ, IfOk, IsTrue, Some, filter, length, map};
 ghost use Rattle.std.specs.List.{flat_map};
 ghost use Rattle.std.specs.List.Sorted.{IsStrictlyIncreasing};
+ghost use Rattle.plain_data.specs.Numbers.{is_among, numbered_from};
 ghost use Rattle.lineage.specs.Lineage as lineage;
-ghost use Rattle.lineage.specs.Numbered.{numbered_from};
 ghost use Rattle.ex_resolve.specs.Proved as proved;
 ghost use Rattle.ex_resolve.specs.Ranges as ranges;
 ghost use Rattle.ex_resolve.specs.Schemas as spec;
@@ -83,7 +83,7 @@ impl Named {
     /// each of its members.
     pub fn ancestors(&self, alloc: Global, entity: usize) -> Result<Rows<usize>, AllocError>
         ensures ascending { IfOk result (λ found. IsStrictlyIncreasing found) }
-        ensures exact { IfOk result (λ found. (a : ℕ) → IsTrue (lineage.is_among found a) ↔ lineage.IsAncestor self.now.supertypes entity a) }
+        ensures exact { IfOk result (λ found. (a : ℕ) → IsTrue (is_among found a) ↔ lineage.IsAncestor self.now.supertypes entity a) }
     {
         ancestors(alloc, self.supertypes.as_slice(), entity)
     }

@@ -8,14 +8,17 @@ use Rattle.std.specs.List.{filter_map, cons_option}
 use Rattle.std.specs.List.Sorted.{IsStrictlySortedBy}
 use Rattle.std.specs.Option.{option_map_or}
 use Rattle.std.specs.Ordering.{nat_cmp}
+use Rattle.plain_data.specs.Numbers.{is_among}
+use Rattle.plain_data.proofs.Numbers.{only_one}
 use Rattle.ex_tree.specs.declared.data_type.SimpleType.TheVariants as s
 use Rattle.ex_named.specs.declared.declaration.NamedType.{NamedType}
 use Rattle.ex_named.specs.declared.declaration.NamedUnderlying.{NamedUnderlying}
 use Rattle.ex_named.specs.declared.declaration.NamedUnderlying.TheVariants as u
 use Rattle.ex_renamings.specs.Renamings.{end, is_listed, is_select}
-use Rattle.lineage.specs.Lineage.{is_among, is_ancestor, family}
+use Rattle.lineage.specs.Lineage.{is_ancestor, family}
 use Rattle.lineage.proofs.Families.{family_sorted, in_family, is_among-filter}
-use Rattle.lineage.proofs.Sets.{either, or_left, or_right}
+use Rattle.lineage.proofs.Sets.{or_left, or_right}
+use Rattle.descent.proofs.Members.{same_keys}
 use Rattle.ex_selects.specs.declared.sorts.Class.{Class}
 use Rattle.ex_selects.specs.declared.sorts.Class.TheVariants as class
 use Rattle.ex_selects.specs.declared.sorts.Sort.{Sort}
@@ -25,7 +28,7 @@ use Rattle.ex_selects.specs.Kept.{single, suffices, IsCovered, StandFor, StandFo
 use Rattle.ex_selects.specs.Levels.{asked_choice, element}
 use Rattle.ex_selects.specs.Shared.{shared, unrenamed}
 use Rattle.ex_selects.specs.Sorts.{all_sorts, is_of, of_base, sort_at, sort_of}
-use Rattle.ex_selects.proofs.Renamed.{choices_shared, many_shared, same_keys, same_truth}
+use Rattle.ex_selects.proofs.Renamed.{choices_shared, many_shared, same_truth}
 use Rattle.ex_selects.proofs.Standing.{both_true, first_true, second_true, two_of}
 use Rattle.ex_selects.proofs.Tables.{map_get, numbered_index}
 
@@ -38,14 +41,11 @@ record Pair (ks : List ℕ) : Type 0 where
   pub first_there : is_among ks first ≡ true
   pub second_there : is_among ks second ≡ true
 
-one : (k x : ℕ) → is_among (x ∷ []) k ≡ true → x ≡ k
-one k x there = ⊎_elim (λ (is : (x == k) ≡ true). eqb-true x k is) (λ (no : false ≡ true). cc) (either (x == k) false there)
-
 in_one : (k x : ℕ) → (is_among (x ∷ []) k ≡ true) ⊎ Pair (x ∷ []) → x ≡ k
-in_one k x (inl there) = one k x there
+in_one k x (inl there) = only_one k x there
 in_one k x (inr two) =
-    let first = one two.first x two.first_there in
-    let second = one two.second x two.second_there in
+    let first = only_one two.first x two.first_there in
+    let second = only_one two.second x two.second_there in
     let other = two.other in
     grind (arith, nat_tests)
 

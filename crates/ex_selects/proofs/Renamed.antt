@@ -10,17 +10,17 @@ use Rattle.std.specs.List.{filter_map, list_any}
 use Rattle.std.specs.List.Sorted.{IsStrictlySortedBy}
 use Rattle.std.specs.Option.{option_map_or}
 use Rattle.std.specs.Ordering.{nat_cmp}
+use Rattle.plain_data.specs.Numbers.{is_among, numbered}
 use Rattle.ex_named.specs.declared.declaration.NamedType.{NamedType}
 use Rattle.ex_named.specs.declared.declaration.NamedUnderlying.{NamedUnderlying}
 use Rattle.ex_named.specs.declared.declaration.NamedUnderlying.TheVariants as u
 use Rattle.ex_renamings.specs.Leading.{is_marked}
 use Rattle.ex_renamings.specs.Renamings.{end, is_listed, is_select, lists_members, renamed, renamed_by, renamed_times}
 use Rattle.ex_renamings.proofs.Marks.{any_same, leading_at}
-use Rattle.lineage.specs.Lineage.{is_among, supertypes, Reaches, IsAncestor, is_ancestor, family}
-use Rattle.lineage.specs.Numbered.{numbered}
+use Rattle.lineage.specs.Lineage.{supertypes, Reaches, IsAncestor, is_ancestor, family}
 use Rattle.lineage.proofs.Bounded.{any_at, any_where, is_ancestor_exact}
 use Rattle.lineage.proofs.Families.{family_sorted, in_family, is_among-filter}
-use Rattle.lineage.proofs.Sets.{contained, either, or_left, or_right}
+use Rattle.lineage.proofs.Sets.{either, or_left, or_right}
 use Rattle.ex_selects.specs.Ends.{choices, chooses_instances, defined, is_entity, members, members_by, selection}
 use Rattle.ex_selects.specs.Shared.{chosen_at_once, listing, lists_entity, shared, unrenamed, with_instances}
 use Rattle.ex_selects.proofs.Standing.{both_true, first_true, second_true}
@@ -30,12 +30,6 @@ pub same_truth : (a b : Bool) → (a ≡ true → b ≡ true) → (b ≡ true �
 same_truth true b h g = sym (h refl)
 same_truth false true h g = g refl
 same_truth false false h g = refl
-
-pub same_keys : (xs ys : List ℕ) → IsStrictlySortedBy nat_cmp xs → IsStrictlySortedBy nat_cmp ys → ((q : ℕ) → is_among xs q ≡ is_among ys q) → xs ≡ ys
-same_keys xs ys up rise same =
-    let first : BTreeSet ℕ = record { keys = xs } in
-    let second : BTreeSet ℕ = record { keys = ys } in
-    btree_set_from_contains nat_cmp_total first second up rise (λ q. contained xs q ∙ same q ∙ sym (contained ys q)) exact_unsigned
 
 among_map : (f : ℕ → ℕ) (xs : List ℕ) (m : ℕ) → is_among xs m ≡ true → is_among (map f xs) (f m) ≡ true
 among_map f [] m there = cc

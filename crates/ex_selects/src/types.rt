@@ -1,7 +1,7 @@
 //! The defined types of a schema, found by their names.
 
 ghost use Rattle.std.specs.Prelude.{◌≡◌, ◌++◌, [], map, slice_index_or, IfOk, OnOk};
-ghost use Rattle.lineage.specs.Lineage.{is_among};
+ghost use Rattle.plain_data.specs.Numbers.{is_among};
 ghost use Rattle.name_tables.specs.Names.{place_of};
 ghost use Rattle.std.specs.Str.{str_to_ascii_uppercase};
 ghost use Rattle.ex_selects.specs.Ends as ends;
@@ -129,9 +129,9 @@ fn place_at(all: &[NameTable<'_>], number: usize, name: &[u8]) -> Option<usize>
 
 impl<'s> DefinedTypes<'s> {
     ghost use Rattle.std.specs.Prelude.{◌≡◌, ⊤, MatchOption, IfOk, map};
+    ghost use Rattle.plain_data.specs.Numbers.{is_among};
     ghost use Rattle.ex_selects.specs.Kept as kept;
     ghost use Rattle.ex_selects.specs.Takers as takers;
-    ghost use Rattle.lineage.specs.Lineage.{is_among};
     ghost use Rattle.name_tables.specs.Names.{place_of};
     ghost use Rattle.ex_selects.specs.Ends as ends;
     ghost use Rattle.ex_selects.specs.Items as spec;

@@ -4,6 +4,7 @@ use Rattle.std.specs.Prelude.{◌≡◌, ℕ, Bool, true, false, Option, ◌==�
 use Rattle.std.specs.List.{list_any, flat_map, filter_map}
 use Rattle.std.specs.Option.{option_map, option_map_or}
 use Rattle.std.specs.Borrow.{Bor}
+use Rattle.plain_data.specs.Numbers.{numbered}
 use Rattle.ex_tree.specs.declared.expression.Name.{Name}
 use Rattle.ex_named.specs.declared.declaration.NamedAttribute.{NamedAttribute}
 use Rattle.ex_named.specs.declared.declaration.NamedDerived.{NamedDerived}
@@ -15,7 +16,6 @@ use Rattle.ex_named.specs.declared.reference.AttributePlace.{AttributePlace}
 use Rattle.ex_named.specs.declared.reference.AttributeSort.{AttributeSort}
 use Rattle.ex_named.specs.declared.reference.AttributeSort.TheVariants as sort
 use Rattle.ex_named.specs.Scopes.{and_then}
-use Rattle.lineage.specs.Numbered.{numbered}
 use Rattle.ex_attributes.specs.Attributes.{own, redeclaration, meant}
 use Rattle.ex_slots.specs.declared.redeclared.Clause.{Clause}
 use Rattle.ex_slots.specs.declared.redeclared.Clause.TheVariants.{Explicit, Derive}

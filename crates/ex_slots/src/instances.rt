@@ -2,7 +2,7 @@
 
 ghost use Rattle.std.specs.Prelude.{◌≡◌, ◌++◌, ◌||◌, ℕ, map, IfOk, OnOk};
 ghost use Rattle.std.specs.List.{filter_map, flat_map};
-ghost use Rattle.lineage.specs.Numbered.{numbered};
+ghost use Rattle.plain_data.specs.Numbers.{numbered};
 ghost use Rattle.ex_slots.specs.Slots as spec;
 
 use crate::slot::Slot;

@@ -4,8 +4,9 @@ use Rattle.std.proofs.lemmas.Bool.{cases_Bool, eq-eqb, eqb-true}
 use Rattle.std.proofs.lemmas.Bool.Decides.{nat_tests}
 use Rattle.std.specs.List.{list_all, list_any}
 use Rattle.std.specs.List.Sorted.{IsStrictlyIncreasing}
+use Rattle.plain_data.specs.Numbers.{is_among}
 use Rattle.ex_named.specs.declared.declaration.NamedEntity.{NamedEntity}
-use Rattle.lineage.specs.Lineage.{each_once, is_among, supertypes, Reaches, IsAncestor, is_ancestor, line, line_within, numbers_from}
+use Rattle.lineage.specs.Lineage.{each_once, supertypes, Reaches, IsAncestor, is_ancestor, line, line_within, numbers_from}
 use Rattle.lineage.proofs.Bounded.{answer_is, any_at}
 use Rattle.lineage.proofs.Families.{among_numbers, is_among-filter}
 use Rattle.lineage.proofs.Sets.{either, or_left, or_right}

@@ -2,7 +2,7 @@
 
 ghost use Rattle.std.specs.Prelude.{◌≡◌, ◌++◌, [], fold, IfOk};
 ghost use Rattle.std.specs.List.{flat_map};
-ghost use Rattle.lineage.specs.Lineage.{is_among};
+ghost use Rattle.plain_data.specs.Numbers.{is_among};
 ghost use Rattle.ex_subtypes.specs.Faults as spec;
 ghost use Rattle.ex_subtypes.specs.Legal.{constraints_of};
 

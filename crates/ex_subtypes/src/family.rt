@@ -2,7 +2,8 @@
 
 ghost use Rattle.std.specs.Prelude.{◌≡◌, ◌&&◌, ℕ, nat_lt, length, map, IfOk};
 ghost use Rattle.std.specs.List.{list_any};
-ghost use Rattle.lineage.specs.Lineage.{is_among, supertypes};
+ghost use Rattle.plain_data.specs.Numbers.{is_among};
+ghost use Rattle.lineage.specs.Lineage.{supertypes};
 ghost use Rattle.ex_subtypes.specs.Legal as spec;
 
 use crate::sets::put_all;

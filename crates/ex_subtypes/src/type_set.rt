@@ -2,7 +2,7 @@
 
 ghost use Rattle.std.specs.Prelude.{◌≡◌, ℕ, IfOk};
 ghost use Rattle.std.specs.List.Sorted.{IsStrictlyIncreasing};
-ghost use Rattle.lineage.specs.Lineage.{is_among};
+ghost use Rattle.plain_data.specs.Numbers.{is_among};
 ghost use Rattle.ex_subtypes.specs.Edges.{is_that, stands_at};
 
 use crate::sets::{ascending, set_of};

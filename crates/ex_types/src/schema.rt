@@ -2,6 +2,7 @@
 
 ghost use Rattle.std.specs.Prelude.{◌≡◌, ◌↔◌, ℕ, IfOk, IsTrue, Some, Ok, length, map};
 ghost use Rattle.std.specs.List.Sorted.{IsStrictlyIncreasing};
+ghost use Rattle.plain_data.specs.Numbers.{is_among};
 ghost use Rattle.text_forms.specs.Gives.{Gives};
 ghost use Rattle.lineage.specs.Lineage as lineage;
 ghost use Rattle.name_order.specs.Order.{rank};
@@ -176,7 +177,7 @@ impl CheckedSchema {
     /// The entities above one, by their numbers in ascending order.
     pub fn ancestors(&self, alloc: Global, entity: usize) -> Result<Rows<usize>, AllocError>
         ensures ascending { IfOk result (λ found. IsStrictlyIncreasing found) }
-        ensures exact { IfOk result (λ found. (a : ℕ) → IsTrue (lineage.is_among found a) ↔ lineage.IsAncestor self.now.named.supertypes entity a) }
+        ensures exact { IfOk result (λ found. (a : ℕ) → IsTrue (is_among found a) ↔ lineage.IsAncestor self.now.named.supertypes entity a) }
     {
         self.named.ancestors(alloc, entity)
     }

@@ -4,7 +4,8 @@ use Rattle.std.proofs.lemmas.Bool.{cases_Bool, eq-eqb, eqb-true}
 use Rattle.std.proofs.lemmas.List.{get_or_past}
 use Rattle.std.specs.List.{list_any}
 use Rattle.std.specs.Prelude.{◌↔◌}
-use Rattle.lineage.specs.Lineage.{is_among, supertypes, Reaches, IsAncestor, reaches, is_ancestor}
+use Rattle.plain_data.specs.Numbers.{is_among}
+use Rattle.lineage.specs.Lineage.{supertypes, Reaches, IsAncestor, reaches, is_ancestor}
 use Rattle.lineage.proofs.Left.{left, left_all, left_less, within_or, beyond_or}
 use Rattle.lineage.proofs.Search.{ancestor_direct}
 use Rattle.lineage.proofs.Sets.{either, or_left, or_right}

@@ -4,7 +4,8 @@ use Rattle.std.proofs.lemmas.Bool.{eq-eqb, eqb-true}
 use Rattle.std.proofs.lemmas.Bool.Decides.{nat_tests}
 use Rattle.std.specs.List.{list_all}
 use Rattle.std.specs.Prelude.{slice_get}
-use Rattle.lineage.specs.Lineage.{is_among, supertypes, Reaches, IsAncestor, is_ancestor}
+use Rattle.plain_data.specs.Numbers.{is_among}
+use Rattle.lineage.specs.Lineage.{supertypes, Reaches, IsAncestor, is_ancestor}
 use Rattle.lineage.specs.Traces as traced
 use Rattle.lineage.specs.declared.walks.Trace.{Trace}
 use Rattle.lineage.proofs.Bounded.{any_at, any_where, is_member, answer_is}

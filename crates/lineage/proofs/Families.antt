@@ -9,7 +9,8 @@ use Rattle.std.proofs.lemmas.Map.Lookups.{btree_set_from_contains, exact_unsigne
 use Rattle.std.specs.BTreeSet.{insert_key}
 use Rattle.std.specs.List.Sorted.{IsStrictlyIncreasing, IsStrictlySortedBy}
 use Rattle.std.specs.Ordering.{is_gt, nat_cmp}
-use Rattle.lineage.specs.Lineage.{is_among, IsAncestor, is_ancestor, numbers_from, family}
+use Rattle.plain_data.specs.Numbers.{is_among}
+use Rattle.lineage.specs.Lineage.{IsAncestor, is_ancestor, numbers_from, family}
 use Rattle.lineage.proofs.Bounded.{answer_is}
 use Rattle.lineage.proofs.Numbers.{numbers_are}
 use Rattle.lineage.proofs.Sets.{contained, is_among-insert}

@@ -4,7 +4,8 @@ use Rattle.std.proofs.lemmas.Bool.{cases_Bool, eq-eqb, eqb-true}
 use Rattle.std.proofs.lemmas.List.{get_or_past}
 use Rattle.std.specs.List.{flat_map}
 use Rattle.std.specs.Option.{unwrap_or}
-use Rattle.lineage.specs.Lineage.{is_among, supertypes, IsAncestor, IsAcyclic, joined, joined_at, line_within}
+use Rattle.plain_data.specs.Numbers.{is_among}
+use Rattle.lineage.specs.Lineage.{supertypes, IsAncestor, IsAcyclic, joined, joined_at, line_within}
 use Rattle.lineage.proofs.Left.{left, left_all, left_less, within_or, beyond_or}
 use Rattle.lineage.proofs.Search.{ancestor_above, ancestor_direct}
 use Rattle.lineage.proofs.Sets.{either, or_right}

@@ -4,7 +4,8 @@ use Rattle.std.proofs.lemmas.Bool.{cases_Bool}
 use Rattle.std.proofs.lemmas.List.{get_or_past}
 use Rattle.std.specs.List.{list_any}
 use Rattle.std.specs.Prelude.{nat_lt}
-use Rattle.lineage.specs.Lineage.{is_among, supertypes, Reaches, IsAncestor, IsAcyclic, is_ancestor, numbers_from}
+use Rattle.plain_data.specs.Numbers.{is_among}
+use Rattle.lineage.specs.Lineage.{supertypes, Reaches, IsAncestor, IsAcyclic, is_ancestor, numbers_from}
 use Rattle.lineage.proofs.Left.{within_or, beyond_or}
 use Rattle.lineage.proofs.Bounded.{is_ancestor_exact}
 use Rattle.lineage.proofs.Sets.{or_left, or_right}

@@ -3,7 +3,8 @@ use Rattle.std.proofs.Common.{◌≡◌, ℕ, Bool, true, false, not, ◌||◌, 
 use Rattle.std.proofs.lemmas.Bool.{cases_Bool, eq-eqb, eqb-true}
 use Rattle.std.proofs.lemmas.List.Elements.{filter-append}
 use Rattle.std.specs.Prelude.{filter}
-use Rattle.lineage.specs.Lineage.{is_among, each_once}
+use Rattle.plain_data.specs.Numbers.{is_among}
+use Rattle.lineage.specs.Lineage.{each_once}
 use Rattle.lineage.proofs.Sets.{in_first, or_right}
 
 apart : (a b : Bool) → (a || b) ≡ false → (a ≡ false) × (b ≡ false)

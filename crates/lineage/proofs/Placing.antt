@@ -2,9 +2,10 @@
 use Rattle.std.proofs.Common.{◌≡◌, ◌<◌, ℕ, zero, suc, Bool, true, false, ◌||◌, ◌==◌, List, [], ◌∷◌, ◌++◌, length, IfSome, Option, slice_get, slice_set, refl, sym, ◌∙◌, ap, subst, arith}
 use Rattle.std.proofs.lemmas.Bool.{eqb-true}
 use Rattle.std.proofs.lemmas.Bool.Decides.{nat_tests}
-use Rattle.lineage.specs.Lineage.{is_among}
+use Rattle.plain_data.specs.Numbers.{is_among}
+use Rattle.plain_data.proofs.Numbers.{is_among-append}
 use Rattle.lineage.specs.Placed.{AreMarks}
-use Rattle.lineage.proofs.Sets.{is_among-append, in_last}
+use Rattle.lineage.proofs.Sets.{in_last}
 
 -- each mark is what the function says of its place
 abbrev AreAt : List Bool → (ℕ → Bool) → Type 0
@@ -42,16 +43,6 @@ passed marks placed member beyond all = kept_at marks (is_among placed) (is_amon
     apart : (n : ℕ) → n < length marks → (member == n) ≡ false
     apart n less = grind (arith, nat_tests, beyond)
 
--- ---- the members of an order, and one more
-
-pub with_last : (placed : List ℕ) (member n : ℕ) → is_among (placed ++ member ∷ []) n ≡ ((member == n) || is_among placed n)
-with_last placed member n = is_among-append placed (member ∷ []) n ∙ turned (is_among placed n) (member == n)
-  where
-    turned : (a b : Bool) → (a || (b || false)) ≡ (b || a)
-    turned true true = refl
-    turned true false = refl
-    turned false true = refl
-    turned false false = refl
 
 pub with_known : (placed : List ℕ) (member : ℕ) → is_among placed member ≡ true → (n : ℕ) → is_among placed n ≡ ((member == n) || is_among placed n)
 with_known placed member there n = either_way (member == n) (is_among placed n) (λ h. ap (is_among placed) (sym (eqb-true member n h)) ∙ there)

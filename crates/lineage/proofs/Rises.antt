@@ -1,7 +1,8 @@
 -- Lists in which the supertypes of a member stand before it.
 use Rattle.std.proofs.Common.{◌≡◌, ℕ, zero, suc, Bool, true, false, ◌||◌, ◌==◌, List, [], ◌∷◌, ◌++◌, append_assoc, Option, Some, ⊎_elim, refl, ap}
 use Rattle.std.proofs.lemmas.Bool.{eq-eqb, eqb-true}
-use Rattle.lineage.specs.Lineage.{is_among, supertypes, joined_at, line_within}
+use Rattle.plain_data.specs.Numbers.{is_among}
+use Rattle.lineage.specs.Lineage.{supertypes, joined_at, line_within}
 use Rattle.lineage.proofs.Lines.{joined_some}
 use Rattle.lineage.proofs.Sets.{either, or_right, in_first, in_second, in_either, in_last}
 

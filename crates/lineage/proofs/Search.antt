@@ -2,8 +2,10 @@
 use Rattle.std.proofs.Common.{◌≡◌, ℕ, zero, suc, Bool, true, false, ◌||◌, ◌==◌, List, [], ◌∷◌, ◌++◌, ⊎_elim, refl, sym, ◌∙◌, ap}
 use Rattle.std.proofs.lemmas.Bool.{cases_Bool, eqb-true}
 use Rattle.std.specs.Prelude.{◌↔◌}
-use Rattle.lineage.specs.Lineage.{is_among, supertypes, Reaches, IsAncestor}
-use Rattle.lineage.proofs.Sets.{is_among-append, either, or_right, in_first, in_second, in_either, in_last}
+use Rattle.plain_data.specs.Numbers.{is_among}
+use Rattle.plain_data.proofs.Numbers.{is_among-append}
+use Rattle.lineage.specs.Lineage.{supertypes, Reaches, IsAncestor}
+use Rattle.lineage.proofs.Sets.{either, or_right, in_first, in_second, in_either, in_last}
 
 -- one step more at the end
 further : (graph : List (List ℕ)) (n e m a : ℕ) → Reaches graph n e m → is_among (supertypes graph m) a ≡ true → Reaches graph (suc n) e a

@@ -2,11 +2,11 @@
 use Rattle.std.proofs.Common.{◌≡◌, ℕ, Bool, true, false, not, ◌||◌, ◌==◌, List, [], ◌∷◌, ◌++◌, ◌⊎◌, inl, inr, if◌then◌else◌, refl, sym, ◌∙◌, ap, arith, Ordering, Less, Equal, Greater}
 use Rattle.std.proofs.lemmas.Bool.{eq-eqb}
 use Rattle.std.proofs.lemmas.Bool.Decides.{nat_tests}
-use Rattle.std.proofs.lemmas.List.Folds.{list_any-append}
 use Rattle.std.specs.BTreeSet.{insert_key}
 use Rattle.std.specs.List.{list_any}
 use Rattle.std.specs.Ordering.{is_eq, match_ordering, nat_cmp}
-use Rattle.lineage.specs.Lineage.{is_among}
+use Rattle.plain_data.specs.Numbers.{is_among}
+use Rattle.plain_data.proofs.Numbers.{is_among-append}
 
 or_again : (a b c : Bool) → a ≡ b → (b || c) ≡ (a || (b || c))
 or_again true b c e = rw (← e) refl
@@ -29,9 +29,6 @@ at_head n Greater k x xs e more = rw more (or_turn (x == n) (k == n) (is_among x
 pub is_among-insert : (xs : List ℕ) (k n : ℕ) → is_among (insert_key nat_cmp xs k) n ≡ ((k == n) || is_among xs n)
 is_among-insert [] k n = refl
 is_among-insert (x ∷ xs) k n = at_head n (nat_cmp k x) k x xs refl (is_among-insert xs k n)
-
-pub is_among-append : (xs ys : List ℕ) (n : ℕ) → is_among (xs ++ ys) n ≡ (is_among xs n || is_among ys n)
-is_among-append xs ys n = list_any-append (λ m. m == n) xs ys
 
 pub either : (a b : Bool) → (a || b) ≡ true → (a ≡ true) ⊎ (b ≡ true)
 either true b e = inl refl

@@ -1,7 +1,8 @@
 -- The graph turned round: what is above in the one is below in the other.
 use Rattle.std.proofs.Common.{◌≡◌, ℕ, zero, suc, ◌<◌, ◌↔◌, Bool, true, false, ◌&&◌, nat_lt, List, length, refl, sym, ◌∙◌, arith}
 use Rattle.std.proofs.lemmas.Bool.Decides.{nat_tests}
-use Rattle.lineage.specs.Lineage.{is_among, supertypes, Reaches, IsAncestor, is_ancestor}
+use Rattle.plain_data.specs.Numbers.{is_among}
+use Rattle.lineage.specs.Lineage.{supertypes, Reaches, IsAncestor, is_ancestor}
 use Rattle.lineage.proofs.Bounded.{is_member, answer_is}
 use Rattle.lineage.proofs.Search.{ancestor_above, ancestor_direct}
 

@@ -4,13 +4,14 @@ use Rattle.std.proofs.lemmas.List.{map-append}
 use mathlib.Core.List.{reverse-cons}
 use Rattle.std.specs.List.{flat_map}
 use Rattle.std.specs.Prelude.{reverse}
-use Rattle.lineage.specs.Lineage.{is_among, supertypes, each_once, IsAcyclic}
+use Rattle.plain_data.specs.Numbers.{is_among}
+use Rattle.plain_data.proofs.Numbers.{is_among-append}
+use Rattle.lineage.specs.Lineage.{supertypes, each_once, IsAcyclic}
 use Rattle.lineage.specs.declared.steps.Step.{Step}
 use Rattle.lineage.specs.declared.steps.Step.TheVariants.{Enter, Place}
 use Rattle.lineage.proofs.Lines.{line_of, line_is, line_parts}
 use Rattle.lineage.proofs.Once.{once_new, once_known, once_within}
 use Rattle.lineage.proofs.Rises.{Rises, Closed, rises_first, rises_closed, good_line, line_within_closed}
-use Rattle.lineage.proofs.Sets.{is_among-append}
 
 -- what a step adds to the line
 told_by : List (List ℕ) → Step → List ℕ

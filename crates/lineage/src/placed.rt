@@ -73,7 +73,7 @@ fn marks_of(alloc: Global, members: &[usize], count: usize) -> Result<Vec<bool>,
 
 impl Placed {
     ghost use Rattle.std.specs.Prelude.{◌≡◌, ◌∷◌, ◌++◌, [], IfOk, OnOk};
-    ghost use Rattle.lineage.specs.Lineage.{is_among};
+    ghost use Rattle.plain_data.specs.Numbers.{is_among};
 
     /// No member of a graph of so many has its place yet.
     pub fn new(alloc: Global, count: usize) -> Placed

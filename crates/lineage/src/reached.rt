@@ -2,6 +2,7 @@
 
 ghost use Rattle.std.specs.Prelude.{◌≡◌, ℕ, ◌↔◌, IfOk, IsTrue};
 ghost use Rattle.std.specs.List.Sorted.{IsStrictlyIncreasing};
+ghost use Rattle.plain_data.specs.Numbers.{is_among};
 ghost use Rattle.lineage.specs.Lineage as spec;
 
 use crate::steps::supertypes;
@@ -11,7 +12,7 @@ use std::collections::BTreeSet;
 
 /// Whether a number is in the set.
 pub fn is_in(set: &BTreeSet<usize>, number: usize) -> bool
-    ensures { result ≡ spec.is_among set.now.keys number }
+    ensures { result ≡ is_among set.now.keys number }
 {
     set.contains(&number)
 }
@@ -30,7 +31,7 @@ pub fn all_above(
     graph: &[Rows<usize>],
     member: usize,
 ) -> Result<BTreeSet<usize>, AllocError>
-    ensures { IfOk result (λ found. (a : ℕ) → IsTrue (spec.is_among found.keys a) ↔ spec.IsAncestor graph.now member a) }
+    ensures { IfOk result (λ found. (a : ℕ) → IsTrue (is_among found.keys a) ↔ spec.IsAncestor graph.now member a) }
 {
     let mut found = BTreeSet::new(alloc);
     let mut waiting = Vec::from_slice(alloc, supertypes(graph, member))?;
@@ -49,7 +50,7 @@ pub fn ancestors(
     member: usize,
 ) -> Result<Rows<usize>, AllocError>
     ensures ascending { IfOk result (λ found. IsStrictlyIncreasing found) }
-    ensures exact { IfOk result (λ found. (a : ℕ) → IsTrue (spec.is_among found a) ↔ spec.IsAncestor graph.now member a) }
+    ensures exact { IfOk result (λ found. (a : ℕ) → IsTrue (is_among found a) ↔ spec.IsAncestor graph.now member a) }
 {
     let above = all_above(alloc, graph, member)?;
     ascending(alloc, above)

@@ -7,7 +7,7 @@ use Rattle.std.specs.Cmp.Lexicographic.{slice_cmp}
 use Rattle.std.specs.Ordering.{nat_cmp, is_lt}
 use Rattle.std.specs.Str.{bytes_eq}
 use Rattle.std.specs.declared.cmp.Ordering.{Ordering}
-use Rattle.lineage.specs.Numbered.{numbered}
+use Rattle.plain_data.specs.Numbers.{numbered}
 use Rattle.name_tables.specs.Names.{place_of}
 
 abbrev pub by_bytes : List ℕ → List ℕ → Ordering

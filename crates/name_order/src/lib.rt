@@ -3,7 +3,7 @@
 
 ghost use Rattle.std.specs.Prelude.{◌≡◌, ◌≤◌, ℕ, true, false, map, length, IfOk};
 ghost use Rattle.std.specs.List.Sorted.{IsPartitionPoint};
-ghost use Rattle.lineage.specs.Numbered.{numbered};
+ghost use Rattle.plain_data.specs.Numbers.{numbered};
 ghost use Rattle.name_order.specs.Order as spec;
 
 use plain_data::Text;

@@ -1,8 +1,9 @@
 -- What a file holds, by the schema that it is of, or the first fault of its instances (ISO 10303-21:2002, clauses 8 to 10).
 use Rattle.std.specs.Prelude.{ℕ, ◌<◌, Bool, false, ◌||◌, ◌==◌, List, [], ◌∷◌, ◌++◌, Result, Ok, Err}
 use Rattle.std.specs.List.{AllByRecursion}
+use Rattle.plain_data.specs.Numbers.{is_among}
 use Rattle.ex_types.specs.Checked.{Checked}
-use Rattle.p21_instances.specs.Instances.{names, is_among}
+use Rattle.p21_instances.specs.Instances.{names}
 use Rattle.p21_tree.specs.declared.fault.InstanceFault.{InstanceFault}
 use Rattle.p21_tree.specs.declared.header.Header as spelled_header
 use Rattle.p21_tree.specs.declared.instance.Instance as tree

@@ -2,7 +2,7 @@
 
 ghost use Rattle.std.specs.Prelude.{◌≡◌, ◌++◌, ◌∷◌, ◌==◌, ◌&&◌, ◌||◌, ℕ, [], false, not, reverse, OnOk, IfOk};
 ghost use Rattle.std.specs.List.Sorted.{IsPermutation};
-ghost use Rattle.p21_instances.specs.Instances.{is_among};
+ghost use Rattle.plain_data.specs.Numbers.{is_among};
 ghost use Rattle.p21_instances.specs.Instances as order;
 ghost use Rattle.text_forms.specs.Gives.{Gives};
 ghost use Rattle.p21_bind.specs.Files as spec;

@@ -57,7 +57,8 @@ impl<'s> Visitor for Loading<'s> {
 impl<'s> Loading<'s> {
     ghost use Rattle.std.specs.Prelude.{◌≡◌, ◌++◌, ◌==◌, [], true, false, IfOk, IfSome};
     ghost use Rattle.std.specs.List.{list_all};
-    ghost use Rattle.p21_instances.specs.Instances.{has_twice, is_among};
+    ghost use Rattle.plain_data.specs.Numbers.{is_among};
+    ghost use Rattle.p21_instances.specs.Instances.{has_twice};
     ghost use Rattle.p21_mappings.specs.Contents as contents;
 
     /// Nothing yet. `bytes` is the length of the file: as most instances take 32 bytes and more, and a reference with what

@@ -4,6 +4,7 @@
 use Rattle.std.specs.Prelude.{ℕ, Bool, false, if◌then◌else◌, List, [], ◌∷◌, length, map, take, drop, None, codes, slice_get, slice_index_or}
 use Rattle.std.specs.Fmt.{signed_decimal}
 use Rattle.std.specs.Option.{option_map_or}
+use Rattle.plain_data.specs.Numbers.{numbered}
 use Rattle.ex_named.specs.declared.declaration.NamedEntity.{NamedEntity}
 use Rattle.ex_named.specs.declared.declaration.NamedType.{NamedType}
 use Rattle.ex_named.specs.declared.declaration.NamedUnderlying.{NamedUnderlying}
@@ -13,7 +14,6 @@ use Rattle.ex_layouts.specs.Layouts.{leaf_slots, slots_in}
 use Rattle.ex_slots.specs.Slots.{Slot}
 use Rattle.ex_tree.specs.declared.expression.Name.{Name}
 use Rattle.ex_types.specs.Checked.{Checked}
-use Rattle.lineage.specs.Numbered.{numbered}
 use Rattle.p21_escapes.specs.Encoding.{encoded}
 use Rattle.p21_tree.specs.declared.header.Header as spelled_header
 use Rattle.p21_tree.specs.declared.header.HeaderValue.{HeaderValue}

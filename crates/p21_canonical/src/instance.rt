@@ -2,8 +2,8 @@
 
 ghost use Rattle.std.specs.Prelude.{◌≡◌, ◌++◌, ◌∷◌, [], OnOk, length, map, take, drop};
 ghost use Rattle.std.specs.List.{flat_map};
+ghost use Rattle.plain_data.specs.Numbers.{numbered};
 ghost use Rattle.ex_layouts.specs.Layouts as layouts_spec;
-ghost use Rattle.lineage.specs.Numbered.{numbered};
 ghost use Rattle.p21_spelling.specs.Instances as spelled;
 ghost use Rattle.p21_spelling.specs.Tokens.{enclosed};
 ghost use Rattle.p21_canonical.specs.Trees as spec;

@@ -3,7 +3,8 @@ use Rattle.std.proofs.Common.{◌≡◌, ℕ, suc, Bool, true, false, ◌||◌, 
 use Rattle.std.specs.List.{AllByRecursion}
 use Rattle.std.proofs.lemmas.Bool.{cases_Bool, or_parts, or_from}
 use Rattle.std.proofs.lemmas.Bool.Decides.{nat_tests}
-use Rattle.p21_instances.specs.Instances.{placed, in_order, is_among}
+use Rattle.plain_data.specs.Numbers.{is_among}
+use Rattle.p21_instances.specs.Instances.{placed, in_order}
 
 other_way : (m n : ℕ) → (m == n) ≡ false → (n == m) ≡ false
 other_way m n apart = grind (arith, nat_tests)

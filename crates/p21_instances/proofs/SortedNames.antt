@@ -10,8 +10,9 @@ use Rattle.std.proofs.lemmas.Map.Keys.{IsDistinct-IsPermutation, sorted_from_str
 use Rattle.std.specs.List.{AllByRecursion, IsAllAdjacentAnswer, IsDistinct, list_any}
 use Rattle.std.specs.List.Sorted.{IsBinarySearchResult, IsPermutation, IsSorted, IsStrictlySortedBy}
 use Rattle.std.specs.Ordering.{is_lt, nat_cmp}
+use Rattle.plain_data.specs.Numbers.{is_among}
 use Rattle.p21_tree.specs.declared.instance.Instance.{Instance}
-use Rattle.p21_instances.specs.Instances.{has_twice, is_among, names}
+use Rattle.p21_instances.specs.Instances.{has_twice, names}
 use Rattle.p21_instances.proofs.Sets.{map-take_more}
 use Rattle.p21_instances.proofs.Twice.{has_twice-append, has_twice-push}
 

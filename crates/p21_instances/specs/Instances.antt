@@ -24,9 +24,6 @@ module _ {X : Type 0} (is_below : X → X → Bool) where
 abbrev pub names : List Instance → List ℕ
 names = map (λ i. i.name)
 
-abbrev pub is_among : List ℕ → ℕ → Bool
-is_among names name = list_any (λ n. n == name) names
-
 -- whether two elements are the same
 abbrev pub has_twice : {X : Type 0} → (X → X → Bool) → List X → Bool
 has_twice same [] = false

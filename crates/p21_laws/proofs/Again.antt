@@ -4,10 +4,10 @@ use Rattle.std.proofs.lemmas.Bool.{eq-eqb}
 use Rattle.std.proofs.lemmas.List.Folds.{flat_map-map, list_all-map}
 use Rattle.std.specs.List.{list_all}
 use Rattle.std.specs.Str.{str_to_ascii_uppercase}
+use Rattle.plain_data.specs.Numbers.{is_among}
 use Rattle.ex_slots.specs.Slots.{Slot}
 use Rattle.ex_types.specs.Checked.{Checked}
 use Rattle.lineage.proofs.Certain.{each_passes}
-use Rattle.lineage.specs.Lineage.{is_among}
 use Rattle.p21_mappings.specs.Instances.{all_there, and_then, by_entities, by_entity, by_mapping, by_layout, by_several, counted, each, has_twice, in_places, instance, keywords, made, part, repeats, same_counts}
 use Rattle.ex_layouts.specs.Entities.{entity_spelled}
 use Rattle.ex_layouts.specs.Layouts.{of_leaf, of_several, order_by, place_in, slots_in, types_by}

@@ -3,12 +3,13 @@ use Rattle.std.proofs.Common.{◌≡◌, ℕ, Bool, true, false, ◌||◌, ◌==
 use Rattle.std.proofs.lemmas.Bool.Decides.{nat_tests}
 use Rattle.std.proofs.lemmas.List.Folds.{list_all-append, list_any-append}
 use Rattle.std.specs.List.{AllByRecursion, flat_map, list_all, list_any}
+use Rattle.plain_data.specs.Numbers.{is_among}
 use Rattle.ex_slots.specs.Slots.{Slot}
 use Rattle.ex_types.specs.Checked.{Checked}
 use Rattle.p21_bind.specs.Files.{Instances, behind, bound_by, bound_file, first_of, instances, instances_after, told}
 use Rattle.p21_mappings.specs.Contents.{content, header}
 use Rattle.p21_mappings.specs.Instances.{Read, instance}
-use Rattle.p21_instances.specs.Instances.{in_order, is_among, names, references}
+use Rattle.p21_instances.specs.Instances.{in_order, names, references}
 use Rattle.p21_spelling.proofs.Runs.{both_hold, first_holds, second_holds}
 use Rattle.p21_tree.specs.declared.header.Header as spelled_header
 use Rattle.p21_tree.specs.declared.instance.Instance as tree

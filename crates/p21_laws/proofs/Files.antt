@@ -6,12 +6,12 @@ use Rattle.std.proofs.lemmas.List.Folds.{list_any-append}
 use Rattle.std.proofs.lemmas.Str.{IsUtf8-from_ascii}
 use Rattle.std.specs.List.{AllByRecursion, list_all}
 use Rattle.std.specs.Str.{IsAscii}
+use Rattle.plain_data.specs.Numbers.{is_among}
 use Rattle.ex_slots.specs.Slots.{Slot}
 use Rattle.ex_types.specs.Checked.{Checked}
 use Rattle.p21_bind.specs.Files.{bound_file}
 use Rattle.p21_mappings.specs.Contents.{content, header}
 use Rattle.p21_mappings.specs.Instances.{instance}
-use Rattle.p21_instances.specs.Instances.{is_among}
 use Rattle.p21_grammar.specs.File.{file_of}
 use Rattle.p21_grammar.specs.Grammar.{max_nesting}
 use Rattle.p21_spelling.proofs.Files.{file_again}

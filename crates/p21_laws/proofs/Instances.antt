@@ -4,6 +4,7 @@ use Rattle.std.proofs.lemmas.Bool.{eqb-true}
 use Rattle.std.proofs.lemmas.Bool.Decides.{nat_tests}
 use Rattle.std.proofs.lemmas.List.Folds.{flat_map-map}
 use Rattle.std.specs.List.{AllByRecursion, flat_map}
+use Rattle.plain_data.specs.Numbers.{is_among}
 use Rattle.ex_named.specs.declared.declaration.NamedEntity.{NamedEntity}
 use Rattle.ex_slots.specs.Slots.{Slot, slots, slots_of}
 use Rattle.ex_subtypes.specs.Legal.{graph, is_closed, is_connected, refusal}
@@ -11,7 +12,6 @@ use Rattle.ex_subtypes.specs.declared.legal.Illegal.{Illegal}
 use Rattle.ex_subtypes.specs.declared.legal.Illegal.TheVariants.{NotClosed, NotConnected}
 use Rattle.ex_types.specs.Checked.{Checked, entity_names}
 use Rattle.lineage.proofs.Sets.{either}
-use Rattle.lineage.specs.Lineage.{is_among}
 use Rattle.p21_mappings.specs.Instances.{Read, all_there, and_then, by_entities, by_entity, by_mapping, by_layout, by_several, counted, each, has_twice, in_places, instance, keywords, made, part, repeats, same_counts, value}
 use Rattle.ex_layouts.specs.Entities.{ascending, entity_spelled, is_legal, line_of, name_rank}
 use Rattle.ex_layouts.specs.Layouts.{in_name_order, leaf, of_leaf, of_several, order_by, place_in, slots_in, types_by}

@@ -5,9 +5,9 @@ use Rattle.std.proofs.lemmas.List.Folds.{list_any-append}
 use Rattle.std.proofs.lemmas.Slice.Eq.{bytes_eq-Decides}
 use Rattle.std.specs.List.{list_any}
 use Rattle.std.specs.Str.{bytes_eq}
+use Rattle.plain_data.specs.Numbers.{is_among}
 use Rattle.ex_types.specs.Checked.{Checked, entity_names}
 use Rattle.lineage.proofs.Sets.{either}
-use Rattle.lineage.specs.Lineage.{is_among}
 use Rattle.name_tables.specs.Names.{place_of}
 use Rattle.p21_mappings.specs.Instances.{all_there, keywords, repeats, with_first}
 use Rattle.ex_layouts.specs.Entities.{entity_spelled}

@@ -2,10 +2,9 @@
 use Rattle.std.proofs.Common.{◌≡◌, ℕ, zero, suc, Bool, true, false, ◌&&◌, nat_lt, List, [], ◌∷◌, ◌++◌, length, map, take, drop, None, refl, sym, ◌∙◌, ap, drop_at, take_at}
 use Rattle.std.proofs.lemmas.List.Folds.{list_all-map}
 use Rattle.std.specs.List.{flat_map, list_all}
+use Rattle.plain_data.specs.Numbers.{is_among, numbered}
 use Rattle.ex_slots.specs.Slots.{Slot, slots, slots_of}
 use Rattle.ex_types.specs.Checked.{Checked}
-use Rattle.lineage.specs.Lineage.{is_among}
-use Rattle.lineage.specs.Numbered.{numbered}
 use Rattle.ex_layouts.specs.Entities.{is_legal, line_of}
 use Rattle.ex_layouts.specs.Layouts.{in_name_order, leaf, slots_in}
 use Rattle.p21_tree.specs.declared.instance.Record.{Record}

@@ -5,11 +5,12 @@ use Rattle.std.proofs.lemmas.Bool.Decides.{nat_tests}
 use Rattle.std.specs.Fmt.{signed_decimal}
 use Rattle.std.specs.List.{cons_option, filter_map}
 use Rattle.std.specs.Str.{str_to_ascii_uppercase}
+use Rattle.plain_data.specs.Numbers.{is_among}
 use Rattle.ex_named.specs.declared.declaration.NamedType.{NamedType}
 use Rattle.ex_named.specs.declared.expression.NamedDataType.{NamedDataType}
 use Rattle.ex_tree.specs.declared.data_type.SimpleType.TheVariants as simple
 use Rattle.ex_renamings.specs.Renamings as selects
-use Rattle.lineage.specs.Lineage.{family, is_among}
+use Rattle.lineage.specs.Lineage.{family}
 use Rattle.name_tables.specs.Names.{place_of}
 use Rattle.p21_spelling.proofs.Runs.{both_hold, first_holds, second_holds}
 use Rattle.p21_spelling.proofs.Values.{spelling_roll}

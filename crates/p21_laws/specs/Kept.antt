@@ -1,11 +1,11 @@
 -- What a model holds, whose header and instances came with files, or by themselves.
 use Rattle.std.specs.Prelude.{◌≡◌, ◌≤◌, ◌⊎◌, ℕ, Bool, true, List, [], ◌∷◌, ◌++◌, map, Ok}
 use Rattle.std.specs.List.{AllByRecursion, list_all}
+use Rattle.plain_data.specs.Numbers.{is_among}
 use Rattle.ex_types.specs.Checked.{Checked}
 use Rattle.p21_mappings.specs.Contents.{header}
 use Rattle.p21_bind.specs.Files.{AreAscending}
 use Rattle.p21_bind.specs.Single.{bound_instance}
-use Rattle.p21_instances.specs.Instances.{is_among}
 use Rattle.p21_grammar.specs.File.{file_of}
 use Rattle.p21_read.specs.Single.{mapping_of}
 use Rattle.p21_lexemes.specs.Lexical.{max_name}

@@ -2,10 +2,10 @@
 use Rattle.std.proofs.Common.{◌≡◌, ℕ, Bool, true, false, if◌then◌else◌, List, [], ◌∷◌, map, Option, Some, None, Ok, Err, option_map, ⊎_elim, refl, sym, ◌∙◌, ap, subst}
 use Rattle.std.proofs.lemmas.Bool.{cases_Bool}
 use Rattle.std.specs.List.{filter_map, list_all, list_any}
+use Rattle.plain_data.specs.Numbers.{is_among}
 use Rattle.ex_named.specs.declared.declaration.NamedType.{NamedType}
 use Rattle.ex_layouts.specs.declared.read_slot.ReadSlot.{ReadSlot}
 use Rattle.ex_types.specs.Checked.{Checked}
-use Rattle.lineage.specs.Lineage.{is_among}
 use Rattle.p21_instances.specs.Instances.{references}
 use Rattle.p21_tree.specs.declared.fault.InstanceFaultKind.TheVariants.{Undefined}
 use Rattle.p21_tree.specs.declared.value.Value as tree

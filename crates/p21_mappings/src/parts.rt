@@ -3,10 +3,10 @@
 ghost use Rattle.std.specs.Prelude.{◌≡◌, ◌&&◌, ◌++◌, ◌∷◌, [], true, if◌then◌else◌, length, map, slice_index_or, Some, Err, IfOk, OnOk};
 ghost use Rattle.std.specs.List.{flat_map, zip};
 ghost use Rattle.std.specs.Str.{str_to_ascii_uppercase};
+ghost use Rattle.plain_data.specs.Numbers.{is_among};
 ghost use Rattle.ex_layouts.specs.Entities.{entity_spelled};
 ghost use Rattle.ex_layouts.specs.Layouts.{legal, leaf_slots, read_slot, AreRead};
 ghost use Rattle.name_tables.specs.Names.{place_of};
-ghost use Rattle.p21_instances.specs.Instances.{is_among};
 ghost use Rattle.p21_tree.specs.declared.fault.InstanceFaultKind.TheVariants.{Twice};
 ghost use Rattle.text_forms.specs.Gives.{Gives};
 ghost use Rattle.p21_mappings.specs.Layouts.{external};

@@ -2,8 +2,9 @@
 
 ghost use Rattle.std.specs.Prelude.{◌≡◌, ◌++◌, ℕ, length, map, IfOk, OnOk};
 ghost use Rattle.std.specs.List.{flat_map, list_all, list_any, zip};
+ghost use Rattle.plain_data.specs.Numbers.{is_among};
 ghost use Rattle.ex_types.specs.Checked.{Checked};
-ghost use Rattle.p21_instances.specs.Instances.{is_among, references};
+ghost use Rattle.p21_instances.specs.Instances.{references};
 ghost use Rattle.text_forms.specs.Gives.{Gives};
 ghost use Rattle.p21_mappings.specs.Instances as spec;
 ghost use Rattle.p21_mappings.specs.ReadSlots as read_spec;

@@ -3,10 +3,10 @@ use Rattle.std.specs.Prelude.{ℕ, Bool, true, false, ◌==◌, if◌then◌else
 use Rattle.std.specs.List.{filter_map}
 use Rattle.std.specs.Option.{option_map}
 use Rattle.std.specs.Str.{str_to_ascii_uppercase}
+use Rattle.plain_data.specs.Numbers.{is_among}
 use Rattle.ex_tree.specs.declared.data_type.SimpleType.TheVariants as s
 use Rattle.ex_named.specs.declared.declaration.NamedType.{NamedType}
 use Rattle.ex_named.specs.declared.expression.NamedDataType.{NamedDataType}
-use Rattle.lineage.specs.Lineage.{is_among}
 use Rattle.name_tables.specs.Names.{place_of}
 use Rattle.p21_escapes.specs.Decoding.{decoded}
 use Rattle.p21_tree.specs.declared.value.Value as tree

@@ -28,7 +28,7 @@ pub struct Marks {
 
 impl Model for Marks {
     ghost use Rattle.std.specs.Prelude.{Bool, List};
-    ghost use Rattle.lineage.specs.Lineage.{is_among};
+    ghost use Rattle.plain_data.specs.Numbers.{is_among};
     ghost use Rattle.rp_access.specs.Kept.{marks_from};
 
     ghost Value = { List Bool };

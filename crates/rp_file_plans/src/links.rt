@@ -2,7 +2,7 @@
 
 ghost use Rattle.std.specs.Prelude.{◌≡◌, ℕ, ◌∷◌, IfOk};
 ghost use Rattle.std.specs.List.{list_all};
-ghost use Rattle.p21_instances.specs.Instances.{is_among};
+ghost use Rattle.plain_data.specs.Numbers.{is_among};
 ghost use Rattle.rp_rows.specs.Rows.{same_key};
 ghost use Rattle.rp_rows.specs.Contents as contents;
 ghost use Rattle.rp_rows.specs.Contents.{link_names};

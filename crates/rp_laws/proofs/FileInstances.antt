@@ -2,12 +2,13 @@
 use Rattle.std.proofs.Common.{◌≡◌, ◌≤◌, ℕ, Bool, true, ◌||◌, ◌==◌, List, [], ◌∷◌, ◌++◌, append_assoc, Ok, refl, sym, ◌∙◌, ap, subst}
 use Rattle.std.specs.List.{list_all, AllByRecursion}
 use Rattle.std.proofs.lemmas.List.Folds.{list_any-append}
+use Rattle.plain_data.specs.Numbers.{is_among}
 use Rattle.ex_types.specs.Checked.{Checked}
 use Rattle.p21_tree.specs.declared.instance.Instance as tree
 use Rattle.p21_tree.specs.declared.raw.Raw.{Raw}
 use Rattle.p21_grammar.specs.File.{file_of}
 use Rattle.p21_instances.specs.Instances as spelled
-use Rattle.p21_instances.specs.Instances.{in_order, is_among}
+use Rattle.p21_instances.specs.Instances.{in_order}
 use Rattle.p21_instances.proofs.ByName.{below, all-in_order, among_in_order}
 use Rattle.p21_instances.proofs.Sets.{list_all-same}
 use Rattle.p21_mappings.specs.Contents.{content}

@@ -7,9 +7,9 @@ use Rattle.std.specs.Str.{bytes_eq}
 use Rattle.std.proofs.lemmas.Bool.{and_parts}
 use Rattle.std.proofs.lemmas.Bool.Decides.{nat_tests}
 use Rattle.std.proofs.lemmas.List.Folds.{list_all-append}
+use Rattle.plain_data.specs.Numbers.{is_among, numbered_from}
 use Rattle.ex_named.specs.declared.declaration.NamedType.{NamedType}
 use Rattle.ex_types.specs.Checked.{Checked}
-use Rattle.lineage.specs.Numbered.{numbered_from}
 use Rattle.p21_instances.specs.Instances as spelled
 use Rattle.p21_laws.proofs.Attributes.{refers-Derived}
 use Rattle.p21_laws.proofs.Kept.{kept_again}
@@ -178,7 +178,7 @@ module _ (schemas : List Checked) (partners : List (List ℕ)) (k : List ℕ × 
     read = all_each (IsSpelled schema) (λ i. kept.IsOfFile schema i ⊎ kept.IsOfText schema i) (instance_read schema) h.content.instances
         (subst (λ s. AllByRecursion (IsSpelled s) h.content.instances) same valid.spelled);
     sound = all_each (IsSound h.content) (kept.IsSound schema (link_names h.content.links) h.content.instances)
-        (λ i e. tree_passes schema (spelled.is_among (names h.content.instances ++ link_names h.content.links)) i e) h.content.instances valid.sound;
+        (λ i e. tree_passes schema (is_among (names h.content.instances ++ link_names h.content.links)) i e) h.content.instances valid.sound;
   }
 
 abbrev AllAccepted : List Checked → Type 0

@@ -1,10 +1,10 @@
 -- The requests for single instances of a model.
 use Rattle.std.specs.Prelude.{ℕ, Bool, not, ◌||◌, nat_le, List, [], ◌∷◌, ◌++◌, length, Option, Some, None, is_some, Result, Ok, Err}
+use Rattle.plain_data.specs.Numbers.{is_among}
 use Rattle.ex_types.specs.Checked.{Checked}
 use Rattle.p21_tree.specs.declared.fault.FileFault.{FileFault}
 use Rattle.p21_tree.specs.declared.fault.InstanceFault.{InstanceFault}
 use Rattle.p21_tree.specs.declared.instance.Mapping.{Mapping}
-use Rattle.p21_instances.specs.Instances.{is_among}
 use Rattle.p21_read.specs.Single.{mapping_of}
 use Rattle.p21_spelling.specs.Instances.{instance_text}
 use Rattle.p21_bind.specs.Single.{bound_instance}

@@ -3,8 +3,8 @@ use Rattle.std.specs.Prelude.{◌≡◌, ◌≤◌, ◌⊎◌, ℕ, Bool, true, 
 use Rattle.std.specs.List.{list_all, AllByRecursion}
 use Rattle.std.specs.Str.{bytes_eq}
 use Rattle.std.specs.Ordering.{nat_cmp}
+use Rattle.plain_data.specs.Numbers.{is_among}
 use Rattle.ex_types.specs.Checked.{Checked}
-use Rattle.p21_instances.specs.Instances.{is_among}
 use Rattle.p21_tree.specs.declared.raw.Raw.{Raw}
 use Rattle.p21_grammar.specs.File.{file_of}
 use Rattle.p21_tree.specs.declared.instance.Mapping.{Mapping}

@@ -4,11 +4,11 @@ use Rattle.std.proofs.lemmas.List.{drop_more, map-append}
 use Rattle.std.proofs.lemmas.List.Concat.{flat_map-append}
 use Rattle.std.proofs.lemmas.List.Folds.{flat_map-map}
 use Rattle.std.specs.List.{flat_map, zip}
+use Rattle.plain_data.specs.Numbers.{is_among}
 use Rattle.ex_layouts.specs.Entities.{entities_of, line_of}
 use Rattle.ex_layouts.specs.Layouts.{layout}
 use Rattle.ex_slots.specs.Slots.{Slot, slots}
 use Rattle.ex_types.specs.Checked.{Checked}
-use Rattle.lineage.specs.Lineage.{is_among}
 use Rattle.rp_content.specs.declared.instance.Instance.{Instance}
 use Rattle.rp_rows.specs.Contents.{referred, references}
 use Rattle.rp_value.specs.Elements.{Elements}

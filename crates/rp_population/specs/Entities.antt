@@ -1,8 +1,8 @@
 -- The extent of an entity in a population (ISO 10303-11:1994, 9.2.3).
 use Rattle.std.specs.Prelude.{ℕ, Bool, List, [], filter, Option, Some, None}
+use Rattle.plain_data.specs.Numbers.{is_among}
 use Rattle.ex_layouts.specs.Entities.{entities_of, entity_spelled}
 use Rattle.ex_types.specs.Checked.{Checked}
-use Rattle.lineage.specs.Lineage.{is_among}
 use Rattle.rp_content.specs.declared.instance.Instance.{Instance}
 use Rattle.rp_population.specs.Populations.{Placed}
 

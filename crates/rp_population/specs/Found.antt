@@ -2,12 +2,12 @@
 use Rattle.std.specs.Prelude.{◌≡◌, ℕ, Bool, false, ◌&&◌, ◌||◌, List, [], ◌∷◌, Option, Some, None, if◌then◌else◌}
 use Rattle.std.specs.List.{flat_map, list_any}
 use Rattle.std.specs.Str.{bytes_eq}
+use Rattle.plain_data.specs.Numbers.{is_among}
 use Rattle.ex_layouts.specs.Entities.{entities_of, line_of}
 use Rattle.ex_layouts.specs.Layouts.{layout}
 use Rattle.ex_layouts.specs.declared.layout.Layout.{Layout}
 use Rattle.ex_slots.specs.Slots.{Slot}
 use Rattle.ex_types.specs.Checked.{Checked}
-use Rattle.lineage.specs.Lineage.{is_among}
 use Rattle.rp_content.specs.declared.instance.Instance.{Instance}
 use Rattle.rp_content.specs.declared.link.Link.{Link}
 use Rattle.rp_value.specs.declared.value.Value.{Value}

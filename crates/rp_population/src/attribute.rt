@@ -3,8 +3,8 @@
 ghost use Rattle.std.specs.Prelude.{◌≡◌, ◌&&◌, ◌++◌, OnOk, drop};
 ghost use Rattle.std.specs.List.{flat_map};
 ghost use Rattle.std.specs.Str.{bytes_eq};
+ghost use Rattle.plain_data.specs.Numbers.{is_among};
 ghost use Rattle.ex_layouts.specs.Layouts.{layout as LayoutOf};
-ghost use Rattle.lineage.specs.Lineage.{is_among};
 ghost use Rattle.rp_rows.specs.Contents.{references};
 ghost use Rattle.rp_population.specs.Found as spec;
 

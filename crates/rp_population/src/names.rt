@@ -2,7 +2,7 @@
 
 ghost use Rattle.std.specs.Prelude.{◌≡◌, ◌||◌, ◌==◌, ℕ, IfOk, OnOk};
 ghost use Rattle.std.specs.List.{list_any};
-ghost use Rattle.lineage.specs.Lineage.{is_among};
+ghost use Rattle.plain_data.specs.Numbers.{is_among};
 ghost use Rattle.rp_population.specs.Populations as spec;
 ghost use Rattle.rp_population.specs.Found as found;
 

@@ -1,5 +1,5 @@
 use Rattle.std.proofs.Common.{◌≡◌, ◌++◌, map, drop}
-use Rattle.lineage.specs.Numbered.{numbered_from}
+use Rattle.plain_data.specs.Numbers.{numbered_from}
 use Rattle.name_order.specs.Order.{numbered_names}
 use Rattle.name_order.proofs.numbered_rows.Given as goal
 

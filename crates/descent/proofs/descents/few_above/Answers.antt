@@ -1,10 +1,10 @@
 use Rattle.std.proofs.Common.{◌≡◌, ℕ, ◌||◌, ◌==◌, [], false, arith}
 use Rattle.std.proofs.lemmas.List.{nil_from_length}
-use Rattle.lineage.specs.Lineage.{is_among}
+use Rattle.plain_data.specs.Numbers.{is_among}
+use Rattle.plain_data.proofs.Numbers.{is_among-push}
 use Rattle.lineage.proofs.Left.{new_is_less}
 use Rattle.lineage.proofs.Search.{search_new}
 use Rattle.descent.proofs.Members.{inside, more_inside, above_done}
-use Rattle.descent.proofs.Listed.{among_pushed}
 use Rattle.descent.proofs.descents.few_above.Goals as goal
 
 pub loop-next-smaller-in-Continue-branch-3 : goal.loop-next-smaller-in-Continue-branch-3
@@ -13,7 +13,7 @@ loop-next-smaller-in-Continue-branch-3 c =
     let next = c.in-Some.next in
     let new : is_among found next ≡ false = grind arith in
     rw (c.in_ok-extend_from_slice.ensures.items, c.supertypes-then-not-is_listed.ensures, c.in-Some.ensures.items)
-    (new_is_less c.args.graph.now found c.push.new.self.items c.pop.new.self.items next (λ n. rw c.in_ok-push.ensures.items (among_pushed found next n)) new)
+    (new_is_less c.args.graph.now found c.push.new.self.items c.pop.new.self.items next (λ n. rw c.in_ok-push.ensures.items (is_among-push found next n)) new)
 
 pub loop-next-preserved-in-Continue-branch-3 : goal.loop-next-preserved-in-Continue-branch-3
 loop-next-preserved-in-Continue-branch-3 c =
@@ -21,7 +21,7 @@ loop-next-preserved-in-Continue-branch-3 c =
     let found = c.loop-next.found.items in
     let more = c.push.new.self.items in
     let next = c.in-Some.next in
-    let adds : (n : ℕ) → is_among more n ≡ ((next == n) || is_among found n) = λ n. rw c.in_ok-push.ensures.items (among_pushed found next n) in
+    let adds : (n : ℕ) → is_among more n ≡ ((next == n) || is_among found n) = λ n. rw c.in_ok-push.ensures.items (is_among-push found next n) in
     let search = search_new graph c.args.member (inside graph c.args.member) found more c.pop.new.self.items next adds (rw c.in-Some.ensures.items at c.loop-next.invariant.search) in
     record {
       search = rw (c.in_ok-extend_from_slice.ensures.items, c.supertypes-then-not-is_listed.ensures) search;

@@ -1,5 +1,5 @@
 use Rattle.std.proofs.Common.{◌≡◌, ℕ, ◌+◌, true, length}
-use Rattle.lineage.specs.Lineage.{is_among}
+use Rattle.plain_data.specs.Numbers.{is_among}
 use Rattle.lineage.proofs.Left.{left}
 use Rattle.lineage.proofs.Search.{Search}
 use Rattle.descent.proofs.Members.{inside}

@@ -1,10 +1,11 @@
 use Rattle.std.proofs.Common.{◌≡◌, [], ◌∷◌, ◌++◌, Some, arith, sym, ◌∙◌, ap}
 use Rattle.std.proofs.lemmas.List.{nil_from_length}
+use Rattle.plain_data.proofs.Numbers.{is_among-push}
 use Rattle.lineage.specs.declared.steps.Step.TheVariants.{Enter, Place}
 use Rattle.std.specs.Option.{option_map}
 use Rattle.lineage.specs.Lineage as spec
 use Rattle.lineage.proofs.Lines.{line_of, line_is}
-use Rattle.lineage.proofs.Placing.{with_known, with_last}
+use Rattle.lineage.proofs.Placing.{with_known}
 use Rattle.lineage.proofs.Walk.{walk_start, enter_known, enter_new, place_known, place_new, walk_done, enter_less, pass_less, place_less}
 use Rattle.lineage.proofs.order.line.Goals as goal
 
@@ -50,7 +51,7 @@ loop-step-preserved-in-Continue-branch-4 c =
     let next = c.in-Place.next in
     let was : c.loop-step.steps.items ≡ rest ++ Place next ∷ [] = c.in-Some.ensures.items ∙ ap (λ s. rest ++ s ∷ []) c.in-Place.is in
     rw c.in_ok-push-in-Place.ensures
-    (place_new c.args.graph.now c.requires c.args.member order order rest next (order ++ next ∷ []) (with_last order next) (rw was at c.loop-step.invariant)
+    (place_new c.args.graph.now c.requires c.args.member order order rest next (order ++ next ∷ []) (is_among-push order next) (rw was at c.loop-step.invariant)
     (sym c.has-in-Place.ensures ∙ c.if-not-has-2.true))
 
 pub loop-step-smaller : goal.loop-step-smaller

@@ -1,5 +1,5 @@
 use Rattle.std.proofs.Common.{◌∙◌, ap}
-use Rattle.lineage.specs.Lineage.{is_among}
+use Rattle.plain_data.specs.Numbers.{is_among}
 use Rattle.ex_subtypes.proofs.Numbers.{found_is}
 use Rattle.ex_subtypes.proofs.type_set.TypeSet.has.Goals as goal
 
