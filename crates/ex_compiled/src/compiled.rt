@@ -8,7 +8,7 @@ ghost use Rattle.text_forms.specs.Gives.{Gives};
 ghost use Rattle.ex_subtypes.specs.Legal as legal;
 ghost use Rattle.ex_compiled.specs.Compiling as spec;
 
-use ex_subtypes::{Constraints, Illegal, SubtypeFault, TypeSet};
+use ex_subtypes::{Constraints, Illegal, SubtypeFault, EntitySet};
 use ex_types::CheckedSchema;
 use std::alloc::{AllocError, Global};
 use std::marker::Model;
@@ -70,7 +70,7 @@ impl Compiled {
     ///
     /// Its time is near-linear in the set, its members' supertypes, and the nodes of their expressions at which members
     /// stand, with those above them.
-    pub fn legal(&self, alloc: Global, set: &TypeSet) -> Result<Option<Illegal>, AllocError>
+    pub fn legal(&self, alloc: Global, set: &EntitySet) -> Result<Option<Illegal>, AllocError>
         ensures { IfOk result (λ found. found ≡ legal.refusal self.now.named.schema.entities set.now) }
     {
         self.constraints.legal(alloc, self.schema.entities(), set)
@@ -83,7 +83,7 @@ impl Compiled {
         requires { line_of self.now.named.supertypes entity ≡ Some line.now }
         ensures { IsTrue result → (set : List ℕ) → IsStrictlyIncreasing set → ((n : ℕ) → is_among set n ≡ is_among line.now n) → legal.refusal self.now.named.schema.entities set ≡ None }
     {
-        self.schema.named().proved();
+        self.schema.resolved().proved();
         self.constraints
             .is_unconstrained(self.schema.entities(), entity, line)
     }

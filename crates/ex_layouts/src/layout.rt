@@ -13,7 +13,7 @@ ghost use Rattle.ex_layouts.specs.Layouts as spec;
 use crate::loaded::LoadedSchema;
 use crate::read_slot::{ReadSlot, all_read, read_slots};
 use ex_slots::{Slot, slots, slots_of_each};
-use ex_subtypes::TypeSet;
+use ex_subtypes::EntitySet;
 use plain_data::{Items, Rows};
 use rp_content::Types;
 use std::alloc::{AllocError, Global};
@@ -155,7 +155,7 @@ fn is_leaf(
     ensures { IfOk result (λ found. found ≡ list_all (is_among (line_of schema.now entity)) numbers.now) }
 {
     let line = schema.line_of(alloc, entity)?;
-    let line = TypeSet::of(alloc, line.as_slice())?;
+    let line = EntitySet::of(alloc, line.as_slice())?;
     Ok(numbers.iter().all(|number| line.has(*number)))
 }
 

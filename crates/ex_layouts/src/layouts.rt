@@ -159,7 +159,7 @@ impl<'s> Layouts<'s> {
     }
 
     /// The schema that they are of.
-    pub fn schema(&self) -> &'s LoadedSchema<'s>
+    pub fn loaded(&self) -> &'s LoadedSchema<'s>
         ensures { result.now ≡ self.now }
     {
         self.schema

@@ -73,7 +73,8 @@ impl Named {
         let _ = &self.schema;
     }
 
-    pub fn schema(&self) -> &NamedSchema
+    /// The schema alone, without the graph of its supertypes.
+    pub fn named(&self) -> &NamedSchema
         ensures { result.now ≡ self.now.schema }
     {
         &self.schema

@@ -42,13 +42,13 @@ pub told_of_both : (xs ys : List AttributePlace) (e p : ℕ) → spec.is_derived
 told_of_both xs ys e p = list_any-append (spec.is_explicit_at e p) xs ys
 
 -- slots by a set of pairs are those by the places that it has
-pub given_again : (entities : List NamedEntity) (types : List ℕ) (pairs : List (ℕ × ℕ)) (places : List AttributePlace) → spec.AreExplicit pairs places
-    → flat_map (spec.slots_of entities (spec.has pairs)) types ≡ flat_map (spec.slots_of entities (spec.is_derived places)) types
-given_again entities types pairs places same = λ i. flat_map (spec.slots_of entities (λ e p. same e p i)) types
+pub given_again : (entities : List NamedEntity) (numbers : List ℕ) (pairs : List (ℕ × ℕ)) (places : List AttributePlace) → spec.AreExplicit pairs places
+    → flat_map (spec.slots_of entities (spec.has pairs)) numbers ≡ flat_map (spec.slots_of entities (spec.is_derived places)) numbers
+given_again entities numbers pairs places same = λ i. flat_map (spec.slots_of entities (λ e p. same e p i)) numbers
 
-pub each_again : (entities : List NamedEntity) (types : List ℕ) (pairs : List (ℕ × ℕ)) (places : List AttributePlace) → spec.AreExplicit pairs places
-    → map (spec.slots_of entities (spec.has pairs)) types ≡ map (spec.slots_of entities (spec.is_derived places)) types
-each_again entities types pairs places same = λ i. map (spec.slots_of entities (λ e p. same e p i)) types
+pub each_again : (entities : List NamedEntity) (numbers : List ℕ) (pairs : List (ℕ × ℕ)) (places : List AttributePlace) → spec.AreExplicit pairs places
+    → map (spec.slots_of entities (spec.has pairs)) numbers ≡ map (spec.slots_of entities (spec.is_derived places)) numbers
+each_again entities numbers pairs places same = λ i. map (spec.slots_of entities (λ e p. same e p i)) numbers
 
 and_so : (a b : Bool) → (a && b) ≡ (a && true && b)
 and_so true b = refl

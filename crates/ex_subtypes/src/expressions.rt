@@ -12,7 +12,7 @@ ghost use Rattle.ex_subtypes.specs.Nodes.{all_kept};
 use crate::build::{SubtypeFault, first_fault};
 use crate::constraints::{Constraint, all_constraints, are_free};
 use crate::legal::{Illegal, is_abstract, refusal};
-use crate::type_set::TypeSet;
+use crate::entity_set::EntitySet;
 use ex_named::NamedEntity;
 use std::alloc::{AllocError, Global};
 use std::marker::Model;
@@ -65,7 +65,7 @@ impl Constraints {
         &self,
         alloc: Global,
         entities: &[NamedEntity],
-        set: &TypeSet,
+        set: &EntitySet,
     ) -> Result<Option<Illegal>, AllocError>
         requires readable { spec.AreReadable entities.now }
         requires kept { self.now ≡ all_kept entities.now }

@@ -8,7 +8,7 @@ ghost use Rattle.ex_subtypes.specs.Edges as edges;
 ghost use Rattle.ex_subtypes.specs.Legal as spec;
 
 use crate::family::supertypes_of;
-use crate::type_set::TypeSet;
+use crate::entity_set::EntitySet;
 use ex_named::NamedEntity;
 use lineage::{all_above, is_in, subtypes, supertypes};
 use plain_data::Rows;
@@ -16,7 +16,7 @@ use std::alloc::{AllocError, Global};
 use std::collections::BTreeSet;
 
 /// Whether all supertypes of the members are there.
-pub fn is_closed(entities: &[NamedEntity], set: &TypeSet) -> bool
+pub fn is_closed(entities: &[NamedEntity], set: &EntitySet) -> bool
     ensures { result ≡ spec.is_closed (spec.graph entities.now) set.now }
 {
     for member in set.as_slice() {
@@ -27,14 +27,14 @@ pub fn is_closed(entities: &[NamedEntity], set: &TypeSet) -> bool
     true
 }
 
-fn all_there(set: &TypeSet, numbers: &[usize]) -> bool
+fn all_there(set: &EntitySet, numbers: &[usize]) -> bool
     ensures { result ≡ list_all (is_among set.now) numbers.now }
 {
     numbers.iter().all(|number| set.has(*number))
 }
 
 /// The places of those of the numbers that are there.
-fn places_of(alloc: Global, set: &TypeSet, numbers: &[usize]) -> Result<Rows<usize>, AllocError>
+fn places_of(alloc: Global, set: &EntitySet, numbers: &[usize]) -> Result<Rows<usize>, AllocError>
     ensures { IfOk result (λ places. (n : ℕ) → is_among places n ≡ edges.one_stands_at set.now numbers.now n) }
 {
     let mut places = Vec::new(alloc);
@@ -50,7 +50,7 @@ fn places_of(alloc: Global, set: &TypeSet, numbers: &[usize]) -> Result<Rows<usi
 fn steps_up(
     alloc: Global,
     entities: &[NamedEntity],
-    set: &TypeSet,
+    set: &EntitySet,
 ) -> Result<Vec<Rows<usize>>, AllocError>
     ensures length { IfOk result (λ up. length up.items ≡ length set.now) }
     ensures up { IfOk result (λ up. (e n : ℕ) → is_among (lineage.supertypes up.items e) n ≡ edges.goes_up (spec.graph entities.now) set.now e n) }
@@ -110,7 +110,7 @@ fn are_reached(reached: &BTreeSet<usize>, count: usize) -> bool
 pub fn connected_below(
     alloc: Global,
     entities: &[NamedEntity],
-    set: &TypeSet,
+    set: &EntitySet,
 ) -> Result<Option<Vec<Rows<usize>>>, AllocError>
     ensures connected { IfOk result (λ below. is_some below ≡ spec.is_connected (spec.graph entities.now) set.now) }
     ensures below { IfOk result (λ below. IfSome below (λ rows. edges.AreBelow (spec.graph entities.now) set.now rows.items)) }

@@ -57,7 +57,7 @@ fn by_new_leaf<N: DefinedNames>(
     ensures layouts { layouts.new ≡ layouts.old }
     ensures made { Gives (λ x. x) result (spec.by_layout layouts.old (N.is_defined names.now) name (part.now ∷ []) (internal layouts.old entity)) }
 {
-    let schema = layouts.schema();
+    let schema = layouts.loaded();
     let Some(layout) = legal_leaf(alloc, schema, entity)? else {
         return Err(Failure::Fault(InstanceFaultKind::IllegalCombination));
     };
@@ -80,7 +80,7 @@ fn by_entity<N: DefinedNames>(
         return Err(Failure::Fault(InstanceFaultKind::UnknownEntity));
     };
     match layouts.leaf(entity) {
-        Some(layout) => by_leaf(alloc, layouts.schema(), names, name, part, entity, layout),
+        Some(layout) => by_leaf(alloc, layouts.loaded(), names, name, part, entity, layout),
         None => by_new_leaf(alloc, layouts, names, name, part, entity),
     }
 }

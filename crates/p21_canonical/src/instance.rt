@@ -120,7 +120,7 @@ fn write_mapping(
     ensures layouts { layouts.new ≡ layouts.old }
     ensures text { OnOk result (out.new ≡ out.old ++ spelled.mapping_text (spec.mapping layouts.old types.now values.now)) }
 {
-    let schema = layouts.schema();
+    let schema = layouts.loaded();
     if let Some(layout) = layouts.known(types) {
         return write_laid_out(out, schema.checked(), types, layout, values);
     }

@@ -31,7 +31,7 @@ fn accepted(schema: &LoadedSchema<'_>)
     ensures { IsAccepted schema.now.named }
 {
     accepted_schema();
-    schema.checked().named().proved();
+    schema.checked().resolved().proved();
 }
 
 /// And so are all of these.

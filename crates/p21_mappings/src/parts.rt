@@ -242,7 +242,7 @@ fn by_new_layout<N: DefinedNames>(
     ensures same { layouts.new ≡ layouts.old }
     ensures made { Gives (λ x. x) result (spec.by_layout layouts.old (N.is_defined names.now) name parts.now (external layouts.old entities.now)) }
 {
-    let schema = layouts.schema();
+    let schema = layouts.loaded();
     let Some(layout) = legal_several(alloc, schema, entities)? else {
         return Err(Failure::Fault(InstanceFaultKind::IllegalCombination));
     };
@@ -266,7 +266,7 @@ fn by_entities<N: DefinedNames>(
         return Err(Failure::Fault(InstanceFaultKind::UnknownEntity));
     };
     match layouts.several(&entities) {
-        Some(layout) => by_layout(alloc, layouts.schema(), names, name, parts, layout),
+        Some(layout) => by_layout(alloc, layouts.loaded(), names, name, parts, layout),
         None => by_new_layout(alloc, layouts, names, name, parts, &entities),
     }
 }

@@ -145,7 +145,7 @@ pub fn push_in_attribute(
     if let Some(layout) = layouts.known(&instance.types) {
         return push_by_layout(alloc, found, user, attribute, layout, values);
     }
-    let layout = layout_of(alloc, layouts.schema(), &instance.types)?;
+    let layout = layout_of(alloc, layouts.loaded(), &instance.types)?;
     push_by_layout(alloc, found, user, attribute, &layout, values)?;
     layouts.keep(&instance.types, layout)
 }

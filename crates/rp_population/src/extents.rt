@@ -71,7 +71,7 @@ impl<'s> Extent<'s> {
         if let Some(layout) = self.layouts.known(types) {
             return Ok(is_sought(self.entity, layout.entities.as_slice()));
         }
-        let layout = layout_of(alloc, self.layouts.schema(), types)?;
+        let layout = layout_of(alloc, self.layouts.loaded(), types)?;
         let is_of = is_sought(self.entity, layout.entities.as_slice());
         self.layouts.keep(types, layout)?;
         Ok(is_of)

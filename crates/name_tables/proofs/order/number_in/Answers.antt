@@ -1,7 +1,7 @@
 use Rattle.std.proofs.Common.{arith, ◌≡◌, true, false, rules, sym, ◌∙◌, ap, if◌then◌else◌, Some, None}
 use Rattle.std.specs.Str.{bytes_eq}
-use Rattle.name_order.proofs.Ranks.{told_some, told_none}
-use Rattle.name_order.proofs.number_in.Goals as goal
+use Rattle.name_tables.proofs.Ranks.{told_some, told_none}
+use Rattle.name_tables.proofs.order.number_in.Goals as goal
 
 pub returns-in-Some : goal.returns-in-Some
 returns-in-Some c =

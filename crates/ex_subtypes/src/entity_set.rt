@@ -11,11 +11,11 @@ use std::marker::Model;
 
 /// The numbers of entities, strictly ascending.
 #[derive(Drop)]
-pub struct TypeSet {
+pub struct EntitySet {
     numbers: Vec<usize>,
 }
 
-impl Model for TypeSet {
+impl Model for EntitySet {
     ghost use Rattle.std.specs.Prelude.{List, ℕ};
     ghost use Rattle.std.specs.List.Sorted.{IsStrictlyIncreasing};
 
@@ -26,15 +26,15 @@ impl Model for TypeSet {
     ghost invariant = { λ set. IsStrictlyIncreasing set.numbers.items };
 }
 
-impl TypeSet {
+impl EntitySet {
     /// The entities of these numbers, in any order; a number may stand there twice.
-    pub fn of(alloc: Global, numbers: &[usize]) -> Result<TypeSet, AllocError>
+    pub fn of(alloc: Global, numbers: &[usize]) -> Result<EntitySet, AllocError>
         ensures ascending { IfOk result (λ set. IsStrictlyIncreasing set) }
         ensures same { IfOk result (λ set. (n : ℕ) → is_among set n ≡ is_among numbers.now n) }
     {
         let set = set_of(alloc, numbers)?;
         let numbers = ascending(alloc, set)?;
-        Ok(TypeSet { numbers })
+        Ok(EntitySet { numbers })
     }
 
     /// Their numbers, in ascending order.

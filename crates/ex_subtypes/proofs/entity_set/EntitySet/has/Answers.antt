@@ -1,7 +1,7 @@
 use Rattle.std.proofs.Common.{◌∙◌, ap}
 use Rattle.plain_data.specs.Numbers.{is_among}
 use Rattle.ex_subtypes.proofs.Numbers.{found_is}
-use Rattle.ex_subtypes.proofs.type_set.TypeSet.has.Goals as goal
+use Rattle.ex_subtypes.proofs.entity_set.EntitySet.has.Goals as goal
 
 pub returns : goal.returns
 returns c =

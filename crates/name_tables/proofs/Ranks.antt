@@ -18,7 +18,7 @@ use Rattle.std.proofs.lemmas.List.Sorted.{searchable_from_sorted, IsPartitionedB
 use Rattle.std.proofs.lemmas.Map.Text.{is_eq-slice_cmp}
 use Rattle.plain_data.specs.Numbers.{numbered_from}
 use Rattle.name_tables.specs.Names.{place_of}
-use Rattle.name_order.specs.Order.{by_bytes, Rows, IsAscending, is_before, rows_before, rank, number_of}
+use Rattle.name_tables.specs.Order.{by_bytes, Rows, IsAscending, is_before, rows_before, rank, number_of}
 
 pub name_order : IsTotalOrder by_bytes
 name_order = on_texts (λ n. n)

@@ -1,10 +1,9 @@
 //! Names in the order of their bytes.
-#![tactic(auto)]
 
 ghost use Rattle.std.specs.Prelude.{◌≡◌, ◌≤◌, ℕ, true, false, map, length, IfOk};
 ghost use Rattle.std.specs.List.Sorted.{IsPartitionPoint};
 ghost use Rattle.plain_data.specs.Numbers.{numbered};
-ghost use Rattle.name_order.specs.Order as spec;
+ghost use Rattle.name_tables.specs.Order as spec;
 
 use plain_data::Text;
 use std::alloc::{AllocError, Global};
@@ -18,7 +17,7 @@ pub struct NameOrder {
 
 impl Model for NameOrder {
     ghost use Rattle.std.specs.Prelude.{List, ℕ};
-    ghost use Rattle.name_order.specs.Order as spec;
+    ghost use Rattle.name_tables.specs.Order as spec;
 
     ghost Value = { List (List ℕ × ℕ) };
 

@@ -1,7 +1,7 @@
 use Rattle.std.proofs.Common.{◌∙◌, ap}
 use Rattle.ex_subtypes.specs.Edges.{stands_at}
 use Rattle.ex_subtypes.proofs.Numbers.{place_is}
-use Rattle.ex_subtypes.proofs.type_set.TypeSet.place.Goals as goal
+use Rattle.ex_subtypes.proofs.entity_set.EntitySet.place.Goals as goal
 
 pub returns : goal.returns
 returns c = λ place.

@@ -1,7 +1,7 @@
 use Rattle.std.proofs.Common.{◌≡◌, ◌++◌, map, drop}
 use Rattle.plain_data.specs.Numbers.{numbered_from}
-use Rattle.name_order.specs.Order.{numbered_names}
-use Rattle.name_order.proofs.numbered_rows.Given as goal
+use Rattle.name_tables.specs.Order.{numbered_names}
+use Rattle.name_tables.proofs.order.numbered_rows.Given as goal
 
 abbrev pub invariant-loop-number : goal.invariant-loop-number
 invariant-loop-number l =

@@ -1,7 +1,7 @@
 use Rattle.std.proofs.Common.{rules, map, subst}
 use Rattle.std.specs.List.Sorted.{IsPermutation, IsStableBy}
-use Rattle.name_order.proofs.Ranks.{comes_before, first_of_sorted, ranked_in, sorted_by, stable_by}
-use Rattle.name_order.proofs.NameOrder.of.Goals as goal
+use Rattle.name_tables.proofs.Ranks.{comes_before, first_of_sorted, ranked_in, sorted_by, stable_by}
+use Rattle.name_tables.proofs.order.NameOrder.of.Goals as goal
 
 pub invariant_of-result : goal.invariant_of-result
 invariant_of-result c = sorted_by c.sort_by.new.self.items c.in_ok-sort_by.ensures.sorted (λ a r f called. search rules)
