@@ -2,7 +2,7 @@
 
 ghost use Rattle.std.specs.Prelude.{◌≡◌, IfOk, map};
 ghost use Rattle.std.specs.List.Sorted.{IsStrictlyIncreasing};
-ghost use Rattle.text_forms.specs.Gives.{Gives};
+ghost use Rattle.plain_data.specs.Gives.{Gives};
 ghost use Rattle.ex_lex.specs.Spelling.{Rise};
 ghost use Rattle.ex_check.specs.Check as spec;
 
@@ -13,8 +13,8 @@ use ex_resolve::{Named, resolve};
 use ex_syntax::parse;
 use ex_tree::Schema as Tree;
 use ex_types::{CheckedSchema, check};
+use plain_data::Failure;
 use std::alloc::Global;
-use text_forms::Failure;
 
 /// The tree that a text spells; else the first fault of its tokens, or else of its syntax.
 #[tactic(auto, unfolding(crate::specs::Check::syntax), using(crate::proofs::Warnings::strings_rise))]

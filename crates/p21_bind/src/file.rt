@@ -4,7 +4,7 @@ ghost use Rattle.std.specs.Prelude.{◌≡◌, ◌++◌, ◌∷◌, ◌==◌, �
 ghost use Rattle.std.specs.List.Sorted.{IsPermutation};
 ghost use Rattle.p21_instances.specs.Instances.{is_among};
 ghost use Rattle.p21_instances.specs.Instances as order;
-ghost use Rattle.text_forms.specs.Gives.{Gives};
+ghost use Rattle.plain_data.specs.Gives.{Gives};
 ghost use Rattle.p21_bind.specs.Files as spec;
 ghost use Rattle.p21_mappings.specs.Instances as instances;
 
@@ -12,11 +12,10 @@ use crate::mapped::instance;
 use ex_layouts::{Layouts, LoadedSchema};
 use p21_mappings::{Defined, DefinedNames, Names, header_of, in_name_order};
 use p21_tree::{Header, Instance as Spelled, InstanceFault, Raw};
-use plain_data::{Items, Rows};
+use plain_data::{Failure, Items, Rows};
 use rp_content::{Content, Instance};
 use std::alloc::{AllocError, Global};
 use std::collections::BTreeSet;
-use text_forms::Failure;
 
 /// One instance, whose name stood before or not, or the first that holds of what is wrong with it.
 pub fn one<N: DefinedNames>(

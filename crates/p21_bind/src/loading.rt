@@ -9,9 +9,9 @@ use ex_layouts::{Layouts, LoadedSchema};
 use p21_mappings::{AnyName, put_references_of, whole};
 use p21_read::{Visitor, is_of_schema, read_visited};
 use p21_tree::{Header, Instance as Spelled};
+use plain_data::Failure;
 use rp_content::{Content, Instance};
 use std::alloc::{AllocError, Global};
-use text_forms::Failure;
 
 /// What the instances of a file are that were read so far, as if each name that they refer to were defined.
 pub struct Loading<'s> {

@@ -7,9 +7,10 @@ use Rattle.std.specs.List.{list_all, list_any}
 use Rattle.std.proofs.lemmas.Str.{encode_ascii}
 use Rattle.std.specs.Str.{IsAscii}
 use lib.Utf8.{scalar}
-use Rattle.text_forms.specs.declared.Failure.{Failure}
-use Rattle.text_forms.specs.declared.Failure.TheVariants.{NoMemory, Fault}
-use Rattle.text_forms.specs.Gives.{Fails, Reads}
+use Rattle.plain_data.specs.declared.failure.Failure.{Failure}
+use Rattle.plain_data.specs.declared.failure.Failure.TheVariants.{NoMemory, Fault}
+use Rattle.plain_data.specs.Gives.{Fails}
+use Rattle.text_forms.specs.Reads.{Reads}
 use Rattle.p21_escapes.specs.declared.fault.StringFault.{StringFault}
 use Rattle.p21_escapes.specs.Decoding.{Spelled, appended, ◌>>=◌, coded, front, is_bare, spelled_from, spelled, is_line_end, text_of, decoded, fault_of, fault}
 use Rattle.p21_escapes.specs.Forms.{checked}

@@ -1,9 +1,9 @@
 -- One spelled after the other, behind a text.
 use Rattle.std.proofs.Common.{◌≡◌, ℕ, List, [], ◌∷◌, ◌++◌, Ok, Err, refl, sym, ◌∙◌, ap, append_assoc, append-nil, Option, Some, None, true, false, zero, suc, ◌+◌, ◌*◌, ◌≤◌, Bool, ◌&&◌, length, take, drop, if◌then◌else◌, slice_index, arith}
 use Rattle.std.specs.Option.{option_map}
-use Rattle.text_forms.specs.declared.Failure.{Failure}
-use Rattle.text_forms.specs.declared.Failure.TheVariants.{NoMemory, Fault}
-use Rattle.text_forms.specs.Gives.{Fails}
+use Rattle.plain_data.specs.declared.failure.Failure.{Failure}
+use Rattle.plain_data.specs.declared.failure.Failure.TheVariants.{NoMemory, Fault}
+use Rattle.plain_data.specs.Gives.{Fails}
 use Rattle.p21_escapes.specs.declared.fault.StringFault.{StringFault}
 use Rattle.p21_escapes.specs.Digits.{are_four}
 use Rattle.p21_escapes.specs.Decoding.{Spelled, appended, ◌>>=◌, is_end, groups, unit, ended, nothing, character, short, long}

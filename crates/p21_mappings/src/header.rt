@@ -7,11 +7,10 @@ ghost use Rattle.p21_mappings.specs.Contents as spec;
 
 use p21_strings::decode_string;
 use p21_tree::{Header as Spelled, HeaderValue};
-use plain_data::Items;
+use plain_data::{Failure, Items};
 use rp_content::Header;
 use rp_value::{AggregateKind, Value};
 use std::alloc::{AllocError, Global};
-use text_forms::Failure;
 
 /// The characters that the bytes between apostrophes spell.
 fn text(alloc: Global, token: &[u8]) -> Result<Value, AllocError>

@@ -4,7 +4,7 @@ ghost use Rattle.std.specs.Prelude.{◌≡◌, ◌++◌, ℕ, length, map, IfOk,
 ghost use Rattle.std.specs.List.{flat_map, list_all, list_any, zip};
 ghost use Rattle.ex_types.specs.Checked.{Checked};
 ghost use Rattle.p21_instances.specs.Instances.{is_among, references};
-ghost use Rattle.text_forms.specs.Gives.{Gives};
+ghost use Rattle.plain_data.specs.Gives.{Gives};
 ghost use Rattle.p21_mappings.specs.Instances as spec;
 ghost use Rattle.p21_mappings.specs.ReadSlots as read_spec;
 
@@ -12,10 +12,9 @@ use crate::names::DefinedNames;
 use ex_layouts::{LoadedSchema, ReadSlot};
 use p21_tree::{InstanceFaultKind, Value as Spelled};
 use p21_values::bound_by;
-use plain_data::Items;
+use plain_data::{Failure, Items};
 use rp_value::Value;
 use std::alloc::{AllocError, Global};
-use text_forms::Failure;
 
 /// What is read, or what is wrong with it.
 pub type Reading<T> = Result<T, Failure<InstanceFaultKind>>;

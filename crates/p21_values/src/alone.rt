@@ -20,10 +20,9 @@ use ex_tree::SimpleType;
 use name_tables::First;
 use p21_strings::decode_string;
 use p21_tree::Value as Spelled;
-use plain_data::Text;
+use plain_data::{Failure, Text};
 use rp_value::{Decimal, Value};
 use std::alloc::{AllocError, Global};
-use text_forms::Failure;
 
 /// A value that a type takes; nothing where it takes none.
 pub type Taken = Result<Option<Value>, AllocError>;

@@ -1,0 +1,29 @@
+//! Why nothing was made: memory ran out, or there is a fault in what it was to be made of.
+
+ghost use Rattle.std.specs.Prelude.{◌≡◌};
+ghost use Rattle.plain_data.specs.declared.failure.Failure.TheVariants.{NoMemory};
+
+use std::alloc::{AllocError, AllocFailed};
+
+/// Why nothing was made.
+#[derive(Clone, Copy, PartialEq, Eq)]
+pub enum Failure<F> {
+    NoMemory,
+    Fault(F),
+}
+
+impl<F> From<AllocError> for Failure<F> {
+    ghost from_gives = { λ _ e. e ≡ NoMemory };
+
+    fn from(_e: AllocError) -> Failure<F> {
+        Failure::NoMemory
+    }
+}
+
+impl<F, T: Drop> From<AllocFailed<T>> for Failure<F> {
+    ghost from_gives = { λ _ e. e ≡ NoMemory };
+
+    fn from(_e: AllocFailed<T>) -> Failure<F> {
+        Failure::NoMemory
+    }
+}
