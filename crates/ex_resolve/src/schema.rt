@@ -196,7 +196,6 @@ fn made(
             rules,
             strings,
         }),
-        Err(Failure::NoMemory) => Err(Failure::NoMemory),
-        Err(Failure::Fault(fault)) => Err(Failure::Fault(fault)),
+        Err(failure) => Err(failure),
     }
 }

@@ -9,7 +9,7 @@ ghost use Rattle.p21_mappings.specs.Layouts.{internal};
 
 use ex_layouts::{Layout, Layouts, LoadedSchema, legal_leaf};
 use p21_mappings::{DefinedNames, Reading, by_parts, entity_named, values_of_leaf};
-use p21_tree::{Instance as Spelled, InstanceFaultKind, Mapping, Record};
+use p21_tree::{Instance as SpelledInstance, InstanceFaultKind, Mapping, Record};
 use plain_data::Failure;
 use rp_content::{Instance, Types};
 use std::alloc::Global;
@@ -92,7 +92,7 @@ pub fn instance<N: DefinedNames>(
     layouts: &mut Layouts<'_>,
     names: &N,
     stood: bool,
-    spelled: &Spelled<'_>,
+    spelled: &SpelledInstance<'_>,
 ) -> Reading<Instance>
     ensures layouts { layouts.new ≡ layouts.old }
     ensures made { Gives (λ x. x) result (spec.instance layouts.old (N.is_defined names.now) stood spelled.now) }

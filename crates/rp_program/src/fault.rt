@@ -33,10 +33,7 @@ impl From<Failure<LoadFault>> for Fault {
     ghost from_gives = { λ failure e. e ≡ Start (load_failure failure) };
 
     fn from(failure: Failure<LoadFault>) -> Fault {
-        match failure {
-            Failure::Fault(fault) => Fault::Start(Failure::Fault(StartFault::Load(fault))),
-            Failure::NoMemory => Fault::Start(Failure::NoMemory),
-        }
+        Fault::Start(failure.map(StartFault::Load))
     }
 }
 

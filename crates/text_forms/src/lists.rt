@@ -6,8 +6,7 @@ ghost use Rattle.text_forms.specs.Forms as forms;
 ghost use Rattle.text_forms.specs.Reads.{Reads, ReadsAs};
 
 use crate::form::{Begins, Form, TokenSource};
-use plain_data::Failure;
-use plain_data::Items;
+use plain_data::{Failure, Items};
 use std::alloc::{AllocError, Global};
 
 /// No item, with room for one: most lists of a text have no more.
