@@ -17,10 +17,9 @@ use ex_named::{Binding, Gathered, NamedRule, both};
 use ex_scopes::{Declarations, Scope};
 use ex_tree::{Name, Rule};
 use name_tables::SortedNames;
-use plain_data::Items;
+use plain_data::{Failure, Items};
 use std::alloc::{AllocError, Global};
 use std::collections::BTreeSet;
-use text_forms::Failure;
 
 /// A rule with its names bound. Its locals and labels are one scope, in which the labels hide nothing.
 #[tactic(auto, unfolding(crate::specs::Algorithms::named_rule))]

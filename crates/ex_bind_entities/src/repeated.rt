@@ -18,8 +18,8 @@ use ex_named::{Binding, Gathered, NameFaultKind, NamedRedeclaration, refused};
 use ex_scopes::Sorts;
 use ex_tree::{AttributeDeclaration, EntityBody, ExplicitAttribute, Name, QualifiedAttribute};
 use name_tables::NameRows;
+use plain_data::Failure;
 use std::alloc::{AllocError, Global};
-use text_forms::Failure;
 
 /// Puts the attribute behind others, if it is declared again.
 fn push_inherited<'a>(

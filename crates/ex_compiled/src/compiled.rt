@@ -4,15 +4,15 @@ ghost use Rattle.std.specs.Prelude.{◌≡◌, ℕ, List, Some, None, IfOk, IsTr
 ghost use Rattle.std.specs.List.Sorted.{IsStrictlyIncreasing};
 ghost use Rattle.plain_data.specs.Numbers.{is_among};
 ghost use Rattle.lineage.specs.Lineage.{line as line_of};
-ghost use Rattle.text_forms.specs.Gives.{Gives};
+ghost use Rattle.plain_data.specs.Gives.{Gives};
 ghost use Rattle.ex_subtypes.specs.Legal as legal;
 ghost use Rattle.ex_compiled.specs.Compiling as spec;
 
 use ex_subtypes::{Constraints, Illegal, SubtypeFault, EntitySet};
 use ex_types::CheckedSchema;
+use plain_data::Failure;
 use std::alloc::{AllocError, Global};
 use std::marker::Model;
-use text_forms::Failure;
 
 /// A checked schema whose supertype expressions can be read.
 #[derive(Drop)]

@@ -14,9 +14,9 @@ ghost use Rattle.ex_declarations.specs.Steps.{told};
 use ex_named::{Binding, NameFault, NameFaultKind};
 use ex_tree::Name;
 use name_tables::{NameTable, hashes_differ};
+use plain_data::Failure;
 use std::alloc::{AllocError, Global};
 use std::cmp::Ordering;
-use text_forms::Failure;
 
 /// Of a fault that was found, if any, and one more the one of lesser offset; the first, where they lie at one.
 fn least(found: Option<NameFault>, next: NameFault) -> NameFault

@@ -13,4 +13,4 @@ pub use cut::tokens;
 pub use ex_tree::{LexFault, LexFaultKind, Token, TokenKind};
 pub use lexed::TokenList;
 pub use strings::character;
-pub use text_forms::Failure;
+pub use plain_data::Failure;

@@ -1,7 +1,7 @@
 //! What governs the turns of a REPEAT.
 
 ghost use Rattle.std.specs.Prelude.{◌≡◌};
-ghost use Rattle.text_forms.specs.Gives.{Reads, Takes, Keeps};
+ghost use Rattle.text_forms.specs.Reads.{Reads, Takes, Keeps};
 ghost use Rattle.ex_tree.specs.declared.kind.TokenKind.TheVariants as k;
 ghost use Rattle.ex_forms.specs.Input.{optional, sees};
 ghost use Rattle.ex_statements.specs.Statements as spec;

@@ -4,7 +4,7 @@ ghost use Rattle.std.specs.Prelude.{◌≡◌, ℕ, List, Some, None, IfOk, IsTr
 ghost use Rattle.std.specs.List.Sorted.{IsStrictlyIncreasing};
 ghost use Rattle.plain_data.specs.Numbers.{is_among};
 ghost use Rattle.lineage.specs.Lineage.{line as line_of};
-ghost use Rattle.text_forms.specs.Gives.{Gives};
+ghost use Rattle.plain_data.specs.Gives.{Gives};
 ghost use Rattle.ex_subtypes.specs.Faults as faults;
 ghost use Rattle.ex_subtypes.specs.Legal as spec;
 ghost use Rattle.ex_subtypes.specs.Nodes.{all_kept};
@@ -14,9 +14,9 @@ use crate::constraints::{Constraint, all_constraints, are_free};
 use crate::legal::{Illegal, is_abstract, refusal};
 use crate::entity_set::EntitySet;
 use ex_named::NamedEntity;
+use plain_data::Failure;
 use std::alloc::{AllocError, Global};
 use std::marker::Model;
-use text_forms::Failure;
 
 /// What is kept of the supertype expressions of a schema's entities.
 #[derive(Drop)]

@@ -3,7 +3,7 @@
 ghost use Rattle.std.specs.Prelude.{◌≡◌, ◌↔◌, ℕ, IfOk, IsTrue, Some, Ok, length, map};
 ghost use Rattle.std.specs.List.Sorted.{IsStrictlyIncreasing};
 ghost use Rattle.plain_data.specs.Numbers.{is_among};
-ghost use Rattle.text_forms.specs.Gives.{Gives};
+ghost use Rattle.plain_data.specs.Gives.{Gives};
 ghost use Rattle.lineage.specs.Lineage as lineage;
 ghost use Rattle.name_tables.specs.Order.{rank};
 ghost use Rattle.name_tables.specs.Names.{place_of};
@@ -20,10 +20,9 @@ use ex_resolve::Named;
 use ex_typing::Known;
 use ex_warnings::warnings;
 use name_tables::NameOrder;
-use plain_data::Rows;
+use plain_data::{Failure, Rows};
 use std::alloc::{AllocError, Global};
 use std::marker::Model;
-use text_forms::Failure;
 
 /// A schema whose types are checked: the one that its named schema is accepted as.
 pub struct CheckedSchema {

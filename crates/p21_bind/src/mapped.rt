@@ -3,16 +3,16 @@
 ghost use Rattle.std.specs.Prelude.{◌≡◌, ◌∷◌, []};
 ghost use Rattle.ex_layouts.specs.Entities.{entity_spelled};
 ghost use Rattle.ex_layouts.specs.Layouts.{of_leaf};
-ghost use Rattle.text_forms.specs.Gives.{Gives};
+ghost use Rattle.plain_data.specs.Gives.{Gives};
 ghost use Rattle.p21_mappings.specs.Instances as spec;
 ghost use Rattle.p21_mappings.specs.Layouts.{internal};
 
 use ex_layouts::{Layout, Layouts, LoadedSchema, legal_leaf};
 use p21_mappings::{DefinedNames, Reading, by_parts, entity_named, values_of_leaf};
-use p21_tree::{Instance as Spelled, InstanceFaultKind, Mapping, Record};
+use p21_tree::{Instance as SpelledInstance, InstanceFaultKind, Mapping, Record};
+use plain_data::Failure;
 use rp_content::{Instance, Types};
 use std::alloc::Global;
-use text_forms::Failure;
 
 /// The instance of this part, which is of an entity and all above it.
 #[tactic(auto, unfolding(p21_mappings::specs::Layouts::internal))]
@@ -92,7 +92,7 @@ pub fn instance<N: DefinedNames>(
     layouts: &mut Layouts<'_>,
     names: &N,
     stood: bool,
-    spelled: &Spelled<'_>,
+    spelled: &SpelledInstance<'_>,
 ) -> Reading<Instance>
     ensures layouts { layouts.new ≡ layouts.old }
     ensures made { Gives (λ x. x) result (spec.instance layouts.old (N.is_defined names.now) stood spelled.now) }

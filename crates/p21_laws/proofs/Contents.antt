@@ -16,7 +16,7 @@ use Rattle.p21_tree.specs.declared.instance.Instance as tree
 use Rattle.p21_tree.specs.declared.instance.Mapping.{Mapping}
 use Rattle.p21_tree.specs.declared.instance.Record.{Record}
 use Rattle.p21_tree.specs.declared.raw.Raw.{Raw}
-use Rattle.p21_tree.specs.declared.value.Value.{Value as Spelled}
+use Rattle.p21_tree.specs.declared.value.Value.{Value as SpelledValue}
 use Rattle.p21_canonical.specs.Trees.{content_tree, header_tree, instance_tree, mapping}
 use Rattle.rp_content.specs.declared.content.Content.{Content}
 use Rattle.rp_content.specs.declared.instance.Instance.{Instance}
@@ -75,7 +75,7 @@ module _ (schema : Checked) (accepted : IsAccepted schema.named) where
       list_all_flat_map is_defined (λ part. flat_map references part.values) (parts m)
       ∙ (λ i. list_all (λ part. list_all_flat_map is_defined references part.values i) (parts m))
 
-  abbrev NoMore : Spelled → Type 0
+  abbrev NoMore : SpelledValue → Type 0
   NoMore x = Unit {0}
 
   nothing_more : (rs : List Record) → AllByRecursion (λ r. AllByRecursion NoMore r.values) rs

@@ -16,7 +16,7 @@ use Rattle.p21_grammar.specs.File.{file_of}
 use Rattle.p21_grammar.specs.Grammar.{max_nesting}
 use Rattle.p21_spelling.proofs.Files.{file_again}
 use Rattle.p21_spelling.proofs.Runs.{both_hold, first_holds, second_holds}
-use Rattle.p21_spelling.proofs.Spelled.{file_is}
+use Rattle.p21_spelling.proofs.WellSpelled.{file_is}
 use Rattle.p21_spelling.proofs.Written.{written_text}
 use Rattle.p21_spelling.specs.Files.{is_file, is_header, is_section}
 use Rattle.p21_spelling.specs.Instances.{are_values, is_instance, is_mapping, is_record}
@@ -30,7 +30,7 @@ use Rattle.p21_tree.specs.declared.instance.Mapping.{Mapping}
 use Rattle.p21_tree.specs.declared.instance.Mapping.TheVariants.{External, Internal}
 use Rattle.p21_tree.specs.declared.instance.Record.{Record}
 use Rattle.p21_tree.specs.declared.raw.Raw.{Raw}
-use Rattle.p21_tree.specs.declared.value.Value.{Value as Spelled}
+use Rattle.p21_tree.specs.declared.value.Value.{Value as SpelledValue}
 use Rattle.p21_canonical.specs.Trees.{canonical, content_tree, entity_name, header_tree, instance_tree, mapping, own_parts, records}
 use Rattle.rp_content.specs.declared.content.Content.{Content}
 use Rattle.rp_content.specs.declared.instance.Instance.{Instance}
@@ -73,7 +73,7 @@ word_utf8 t e = IsUtf8-from_ascii t (word_ascii t e)
 -- ---- values
 
 -- a value that is well spelled and doesn't nest too deep
-abbrev Fits : Spelled → Type 0
+abbrev Fits : SpelledValue → Type 0
 Fits x = ((spelling x).is_spelled ≡ true) × ((spelling x).levels ≤ max_nesting)
 
 is_most : (a n : ℕ) → a ≤ n → nat_le a n ≡ true
@@ -82,14 +82,14 @@ is_most a n less = grind (arith, nat_tests)
 at_most : (a n : ℕ) → nat_le a n ≡ true → a ≤ n
 at_most a n e = grind (arith, nat_tests)
 
-all_fit : (xs : List Spelled) → all_spelled (map spelling xs) ≡ true → deepest (map spelling xs) ≤ max_nesting → AllByRecursion Fits xs
+all_fit : (xs : List SpelledValue) → all_spelled (map spelling xs) ≡ true → deepest (map spelling xs) ≤ max_nesting → AllByRecursion Fits xs
 all_fit [] spelled deep = tt
 all_fit (x ∷ xs) spelled deep = (
   (first_holds (spelling x).is_spelled (all_spelled (map spelling xs)) spelled, omega arith),
   all_fit xs (second_holds (spelling x).is_spelled (all_spelled (map spelling xs)) spelled) (omega arith),
 )
 
-values_fit : (xs : List Spelled) → are_values (map spelling xs) ≡ true → AllByRecursion Fits xs
+values_fit : (xs : List SpelledValue) → are_values (map spelling xs) ≡ true → AllByRecursion Fits xs
 values_fit xs e =
     let spelled : Bool = all_spelled (map spelling xs) in
     let low : Bool = nat_le (deepest (map spelling xs)) max_nesting in
@@ -138,7 +138,7 @@ module _ (schema : Checked) (accepted : IsAccepted schema.named) where
 
   record_fits : (n : ℕ) (ss : List Slot) (ws : List Value) → IsEntity schema n → AllBoth Shows ss ws → is_record (record_by schema n ss ws) ≡ true
   record_fits n ss ws there both =
-      let xs : List Spelled = trees_of schema.named.schema.types ss ws in
+      let xs : List SpelledValue = trees_of schema.named.schema.types ss ws in
       both_hold (is_word (entity_name (entities_of schema) n)) (are_values (map spelling xs)) (entity_word schema accepted n there)
       (both_hold (all_spelled (map spelling xs)) (nat_le (deepest (map spelling xs)) max_nesting) (trees_spelled ss ws both) (is_most (deepest (map spelling xs)) max_nesting (trees_low ss ws both)))
 

@@ -13,7 +13,7 @@ use Rattle.p21_grammar.specs.File.{file_of}
 use Rattle.p21_spelling.proofs.Files.{file_again}
 use Rattle.p21_spelling.proofs.Runs.{both_hold}
 use Rattle.p21_spelling.proofs.Single.{mapping_of_is}
-use Rattle.p21_spelling.proofs.Spelled.{file_is}
+use Rattle.p21_spelling.proofs.WellSpelled.{file_is}
 use Rattle.p21_spelling.specs.Files.{is_file, is_header}
 use Rattle.p21_spelling.specs.Instances.{is_mapping}
 use Rattle.p21_spelling.specs.Tokens.{is_name}

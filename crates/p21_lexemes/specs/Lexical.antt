@@ -4,7 +4,8 @@ use Rattle.std.specs.List.{prefix_len, list_any, list_all}
 use Rattle.std.specs.Char.{is_ascii_digit, is_ascii_hexdigit, is_ascii_alphabetic, is_ascii_alphanumeric}
 use Rattle.std.specs.Str.{str_eq_ignore_ascii_case}
 use Rattle.memchr.specs.Find.{matches, first_of}
-use Rattle.rp_numbers.specs.Spelling.{parse}
+use Rattle.rp_numbers.specs.Spelling.{sign_len, digits_len, exponent_len, parse}
+use Rattle.rp_numbers.specs.Whole.{value}
 use Rattle.p21_escapes.specs.declared.fault.StringFault.{StringFault}
 use Rattle.p21_escapes.specs.declared.fault.StringFault.TheVariants.{BadEscape, PageUnsupported, BadCode, NotUtf8}
 use Rattle.p21_escapes.specs.Decoding as strings
@@ -44,27 +45,6 @@ word z =
 
 abbrev pub is_sign : ℕ → Bool
 is_sign b = b == 43 || b == 45
-
-abbrev pub sign_len : List ℕ → ℕ
-sign_len z = if is_sign (slice_index z 0) then 1 else 0
-
-abbrev pub digits_len : List ℕ → ℕ
-digits_len z = prefix_len is_ascii_digit z
-
--- `E`, a sign and digits, or nothing where no digits are there
-abbrev pub exponent_len : List ℕ → ℕ
-exponent_len z =
-    let sign = sign_len (drop 1 z) in
-    let digits = digits_len (drop (1 + sign) z) in
-    if (slice_index z 0 == 69 || slice_index z 0 == 101) && nat_lt 0 digits then 1 + sign + digits else 0
-
--- the number that the digits write
-abbrev pub value_after : ℕ → List ℕ → ℕ
-value_after n [] = n
-value_after n (b ∷ z) = value_after (10 * n + (b - 48)) z
-
-abbrev pub value : List ℕ → ℕ
-value digits = value_after 0 digits
 
 -- the greatest magnitude of 64 bits under this sign
 abbrev pub greatest : ℕ → ℕ

@@ -7,5 +7,6 @@ mod token;
 mod tokens;
 mod usual;
 
+pub use front::MAX_NAME;
 pub use token::{Token, TokenKind};
 pub use tokens::Tokens;

@@ -15,7 +15,7 @@ use Rattle.p21_tree.specs.declared.fault.InstanceFaultKind.TheVariants.{Twice, U
 use Rattle.p21_tree.specs.declared.instance.Mapping.{Mapping}
 use Rattle.p21_tree.specs.declared.instance.Mapping.TheVariants.{Internal, External}
 use Rattle.p21_tree.specs.declared.instance.Record.{Record}
-use Rattle.p21_tree.specs.declared.value.Value.{Value as Spelled, out-Value}
+use Rattle.p21_tree.specs.declared.value.Value.{Value as SpelledValue, out-Value}
 use Rattle.p21_tree.specs.declared.value.Value.TheFolds.{fold-Value}
 use Rattle.p21_tree.specs.declared.value.Value.TheOpen.{Value-F}
 use Rattle.p21_tree.specs.declared.instance.Instance as tree
@@ -46,16 +46,16 @@ star_layer (Value-F.Typed keyword found) = found
 star_layer _ = false
 
 -- whether a value has one, at any depth
-abbrev pub has_star : Spelled → Bool
+abbrev pub has_star : SpelledValue → Bool
 has_star = fold-Value Bool star_layer
 
-abbrev pub is_open : Value-F Spelled → Bool
+abbrev pub is_open : Value-F SpelledValue → Bool
 is_open Value-F.Unset = true
 is_open Value-F.Derived = true
 is_open _ = false
 
 -- `*` or `$`
-abbrev pub is_left_out : Spelled → Bool
+abbrev pub is_left_out : SpelledValue → Bool
 is_left_out x = is_open (out-Value x)
 
 -- ---- keywords
@@ -102,11 +102,11 @@ abbrev pub counted : {A : Type 0} → Bool → Read A → Read A
 counted fits read = if fits then read else Err WrongCount
 
 -- what is wrong with a value that an attribute doesn't take
-abbrev pub misplaced : Spelled → InstanceFaultKind
+abbrev pub misplaced : SpelledValue → InstanceFaultKind
 misplaced x = if has_star x then NotDerived else WrongKind
 
 -- of an attribute that a type of the instance derives
-abbrev pub derived_value : Spelled → Read Value
+abbrev pub derived_value : SpelledValue → Read Value
 derived_value x = if is_left_out x then Ok v.Indet else Err (misplaced x)
 
 module _ (schema : Checked) (is_defined : ℕ → Bool) where
@@ -115,7 +115,7 @@ module _ (schema : Checked) (is_defined : ℕ → Bool) where
   defined (Some x) all = if all then Ok x else Err Undefined
 
   -- the value of an attribute, or the first that holds of what is wrong with it at any depth
-  abbrev pub value : Slot × Spelled → Read Value
+  abbrev pub value : Slot × SpelledValue → Read Value
   value s =
       if s.0.is_derived then derived_value s.1
       else if has_star s.1 then Err NotDerived

@@ -6,14 +6,14 @@ use Rattle.ex_types.specs.Checked.{Checked}
 use Rattle.p21_instances.specs.Instances.{references}
 use Rattle.p21_tree.specs.declared.fault.InstanceFaultKind.TheVariants.{NotDerived}
 use Rattle.p21_tree.specs.declared.instance.Record.{Record}
-use Rattle.p21_tree.specs.declared.value.Value.{Value as Spelled}
+use Rattle.p21_tree.specs.declared.value.Value.{Value as SpelledValue}
 use Rattle.p21_values.specs.Taking.{meaning, place}
 use Rattle.rp_value.specs.declared.value.Value.{Value}
 use Rattle.p21_mappings.specs.Instances.{Read, defined, derived_value, each, has_star}
 
 module _ (schema : Checked) (is_defined : ℕ → Bool) where
   -- the value of a slot, or the first that holds of what is wrong with it at any depth
-  abbrev pub slot_value : ReadSlot × Spelled → Read Value
+  abbrev pub slot_value : ReadSlot × SpelledValue → Read Value
   slot_value s =
       if s.0.is_derived then derived_value s.1
       else if has_star s.1 then Err NotDerived

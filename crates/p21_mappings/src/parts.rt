@@ -8,7 +8,7 @@ ghost use Rattle.ex_layouts.specs.Entities.{entity_spelled};
 ghost use Rattle.ex_layouts.specs.Layouts.{legal, leaf_slots, read_slot, AreRead};
 ghost use Rattle.name_tables.specs.Names.{place_of};
 ghost use Rattle.p21_tree.specs.declared.fault.InstanceFaultKind.TheVariants.{Twice};
-ghost use Rattle.text_forms.specs.Gives.{Gives};
+ghost use Rattle.plain_data.specs.Gives.{Gives};
 ghost use Rattle.p21_mappings.specs.Layouts.{external};
 ghost use Rattle.p21_mappings.specs.Instances as spec;
 ghost use Rattle.p21_mappings.specs.ReadSlots as read_spec;
@@ -19,11 +19,10 @@ use ex_layouts::{Layout, Layouts, LoadedSchema, ReadSlot, legal_several};
 use ex_slots::Slot;
 use name_tables::NameTable;
 use p21_tree::{InstanceFaultKind, Keyword, Record};
-use plain_data::{Items, Rows, Text};
+use plain_data::{Failure, Items, Rows, Text};
 use rp_content::Instance;
 use rp_value::Value;
 use std::alloc::{AllocError, Global};
-use text_forms::Failure;
 
 /// A keyword in upper case.
 fn in_upper_case(alloc: Global, keyword: &Keyword<'_>) -> Result<Text, AllocError>

@@ -14,7 +14,7 @@ use Rattle.p21_tree.specs.declared.instance.Instance as tree
 use Rattle.p21_tree.specs.declared.instance.Mapping.{Mapping}
 use Rattle.p21_tree.specs.declared.instance.Mapping.TheVariants.{Internal, External}
 use Rattle.p21_tree.specs.declared.instance.Record.{Record}
-use Rattle.p21_tree.specs.declared.value.Value.{Value as Spelled}
+use Rattle.p21_tree.specs.declared.value.Value.{Value as SpelledValue}
 use Rattle.p21_values.specs.Taking.{bound}
 use Rattle.rp_content.specs.declared.instance.Instance.{Instance}
 use Rattle.rp_value.specs.declared.value.Value.{Value}
@@ -45,7 +45,7 @@ module _ (schema : Checked) (is_defined : ℕ → Bool) where
 
   -- ---- values
 
-  left_out_passes : (x : Spelled) (left_out : Bool) (w : Value) → (if left_out then Ok v.Indet else Err (misplaced x)) ≡ Ok w → Passes is_defined w
+  left_out_passes : (x : SpelledValue) (left_out : Bool) (w : Value) → (if left_out then Ok v.Indet else Err (misplaced x)) ≡ Ok w → Passes is_defined w
   left_out_passes x true w e = let same : v.Indet ≡ w = cc in subst (Passes is_defined) same (indet_passes is_defined)
   left_out_passes x false w e = cc
 
@@ -54,7 +54,7 @@ module _ (schema : Checked) (is_defined : ℕ → Bool) where
   defined_passes (Some u) true w passes e = let same : u ≡ w = cc in subst (Passes is_defined) same (passes u refl refl)
   defined_passes (Some u) false w passes e = cc
 
-  value_by : (s : Slot × Spelled) (w : Value) (is_derived star : Bool)
+  value_by : (s : Slot × SpelledValue) (w : Value) (is_derived star : Bool)
       → (if is_derived then derived_value s.1 else if star then Err NotDerived else defined schema is_defined (bound schema.named.schema.types s.0.data_type s.1) (list_all is_defined (spelled.references s.1))) ≡ Ok w
       → Passes is_defined w
   value_by s w true star e = left_out_passes s.1 (is_left_out s.1) w e
@@ -63,7 +63,7 @@ module _ (schema : Checked) (is_defined : ℕ → Bool) where
       let types = schema.named.schema.types in
       defined_passes (bound types s.0.data_type s.1) (list_all is_defined (spelled.references s.1)) w (λ u f all. bound_passes types is_defined s.0.data_type s.1 u f all) e
 
-  value_passes : (s : Slot × Spelled) (w : Value) → value schema is_defined s ≡ Ok w → Passes is_defined w
+  value_passes : (s : Slot × SpelledValue) (w : Value) → value schema is_defined s ≡ Ok w → Passes is_defined w
   value_passes s w e = value_by s w s.0.is_derived (has_star s.1) e
 
   part_passes : (q : List Slot × Record) (ws : List Value) → part schema is_defined q ≡ Ok ws → AllPass ws

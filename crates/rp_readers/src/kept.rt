@@ -12,12 +12,11 @@ use ex_layouts::{Layouts, LoadedSchema};
 use p21_bind::bind_instance;
 use p21_read::Mapping;
 use p21_write::write_instance;
-use plain_data::Text;
+use plain_data::{Failure, Text};
 use rp_content::Instance;
 use rp_plain::messages::Refusal;
 use std::alloc::{AllocError, Global};
 use std::marker::Model;
-use text_forms::Failure;
 
 /// The schemas of a repository, each with what was found in it for some instances. No reply tells what is kept.
 #[derive(Drop)]

@@ -5,6 +5,7 @@ use Rattle.std.specs.List.{list_all, starts_with}
 use Rattle.text_forms.specs.Forms.{Outcome, repeat, many, ◌>>=◌, ◌>>◌, ◌<$>◌, pure}
 use Rattle.p21_lexemes.specs.declared.token.TokenKind.{TokenKind}
 use Rattle.p21_lexemes.specs.declared.token.TokenKind.TheVariants as k
+use Rattle.rp_numbers.specs.Whole as numbers
 use Rattle.p21_lexemes.specs.Lexical.{max_name}
 use Rattle.p21_lexemes.specs.Tokens.{Lexemes, Parser, lexemes, expect, sees, peek, refuse, too_deep, too_many_sections, sees_word, word, finish, file_lexemes}
 use Rattle.p21_lexemes.specs.Tokens as tokens
@@ -56,13 +57,12 @@ unfolding quoted
 binary_gives = gives_map inner (expect k.Binary) (λ t. is_token k.Binary t ≡ true) (λ t. is_bits t ≡ true) (gives_expect k.Binary) (λ t good. good)
 
 -- no number is greater than the greatest name
-number_within : (n : ℕ) (ds : List ℕ) → n ≤ max_name → fold (λ n b. min (10 * n + (b - 48)) max_name) n ds ≤ max_name
-number_within n [] small = small
-number_within n (d ∷ ds) small = number_within (min (10 * n + (d - 48)) max_name) ds (omega arith)
+min_within : (m most : ℕ) → min m most ≤ most
+min_within m most = omega arith
 
 name_gives : Gives name (λ n. is_name n ≡ true)
 unfolding name
-name_gives = gives_map name_of (expect k.Name) Any (λ n. is_name n ≡ true) (takes_any k.Name) (λ t _. at_most (name_of t) max_name (number_within 0 (drop 1 t) (omega arith)))
+name_gives = gives_map name_of (expect k.Name) Any (λ n. is_name n ≡ true) (takes_any k.Name) (λ t _. at_most (name_of t) max_name (min_within (numbers.value (drop 1 t)) max_name))
 
 -- ---- values
 
