@@ -10,8 +10,8 @@ use Rattle.ex_slots.specs.Slots.{Slot, slots, slots_of, is_derived, derived_by}
 use Rattle.ex_types.specs.Checked.{Checked}
 use Rattle.lineage.specs.Lineage.{is_among}
 use Rattle.p21_instances.specs.Instances.{in_order}
-use Rattle.rp_content.specs.declared.instance.Types.{Types}
-use Rattle.rp_content.specs.declared.instance.Types.TheVariants.{Leaf, Several}
+use Rattle.rp_content.specs.declared.instance.Entities.{Entities}
+use Rattle.rp_content.specs.declared.instance.Entities.TheVariants.{Leaf, Several}
 
 -- the layout, if there can be instances of its entities
 abbrev pub legal : Layout → Option Layout
@@ -53,7 +53,7 @@ module _ (schema : Checked) where
   unfoldable pub slots_in : List ℕ → List (List Slot)
   slots_in numbers = map (slots_of (entities schema) (is_derived (flat_map (derived_by (entities schema)) numbers))) numbers
 
-  abbrev pub types_by : List ℕ → Option ℕ → Types
+  abbrev pub types_by : List ℕ → Option ℕ → Entities
   types_by numbers None = Several (in_name_order numbers)
   types_by numbers (Some entity) = Leaf entity
 
@@ -79,6 +79,6 @@ module _ (schema : Checked) where
 
   -- ---- by the entities of an instance
 
-  abbrev pub layout : Types → Layout
+  abbrev pub layout : Entities → Layout
   layout (Leaf entity) = of_leaf entity
   layout (Several all) = of_several all

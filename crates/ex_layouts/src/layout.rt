@@ -15,7 +15,7 @@ use crate::read_slot::{ReadSlot, all_read, read_slots};
 use ex_slots::{Slot, slots, slots_of_each};
 use ex_subtypes::TypeSet;
 use plain_data::{Items, Rows};
-use rp_content::Types;
+use rp_content::Entities;
 use std::alloc::{AllocError, Global};
 use std::collections::BTreeMap;
 
@@ -23,7 +23,7 @@ use std::collections::BTreeMap;
 /// above it, or one of each entity.
 pub struct Layout<'s> {
     /// The entities as an instance keeps them.
-    pub types: Types,
+    pub types: Entities,
     /// The entities, in the order in which the records have their attributes.
     pub entities: Rows<usize>,
     /// The attributes of each record.
@@ -97,7 +97,7 @@ fn of_line<'s>(
     let slots = slots(alloc, schema.entities(), line.as_slice())?;
     let read_slots = read_slots(alloc, schema, &slots)?;
     Ok(Layout {
-        types: Types::Leaf(entity),
+        types: Entities::Leaf(entity),
         entities: line,
         slots: only(alloc, Rows::from_vec(slots))?,
         read_slots: only(alloc, read_slots)?,
@@ -232,7 +232,7 @@ fn arranged(
     alloc: Global,
     schema: &LoadedSchema<'_>,
     numbers: &[usize],
-) -> Result<(Types, Rows<usize>), AllocError>
+) -> Result<(Entities, Rows<usize>), AllocError>
     ensures types { IfOk result (λ found. found.0 ≡ spec.types_by schema.now numbers.now (spec.leaf schema.now numbers.now)) }
     ensures places { IfOk result (λ found. found.1 ≡ map (spec.place_in numbers.now) (spec.order_by schema.now numbers.now (spec.leaf schema.now numbers.now))) }
 {
@@ -240,12 +240,12 @@ fn arranged(
         Some(entity) => {
             let line = schema.line_of(alloc, entity)?;
             let places = places_in(alloc, numbers, line.as_slice())?;
-            Ok((Types::Leaf(entity), places))
+            Ok((Entities::Leaf(entity), places))
         }
         None => {
             let order = in_name_order(alloc, schema, numbers)?;
             let places = places_in(alloc, numbers, order.as_slice())?;
-            Ok((Types::Several(order), places))
+            Ok((Entities::Several(order), places))
         }
     }
 }
@@ -306,17 +306,17 @@ pub fn legal_several<'s>(
 pub fn layout_of<'s>(
     alloc: Global,
     schema: &LoadedSchema<'s>,
-    types: &Types,
+    types: &Entities,
 ) -> Result<Layout<'s>, AllocError>
     ensures { IfOk result (λ layout. layout ≡ spec.layout schema.now types.now) }
 {
     match types {
-        Types::Leaf(entity) => {
+        Entities::Leaf(entity) => {
             let line = schema.line_of(alloc, *entity)?;
             let is_legal = schema.is_legal_line(alloc, *entity, line.as_slice())?;
             of_line(alloc, schema, *entity, line, is_legal)
         }
-        Types::Several(all) => {
+        Entities::Several(all) => {
             let is_legal = schema.is_legal(alloc, all.as_slice())?;
             of_list(alloc, schema, all.as_slice(), is_legal)
         }

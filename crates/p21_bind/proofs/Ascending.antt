@@ -134,16 +134,16 @@ abbrev pub defined_by : List ℕ → Raw → ℕ → Bool
 defined_by linked raw = is_among (spelled.names raw.instances ++ linked)
 
 -- what a file says is made of its instances in the order of the file
-pub record IsOfFile (schema : Checked) (linked : List ℕ) (raw : Raw) (c : Content) : Type 0 where
+pub record IsContentOf (schema : Checked) (linked : List ℕ) (raw : Raw) (c : Content) : Type 0 where
   pub found : List Instance
   pub reads : instances_after schema (defined_by linked raw) (λ n. false) raw.instances ≡ Ok found
   pub are : content raw.header found ≡ c
 
-pub of_file : (schema : Checked) (linked : List ℕ) (raw : Raw) (c : Content) → bound_file schema linked raw ≡ Ok c → IsOfFile schema linked raw c
+pub of_file : (schema : Checked) (linked : List ℕ) (raw : Raw) (c : Content) → bound_file schema linked raw ≡ Ok c → IsContentOf schema linked raw c
 unfolding bound_file instances
 of_file schema linked raw c e = by (instances_after schema (defined_by linked raw) (λ n. false) raw.instances) refl e
   where
-    by : (o : Instances) → instances_after schema (defined_by linked raw) (λ n. false) raw.instances ≡ o → bound_by raw.header o ≡ Ok c → IsOfFile schema linked raw c
+    by : (o : Instances) → instances_after schema (defined_by linked raw) (λ n. false) raw.instances ≡ o → bound_by raw.header o ≡ Ok c → IsContentOf schema linked raw c
     by (Ok found) reads f = let same : content raw.header found ≡ c = cc in record { found = found; reads = reads; are = same }
     by (Err fault) reads f = cc
 

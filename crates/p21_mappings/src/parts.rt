@@ -14,7 +14,7 @@ ghost use Rattle.p21_mappings.specs.Instances as spec;
 ghost use Rattle.p21_mappings.specs.ReadSlots as read_spec;
 
 use crate::names::DefinedNames;
-use crate::value::{Reading, part_values};
+use crate::value::{Mapped, part_values};
 use ex_layouts::{Layout, Layouts, LoadedSchema, ReadSlot, legal_several};
 use ex_slots::Slot;
 use name_tables::NameTable;
@@ -126,7 +126,7 @@ fn all_values<N: DefinedNames>(
     names: &N,
     mut slots: &[Rows<ReadSlot<'_>>],
     mut parts: &[Record<'_>],
-) -> Reading<Rows<Items<Value>>>
+) -> Mapped<Rows<Items<Value>>>
     ensures { Gives (λ lists. lists) result (spec.each (read_spec.record_values schema.now (N.is_defined names.now)) (zip slots.entry.now parts.entry.now)) }
 {
     let mut lists = Rows::new(alloc);
@@ -149,7 +149,7 @@ fn values_by<N: DefinedNames>(
     names: &N,
     layout: &Layout<'_>,
     parts: &[Record<'_>],
-) -> Reading<Rows<Items<Value>>>
+) -> Mapped<Rows<Items<Value>>>
     requires { AreRead schema.now layout.now }
     ensures { Gives (λ lists. lists) result (spec.each (spec.part schema.now (N.is_defined names.now)) (zip layout.now.slots parts.now)) }
 {
@@ -198,11 +198,11 @@ fn made(
 ) -> Result<Instance, AllocError>
     ensures { IfOk result (λ instance. instance ≡ spec.made name layout.now lists.now) }
 {
-    let types = layout.types.copy(alloc)?;
+    let entities = layout.types.copy(alloc)?;
     let values = in_places(alloc, layout.places.as_slice(), lists)?;
     Ok(Instance {
         name,
-        types,
+        entities,
         values,
     })
 }
@@ -215,7 +215,7 @@ fn by_layout<N: DefinedNames>(
     name: u64,
     parts: &[Record<'_>],
     layout: &Layout<'_>,
-) -> Reading<Instance>
+) -> Mapped<Instance>
     requires { AreRead schema.now layout.now }
     ensures { Gives (λ x. x) result (spec.by_layout schema.now (N.is_defined names.now) name parts.now (legal layout.now)) }
 {
@@ -238,7 +238,7 @@ fn by_new_layout<N: DefinedNames>(
     name: u64,
     parts: &[Record<'_>],
     entities: &[usize],
-) -> Reading<Instance>
+) -> Mapped<Instance>
     ensures same { layouts.new ≡ layouts.old }
     ensures made { Gives (λ x. x) result (spec.by_layout layouts.old (N.is_defined names.now) name parts.now (external layouts.old entities.now)) }
 {
@@ -258,7 +258,7 @@ fn by_entities<N: DefinedNames>(
     names: &N,
     name: u64,
     parts: &[Record<'_>],
-) -> Reading<Instance>
+) -> Mapped<Instance>
     ensures same { layouts.new ≡ layouts.old }
     ensures made { Gives (λ x. x) result (spec.by_several layouts.old (N.is_defined names.now) name parts.now) }
 {
@@ -278,7 +278,7 @@ pub fn by_parts<N: DefinedNames>(
     names: &N,
     name: u64,
     parts: &[Record<'_>],
-) -> Reading<Instance>
+) -> Mapped<Instance>
     ensures same { layouts.new ≡ layouts.old }
     ensures made { Gives (λ x. x) result (if spec.repeats [] (spec.keywords parts.now) then Err Twice else spec.by_several layouts.old (N.is_defined names.now) name parts.now) }
 {
@@ -297,7 +297,7 @@ pub fn values_of_leaf<N: DefinedNames>(
     entity: usize,
     slots: &[ReadSlot<'_>],
     part: &Record<'_>,
-) -> Reading<Items<Value>>
+) -> Mapped<Items<Value>>
     requires { slots.now ≡ map (read_slot schema.now) (leaf_slots schema.now entity) }
     ensures { Gives (λ xs. xs) result (spec.part schema.now (N.is_defined names.now) (leaf_slots schema.now entity, part.now)) }
 {
