@@ -13,7 +13,8 @@ use Rattle.p21_instances.proofs.ByName.{below, AreOnce, once-in_order}
 use Rattle.p21_instances.proofs.SortedBy.{Rises, rises_in_order}
 use Rattle.ex_layouts.specs.Entities.{entity_spelled}
 use Rattle.p21_mappings.specs.Contents.{content}
-use Rattle.p21_mappings.specs.Instances.{Read, and_then, all_there, by_entities, by_entity, by_mapping, by_layout, by_several, counted, each, has_twice, instance, made, part, same_counts}
+use Rattle.p21_mappings.specs.Instances.{Read, and_then, by_entities, by_entity, by_mapping, by_layout, by_several, counted, each, has_twice, instance, made, part, same_counts}
+use Rattle.p21_values.specs.Taking.{all_there}
 use Rattle.p21_mappings.specs.Layouts.{external, internal}
 use Rattle.ex_layouts.specs.declared.layout.Layout.{Layout}
 use Rattle.p21_tree.specs.declared.fault.InstanceFault.{InstanceFault}

@@ -8,7 +8,8 @@ use Rattle.ex_slots.specs.Slots.{Slot}
 use Rattle.ex_types.specs.Checked.{Checked}
 use Rattle.lineage.proofs.Certain.{each_passes}
 use Rattle.lineage.specs.Lineage.{is_among}
-use Rattle.p21_mappings.specs.Instances.{all_there, and_then, by_entities, by_entity, by_mapping, by_layout, by_several, counted, each, has_twice, in_places, instance, keywords, made, part, repeats, same_counts}
+use Rattle.p21_mappings.specs.Instances.{and_then, by_entities, by_entity, by_mapping, by_layout, by_several, counted, each, has_twice, in_places, instance, keywords, made, part, repeats, same_counts}
+use Rattle.p21_values.specs.Taking.{all_there}
 use Rattle.ex_layouts.specs.Entities.{entity_spelled}
 use Rattle.ex_layouts.specs.Layouts.{of_leaf, of_several, order_by, place_in, slots_in, types_by}
 use Rattle.p21_mappings.specs.Layouts.{external, internal}

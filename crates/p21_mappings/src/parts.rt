@@ -8,6 +8,7 @@ ghost use Rattle.ex_layouts.specs.Layouts.{legal, leaf_slots, read_slot, AreRead
 ghost use Rattle.name_tables.specs.Names.{place_of};
 ghost use Rattle.p21_instances.specs.Instances.{is_among};
 ghost use Rattle.p21_tree.specs.declared.fault.InstanceFaultKind.TheVariants.{Twice};
+ghost use Rattle.p21_values.specs.Taking.{all_there};
 ghost use Rattle.text_forms.specs.Gives.{Gives};
 ghost use Rattle.p21_mappings.specs.Layouts.{external};
 ghost use Rattle.p21_mappings.specs.Instances as spec;
@@ -59,7 +60,7 @@ fn repeats(alloc: Global, keywords: &[Text]) -> Result<bool, AllocError>
     Ok(false)
 }
 
-/// Whether a type stands twice among the parts of an external mapping.
+/// Whether an entity stands twice among the parts of an external mapping.
 fn has_twice(alloc: Global, parts: &[Record<'_>]) -> Result<bool, AllocError>
     ensures { IfOk result (λ found. found ≡ spec.repeats [] (spec.keywords parts.now)) }
 {
@@ -90,7 +91,7 @@ fn entities_of(
     parts: &[Record<'_>],
 ) -> Result<Option<Vec<usize>>, AllocError>
     ensures same { layouts.new ≡ layouts.old }
-    ensures found { IfOk result (λ found. spec.numbers_in found ≡ spec.all_there (map (λ r. entity_spelled layouts.old r.keyword) parts.now)) }
+    ensures found { IfOk result (λ found. spec.numbers_in found ≡ all_there (map (λ r. entity_spelled layouts.old r.keyword) parts.now)) }
 {
     let mut entities = Vec::with_capacity(alloc, parts.len())?;
     for part in parts {

@@ -102,7 +102,7 @@ fn misplaced(value: &Spelled<'_>) -> InstanceFaultKind
     }
 }
 
-/// What an attribute has that a type of the instance derives.
+/// What an attribute has that an entity of the instance derives.
 fn derived_value(value: &Spelled<'_>) -> Mapped<Value>
     ensures { Gives (λ x. x) result (spec.derived_value value.now) }
 {
