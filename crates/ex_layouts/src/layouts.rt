@@ -226,10 +226,10 @@ impl<'s> Layouts<'s> {
     }
 
     /// What an instance of these entities has values of, if it is kept.
-    pub fn known(&self, types: &Entities) -> Option<&Layout<'s>>
-        ensures { IfSome result (λ layout. layout.now ≡ spec.layout self.now types.now) }
+    pub fn known(&self, entities: &Entities) -> Option<&Layout<'s>>
+        ensures { IfSome result (λ layout. layout.now ≡ spec.layout self.now entities.now) }
     {
-        match types {
+        match entities {
             Entities::Leaf(entity) => self.leaf(*entity),
             Entities::Several(all) => self.several(all.as_slice()),
         }
@@ -267,11 +267,11 @@ impl<'s> Layouts<'s> {
     }
 
     /// Keeps what an instance of these entities has values of, as the two above do.
-    pub fn keep(&mut self, types: &Entities, layout: Layout<'s>) -> Result<(), AllocError>
-        requires { layout ≡ spec.layout self.old types.now }
+    pub fn keep(&mut self, entities: &Entities, layout: Layout<'s>) -> Result<(), AllocError>
+        requires { layout ≡ spec.layout self.old entities.now }
         ensures { self.new ≡ self.old }
     {
-        match types {
+        match entities {
             Entities::Leaf(entity) => self.keep_leaf(*entity, layout),
             Entities::Several(_) => self.keep_several(layout),
         }

@@ -11,7 +11,7 @@ use Rattle.lineage.specs.Lineage.{is_among}
 use Rattle.p21_mappings.specs.Instances.{and_then, by_entities, by_entity, by_mapping, by_layout, by_several, counted, each, has_twice, in_places, instance, keywords, made, part, repeats, same_counts}
 use Rattle.p21_values.specs.Taking.{all_there}
 use Rattle.ex_layouts.specs.Entities.{entity_spelled}
-use Rattle.ex_layouts.specs.Layouts.{of_leaf, of_several, order_by, place_in, slots_in, types_by}
+use Rattle.ex_layouts.specs.Layouts.{of_leaf, of_several, order_by, place_in, slots_in, entities_by}
 use Rattle.p21_mappings.specs.Layouts.{external, internal}
 use Rattle.p21_instances.specs.Instances.{references}
 use Rattle.p21_spelling.proofs.Runs.{first_holds}
@@ -130,7 +130,7 @@ module _ (schema : Checked) (accepted : IsAccepted schema.named) (is_defined : �
 
     made_is : made name (of_several schema ns) (map is.lists ns) ≡ record { name = name; entities = Several ns; values = ws }
     made_is =
-        ap (λ o. record { name = name; entities = types_by schema ns o; values = in_places (map (place_in ns) (order_by schema ns o)) (map is.lists ns) }) is.leafless
+        ap (λ o. record { name = name; entities = entities_by schema ns o; values = in_places (map (place_in ns) (order_by schema ns o)) (map is.lists ns) }) is.leafless
         ∙ ap (λ (ms : List ℕ). record { name = name; entities = Several ms; values = in_places (map (place_in ns) ms) (map is.lists ns) }) is.ordered
         ∙ ap (λ ws. record { name = name; entities = Several ns; values = ws }) in_all_places
 

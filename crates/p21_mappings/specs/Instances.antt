@@ -88,7 +88,7 @@ abbrev pub in_places : List ℕ → List (List Value) → List Value
 in_places places lists = flat_map (λ place. slice_index_or lists place []) places
 
 abbrev pub made : ℕ → Layout → List (List Value) → Instance
-made name layout lists = record { name = name; entities = layout.types; values = in_places layout.places lists }
+made name layout lists = record { name = name; entities = layout.instance_entities; values = in_places layout.places lists }
 
 abbrev pub counted : {A : Type 0} → Bool → Read A → Read A
 counted fits read = if fits then read else Err WrongCount

@@ -199,7 +199,7 @@ fn made(
 ) -> Result<Instance, AllocError>
     ensures { IfOk result (λ instance. instance ≡ spec.made name layout.now lists.now) }
 {
-    let entities = layout.types.copy(alloc)?;
+    let entities = layout.instance_entities.copy(alloc)?;
     let values = in_places(alloc, layout.places.as_slice(), lists)?;
     Ok(Instance {
         name,
