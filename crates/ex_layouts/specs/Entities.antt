@@ -10,8 +10,8 @@ use Rattle.ex_types.specs.Checked.{Checked, entity_names}
 use Rattle.lineage.specs.Lineage.{line, numbers_from}
 use Rattle.name_tables.specs.Order.{rank}
 use Rattle.name_tables.specs.Names.{place_of}
-use Rattle.rp_content.specs.declared.instance.Types.{Types}
-use Rattle.rp_content.specs.declared.instance.Types.TheVariants.{Leaf, Several}
+use Rattle.rp_content.specs.declared.instance.Entities.{Entities}
+use Rattle.rp_content.specs.declared.instance.Entities.TheVariants.{Leaf, Several}
 
 -- the numbers in ascending order, each once
 unfoldable pub ascending : List ℕ → List ℕ
@@ -38,7 +38,7 @@ module _ (schema : Checked) where
   line_of entity = unwrap_or (line schema.named.supertypes entity) []
 
   -- those of an instance, in the order in which its values stand
-  abbrev pub entities_of : Types → List ℕ
+  abbrev pub entities_of : Entities → List ℕ
   entities_of (Leaf entity) = line_of entity
   entities_of (Several all) = all
 

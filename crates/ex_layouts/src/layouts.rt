@@ -5,7 +5,7 @@ use crate::hints::Hints;
 use crate::layout::Layout;
 use crate::loaded::LoadedSchema;
 use plain_data::Text;
-use rp_content::Types;
+use rp_content::Entities;
 use std::alloc::{AllocError, Global};
 use std::marker::Model;
 
@@ -226,12 +226,12 @@ impl<'s> Layouts<'s> {
     }
 
     /// What an instance of these entities has values of, if it is kept.
-    pub fn known(&self, types: &Types) -> Option<&Layout<'s>>
-        ensures { IfSome result (λ layout. layout.now ≡ spec.layout self.now types.now) }
+    pub fn known(&self, entities: &Entities) -> Option<&Layout<'s>>
+        ensures { IfSome result (λ layout. layout.now ≡ spec.layout self.now entities.now) }
     {
-        match types {
-            Types::Leaf(entity) => self.leaf(*entity),
-            Types::Several(all) => self.several(all.as_slice()),
+        match entities {
+            Entities::Leaf(entity) => self.leaf(*entity),
+            Entities::Several(all) => self.several(all.as_slice()),
         }
     }
 
@@ -267,13 +267,13 @@ impl<'s> Layouts<'s> {
     }
 
     /// Keeps what an instance of these entities has values of, as the two above do.
-    pub fn keep(&mut self, types: &Types, layout: Layout<'s>) -> Result<(), AllocError>
-        requires { layout ≡ spec.layout self.old types.now }
+    pub fn keep(&mut self, entities: &Entities, layout: Layout<'s>) -> Result<(), AllocError>
+        requires { layout ≡ spec.layout self.old entities.now }
         ensures { self.new ≡ self.old }
     {
-        match types {
-            Types::Leaf(entity) => self.keep_leaf(*entity, layout),
-            Types::Several(_) => self.keep_several(layout),
+        match entities {
+            Entities::Leaf(entity) => self.keep_leaf(*entity, layout),
+            Entities::Several(_) => self.keep_several(layout),
         }
     }
 }

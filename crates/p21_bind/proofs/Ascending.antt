@@ -14,7 +14,8 @@ use Rattle.p21_instances.proofs.ByName.{below, AreOnce, once-in_order}
 use Rattle.p21_instances.proofs.SortedBy.{Rises, rises_in_order}
 use Rattle.ex_layouts.specs.Entities.{entity_spelled}
 use Rattle.p21_mappings.specs.Contents.{content}
-use Rattle.p21_mappings.specs.Instances.{Read, and_then, all_there, by_entities, by_entity, by_mapping, by_layout, by_several, counted, each, has_twice, instance, made, part, same_counts}
+use Rattle.p21_mappings.specs.Instances.{Read, and_then, by_entities, by_entity, by_mapping, by_layout, by_several, counted, each, has_twice, instance, made, part, same_counts}
+use Rattle.p21_values.specs.Taking.{all_there}
 use Rattle.p21_mappings.specs.Layouts.{external, internal}
 use Rattle.ex_layouts.specs.declared.layout.Layout.{Layout}
 use Rattle.p21_tree.specs.declared.fault.InstanceFault.{InstanceFault}
@@ -135,16 +136,16 @@ abbrev pub defined_by : List ℕ → Raw → ℕ → Bool
 defined_by linked raw = is_among (spelled.names raw.instances ++ linked)
 
 -- what a file says is made of its instances in the order of the file
-pub record IsOfFile (schema : Checked) (linked : List ℕ) (raw : Raw) (c : Content) : Type 0 where
+pub record IsContentOf (schema : Checked) (linked : List ℕ) (raw : Raw) (c : Content) : Type 0 where
   pub found : List Instance
   pub reads : instances_after schema (defined_by linked raw) (λ n. false) raw.instances ≡ Ok found
   pub are : content raw.header found ≡ c
 
-pub of_file : (schema : Checked) (linked : List ℕ) (raw : Raw) (c : Content) → bound_file schema linked raw ≡ Ok c → IsOfFile schema linked raw c
+pub of_file : (schema : Checked) (linked : List ℕ) (raw : Raw) (c : Content) → bound_file schema linked raw ≡ Ok c → IsContentOf schema linked raw c
 unfolding bound_file instances
 of_file schema linked raw c e = by (instances_after schema (defined_by linked raw) (λ n. false) raw.instances) refl e
   where
-    by : (o : Instances) → instances_after schema (defined_by linked raw) (λ n. false) raw.instances ≡ o → bound_by raw.header o ≡ Ok c → IsOfFile schema linked raw c
+    by : (o : Instances) → instances_after schema (defined_by linked raw) (λ n. false) raw.instances ≡ o → bound_by raw.header o ≡ Ok c → IsContentOf schema linked raw c
     by (Ok found) reads f = let same : content raw.header found ≡ c = cc in record { found = found; reads = reads; are = same }
     by (Err fault) reads f = cc
 

@@ -8,10 +8,10 @@ ghost use Rattle.p21_mappings.specs.Instances as spec;
 ghost use Rattle.p21_mappings.specs.Layouts.{internal};
 
 use ex_layouts::{Layout, Layouts, LoadedSchema, legal_leaf};
-use p21_mappings::{DefinedNames, Reading, by_parts, entity_named, values_of_leaf};
+use p21_mappings::{DefinedNames, Mapped, by_parts, entity_named, values_of_leaf};
 use p21_tree::{Instance as SpelledInstance, InstanceFaultKind, Mapping, Record};
 use plain_data::Failure;
-use rp_content::{Instance, Types};
+use rp_content::{Entities, Instance};
 use std::alloc::Global;
 
 /// The instance of this part, which is of an entity and all above it.
@@ -24,7 +24,7 @@ fn by_leaf<N: DefinedNames>(
     part: &Record<'_>,
     entity: usize,
     layout: &Layout<'_>,
-) -> Reading<Instance>
+) -> Mapped<Instance>
     requires { layout.now ≡ of_leaf schema.now entity }
     ensures { Gives (λ x. x) result (spec.by_layout schema.now (N.is_defined names.now) name (part.now ∷ []) (internal schema.now entity)) }
 {
@@ -38,7 +38,7 @@ fn by_leaf<N: DefinedNames>(
     let values = values_of_leaf(alloc, schema, names, entity, slots, part)?;
     Ok(Instance {
         name,
-        types: Types::Leaf(entity),
+        entities: Entities::Leaf(entity),
         values,
     })
 }
@@ -53,7 +53,7 @@ fn by_new_leaf<N: DefinedNames>(
     name: u64,
     part: &Record<'_>,
     entity: usize,
-) -> Reading<Instance>
+) -> Mapped<Instance>
     ensures layouts { layouts.new ≡ layouts.old }
     ensures made { Gives (λ x. x) result (spec.by_layout layouts.old (N.is_defined names.now) name (part.now ∷ []) (internal layouts.old entity)) }
 {
@@ -72,7 +72,7 @@ fn by_entity<N: DefinedNames>(
     names: &N,
     name: u64,
     part: &Record<'_>,
-) -> Reading<Instance>
+) -> Mapped<Instance>
     ensures layouts { layouts.new ≡ layouts.old }
     ensures made { Gives (λ x. x) result (spec.by_entity layouts.old (N.is_defined names.now) name (part.now ∷ []) (entity_spelled layouts.old part.now.keyword)) }
 {
@@ -93,7 +93,7 @@ pub fn instance<N: DefinedNames>(
     names: &N,
     stood: bool,
     spelled: &SpelledInstance<'_>,
-) -> Reading<Instance>
+) -> Mapped<Instance>
     ensures layouts { layouts.new ≡ layouts.old }
     ensures made { Gives (λ x. x) result (spec.instance layouts.old (N.is_defined names.now) stood spelled.now) }
 {

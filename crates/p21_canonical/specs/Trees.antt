@@ -30,8 +30,8 @@ use Rattle.p21_canonical.specs.Binaries.{binary}
 use Rattle.rp_content.specs.declared.content.Content.{Content}
 use Rattle.rp_content.specs.declared.header.Header.{Header}
 use Rattle.rp_content.specs.declared.instance.Instance.{Instance}
-use Rattle.rp_content.specs.declared.instance.Types.{Types}
-use Rattle.rp_content.specs.declared.instance.Types.TheVariants.{Leaf, Several}
+use Rattle.rp_content.specs.declared.instance.Entities.{Entities}
+use Rattle.rp_content.specs.declared.instance.Entities.TheVariants.{Leaf, Several}
 use Rattle.rp_numbers.specs.Written.{written}
 use Rattle.rp_numbers.specs.declared.Logical.{Logical}
 use Rattle.rp_numbers.specs.declared.Logical.TheVariants as l
@@ -142,12 +142,12 @@ module _ (schema : Checked) where
   records [] values = []
   records (p ∷ ps) values = record_of p (take (length p.marks) values) ∷ records ps (drop (length p.marks) values)
 
-  abbrev pub mapping : Types → List Value → Mapping
+  abbrev pub mapping : Entities → List Value → Mapping
   mapping (Leaf leaf) values = Internal (record_of (leaf_part leaf) values)
   mapping (Several all) values = External (records (own_parts all) values)
 
   abbrev pub instance_tree : Instance → spelled.Instance
-  instance_tree i = record { name = i.name; mapping = mapping i.types i.values }
+  instance_tree i = record { name = i.name; mapping = mapping i.entities i.values }
 
   -- ---- what a model holds
 

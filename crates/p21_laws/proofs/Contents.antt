@@ -27,7 +27,7 @@ use Rattle.p21_laws.proofs.Attributes.{Kept, shown_as, trees_pass, value_read}
 use Rattle.p21_laws.proofs.Headers.{header_again}
 use Rattle.p21_laws.proofs.Instances.{instance_read}
 use Rattle.p21_laws.proofs.Order.{OnceBy, all_in_order, any_in_order, neither, once_in_order, order_again}
-use Rattle.p21_laws.proofs.Shapes.{OfTypes, parts_pass}
+use Rattle.p21_laws.proofs.Shapes.{OfEntities, parts_pass}
 use Rattle.p21_laws.specs.Contents.{AreAmong}
 use Rattle.p21_laws.specs.Instances.{parts, references_of}
 use Rattle.p21_laws.specs.Kept.{IsSound}
@@ -82,7 +82,7 @@ module _ (schema : Checked) (accepted : IsAccepted schema.named) where
   nothing_more rs = all_units (λ r. AllByRecursion NoMore r.values) (λ r. all_units NoMore (λ x. tt) r.values) rs
 
   module _ (is_defined : ℕ → Bool) (stood : Bool) (x : tree.Instance) (i : Instance) (e : instance schema is_defined stood x ≡ Ok i) where
-    kept : (stood ≡ false) × ((i.name ≡ x.name) × OfTypes schema (Kept schema.named.schema.types) i.types i.values)
+    kept : (stood ≡ false) × ((i.name ≡ x.name) × OfEntities schema (Kept schema.named.schema.types) i.entities i.values)
     kept =
         instance_read schema accepted is_defined (Kept schema.named.schema.types) NoMore (λ s x w e q. (value_read schema accepted.types is_defined s x w e).kept) stood x i e
         (nothing_more (parts x.mapping))
@@ -96,21 +96,21 @@ module _ (schema : Checked) (accepted : IsAccepted schema.named) where
     abbrev Refers : Slot → Value → Type 0
     Refers s w = list_all is_defined (references (shown_as schema.named.schema.types s w)) ≡ true
 
-    all_refer : list_all (refers_all schema accepted is_defined) (parts (mapping schema i.types i.values)) ≡ true
+    all_refer : list_all (refers_all schema accepted is_defined) (parts (mapping schema i.entities i.values)) ≡ true
     all_refer =
         let read =
         instance_read schema accepted is_defined Refers NoMore (λ s x w e q. (value_read schema accepted.types is_defined s x w e).refers) stood x i e
         (nothing_more (parts x.mapping)) in
         parts_pass schema Refers (refers_all schema accepted is_defined)
-        (λ n ss ws there both. trees_pass schema.named.schema.types Refers (refers schema accepted is_defined) (λ s w p. p) ss ws both) i.types i.values read.1.1
+        (λ n ss ws there both. trees_pass schema.named.schema.types Refers (refers schema accepted is_defined) (λ s w p. p) ss ws both) i.entities i.values read.1.1
 
     -- it refers to names that are defined
     pub instance_refers : list_all is_defined (references_of (instance_tree schema i).mapping) ≡ true
-    instance_refers = referred_in is_defined (mapping schema i.types i.values) ∙ all_refer
+    instance_refers = referred_in is_defined (mapping schema i.entities i.values) ∙ all_refer
 
     -- it is read again where those names are defined to which it refers
     pub instance_again : (defined : ℕ → Bool) → list_all defined (references_of (instance_tree schema i).mapping) ≡ true → instance schema defined false (instance_tree schema i) ≡ Ok i
-    instance_again defined all = read_again schema accepted defined i kept.1.1 (sym (referred_in defined (mapping schema i.types i.values)) ∙ all)
+    instance_again defined all = read_again schema accepted defined i kept.1.1 (sym (referred_in defined (mapping schema i.entities i.values)) ∙ all)
 
   -- ---- one after the other
 

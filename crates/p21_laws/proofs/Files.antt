@@ -34,8 +34,8 @@ use Rattle.p21_tree.specs.declared.value.Value.{Value as SpelledValue}
 use Rattle.p21_canonical.specs.Trees.{canonical, content_tree, entity_name, header_tree, instance_tree, mapping, own_parts, records}
 use Rattle.rp_content.specs.declared.content.Content.{Content}
 use Rattle.rp_content.specs.declared.instance.Instance.{Instance}
-use Rattle.rp_content.specs.declared.instance.Types.{Types}
-use Rattle.rp_content.specs.declared.instance.Types.TheVariants.{Leaf, Several}
+use Rattle.rp_content.specs.declared.instance.Entities.{Entities}
+use Rattle.rp_content.specs.declared.instance.Entities.TheVariants.{Leaf, Several}
 use Rattle.rp_content.specs.declared.link.Link.{Link}
 use Rattle.rp_value.specs.declared.value.Value.{Value}
 use Rattle.p21_laws.proofs.Attributes.{shown_as, trees_of, value_read}
@@ -44,7 +44,7 @@ use Rattle.p21_laws.proofs.Entities.{IsEntity, entities_of, entity_word}
 use Rattle.p21_laws.proofs.Headers.{header_fit}
 use Rattle.p21_laws.proofs.Instances.{instance_read}
 use Rattle.p21_laws.proofs.Pairs.{AllBoth}
-use Rattle.p21_laws.proofs.Shapes.{OfTypes, leaf_passes, made, record_by, several_pass, several_records}
+use Rattle.p21_laws.proofs.Shapes.{OfEntities, leaf_passes, made, record_by, several_pass, several_records}
 use Rattle.p21_laws.specs.Contents.{AreAmong, IsRead}
 use Rattle.p21_laws.specs.Instances.{parts}
 use Rattle.p21_laws.specs.Schemas.{IsAccepted}
@@ -146,7 +146,7 @@ module _ (schema : Checked) (accepted : IsAccepted schema.named) where
   same_length f [] = refl
   same_length f (x ∷ xs) = ap suc (same_length f xs)
 
-  mapping_spelled : (types : Types) (ws : List Value) → OfTypes schema Shows types ws → is_mapping (mapping schema types ws) ≡ true
+  mapping_spelled : (entities : Entities) (ws : List Value) → OfEntities schema Shows entities ws → is_mapping (mapping schema entities ws) ≡ true
   mapping_spelled (Leaf entity) ws is = leaf_passes schema Shows is_record record_fits entity ws is
   mapping_spelled (Several all) ws is =
       both_hold (nat_lt 0 (length (records schema (own_parts schema all) ws))) (list_all is_record (records schema (own_parts schema all) ws))
@@ -155,7 +155,7 @@ module _ (schema : Checked) (accepted : IsAccepted schema.named) where
 
   -- ---- instances
 
-  shows : (is_defined : ℕ → Bool) (x : tree.Instance) (i : Instance) (stood : Bool) → instance schema is_defined stood x ≡ Ok i → is_instance x ≡ true → OfTypes schema Shows i.types i.values
+  shows : (is_defined : ℕ → Bool) (x : tree.Instance) (i : Instance) (stood : Bool) → instance schema is_defined stood x ≡ Ok i → is_instance x ≡ true → OfEntities schema Shows i.entities i.values
   shows is_defined x i stood e spelled =
       let read =
       instance_read schema accepted is_defined Shows Fits
@@ -167,9 +167,9 @@ module _ (schema : Checked) (accepted : IsAccepted schema.named) where
   instance_spelled i said =
       let from = said.1 in
       let x : tree.Instance = from.0 in
-      both_hold (is_name i.name) (is_mapping (mapping schema i.types i.values))
+      both_hold (is_name i.name) (is_mapping (mapping schema i.entities i.values))
       (ap is_name (same_name schema accepted said.0 from.1.0 x i from.1.1.0) ∙ first_holds (is_name x.name) (is_mapping x.mapping) from.1.1.1)
-      (mapping_spelled i.types i.values (shows said.0 x i from.1.0 from.1.1.0 from.1.1.1))
+      (mapping_spelled i.entities i.values (shows said.0 x i from.1.0 from.1.1.0 from.1.1.1))
 
   all_instances : (is : List Instance) → AllByRecursion (Said schema accepted IsSpelled) is → list_all is_instance (map (instance_tree schema) is) ≡ true
   all_instances [] all = refl

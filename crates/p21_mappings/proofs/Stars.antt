@@ -122,7 +122,7 @@ module _ (types : List NamedType) where
       (λ (none : has_star x ≡ false). none)
       (cases_Bool (has_star x))
 
--- the value of a slot that no type of the instance derives, where its type takes what is spelled
+-- the value of a slot that no entity of the instance derives, where its type takes what is spelled
 pub by_type : (schema : Checked) (is_defined : ℕ → Bool) (slot : ReadSlot) (x : tree.Value) (w : Value) → slot.is_derived ≡ false → place (meaning schema.named.schema.types x) slot.expected ≡ Some w
     → slot_value schema is_defined (slot, x) ≡ (if list_all is_defined (references x) then Ok w else Err Undefined)
 by_type schema is_defined slot x w own taken = rw (own, no_star schema.named.schema.types slot.expected x w taken, taken) refl

@@ -19,7 +19,7 @@ use Rattle.p21_tree.specs.declared.value.Value.{Value as SpelledValue, out-Value
 use Rattle.p21_tree.specs.declared.value.Value.TheFolds.{fold-Value}
 use Rattle.p21_tree.specs.declared.value.Value.TheOpen.{Value-F}
 use Rattle.p21_tree.specs.declared.instance.Instance as tree
-use Rattle.p21_values.specs.Taking.{bound}
+use Rattle.p21_values.specs.Taking.{all_there, bound}
 use Rattle.rp_content.specs.declared.instance.Instance.{Instance}
 use Rattle.rp_value.specs.declared.value.Value.{Value}
 use Rattle.rp_value.specs.declared.value.Value.TheVariants as v
@@ -68,18 +68,10 @@ repeats before (k ∷ ks) = is_some (place_of k before) || repeats (before ++ k 
 abbrev pub keywords : List Record → List (List ℕ)
 keywords = map (λ part. str_to_ascii_uppercase part.keyword)
 
--- whether a type stands twice
+-- whether an entity stands twice
 abbrev pub has_twice : Mapping → Bool
 has_twice (Internal part) = false
 has_twice (External parts) = repeats [] (keywords parts)
-
-abbrev pub with_first : Option ℕ → Option (List ℕ) → Option (List ℕ)
-with_first None ns = None
-with_first (Some n) ns = option_map (λ ns. n ∷ ns) ns
-
-abbrev pub all_there : List (Option ℕ) → Option (List ℕ)
-all_there [] = Some []
-all_there (n ∷ ns) = with_first n (all_there ns)
 
 -- the numbers that were found, as contracts see them
 abbrev pub numbers_in : Option (Vec ℕ) → Option (List ℕ)
@@ -96,7 +88,7 @@ abbrev pub in_places : List ℕ → List (List Value) → List Value
 in_places places lists = flat_map (λ place. slice_index_or lists place []) places
 
 abbrev pub made : ℕ → Layout → List (List Value) → Instance
-made name layout lists = record { name = name; types = layout.types; values = in_places layout.places lists }
+made name layout lists = record { name = name; entities = layout.instance_entities; values = in_places layout.places lists }
 
 abbrev pub counted : {A : Type 0} → Bool → Read A → Read A
 counted fits read = if fits then read else Err WrongCount
@@ -105,7 +97,7 @@ counted fits read = if fits then read else Err WrongCount
 abbrev pub misplaced : SpelledValue → InstanceFaultKind
 misplaced x = if has_star x then NotDerived else WrongKind
 
--- of an attribute that a type of the instance derives
+-- of an attribute that an entity of the instance derives
 abbrev pub derived_value : SpelledValue → Read Value
 derived_value x = if is_left_out x then Ok v.Indet else Err (misplaced x)
 

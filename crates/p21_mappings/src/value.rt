@@ -17,8 +17,8 @@ use plain_data::{Failure, Items};
 use rp_value::Value;
 use std::alloc::{AllocError, Global};
 
-/// What is read, or what is wrong with it.
-pub type Reading<T> = Result<T, Failure<InstanceFaultKind>>;
+/// What is mapped of an instance, or what is wrong with it.
+pub type Mapped<T> = Result<T, Failure<InstanceFaultKind>>;
 
 /// Whether the value has a `*`, at any depth.
 #[cycle(stars)]
@@ -102,8 +102,8 @@ fn misplaced(value: &SpelledValue<'_>) -> InstanceFaultKind
     }
 }
 
-/// What an attribute has that a type of the instance derives.
-fn derived_value(value: &SpelledValue<'_>) -> Reading<Value>
+/// What an attribute has that an entity of the instance derives.
+fn derived_value(value: &SpelledValue<'_>) -> Mapped<Value>
     ensures { Gives (λ x. x) result (spec.derived_value value.now) }
 {
     if is_left_out(value) {
@@ -120,7 +120,7 @@ fn slot_value<N: DefinedNames>(
     names: &N,
     slot: &ReadSlot<'_>,
     value: &SpelledValue<'_>,
-) -> Reading<Value>
+) -> Mapped<Value>
     ensures { Gives (λ x. x) result (read_spec.slot_value schema.now (N.is_defined names.now) (slot.now, value.now)) }
 {
     if slot.is_derived {
@@ -144,7 +144,7 @@ pub fn part_values<N: DefinedNames>(
     names: &N,
     mut slots: &[ReadSlot<'_>],
     mut values: &[SpelledValue<'_>],
-) -> Reading<Items<Value>>
+) -> Mapped<Items<Value>>
     ensures { Gives (λ xs. xs) result (spec.each (read_spec.slot_value schema.now (N.is_defined names.now)) (zip slots.entry.now values.entry.now)) }
 {
     let mut found = Vec::with_capacity(alloc, slots.len())?;

@@ -59,12 +59,12 @@ abbrev pub only : List Value → Option Value
 only (x ∷ []) = Some x
 only _ = None
 
-abbrev pub with_first : Option Value → Option (List Value) → Option (List Value)
+abbrev pub with_first : {A : Type 0} → Option A → Option (List A) → Option (List A)
 with_first None xs = None
 with_first (Some x) xs = option_map (λ xs. x ∷ xs) xs
 
--- the values, where each is there
-abbrev pub all_there : List (Option Value) → Option (List Value)
+-- all of them, where each is there
+abbrev pub all_there : {A : Type 0} → List (Option A) → Option (List A)
 all_there [] = Some []
 all_there (x ∷ xs) = with_first x (all_there xs)
 

@@ -4,7 +4,8 @@ use Rattle.std.specs.Prelude.{if◌then◌else◌, map, slice_index_or}
 use Rattle.std.specs.List.{AllByRecursion, list_all, zip}
 use Rattle.ex_slots.specs.Slots.{Slot}
 use Rattle.ex_types.specs.Checked.{Checked}
-use Rattle.p21_mappings.specs.Instances.{Read, and_then, each, has_star, is_left_out, has_twice, same_counts, in_places, made, counted, misplaced, derived_value, all_there, defined, value, part, by_layout, by_entity, by_entities, by_several, by_mapping, instance}
+use Rattle.p21_mappings.specs.Instances.{Read, and_then, each, has_star, is_left_out, has_twice, same_counts, in_places, made, counted, misplaced, derived_value, defined, value, part, by_layout, by_entity, by_entities, by_several, by_mapping, instance}
+use Rattle.p21_values.specs.Taking.{all_there}
 use Rattle.ex_layouts.specs.Entities.{entity_spelled}
 use Rattle.p21_mappings.specs.Layouts.{internal, external}
 use Rattle.ex_layouts.specs.declared.layout.Layout.{Layout}

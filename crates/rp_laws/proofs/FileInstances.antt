@@ -20,7 +20,8 @@ use Rattle.rp_content.specs.declared.link.Link.{Link}
 use Rattle.rp_rows.specs.Contents.{instance_name, names, greatest_name, link_name, link_names, references_of}
 use Rattle.rp_plain.specs.Instances.{is_defined}
 use Rattle.rp_plain.specs.Links.{linking}
-use Rattle.rp_plain.specs.Valid.{IsInstanceOfFile, IsSound}
+use Rattle.p21_bind.specs.Origins.{IsInstanceOfFile}
+use Rattle.rp_plain.specs.Valid.{IsSound}
 use Rattle.rp_laws.proofs.ByName.{AreWithin, within}
 
 -- ---- each is of the file

@@ -39,12 +39,13 @@ use Rattle.rp_plain.specs.Meaning.{first_some, has_text, schema_name, has_schema
 use Rattle.rp_rows.specs.Listings.{max_models}
 use Rattle.rp_plain.specs.Models.{new_content}
 use Rattle.rp_plain.specs.Links.{max_links, links_in_order, linking, no_request}
-use Rattle.rp_plain.specs.Files.{Reading, told, bound_by, read_for, read_content, ill_linked, too_many, refilled, filled}
+use Rattle.rp_plain.specs.Files.{BoundFile, told, bound_by, read_for, read_content, ill_linked, too_many, refilled, filled}
 use Rattle.rp_plain.specs.Grants.{unless_own}
 use Rattle.rp_plain.specs.Instances.{Saying, said, is_absent, instance_in, next_in, is_full, is_needed, placing, dropping}
 use Rattle.rp_plain.specs.Step.{meaning, outcome, answer, next}
 use Rattle.rp_plain.specs.Opening.{new_fault, opened}
-use Rattle.rp_plain.specs.Valid.{IsInstanceOfFile, IsSpelled, IsValidContent, IsValid}
+use Rattle.p21_bind.specs.Origins.{IsInstanceOfFile, IsSpelled}
+use Rattle.rp_plain.specs.Valid.{IsValidContent, IsValid}
 use Rattle.rp_laws.proofs.ByName.{within, greatest_from}
 use Rattle.rp_laws.proofs.BoundFiles.{bound_refer}
 use Rattle.rp_laws.proofs.FileNames.{file_named}
@@ -172,7 +173,7 @@ refilled_valid schemas partners k h file links c t beside few valid =
       few_links = beside.few;
     }) t.says beside few
 
-filled_fit : (r : Plain) (c : Text) (k : Key) (file : Text) (links : List Link) (o : Option Model) (read : Reading) → model_at r c k ≡ o → read_content r.schemas (held o) (link_names links) (file_of file) ≡ read → no_request links ≡ None
+filled_fit : (r : Plain) (c : Text) (k : Key) (file : Text) (links : List Link) (o : Option Model) (read : BoundFile) → model_at r c k ≡ o → read_content r.schemas (held o) (link_names links) (file_of file) ≡ read → no_request links ≡ None
     → ill_linked (asked r c) k (held o) links read ≡ None → too_many links read ≡ None → IsValid r → AreFit r (filled k (held o) links read)
 filled_fit r c k file links None (Ok said) seen reads request fault few valid = tt
 filled_fit r c k file links None (Err refusal) seen reads request fault few valid = tt

@@ -17,7 +17,7 @@ use Rattle.rp_plain.specs.Plain.{Plain, part, model_at, group_at}
 use Rattle.rp_plain.specs.Edits.{Edit, EditModel, EditGroup, changed}
 use Rattle.rp_plain.specs.Readers.{asked, held}
 use Rattle.rp_plain.specs.Meaning.{first_some}
-use Rattle.rp_plain.specs.Files.{Reading, read_content, filled}
+use Rattle.rp_plain.specs.Files.{BoundFile, read_content, filled}
 use Rattle.rp_plain.specs.Grants.{unless_own}
 use Rattle.rp_rows.specs.Listings.{with_member, without_member}
 use Rattle.rp_plain.specs.Groups.{relisted}
@@ -34,7 +34,7 @@ use Rattle.rp_laws.proofs.Own.{MayEdit, MayAll, own_edits}
 itself : (c : Text) → bytes_eq c c ≡ true
 itself c = (bytes_eq-Decides c c).1 refl
 
-filled_may : (r : Plain) (c : Text) (k : Key) (links : List Link) (read : Reading) (o : Option Model) → model_at r c k ≡ o → MayAll r c (filled k (held o) links read)
+filled_may : (r : Plain) (c : Text) (k : Key) (links : List Link) (read : BoundFile) (o : Option Model) → model_at r c k ≡ o → MayAll r c (filled k (held o) links read)
 filled_may r c k links (Ok content) None e = tt
 filled_may r c k links (Err refusal) None e = tt
 filled_may r c k links (Ok content) (Some m) e = (inr (tt, ap is_some e), tt)

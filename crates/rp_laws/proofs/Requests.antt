@@ -26,7 +26,7 @@ use Rattle.rp_plain.specs.Edits.{Edit, EditModel, EditGroup, changed, name_of, n
 use Rattle.rp_plain.specs.Readers.{Readers, asked}
 use Rattle.rp_plain.specs.Meaning.{first_some, schema_of}
 use Rattle.rp_plain.specs.Checks as checks
-use Rattle.rp_plain.specs.Files.{Reading, read_content, stored, filled, text_by, links_of, exported}
+use Rattle.rp_plain.specs.Files.{BoundFile, read_content, stored, filled, text_by, links_of, exported}
 use Rattle.rp_plain.specs.Grants.{unless_own}
 use Rattle.rp_plain.specs.Groups.{relisted}
 use Rattle.rp_plain.specs.Instances.{Saying, said, next_in, placing, dropping}
@@ -76,7 +76,7 @@ holding c q k h there = (no_grant c q (EditModel k (Holds h)) there (λ d. refl)
 listing : (c : Text) (q : Request) (k : Key) (g : Option Listing) → Contains (names_changed c q) (OfGroup, k) → AllSaid c q (EditGroup k (Holds g) ∷ [])
 listing c q k g there = (no_grant c q (EditGroup k (Holds g)) there (λ d. refl), tt)
 
-filled_said : (c : Text) (q : Request) (k : Key) (h : Option ModelContent) (links : List Link) (read : Reading) → Contains (names_changed c q) (OfModel, k) → AllSaid c q (filled k h links read)
+filled_said : (c : Text) (q : Request) (k : Key) (h : Option ModelContent) (links : List Link) (read : BoundFile) → Contains (names_changed c q) (OfModel, k) → AllSaid c q (filled k h links read)
 filled_said c q k None links (Ok content) there = tt
 filled_said c q k None links (Err refusal) there = tt
 filled_said c q k (Some h) links (Ok content) there = holding c q k (Some _) there
@@ -155,7 +155,7 @@ next_others r c q ordered =
 
 -- ---- refused requests
 
-stored_done : (read : Reading) (refusal : Refusal) → stored read ≡ Refused refusal → ⊥
+stored_done : (read : BoundFile) (refusal : Refusal) → stored read ≡ Refused refusal → ⊥
 stored_done (Ok content) refusal e = cc
 stored_done (Err fault) refusal e = cc
 

@@ -22,7 +22,8 @@ use Rattle.rp_rows.specs.Instances.{max_instances, max_name, is_instance, instan
 use Rattle.rp_plain.specs.declared.messages.Refusal.TheVariants as refusal
 use Rattle.rp_plain.specs.Meaning.{schema_named}
 use Rattle.rp_plain.specs.Instances.{told, bound_by, is_defined, said_by, said, is_absent, is_full, is_needed}
-use Rattle.rp_plain.specs.Valid.{IsInstanceOfText, IsSpelled, IsSound, IsValidLink, IsValidContent}
+use Rattle.p21_bind.specs.Origins.{IsInstanceOfText, IsSpelled}
+use Rattle.rp_plain.specs.Valid.{IsSound, IsValidLink, IsValidContent}
 use Rattle.rp_laws.proofs.BoundInstances.{IsBound, instance_bound}
 use Rattle.rp_laws.proofs.Passed.{passed}
 use Rattle.rp_laws.proofs.SingleEdits.{placed_valid, dropped_valid, name_within, in_use_parts}

@@ -20,7 +20,8 @@ use Rattle.rp_rows.specs.declared.rows.ModelContent.{ModelContent}
 use Rattle.rp_rows.specs.Rows.{Text, Key}
 use Rattle.rp_rows.specs.Contents.{instance_name, names, greatest_name, link_name, link_names, greatest_of, references_of}
 use Rattle.rp_rows.specs.Instances.{max_instances, max_name, is_instance, instance_of, placed, dropped, refers_to, is_user, is_used, with_instance, without_instance}
-use Rattle.rp_plain.specs.Valid.{IsSpelled, IsSound, IsValidLink, IsValidContent}
+use Rattle.p21_bind.specs.Origins.{IsSpelled}
+use Rattle.rp_plain.specs.Valid.{IsSound, IsValidLink, IsValidContent}
 use Rattle.rp_rows.proofs.Keys.{found_at}
 use Rattle.rp_laws.proofs.ValidTables.{all_each, all_found, all-with_row}
 use Rattle.rp_laws.proofs.Counts.{every, count_every, count-with_row, count-without, count-replaced}

@@ -34,44 +34,45 @@ too_large text = when (nat_lt max_file (length text)) refusal.TooLarge
 
 -- ---- what a file says
 
-abbrev pub Reading : Type 0
-Reading = Result Content Refusal
+-- the content that a file is bound to, or why it is refused
+abbrev pub BoundFile : Type 0
+BoundFile = Result Content Refusal
 
-abbrev pub told : Result Content InstanceFault → Reading
+abbrev pub told : Result Content InstanceFault → BoundFile
 told (Ok content) = Ok content
 told (Err fault) = Err (refusal.InstanceFault fault)
 
-abbrev pub bound_by : Option Checked → List ℕ → Raw → Reading
+abbrev pub bound_by : Option Checked → List ℕ → Raw → BoundFile
 bound_by None linked raw = Err refusal.UnknownSchema
 bound_by (Some schema) linked raw = told (bound_file schema linked raw)
 
 -- What a file says by the schema of the model that it is for, or the first that holds of why it is refused. Its instances may
 -- refer to the names that are linked.
-abbrev pub read_for : List Checked → ModelContent → List ℕ → Result Raw FileFault → Reading
+abbrev pub read_for : List Checked → ModelContent → List ℕ → Result Raw FileFault → BoundFile
 read_for schemas h linked (Err fault) = Err (refusal.FileFault fault)
 read_for schemas h linked (Ok raw) = if is_of_schema h.schema raw then bound_by (schema_named schemas h.schema) linked raw else Err refusal.WrongSchema
 
-abbrev pub read_content : List Checked → Option ModelContent → List ℕ → Result Raw FileFault → Reading
+abbrev pub read_content : List Checked → Option ModelContent → List ℕ → Result Raw FileFault → BoundFile
 read_content schemas None linked file = Err refusal.NoSuchItem
 read_content schemas (Some h) linked file = read_for schemas h linked file
 
 -- ---- put
 
-abbrev pub refused : Reading → Option Refusal
+abbrev pub refused : BoundFile → Option Refusal
 refused (Ok content) = None
 refused (Err refusal) = Some refusal
 
-abbrev pub stored : Reading → Reply
+abbrev pub stored : BoundFile → Reply
 stored (Ok content) = Stored (length content.instances)
 stored (Err refusal) = Stored 0
 
 -- what is wrong with the links of a model that is to hold what the file says
-abbrev pub ill_linked : Readers → Key → Option ModelContent → List Link → Reading → Option Refusal
+abbrev pub ill_linked : Readers → Key → Option ModelContent → List Link → BoundFile → Option Refusal
 ill_linked a k (Some h) links (Ok content) = link_refusal a k h.schema links content
 ill_linked a k _ links _ = None
 
 -- more instances than a model may have, or more links
-abbrev pub too_many : List Link → Reading → Option Refusal
+abbrev pub too_many : List Link → BoundFile → Option Refusal
 too_many links (Ok content) = when (nat_lt max_instances (length content.instances) || nat_lt max_links (length links)) refusal.TooMany
 too_many links (Err refusal) = None
 
@@ -79,7 +80,7 @@ too_many links (Err refusal) = None
 abbrev pub refilled : ModelContent → Content → ModelContent
 refilled h content = record h { greatest = greatest_of h.greatest content; content = content }
 
-abbrev pub filled : Key → Option ModelContent → List Link → Reading → List Edit
+abbrev pub filled : Key → Option ModelContent → List Link → BoundFile → List Edit
 filled k (Some h) links (Ok content) = EditModel k (Holds (Some (refilled h (linking links content)))) ∷ []
 filled k _ links _ = []
 

@@ -3,7 +3,7 @@ use Rattle.std.specs.Prelude.{Bool, List, [], ◌∷◌, map, Option, Some}
 use Rattle.std.specs.Ordering.{is_lt}
 use Rattle.ex_types.specs.Checked.{Checked}
 use Rattle.p21_instances.specs.Instances.{in_order}
-use Rattle.p21_canonical.specs.Types.{type_text}
+use Rattle.p21_canonical.specs.TypeNames.{type_text}
 use Rattle.rp_content.specs.declared.instance.Instance.{Instance}
 use Rattle.rp_rows.specs.declared.rows.ModelContent.{ModelContent}
 use Rattle.rp_rows.specs.Rows.{Text, text_cmp, Key}
@@ -13,7 +13,7 @@ use Rattle.rp_plain.specs.Readers.{Readers}
 use Rattle.rp_plain.specs.Meaning.{Meaning, schema_name, schema_of, key_fault, is_no_partner, unseen}
 
 abbrev pub named : Checked → Instance → ListedInstance
-named schema i = record { name = i.name; type_name = type_text schema i.types }
+named schema i = record { name = i.name; type_name = type_text schema i.entities }
 
 -- the instances of a model of this schema, with their types
 abbrev pub names_by : Option Checked → Option ModelContent → List ListedInstance

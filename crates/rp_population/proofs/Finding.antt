@@ -21,7 +21,7 @@ some : (schema : Checked) (entity : ℕ) (m : Counted) (xs : List Instance)
     → map (place_in m.model) (filter (is_of_sought schema (Some entity)) xs) ≡ places (extent_of schema (Some entity) (map (placed m) xs))
 some schema entity m [] = refl
 some schema entity m (i ∷ xs) =
-    step m i (filter (is_of_sought schema (Some entity)) xs) (extent_of schema (Some entity) (map (placed m) xs)) (is_among (entities_of schema i.types) entity)
+    step m i (filter (is_of_sought schema (Some entity)) xs) (extent_of schema (Some entity) (map (placed m) xs)) (is_among (entities_of schema i.entities) entity)
     (some schema entity m xs)
 
 pub extent_is : (schema : Checked) (entity : Option ℕ) (m : Counted) (xs : List Instance)

@@ -9,7 +9,7 @@ use Rattle.rp_population.specs.Populations.{Placed}
 module _ (schema : Checked) where
   -- whether an instance is of an entity, as it is of each of its entities
   abbrev pub is_of : ℕ → Instance → Bool
-  is_of entity i = is_among (entities_of schema i.types) entity
+  is_of entity i = is_among (entities_of schema i.entities) entity
 
   abbrev pub extent_of : Option ℕ → List Placed → List Placed
   extent_of None xs = []

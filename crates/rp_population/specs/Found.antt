@@ -1,7 +1,6 @@
 -- What is found in one model: the same as the definitions say of its instances, in parts.
-use Rattle.std.specs.Prelude.{◌≡◌, ℕ, Bool, false, ◌&&◌, ◌||◌, List, [], ◌∷◌, Option, Some, None, if◌then◌else◌}
+use Rattle.std.specs.Prelude.{◌≡◌, ℕ, Bool, false, ◌||◌, List, [], ◌∷◌, Option, Some, None, if◌then◌else◌}
 use Rattle.std.specs.List.{flat_map, list_any}
-use Rattle.std.specs.Str.{bytes_eq}
 use Rattle.plain_data.specs.Numbers.{is_among}
 use Rattle.ex_layouts.specs.Entities.{entities_of, line_of}
 use Rattle.ex_layouts.specs.Layouts.{layout}
@@ -16,6 +15,7 @@ use Rattle.rp_population.specs.declared.place.Place.{Place}
 use Rattle.rp_population.specs.declared.roles.Role.{Role}
 use Rattle.rp_population.specs.declared.roles.Role.TheVariants.{Every, Of}
 use Rattle.rp_population.specs.Populations.{same_place, links_to}
+use Rattle.rp_population.specs.Uses.{is_slot_of}
 
 abbrev pub place_in : List ℕ × List ℕ → Instance → Place
 place_in model i = record { model = model; instance = i.name }
@@ -27,7 +27,7 @@ is_sought None all = false
 is_sought (Some entity) all = is_among all entity
 
 abbrev pub is_of_sought : Checked → Option ℕ → Instance → Bool
-is_of_sought schema entity i = is_sought entity (entities_of schema i.types)
+is_of_sought schema entity i = is_sought entity (entities_of schema i.entities)
 
 -- ---- names
 
@@ -50,10 +50,6 @@ pub record Attribute : Type 0 where
   pub entity : ℕ
   pub line : List ℕ
   pub name : List ℕ
-
--- whether an attribute has this name, and one of these entities declares it
-abbrev pub is_slot_of : List ℕ → List ℕ → Slot → Bool
-is_slot_of line name s = is_among line s.place.entity && bytes_eq s.name.text name
 
 -- the values of such attributes
 abbrev pub values_of : List ℕ → List ℕ → List Slot → List Value → List Value
@@ -86,4 +82,4 @@ module _ (schema : Checked) where
 
   -- what is told of an instance of a model, in an attribute
   abbrev pub told_in : Attribute → List ℕ → List ℕ × List ℕ → Instance → List Place
-  told_in a names model i = flat_map (told_at (user_in names model i)) (flat_map references (values_by a (layout schema i.types) i.values))
+  told_in a names model i = flat_map (told_at (user_in names model i)) (flat_map references (values_by a (layout schema i.entities) i.values))
