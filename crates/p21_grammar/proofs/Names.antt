@@ -1,6 +1,6 @@
 -- Few bytes write no number that is greater than the greatest name.
 use Rattle.std.proofs.Common.{◌≡◌, ℕ, zero, suc, ◌+◌, ◌-◌, ◌*◌, ◌<◌, ◌≤◌, le_refl, le_trans, subst, add-zero, arith}
-use Rattle.p21_grammar.specs.Grammar.{max_name}
+use Rattle.p21_tree.specs.Names.{max_name}
 
 -- the most that so many bytes write, whatever they are
 abbrev pub most : ℕ → ℕ

@@ -8,7 +8,7 @@ ghost use Rattle.p21_lexemes.specs.Lexical as spec;
 use crate::token::TokenKind;
 use memchr::memmem;
 use p21_escapes::{StringFault, string_fault};
-use p21_tree::FaultKind;
+use p21_tree::{FaultKind, MAX_NAME};
 use rp_numbers::Decimal;
 
 /// What stands at the front of a text.
@@ -144,9 +144,6 @@ fn exponent_len(z: &[u8]) -> usize
     let digits = digits_len(&z[1 + sign..]);
     if digits > 0 { 1 + sign + digits } else { 0 }
 }
-
-/// The greatest number of 18 digits.
-pub(crate) const MAX_NAME: u64 = 999_999_999_999_999_999;
 
 /// Whether there are so few digits that the number that they write is no greater than `most`, whatever they are.
 #[tactic(auto, using(crate::proofs::Digits::value_below))]

@@ -9,9 +9,10 @@ ghost use Rattle.p21_lexemes.specs.declared.front.Start.TheVariants.{Token};
 ghost use Rattle.p21_lexemes.specs.Lexical as spec;
 ghost use Rattle.p21_lexemes.specs.Usual.{IsNear};
 
-use crate::front::{MAX_NAME, are_few, byte, digits_len, greatest, is_letter, sign_len, word_len};
+use crate::front::{are_few, byte, digits_len, greatest, is_letter, sign_len, word_len};
 use crate::kinds::{same_kind, single_kind};
 use crate::token::TokenKind;
+use p21_tree::MAX_NAME;
 
 /// The length of `#` and a few digits.
 #[tactic(auto, unfolding(crate::specs::Lexical::name))]
