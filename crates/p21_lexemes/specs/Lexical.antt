@@ -12,6 +12,7 @@ use Rattle.p21_escapes.specs.Decoding as strings
 use Rattle.p21_lexemes.specs.declared.token.TokenKind.TheVariants.{Word, FileStart, FileEnd, Integer, Real, Text, Name, Item, Binary, Open, Close, Comma, Equals, Semicolon, Dollar, Star}
 use Rattle.p21_tree.specs.declared.fault.FaultKind.{FaultKind}
 use Rattle.p21_tree.specs.declared.fault.FaultKind.TheVariants as fault
+pub use Rattle.p21_tree.specs.Names.{max_name}
 use Rattle.p21_lexemes.specs.declared.front.Start.{Start}
 use Rattle.p21_lexemes.specs.declared.front.Start.TheVariants.{Blank, Token, Fault}
 
@@ -65,9 +66,6 @@ number z =
     real (point + exponent_len (drop point z)) z)
     else if nat_le (value (take whole (drop sign z))) (greatest (slice_index z 0)) then Token Integer end
     else Fault fault.Number
-
-abbrev pub max_name : ℕ
-max_name = 999999999999999999
 
 -- `#` and digits
 unfoldable pub name : List ℕ → Start

@@ -10,7 +10,7 @@ ghost use Rattle.p21_lexemes.specs.Lexical as spec;
 use crate::token::TokenKind;
 use memchr::memmem;
 use p21_escapes::{StringFault, string_fault};
-use p21_tree::FaultKind;
+use p21_tree::{FaultKind, MAX_NAME};
 use rp_numbers::{Decimal, digits_len, exponent_len, number_after, sign_len};
 
 /// What stands at the front of a text.
@@ -110,9 +110,6 @@ pub(crate) fn is_sign(b: u8) -> bool
 {
     b == b'+' || b == b'-'
 }
-
-/// The greatest name: the greatest number of 18 digits.
-pub const MAX_NAME: u64 = 999_999_999_999_999_999;
 
 /// Whether there are so few digits that the number that they write is no greater than `most`, whatever they are.
 #[tactic(auto, using(crate::proofs::Digits::value_below))]

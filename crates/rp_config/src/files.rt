@@ -6,13 +6,10 @@ ghost use Rattle.rp_config.specs.Loading as spec;
 
 use crate::fault::LoadFault;
 use plain_data::{Failure, Text};
-use rp_io::{DeviceFault, FromReader, Source};
+use rp_io::{DeviceFault, FILE_LIMIT, FromReader, Source};
 use std::alloc::Global;
 use std::fs::{File, Files};
 use std::io::ErrorKind;
-
-/// The most bytes of a configuration or of a schema's file: 8 MiB.
-pub const FILE_LIMIT: usize = 8_388_608;
 
 /// Files that are opened by their paths.
 ///

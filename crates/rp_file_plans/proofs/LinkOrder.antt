@@ -5,7 +5,8 @@ use Rattle.std.proofs.lemmas.Bool.Decides.{nat_tests}
 use Rattle.plain_data.specs.Numbers.{is_among}
 use Rattle.p21_instances.proofs.SortedBy.{Rises, rises_in_order}
 use Rattle.rp_content.specs.declared.link.Link.{Link}
-use Rattle.rp_rows.specs.Rows.{Text, Key}
+use Rattle.rp_rows.specs.declared.rows.Key.{Key}
+use Rattle.rp_rows.specs.Rows.{Text}
 use Rattle.rp_rows.specs.Contents.{link_name, link_names}
 use Rattle.rp_plain.specs.Readers.{Readers}
 use Rattle.rp_plain.specs.Links.{links_in_order, first_fault}

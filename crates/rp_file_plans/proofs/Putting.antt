@@ -5,7 +5,8 @@ use Rattle.p21_grammar.specs.File.{file_of}
 use Rattle.rp_content.specs.declared.content.Content.{Content}
 use Rattle.rp_content.specs.declared.link.Link.{Link}
 use Rattle.rp_rows.specs.declared.rows.ModelContent.{ModelContent}
-use Rattle.rp_rows.specs.Rows.{Text, Key}
+use Rattle.rp_rows.specs.declared.rows.Key.{Key}
+use Rattle.rp_rows.specs.Rows.{Text}
 use Rattle.rp_rows.specs.Contents.{link_names}
 use Rattle.rp_plain.specs.declared.messages.Refusal.{Refusal}
 use Rattle.rp_plain.specs.declared.messages.Request.{Request}

@@ -4,7 +4,8 @@ use Rattle.rp_content.specs.declared.content.Content.{Content}
 use Rattle.rp_content.specs.declared.link.Link.{Link}
 use Rattle.rp_rows.specs.declared.rows.ModelContent.{ModelContent}
 use Rattle.rp_rows.specs.declared.rows.Right.TheVariants.{Writes}
-use Rattle.rp_rows.specs.Rows.{Text, Key}
+use Rattle.rp_rows.specs.declared.rows.Key.{Key}
+use Rattle.rp_rows.specs.Rows.{Text}
 use Rattle.rp_plain.specs.declared.messages.Refusal.{Refusal}
 use Rattle.rp_plain.specs.declared.messages.Refusal.TheVariants.{NoMemory}
 use Rattle.rp_plain.specs.Readers.{Readers}
@@ -14,7 +15,7 @@ use Rattle.rp_plain.specs.Files.{BoundFile, too_large, refused, ill_linked, too_
 
 -- the tests of a request that puts a text into a model which don't look into the text
 abbrev pub cheap_tests : Readers → Key → Text → List (Option Refusal)
-cheap_tests a k file = too_large file ∷ key_fault k ∷ is_no_partner a k.0 ∷ lacks Writes (a.model_right k) ∷ []
+cheap_tests a k file = too_large file ∷ key_fault k ∷ is_no_partner a k.owner ∷ lacks Writes (a.model_right k) ∷ []
 
 -- what is read of it is this, or memory is wanting
 abbrev pub Reads : BoundFile → Result Content Refusal → Type 0

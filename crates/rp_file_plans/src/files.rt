@@ -34,7 +34,7 @@ pub fn cheap_fault(asked: &Readers<'_, '_>, key: &Key, file: &Text) -> Option<Re
     first(&[
         too_large(file),
         key_fault(key),
-        is_no_partner(asked, &key.0),
+        is_no_partner(asked, &key.owner),
         lacks(Right::Writes, asked.model_right(key)),
     ])
 }
@@ -286,7 +286,7 @@ pub fn plan_export(
 {
     let tests = [
         key_fault(key),
-        is_no_partner(asked, &key.0),
+        is_no_partner(asked, &key.owner),
         unseen(asked.model_right(key)),
         has_links(linked, asked, key),
     ];

@@ -133,7 +133,7 @@ pub fn plan_drop(asked: &Readers<'_, '_>, key: Key, name: u64) -> Result<Plan, R
 {
     let tests = [
         key_fault(&key),
-        is_no_partner(asked, &key.0),
+        is_no_partner(asked, &key.owner),
         lacks(Right::Writes, asked.model_right(&key)),
         is_absent(instance_in(asked, &key, name)),
     ];

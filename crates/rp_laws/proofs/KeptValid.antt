@@ -23,7 +23,8 @@ use Rattle.sorted_tables.specs.Table.{is_after, IsAscending}
 use Rattle.rp_rows.specs.declared.rows.Level.TheVariants.{Read}
 use Rattle.rp_rows.specs.declared.rows.ModelContent.{ModelContent}
 use Rattle.rp_rows.specs.Names.{is_name}
-use Rattle.rp_rows.specs.Rows.{Text, Key, is_row, Model}
+use Rattle.rp_rows.specs.declared.rows.Key.{Key}
+use Rattle.rp_rows.specs.Rows.{Text, is_row, Model, key_of}
 use Rattle.rp_rows.specs.Contents.{instance_name, names, greatest_name, link_name, link_names}
 use Rattle.rp_rows.specs.Instances.{max_instances, max_name, with_instance, without_instance}
 use Rattle.rp_rows.specs.Sight.{owns, sees}
@@ -68,7 +69,7 @@ found_by {X = X} test (x ∷ xs) e = by (test x) (found_by test xs) e
     by false rest e = rest e
 
 created : (r : Plain) (c name schema : Text) → has_text r.partners c ≡ true → first_some (meaning (asked r c) c (CreateModel name schema)).tests ≡ None
-    → MayHold r.partners (IsValidContent r.schemas r.partners) Anything max_models r.models (c, name) (new_content schema)
+    → MayHold r.partners (IsValidContent r.schemas r.partners) Anything max_models r.models (key_of c name) (new_content schema)
 created r c name schema partner passes =
     let each = all_pass (meaning (asked r c) c (CreateModel name schema)).tests passes in
     let few : nat_le max_models (length (filter (owns c) r.models)) ≡ false = passed (nat_le max_models (length (filter (owns c) r.models))) refusal.TooMany each.1.1.1.0 in
@@ -102,8 +103,8 @@ held_there : (r : Plain) (c : Text) (k : Key) (h : ModelContent) (m : Model) →
 held_there r c k h m seen content valid =
     let old = seen_valid r c k m seen valid in
     record {
-      owner = subst (λ (j : Key). has_text r.partners j.0 ≡ true) old.1 old.0.row.owner;
-      name = subst (λ (j : Key). is_name j.1 ≡ true) old.1 old.0.row.name;
+      owner = subst (λ (j : Key). has_text r.partners j.owner ≡ true) old.1 old.0.row.owner;
+      name = subst (λ (j : Key). is_name j.name ≡ true) old.1 old.0.row.name;
       valid = content (subst (λ (j : Key). IsValidContent r.schemas r.partners j m.holds) old.1 old.0.content);
       room = λ none. absurd (found_there (is_row k) (sees r.groups c) r.models m seen none);
     }
@@ -242,14 +243,14 @@ edits_fit r c (DropInstance k name) partner passes valid =
 edits_fit r c (GrantModel name to l) partner passes valid =
     let each = all_pass (meaning (asked r c) c (GrantModel name to l)).tests passes in
     let known = is_so (has_text r.partners to) refusal.UnknownPartner each.1.0 in
-    granted_fit r c to (EditModel (c, name) (Grants to (Some l))) (λ other. record { valid = record { partner = known; other = other }; level = tt })
+    granted_fit r c to (EditModel (key_of c name) (Grants to (Some l))) (λ other. record { valid = record { partner = known; other = other }; level = tt })
 edits_fit r c (RevokeModel name to) partner passes valid = (tt, tt)
 edits_fit r c (CreateGroup name schema) partner passes valid = (group_created r c name schema partner passes, tt)
 edits_fit r c (DeleteGroup name) partner passes valid = (tt, tt)
 edits_fit r c (GrantGroup name to) partner passes valid =
     let each = all_pass (meaning (asked r c) c (GrantGroup name to)).tests passes in
     let known = is_so (has_text r.partners to) refusal.UnknownPartner each.1.0 in
-    granted_fit r c to (EditGroup (c, name) (Grants to (Some Read))) (λ other. record { valid = record { partner = known; other = other }; level = refl })
+    granted_fit r c to (EditGroup (key_of c name) (Grants to (Some Read))) (λ other. record { valid = record { partner = known; other = other }; level = refl })
 edits_fit r c (RevokeGroup name to) partner passes valid = (tt, tt)
 edits_fit r c (Include group k) partner passes valid = include_fit r c group k passes valid
 edits_fit r c (Exclude group k) partner passes valid = exclude_fit r c group k valid

@@ -16,7 +16,8 @@ use Rattle.p21_bind.specs.Single.{bound_instance}
 use Rattle.rp_content.specs.declared.instance.Instance.{Instance}
 use Rattle.rp_content.specs.declared.link.Link.{Link}
 use Rattle.rp_rows.specs.declared.rows.ModelContent.{ModelContent}
-use Rattle.rp_rows.specs.Rows.{Text, Key}
+use Rattle.rp_rows.specs.declared.rows.Key.{Key}
+use Rattle.rp_rows.specs.Rows.{Text}
 use Rattle.rp_rows.specs.Contents.{names}
 use Rattle.rp_rows.specs.Instances.{max_instances, max_name, is_instance, instance_of, is_used, next_name, with_instance, without_instance}
 use Rattle.rp_plain.specs.declared.messages.Refusal.TheVariants as refusal

@@ -17,7 +17,8 @@ use Rattle.sorted_tables.proofs.Altered.{any-with_row}
 use Rattle.sorted_tables.proofs.Ascending.{all-append, with_row_ascends, with_none_ascends}
 use Rattle.sorted_tables.proofs.Tables.{list_any-append as none-append, list_any-filter}
 use Rattle.rp_rows.specs.declared.rows.ModelContent.{ModelContent}
-use Rattle.rp_rows.specs.Rows.{Text, Key}
+use Rattle.rp_rows.specs.declared.rows.Key.{Key}
+use Rattle.rp_rows.specs.Rows.{Text}
 use Rattle.rp_rows.specs.Contents.{instance_name, names, greatest_name, link_name, link_names, greatest_of, references_of}
 use Rattle.rp_rows.specs.Instances.{max_instances, max_name, is_instance, instance_of, placed, dropped, refers_to, is_user, is_used, with_instance, without_instance}
 use Rattle.p21_bind.specs.Origins.{IsSpelled}

@@ -1,5 +1,6 @@
 -- The requests that put a file into a model, with its links, and that export one.
 use Rattle.std.specs.Prelude.{ℕ, Bool, true, false, not, ◌&&◌, ◌||◌, nat_lt, List, [], ◌∷◌, length, Option, Some, None, Result, Ok, Err, if◌then◌else◌}
+use Rattle.rp_io.specs.Limits.{file_limit}
 use Rattle.ex_types.specs.Checked.{Checked}
 use Rattle.p21_tree.specs.declared.raw.Raw.{Raw}
 use Rattle.p21_tree.specs.declared.fault.FileFault.{FileFault}
@@ -12,7 +13,8 @@ use Rattle.rp_content.specs.declared.content.Content.{Content}
 use Rattle.rp_content.specs.declared.link.Link.{Link}
 use Rattle.rp_rows.specs.declared.rows.ModelContent.{ModelContent}
 use Rattle.rp_rows.specs.declared.rows.Right.TheVariants.{Writes}
-use Rattle.rp_rows.specs.Rows.{Text, Key}
+use Rattle.rp_rows.specs.declared.rows.Key.{Key}
+use Rattle.rp_rows.specs.Rows.{Text}
 use Rattle.rp_rows.specs.Contents.{link_names, greatest_of}
 use Rattle.rp_rows.specs.Instances.{max_instances}
 use Rattle.rp_rows.specs.Alterations.{Holds}
@@ -25,12 +27,8 @@ use Rattle.rp_plain.specs.Edits.{Edit, EditModel}
 use Rattle.rp_plain.specs.Meaning.{Meaning, schema_named, schema_of, when, key_fault, is_no_partner, unseen, lacks}
 use Rattle.rp_plain.specs.Links.{max_links, linking, no_request, link_refusal}
 
--- the bytes of a file, and of a text that is checked: 8 MiB
-abbrev pub max_file : ℕ
-max_file = 8388608
-
 abbrev pub too_large : Text → Option Refusal
-too_large text = when (nat_lt max_file (length text)) refusal.TooLarge
+too_large text = when (nat_lt file_limit (length text)) refusal.TooLarge
 
 -- ---- what a file says
 
@@ -86,7 +84,7 @@ filled k _ links _ = []
 
 abbrev pub put : Readers → Key → Text → List Link → Meaning
 put a k file links = let read = read_content a.schemas (a.content k) (link_names links) (file_of file) in record {
-  tests = no_request links ∷ too_large file ∷ key_fault k ∷ is_no_partner a k.0 ∷ lacks Writes (a.model_right k) ∷ refused read ∷ ill_linked a k (a.content k) links read ∷ too_many links read ∷ [];
+  tests = no_request links ∷ too_large file ∷ key_fault k ∷ is_no_partner a k.owner ∷ lacks Writes (a.model_right k) ∷ refused read ∷ ill_linked a k (a.content k) links read ∷ too_many links read ∷ [];
   reply = stored read;
   edits = filled k (a.content k) links read;
 }
@@ -112,7 +110,7 @@ exported true file links = Linked file links
 
 abbrev pub export : Readers → Key → Bool → Meaning
 export a k linked = record {
-  tests = key_fault k ∷ is_no_partner a k.0 ∷ unseen (a.model_right k) ∷ has_links linked (a.content k) ∷ [];
+  tests = key_fault k ∷ is_no_partner a k.owner ∷ unseen (a.model_right k) ∷ has_links linked (a.content k) ∷ [];
   reply = exported linked (text_by (schema_of a.schemas (a.content k)) (a.content k)) (links_of (a.content k));
   edits = [];
 }

@@ -15,7 +15,8 @@ use Rattle.rp_rows.specs.declared.rows.Level.TheVariants.{Read}
 use Rattle.rp_rows.specs.declared.rows.Grant.{Grant}
 use Rattle.rp_rows.specs.declared.rows.ModelContent.{ModelContent}
 use Rattle.rp_rows.specs.Names.{is_name}
-use Rattle.rp_rows.specs.Rows.{text_cmp, Key, key_cmp, same_key, grant_key, Row, row_key, Model, GroupRow}
+use Rattle.rp_rows.specs.declared.rows.Key.{Key}
+use Rattle.rp_rows.specs.Rows.{text_cmp, key_cmp, same_key, grant_key, Row, row_key, Model, GroupRow}
 use Rattle.rp_rows.specs.Listings.{max_models, max_groups, max_members, IsListed}
 use Rattle.rp_rows.specs.Contents.{instance_name, names, link_name, greatest_of, references_of}
 use Rattle.rp_rows.specs.Instances.{max_instances, max_name}
@@ -47,14 +48,14 @@ abbrev pub IsSound : Content → Instance → Type 0
 IsSound x i = list_all (is_defined x) (references_of i) ≡ true
 
 -- a link has a name of no instance, and leads to another model of a partner's; whether there is such a model now isn't asked
-pub record IsValidLink (partners : List (List ℕ)) (k : List ℕ × List ℕ) (x : Content) (l : Link) : Type 0 where
+pub record IsValidLink (partners : List (List ℕ)) (k : Key) (x : Content) (l : Link) : Type 0 where
   pub free : is_among (names x.instances) l.name ≡ false
   pub target : l.target ≤ max_name
   pub owner : has_text partners l.owner ≡ true
   pub model : is_name l.model ≡ true
   pub other : same_key k (target_model l) ≡ false
 
-pub record IsValidContent (schemas : List Checked) (partners : List (List ℕ)) (k : List ℕ × List ℕ) (h : ModelContent) : Type 0 where
+pub record IsValidContent (schemas : List Checked) (partners : List (List ℕ)) (k : Key) (h : ModelContent) : Type 0 where
   -- one that is loaded
   pub schema : Checked
   pub loaded : schema_named schemas h.schema ≡ Some schema
@@ -80,8 +81,8 @@ pub record IsValidModel (schemas : List Checked) (partners : List (List ℕ)) (m
 
 -- a partner owns the member, and it has a name
 pub record IsValidMember (partners : List (List ℕ)) (k : Key) : Type 0 where
-  pub owner : has_text partners k.0 ≡ true
-  pub name : is_name k.1 ≡ true
+  pub owner : has_text partners k.owner ≡ true
+  pub name : is_name k.name ≡ true
 
 abbrev pub IsRead : Grant → Type 0
 IsRead g = g.level ≡ Read
