@@ -11,4 +11,4 @@ mod trees;
 pub use asked::{Asked, ask, ask_all};
 pub use known::{Known, Signature};
 pub use scope::TypingScope;
-pub use trees::{expression, expressions};
+pub use trees::{expression, expressions, qualifier};
