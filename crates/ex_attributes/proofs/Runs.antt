@@ -11,7 +11,7 @@ use Rattle.std.proofs.lemmas.Bool.Decides.{nat_tests}
 use Rattle.std.proofs.lemmas.List.{get_or-map, length-map}
 use Rattle.std.proofs.lemmas.List.Kept.{IsNonDecreasingBy-filter}
 use Rattle.plain_data.specs.Numbers.{is_among}
-use Rattle.descent.proofs.InTurn.{of_members}
+use Rattle.ancestors.proofs.InTurn.{of_members}
 use Rattle.ex_attributes.specs.declared.attribute.Attribute.{Attribute}
 use Rattle.ex_attributes.specs.Attributes.{named}
 use Rattle.ex_attributes.specs.Tables.{rows_at, places_at, places_from, HasNames, declarer_at}

@@ -19,7 +19,7 @@ use Rattle.ex_named.specs.declared.reference.AttributeSort.{AttributeSort}
 use Rattle.ex_named.specs.declared.reference.AttributeSort.TheVariants.{Explicit, Derived, Inverse}
 use Rattle.ex_named.specs.declared.reference.AttributeUse.{AttributeUse}
 use Rattle.ex_named.specs.Scopes.{and_then}
-use Rattle.lineage.specs.Lineage.{family, numbers_from}
+use Rattle.graphs.specs.Graphs.{family, numbers_from}
 use Rattle.ex_kinds.specs.declared.fault.TypeFaultKind.TheVariants.{Qualifier, Ambiguous}
 use Rattle.ex_kinds.specs.declared.kind.Sort.{Sort}
 use Rattle.ex_kinds.specs.declared.kind.Sort.TheVariants as k

@@ -11,7 +11,7 @@ ghost use Rattle.ex_attributes.specs.Tables as tables;
 use crate::attribute::Attribute;
 use crate::order::{attributes_ascend, attributes_in_order, is_same_place, place_order};
 use crate::tables::{places_of, push_rows_at, put_name, rows_at};
-use descent::Family;
+use ancestors::Family;
 use ex_kinds::ValueKind;
 use ex_named::AttributePlace;
 use std::alloc::{AllocError, Global};

@@ -11,7 +11,7 @@ use crate::attribute::Redeclared;
 use crate::keys::{place_key, redeclared_keys, redeclarer_key, redeclarer_keys};
 use crate::order::redeclarations_ascend;
 use crate::tables::{places_at, places_by_key, push_rows_at, rows_at};
-use descent::Family;
+use ancestors::Family;
 use ex_named::AttributePlace;
 use std::alloc::{AllocError, Global};
 use std::collections::BTreeMap;

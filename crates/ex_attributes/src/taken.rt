@@ -2,7 +2,7 @@
 
 ghost use Rattle.std.specs.Prelude.{◌≡◌, length, map, IfOk, OnOk};
 ghost use Rattle.std.specs.List.{list_any};
-ghost use Rattle.lineage.specs.Lineage.{numbers_from};
+ghost use Rattle.graphs.specs.Graphs.{numbers_from};
 ghost use Rattle.ex_attributes.specs.Attributes as spec;
 ghost use Rattle.ex_attributes.specs.Steps.{read};
 
@@ -16,11 +16,7 @@ use std::alloc::{AllocError, Global};
 
 impl Attributes {
     /// The attributes of this name that entities declare, entity after entity.
-    pub fn declared_named(
-        &self,
-        alloc: Global,
-        name: &str,
-    ) -> Result<Vec<&Attribute>, AllocError>
+    pub fn declared_named(&self, alloc: Global, name: &str) -> Result<Vec<&Attribute>, AllocError>
         ensures { IfOk result (λ found. map (λ a. a.now) found.items ≡ spec.named name.now self.now.declared) }
     {
         self.declared().named(alloc, name)

@@ -10,7 +10,7 @@ use Rattle.std.specs.List.{All}
 use Rattle.std.specs.List.Sorted.{IsStrictlySortedBy}
 use Rattle.std.specs.Ordering.{match_ordering, nat_cmp}
 use Rattle.plain_data.specs.Numbers.{is_among}
-use Rattle.lineage.proofs.Sets.{contained, is_among-insert}
+use Rattle.graphs.proofs.Sets.{contained, is_among-insert}
 use Rattle.ex_bind_algorithms.specs.Algorithms.{in_order}
 
 turned_or : (a b : Bool) → (a || b) ≡ (b || a)

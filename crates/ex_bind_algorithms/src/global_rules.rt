@@ -9,7 +9,7 @@ ghost use Rattle.ex_named.specs.Scopes.{entity as entity_named};
 ghost use Rattle.ex_bind_algorithms.specs.Algorithms as spec;
 
 use crate::variables::{frame_of, local_variables, push_labels, push_local_names};
-use descent::Family;
+use ancestors::Family;
 use ex_bind::{copy_name, domain_rules};
 use ex_bind_statements::statements;
 use ex_declarations::once;

@@ -11,7 +11,7 @@ use Rattle.ex_named.specs.declared.reference.AttributeUse.{AttributeUse}
 use Rattle.ex_named.specs.declared.declaration.NamedRedeclaration.{NamedRedeclaration}
 use Rattle.ex_named.specs.Outcomes.{refused, given}
 use Rattle.ex_named.specs.Scopes.{Declarations, entity}
-use Rattle.lineage.specs.Lineage.{family, is_ancestor}
+use Rattle.graphs.specs.Graphs.{family, is_ancestor}
 use Rattle.ex_scopes.specs.Sorts.{any_sort}
 use Rattle.ex_bind_entities.specs.Entities.{next, use_of, attribute_of, redeclaration_in, redeclaration, unique_in}
 use Rattle.ex_bind_entities.proofs.Ancestors.{none_declared, in_family}

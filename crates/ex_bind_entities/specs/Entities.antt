@@ -51,7 +51,7 @@ use Rattle.ex_named.specs.Expressions.{expression}
 use Rattle.ex_scopes.specs.Attributes.{meaning_if}
 use Rattle.ex_scopes.specs.Sorts.{any_sort, explicit_alone, explicit_or_derived}
 use Rattle.ex_bind.specs.Rules.{domain_rules, labels, scope_of}
-use Rattle.lineage.specs.Lineage.{family, is_ancestor}
+use Rattle.graphs.specs.Graphs.{family, is_ancestor}
 use Rattle.ex_declarations.specs.Declared.{once, explicit_names, derived_names, inverse_names}
 
 abbrev pub next : {A B : Type 0} → Outcome A → (A → Outcome B) → Outcome B

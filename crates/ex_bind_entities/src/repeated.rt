@@ -7,13 +7,13 @@ ghost use Rattle.ex_named.specs.declared.fault.NameFaultKind.TheVariants.{Declar
 ghost use Rattle.ex_named.specs.Outcomes.{Binds, Outcome};
 ghost use Rattle.ex_named.specs.Outcomes as outcomes;
 ghost use Rattle.ex_named.specs.Scopes.{attributes_of};
-ghost use Rattle.lineage.specs.Lineage.{family};
+ghost use Rattle.graphs.specs.Graphs.{family};
 ghost use Rattle.ex_bind_entities.specs.Entities as spec;
 ghost use Rattle.ex_bind_entities.specs.Inherited as parts;
 
 use crate::families::EntityContext;
 use crate::redeclarations::redeclaration;
-use descent::Family;
+use ancestors::Family;
 use ex_named::{Binding, Gathered, NameFaultKind, NamedRedeclaration, refused};
 use ex_scopes::Sorts;
 use ex_tree::{AttributeDeclaration, EntityBody, ExplicitAttribute, Name, QualifiedAttribute};

@@ -3,12 +3,12 @@
 ghost use Rattle.std.specs.Prelude.{◌≡◌, ℕ, List, Some, None, IfOk, IsTrue};
 ghost use Rattle.std.specs.List.Sorted.{IsStrictlyIncreasing};
 ghost use Rattle.plain_data.specs.Numbers.{is_among};
-ghost use Rattle.lineage.specs.Lineage.{line as line_of};
+ghost use Rattle.graphs.specs.Graphs.{line as line_of};
 ghost use Rattle.plain_data.specs.Gives.{Gives};
 ghost use Rattle.ex_subtypes.specs.Legal as legal;
 ghost use Rattle.ex_compiled.specs.Compiling as spec;
 
-use ex_subtypes::{Constraints, Illegal, SubtypeFault, EntitySet};
+use ex_subtypes::{Constraints, EntitySet, Illegal, SubtypeFault};
 use ex_types::CheckedSchema;
 use plain_data::Failure;
 use std::alloc::{AllocError, Global};

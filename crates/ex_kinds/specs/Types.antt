@@ -5,7 +5,7 @@ use Rattle.plain_data.specs.Numbers.{numbered}
 use Rattle.ex_named.specs.declared.declaration.NamedType.{NamedType}
 use Rattle.ex_named.specs.declared.declaration.NamedUnderlying.{NamedUnderlying}
 use Rattle.ex_named.specs.declared.declaration.NamedUnderlying.TheVariants as u
-use Rattle.lineage.specs.Lineage.{family}
+use Rattle.graphs.specs.Graphs.{family}
 use Rattle.ex_kinds.specs.declared.kind.ValueKind.{ValueKind}
 use Rattle.ex_kinds.specs.declared.kind.Sort.{Sort}
 use Rattle.ex_kinds.specs.declared.kind.Sort.TheVariants as k

@@ -9,9 +9,9 @@ use Rattle.std.specs.List.Sorted.{IsStrictlyIncreasing}
 use Rattle.std.specs.Ordering.{nat_cmp}
 use Rattle.plain_data.specs.Numbers.{is_among}
 use Rattle.plain_data.proofs.Numbers.{at_most_greatest}
-use Rattle.lineage.proofs.Families.{among_numbers, is_among-filter}
-use Rattle.lineage.proofs.Numbers.{numbers_are}
-use Rattle.lineage.specs.Lineage.{numbers_from}
+use Rattle.graphs.proofs.Families.{among_numbers, is_among-filter}
+use Rattle.graphs.proofs.Numbers.{numbers_are}
+use Rattle.graphs.specs.Graphs.{numbers_from}
 use Rattle.ex_layouts.specs.Entities.{ascending}
 
 -- each is the number or more, and more than the one before it

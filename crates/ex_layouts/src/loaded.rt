@@ -60,7 +60,7 @@ fn is_legal_set(alloc: Global, compiled: &Compiled, set: &EntitySet) -> Result<b
 
 impl<'s> LoadedSchema<'s> {
     ghost use Rattle.std.specs.Prelude.{◌≡◌, Some, IfOk};
-    ghost use Rattle.lineage.specs.Lineage.{line as found_line};
+    ghost use Rattle.graphs.specs.Graphs.{line as found_line};
     ghost use Rattle.ex_layouts.specs.Entities as spec;
 
     /// The schema with what is found in it once.

@@ -6,7 +6,7 @@ use Rattle.plain_data.specs.Numbers.{numbered, numbered_from}
 use Rattle.ex_tree.specs.declared.declaration.Entity.{Entity}
 use Rattle.ex_tree.specs.declared.declaration.TypeDeclaration.{TypeDeclaration}
 use Rattle.ex_named.specs.Scopes.{Declarations}
-use Rattle.lineage.specs.Lineage.{numbers_from}
+use Rattle.graphs.specs.Graphs.{numbers_from}
 use Rattle.ex_declarations.specs.Declared.{supertype_graph, type_graph}
 
 pub length-numbers : {A : Type 0} (f : ℕ → A) (start n : ℕ) → length (map f (numbers_from start n)) ≡ n

@@ -20,7 +20,7 @@ use Rattle.ex_named.specs.declared.reference.AttributeSort.TheVariants.{Explicit
 use Rattle.ex_named.specs.Outcomes.{Outcome, given, both, each}
 use Rattle.ex_named.specs.Scopes.{Declarations}
 use Rattle.ex_declarations.specs.Declared.{declarations, declared_names, entity_of, type_of, function_of, rule_of, entities, types, functions, rules, once, supertype_graph, type_graph, each_numbered}
-use Rattle.lineage.specs.Lineage.{line}
+use Rattle.graphs.specs.Graphs.{line}
 use Rattle.ex_bind_entities.specs.Entities.{named_entity, named_type}
 use Rattle.ex_bind_algorithms.specs.Algorithms.{constant, named_function, named_rule}
 

@@ -11,7 +11,7 @@ ghost use Rattle.ex_scopes.specs.Sorts.{admitted};
 
 use crate::seen::Seen;
 use crate::sorts::Sorts;
-use descent::Family;
+use ancestors::Family;
 use ex_named::{AttributeMeaning, AttributePlace};
 use name_tables::NameRows;
 use std::alloc::{AllocError, Global};

@@ -11,7 +11,7 @@ use crate::items::ItemRows;
 use crate::lookup::{is_among, is_marked, or_undeclared};
 use crate::scope::Scope;
 use crate::sorts::Sorts;
-use descent::Family;
+use ancestors::Family;
 use ex_named::{
     AttributeMeaning, AttributePlace, AttributeUse, Binding, Declared, EnumerationItem,
     NameFaultKind, NamedExpression, TypeName, refused,

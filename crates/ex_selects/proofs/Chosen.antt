@@ -15,10 +15,10 @@ use Rattle.ex_named.specs.declared.declaration.NamedType.{NamedType}
 use Rattle.ex_named.specs.declared.declaration.NamedUnderlying.{NamedUnderlying}
 use Rattle.ex_named.specs.declared.declaration.NamedUnderlying.TheVariants as u
 use Rattle.ex_renamings.specs.Renamings.{end, is_listed, is_select}
-use Rattle.lineage.specs.Lineage.{is_ancestor, family}
-use Rattle.lineage.proofs.Families.{family_sorted, in_family, is_among-filter}
-use Rattle.lineage.proofs.Sets.{or_left, or_right}
-use Rattle.descent.proofs.Members.{same_keys}
+use Rattle.graphs.specs.Graphs.{is_ancestor, family}
+use Rattle.graphs.proofs.Families.{family_sorted, in_family, is_among-filter}
+use Rattle.graphs.proofs.Sets.{or_left, or_right}
+use Rattle.ancestors.proofs.Members.{same_keys}
 use Rattle.ex_selects.specs.declared.sorts.Class.{Class}
 use Rattle.ex_selects.specs.declared.sorts.Class.TheVariants as class
 use Rattle.ex_selects.specs.declared.sorts.Sort.{Sort}

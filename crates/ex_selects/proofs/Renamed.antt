@@ -15,10 +15,10 @@ use Rattle.ex_named.specs.declared.declaration.NamedUnderlying.TheVariants as u
 use Rattle.ex_renamings.specs.Leading.{is_marked}
 use Rattle.ex_renamings.specs.Renamings.{end, is_listed, is_select, lists_members, renamed, renamed_by, renamed_times}
 use Rattle.ex_renamings.proofs.Marks.{any_same, leading_at}
-use Rattle.lineage.specs.Lineage.{supertypes, Reaches, IsAncestor, is_ancestor, family}
-use Rattle.lineage.proofs.Bounded.{any_at, any_where, is_ancestor_exact}
-use Rattle.lineage.proofs.Families.{family_sorted, in_family, is_among-filter}
-use Rattle.lineage.proofs.Sets.{either, or_left, or_right}
+use Rattle.graphs.specs.Graphs.{supertypes, Reaches, IsAncestor, is_ancestor, family}
+use Rattle.graphs.proofs.Bounded.{any_at, any_where, is_ancestor_exact}
+use Rattle.graphs.proofs.Families.{family_sorted, in_family, is_among-filter}
+use Rattle.graphs.proofs.Sets.{either, or_left, or_right}
 use Rattle.ex_selects.specs.Ends.{choices, chooses_instances, defined, is_entity, members, members_by, selection}
 use Rattle.ex_selects.specs.Shared.{chosen_at_once, listing, lists_entity, shared, unrenamed, with_instances}
 use Rattle.ex_selects.proofs.Standing.{both_true, first_true, second_true}

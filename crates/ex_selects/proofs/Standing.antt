@@ -11,11 +11,11 @@ use Rattle.std.specs.Ordering.{nat_cmp}
 use Rattle.std.specs.declared.cmp.Ordering.TheVariants.{Less}
 use Rattle.plain_data.specs.Numbers.{is_among}
 use Rattle.plain_data.proofs.Numbers.{only_one}
-use Rattle.lineage.specs.Lineage.{family, supertypes, IsAncestor, is_ancestor, Reaches}
-use Rattle.lineage.proofs.Bounded.{any_at, any_where, is_ancestor_exact}
-use Rattle.lineage.proofs.Families.{in_family, is_among-filter}
-use Rattle.lineage.proofs.Search.{ancestor_direct}
-use Rattle.lineage.proofs.Sets.{either, in_either, in_first, in_last, or_left, or_right}
+use Rattle.graphs.specs.Graphs.{family, supertypes, IsAncestor, is_ancestor, Reaches}
+use Rattle.graphs.proofs.Bounded.{any_at, any_where, is_ancestor_exact}
+use Rattle.graphs.proofs.Families.{in_family, is_among-filter}
+use Rattle.graphs.proofs.Search.{ancestor_direct}
+use Rattle.graphs.proofs.Sets.{either, in_either, in_first, in_last, or_left, or_right}
 use Rattle.ex_selects.specs.declared.sorts.Class.{Class}
 use Rattle.ex_selects.specs.declared.sorts.Sort.{Sort}
 use Rattle.ex_selects.specs.declared.sorts.Sort.TheVariants as sort

@@ -11,7 +11,7 @@ ghost use Rattle.ex_selects.specs.Sorts as sorted;
 ghost use Rattle.ex_selects.specs.Kept as spec;
 
 use crate::sorts::{Class, Sort, is_of, sort_at};
-use lineage::{NONE, subtypes, supertypes, traces};
+use graphs::{NONE, subtypes, supertypes, traces};
 use plain_data::Rows;
 use std::alloc::{AllocError, Global};
 use std::collections::BTreeSet;

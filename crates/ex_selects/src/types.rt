@@ -17,7 +17,7 @@ use crate::kept::{Kept, kept_at, kept_by_class, table_of};
 use crate::selects::{shared_selection, unrenamed, walked_choices, with_instances};
 use crate::sorts::{Class, all_sorts};
 use crate::takers::{Takers, all_takers, takers_at};
-use descent::Descent;
+use ancestors::Descent;
 use ex_named::NamedType;
 use ex_renamings::{Renamings, is_marked};
 use name_tables::NameTable;

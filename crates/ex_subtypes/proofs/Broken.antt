@@ -5,7 +5,7 @@ use Rattle.std.specs.Prelude.{slice_get}
 use Rattle.std.specs.List.{list_all, list_any}
 use Rattle.std.specs.Option.{option_map, option_map_or}
 use Rattle.plain_data.specs.Numbers.{is_among}
-use Rattle.lineage.specs.Lineage.{supertypes}
+use Rattle.graphs.specs.Graphs.{supertypes}
 use Rattle.ex_named.specs.declared.declaration.NamedEntity.{NamedEntity}
 use Rattle.ex_named.specs.declared.declaration.NamedSupertype.{NamedSupertype}
 use Rattle.ex_subtypes.specs.declared.constraints.Constraint.{Constraint}

@@ -2,9 +2,9 @@
 use Rattle.std.proofs.Common.{◌≡◌, ℕ, zero, suc, Bool, true, false, ◌||◌, ◌==◌, List, [], ◌∷◌, ◌++◌, Option, Some, None, ◌⊎◌, inl, inr, ⊎_elim, refl, sym, ◌∙◌, ap, subst}
 use Rattle.std.proofs.lemmas.Bool.{cases_Bool, eq-eqb, eqb-true}
 use Rattle.plain_data.specs.Numbers.{is_among}
-use Rattle.lineage.specs.Lineage.{supertypes, joined, joined_at, line_within}
-use Rattle.lineage.proofs.Sets.{either, in_either, in_first, in_last, in_second, or_left, or_right}
-use Rattle.lineage.proofs.Lines.{joined_some}
+use Rattle.graphs.specs.Graphs.{supertypes, joined, joined_at, line_within}
+use Rattle.graphs.proofs.Sets.{either, in_either, in_first, in_last, in_second, or_left, or_right}
+use Rattle.graphs.proofs.Lines.{joined_some}
 use Rattle.ex_subtypes.specs.Legal.{is_beside}
 
 module _ (graph : List (List ℕ)) where

@@ -10,7 +10,7 @@ use Rattle.std.specs.BTreeSet.{insert_key}
 use Rattle.std.specs.Ordering.{nat_cmp}
 use Rattle.std.specs.Result.{result_ok}
 use Rattle.plain_data.specs.Numbers.{is_among}
-use Rattle.lineage.proofs.Sets.{is_among-insert}
+use Rattle.graphs.proofs.Sets.{is_among-insert}
 use Rattle.ex_subtypes.specs.Edges.{is_that, stands_at}
 
 none_among : (xs : List ℕ) (x : ℕ) → ((k : ℕ) → k < length xs → (get_or xs k 0 == x) ≡ false) → is_among xs x ≡ false

@@ -4,7 +4,7 @@ use Rattle.std.proofs.lemmas.Bool.{and_parts, eq-eqb, le-ltb, lt-ltb, ltb-false,
 use Rattle.std.proofs.lemmas.List.{get_or_append_left, get_or-append-add, length-append}
 use Rattle.std.specs.List.{flat_map}
 use Rattle.plain_data.specs.Numbers.{is_among}
-use Rattle.lineage.proofs.Families.{is_among-filter}
+use Rattle.graphs.proofs.Families.{is_among-filter}
 use Rattle.ex_named.specs.declared.declaration.NamedSupertype.{NamedSupertype}
 use Rattle.ex_named.specs.declared.declaration.NamedSupertype.TheFolds.{fold-roll-NamedSupertype, ind-NamedSupertype, map-NamedSupertype}
 use Rattle.ex_named.specs.declared.declaration.NamedSupertype.TheOpen.{NamedSupertype-F}

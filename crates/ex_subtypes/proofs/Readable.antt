@@ -10,7 +10,7 @@ use Rattle.std.specs.Ordering.{nat_cmp}
 use Rattle.plain_data.specs.Numbers.{is_among, numbered_from}
 use Rattle.ex_named.specs.declared.declaration.NamedEntity.{NamedEntity}
 use Rattle.ex_named.specs.declared.declaration.NamedSupertype.{NamedSupertype}
-use Rattle.lineage.proofs.Sets.{is_among-insert, or_left, or_right}
+use Rattle.graphs.proofs.Sets.{is_among-insert, or_left, or_right}
 use Rattle.ex_subtypes.specs.declared.build.Mention.{Mention}
 use Rattle.ex_subtypes.specs.declared.build.SubtypeFault.{SubtypeFault}
 use Rattle.ex_subtypes.specs.declared.build.SubtypeFaultKind.TheVariants.{NamedTwice, NotDirectSubtype}

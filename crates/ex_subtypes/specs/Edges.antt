@@ -1,7 +1,7 @@
 -- Steps between places of a set, in any order.
 use Rattle.std.specs.Prelude.{◌≡◌, ℕ, Bool, false, ◌&&◌, ◌==◌, nat_lt, List, length, Option, Some, None}
 use Rattle.plain_data.specs.Numbers.{is_among}
-use Rattle.lineage.specs.Lineage.{supertypes}
+use Rattle.graphs.specs.Graphs.{supertypes}
 use Rattle.ex_subtypes.specs.Legal.{member}
 
 abbrev pub is_that : Option ℕ → ℕ → Bool

@@ -7,7 +7,7 @@ use Rattle.std.specs.Ordering.{is_lt, nat_cmp}
 use Rattle.plain_data.specs.Numbers.{is_among}
 use Rattle.ex_named.specs.declared.declaration.NamedEntity.{NamedEntity}
 use Rattle.ex_named.specs.declared.declaration.NamedSupertype.{NamedSupertype}
-use Rattle.lineage.specs.Lineage.{supertypes, numbers_from, is_ancestor}
+use Rattle.graphs.specs.Graphs.{supertypes, numbers_from, is_ancestor}
 use Rattle.ex_subtypes.specs.declared.choices.Choice.{Choice}
 use Rattle.ex_subtypes.specs.declared.choices.Choice.TheVariants.{Neither}
 use Rattle.ex_subtypes.specs.declared.legal.Illegal.{Illegal}

@@ -9,7 +9,7 @@ ghost use Rattle.ex_subtypes.specs.Legal.{constraints_of};
 use crate::family::all_subtypes;
 use crate::sets::set_of;
 use ex_named::{NamedEntity, NamedSupertype};
-use lineage::{is_in, supertypes};
+use graphs::{is_in, supertypes};
 use std::alloc::{AllocError, Global};
 use std::collections::BTreeSet;
 

@@ -3,7 +3,7 @@
 ghost use Rattle.std.specs.Prelude.{◌≡◌, ℕ, List, Some, None, IfOk, IsTrue};
 ghost use Rattle.std.specs.List.Sorted.{IsStrictlyIncreasing};
 ghost use Rattle.plain_data.specs.Numbers.{is_among};
-ghost use Rattle.lineage.specs.Lineage.{line as line_of};
+ghost use Rattle.graphs.specs.Graphs.{line as line_of};
 ghost use Rattle.plain_data.specs.Gives.{Gives};
 ghost use Rattle.ex_subtypes.specs.Faults as faults;
 ghost use Rattle.ex_subtypes.specs.Legal as spec;
@@ -11,8 +11,8 @@ ghost use Rattle.ex_subtypes.specs.Nodes.{all_kept};
 
 use crate::build::{SubtypeFault, first_fault};
 use crate::constraints::{Constraint, all_constraints, are_free};
-use crate::legal::{Illegal, is_abstract, refusal};
 use crate::entity_set::EntitySet;
+use crate::legal::{Illegal, is_abstract, refusal};
 use ex_named::NamedEntity;
 use plain_data::Failure;
 use std::alloc::{AllocError, Global};

@@ -3,14 +3,14 @@
 ghost use Rattle.std.specs.Prelude.{◌≡◌, ℕ, ◌&&◌, ◌||◌, ◌==◌, nat_lt, length, zero, is_some, IfOk, IfSome};
 ghost use Rattle.std.specs.List.{list_all};
 ghost use Rattle.plain_data.specs.Numbers.{is_among};
-ghost use Rattle.lineage.specs.Lineage as lineage;
+ghost use Rattle.graphs.specs.Graphs as graphs;
 ghost use Rattle.ex_subtypes.specs.Edges as edges;
 ghost use Rattle.ex_subtypes.specs.Legal as spec;
 
-use crate::family::supertypes_of;
 use crate::entity_set::EntitySet;
+use crate::family::supertypes_of;
 use ex_named::NamedEntity;
-use lineage::{all_above, is_in, subtypes, supertypes};
+use graphs::{all_above, is_in, subtypes, supertypes};
 use plain_data::Rows;
 use std::alloc::{AllocError, Global};
 use std::collections::BTreeSet;
@@ -53,7 +53,7 @@ fn steps_up(
     set: &EntitySet,
 ) -> Result<Vec<Rows<usize>>, AllocError>
     ensures length { IfOk result (λ up. length up.items ≡ length set.now) }
-    ensures up { IfOk result (λ up. (e n : ℕ) → is_among (lineage.supertypes up.items e) n ≡ edges.goes_up (spec.graph entities.now) set.now e n) }
+    ensures up { IfOk result (λ up. (e n : ℕ) → is_among (graphs.supertypes up.items e) n ≡ edges.goes_up (spec.graph entities.now) set.now e n) }
 {
     let members = set.as_slice();
     let mut up = Vec::with_capacity(alloc, members.len())?;
@@ -79,7 +79,7 @@ fn all_joined(
     other: &[Rows<usize>],
 ) -> Result<Vec<Rows<usize>>, AllocError>
     requires { length other.now ≡ length one.now }
-    ensures { IfOk result (λ both. (e n : ℕ) → is_among (lineage.supertypes both.items e) n ≡ (is_among (lineage.supertypes one.now e) n || is_among (lineage.supertypes other.now e) n)) }
+    ensures { IfOk result (λ both. (e n : ℕ) → is_among (graphs.supertypes both.items e) n ≡ (is_among (graphs.supertypes one.now e) n || is_among (graphs.supertypes other.now e) n)) }
 {
     let mut both = Vec::with_capacity(alloc, one.len())?;
     for place in 0..one.len() {
@@ -96,7 +96,7 @@ fn is_reached(reached: &BTreeSet<usize>, place: usize) -> bool
 
 /// Whether each of so many places is 0 or was reached, and there is one.
 fn are_reached(reached: &BTreeSet<usize>, count: usize) -> bool
-    ensures { result ≡ (nat_lt zero count && list_all (λ place. place == zero || is_among reached.now.keys place) (lineage.numbers_from zero count)) }
+    ensures { result ≡ (nat_lt zero count && list_all (λ place. place == zero || is_among reached.now.keys place) (graphs.numbers_from zero count)) }
 {
     for place in 0..count {
         if !is_reached(reached, place) {

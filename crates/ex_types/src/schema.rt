@@ -4,7 +4,7 @@ ghost use Rattle.std.specs.Prelude.{◌≡◌, ◌↔◌, ℕ, IfOk, IsTrue, Som
 ghost use Rattle.std.specs.List.Sorted.{IsStrictlyIncreasing};
 ghost use Rattle.plain_data.specs.Numbers.{is_among};
 ghost use Rattle.plain_data.specs.Gives.{Gives};
-ghost use Rattle.lineage.specs.Lineage as lineage;
+ghost use Rattle.graphs.specs.Graphs as graphs;
 ghost use Rattle.name_tables.specs.Order.{rank};
 ghost use Rattle.name_tables.specs.Names.{place_of};
 ghost use Rattle.ex_resolve.specs.Schemas as schemas;
@@ -176,14 +176,14 @@ impl CheckedSchema {
     /// The entities above one, by their numbers in ascending order.
     pub fn ancestors(&self, alloc: Global, entity: usize) -> Result<Rows<usize>, AllocError>
         ensures ascending { IfOk result (λ found. IsStrictlyIncreasing found) }
-        ensures exact { IfOk result (λ found. (a : ℕ) → IsTrue (is_among found a) ↔ lineage.IsAncestor self.now.named.supertypes entity a) }
+        ensures exact { IfOk result (λ found. (a : ℕ) → IsTrue (is_among found a) ↔ graphs.IsAncestor self.now.named.supertypes entity a) }
     {
         self.resolved.ancestors(alloc, entity)
     }
 
     /// The entities above one and itself, in the order in which files write their values.
     pub fn line(&self, alloc: Global, entity: usize) -> Result<Rows<usize>, AllocError>
-        ensures { IfOk result (λ found. lineage.line self.now.named.supertypes entity ≡ Some found) }
+        ensures { IfOk result (λ found. graphs.line self.now.named.supertypes entity ≡ Some found) }
     {
         self.resolved.line(alloc, entity)
     }

@@ -7,7 +7,7 @@ use Rattle.std.specs.Str.{str_to_ascii_uppercase}
 use Rattle.plain_data.specs.Numbers.{is_among}
 use Rattle.ex_slots.specs.Slots.{Slot}
 use Rattle.ex_types.specs.Checked.{Checked}
-use Rattle.lineage.proofs.Certain.{each_passes}
+use Rattle.graphs.proofs.Certain.{each_passes}
 use Rattle.p21_mappings.specs.Instances.{and_then, by_entities, by_entity, by_mapping, by_layout, by_several, counted, each, has_twice, in_places, instance, keywords, made, part, repeats, same_counts}
 use Rattle.p21_values.specs.Taking.{all_there}
 use Rattle.ex_layouts.specs.Entities.{entity_spelled}

@@ -11,7 +11,7 @@ use Rattle.ex_subtypes.specs.Legal.{graph, is_closed, is_connected, refusal}
 use Rattle.ex_subtypes.specs.declared.legal.Illegal.{Illegal}
 use Rattle.ex_subtypes.specs.declared.legal.Illegal.TheVariants.{NotClosed, NotConnected}
 use Rattle.ex_types.specs.Checked.{Checked, entity_names}
-use Rattle.lineage.proofs.Sets.{either}
+use Rattle.graphs.proofs.Sets.{either}
 use Rattle.p21_mappings.specs.Instances.{Read, and_then, by_entities, by_entity, by_mapping, by_layout, by_several, counted, each, has_twice, in_places, instance, keywords, made, part, repeats, same_counts, value}
 use Rattle.p21_values.specs.Taking.{all_there}
 use Rattle.ex_layouts.specs.Entities.{ascending, entity_spelled, is_legal, line_of, name_rank}

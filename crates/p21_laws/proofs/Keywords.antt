@@ -7,7 +7,7 @@ use Rattle.std.specs.List.{list_any}
 use Rattle.std.specs.Str.{bytes_eq}
 use Rattle.plain_data.specs.Numbers.{is_among}
 use Rattle.ex_types.specs.Checked.{Checked, entity_names}
-use Rattle.lineage.proofs.Sets.{either}
+use Rattle.graphs.proofs.Sets.{either}
 use Rattle.name_tables.specs.Names.{place_of}
 use Rattle.p21_mappings.specs.Instances.{keywords, repeats}
 use Rattle.p21_values.specs.Taking.{all_there, with_first}

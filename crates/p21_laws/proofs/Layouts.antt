@@ -9,9 +9,9 @@ use Rattle.ex_subtypes.specs.Legal.{graph, is_closed, refusal}
 use Rattle.ex_subtypes.specs.declared.legal.Illegal.{Illegal}
 use Rattle.ex_subtypes.specs.declared.legal.Illegal.TheVariants.{NotClosed}
 use Rattle.ex_types.specs.Checked.{Checked}
-use Rattle.lineage.proofs.Certain.{each_passes}
-use Rattle.lineage.proofs.Rises.{Closed, line_within_closed}
-use Rattle.lineage.specs.Lineage.{each_once, line_within, supertypes}
+use Rattle.graphs.proofs.Certain.{each_passes}
+use Rattle.graphs.proofs.Rises.{Closed, line_within_closed}
+use Rattle.graphs.specs.Graphs.{each_once, line_within, supertypes}
 use Rattle.ex_layouts.specs.Entities.{ascending, is_legal, line_of}
 use Rattle.ex_layouts.specs.Layouts.{leaf}
 use Rattle.p21_laws.proofs.Sets.{AreSame, all_same, any_flat, any_same, found, in_once, in_selected, none_same, selected_same}

@@ -6,11 +6,11 @@ use Rattle.std.proofs.lemmas.List.Folds.{list_any-append}
 use Rattle.std.specs.List.{find, flat_map, list_all, list_any}
 use Rattle.plain_data.specs.Numbers.{is_among}
 use Rattle.plain_data.proofs.Numbers.{at_most_greatest}
-use Rattle.lineage.proofs.Bounded.{any_at, any_where}
-use Rattle.lineage.proofs.Certain.{each_passes}
-use Rattle.lineage.proofs.Families.{among_numbers, is_among-filter}
-use Rattle.lineage.proofs.Sets.{either, or_right}
-use Rattle.lineage.specs.Lineage.{each_once, numbers_from}
+use Rattle.graphs.proofs.Bounded.{any_at, any_where}
+use Rattle.graphs.proofs.Certain.{each_passes}
+use Rattle.graphs.proofs.Families.{among_numbers, is_among-filter}
+use Rattle.graphs.proofs.Sets.{either, or_right}
+use Rattle.graphs.specs.Graphs.{each_once, numbers_from}
 
 abbrev pub AreSame : List ℕ → List ℕ → Type 0
 AreSame xs ys = (n : ℕ) → is_among xs n ≡ is_among ys n

@@ -10,7 +10,7 @@ use Rattle.ex_named.specs.declared.declaration.NamedType.{NamedType}
 use Rattle.ex_named.specs.declared.expression.NamedDataType.{NamedDataType}
 use Rattle.ex_tree.specs.declared.data_type.SimpleType.TheVariants as simple
 use Rattle.ex_renamings.specs.Renamings as selects
-use Rattle.lineage.specs.Lineage.{family}
+use Rattle.graphs.specs.Graphs.{family}
 use Rattle.name_tables.specs.Names.{place_of}
 use Rattle.p21_spelling.proofs.Runs.{both_hold, first_holds, second_holds}
 use Rattle.p21_spelling.proofs.Values.{spelling_roll}

@@ -7,6 +7,5 @@ mod token;
 mod tokens;
 mod usual;
 
-pub use front::MAX_NAME;
 pub use token::{Token, TokenKind};
 pub use tokens::Tokens;

@@ -14,8 +14,8 @@ ghost use Rattle.p21_lexemes.specs.Usual.{IsNear};
 use crate::front::{are_few, byte, greatest, is_letter, word_len};
 use crate::kinds::{same_kind, single_kind};
 use crate::token::TokenKind;
-use rp_numbers::{digits_len, sign_len};
 use p21_tree::MAX_NAME;
+use rp_numbers::{digits_len, sign_len};
 
 /// The length of `#` and a few digits.
 #[tactic(auto, unfolding(crate::specs::Lexical::name))]

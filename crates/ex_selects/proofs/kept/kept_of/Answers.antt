@@ -1,6 +1,6 @@
 use Rattle.std.proofs.Common.{◌≡◌, ◌||◌, ◌&&◌, ◌==◌, ℕ, subst, ◌∙◌, ap}
 use Rattle.plain_data.specs.Numbers.{is_among}
-use Rattle.lineage.specs.Lineage.{supertypes}
+use Rattle.graphs.specs.Graphs.{supertypes}
 use Rattle.ex_selects.specs.Sorts.{sort_at, is_of}
 use Rattle.ex_selects.specs.Kept.{IsUnited, StandFor}
 use Rattle.ex_selects.proofs.Standing.{family_stands}

@@ -2,7 +2,7 @@ use Rattle.std.proofs.Common.{◌≡◌, ◌<◌, ℕ, ◌&&◌, true, nat_lt, l
 use Rattle.std.proofs.lemmas.Bool.Decides.{nat_tests}
 use Rattle.std.specs.List.{flat_map}
 use Rattle.plain_data.specs.Numbers.{is_among}
-use Rattle.lineage.specs.Lineage.{supertypes}
+use Rattle.graphs.specs.Graphs.{supertypes}
 use Rattle.ex_subtypes.specs.Faults as spec
 use Rattle.ex_subtypes.specs.Legal.{constraints_of, is_direct_subtype}
 use Rattle.ex_subtypes.proofs.Readable.{first_fault-next}

@@ -1,7 +1,7 @@
 use Rattle.std.proofs.Common.{◌≡◌, drop}
 use Rattle.std.specs.List.{list_all}
 use Rattle.plain_data.specs.Numbers.{is_among}
-use Rattle.lineage.specs.Lineage.{supertypes}
+use Rattle.graphs.specs.Graphs.{supertypes}
 use Rattle.ex_subtypes.specs.Legal as spec
 use Rattle.ex_subtypes.proofs.graph.is_closed.Given as goal
 

@@ -1,3 +1,0 @@
-pub mod Lineage
-pub mod Traces
-pub mod Placed
