@@ -3,6 +3,7 @@
 
 mod decimal;
 mod fronts;
+mod operators;
 mod order;
 mod spelling;
 mod whole;
