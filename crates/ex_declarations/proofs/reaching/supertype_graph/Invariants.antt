@@ -1,7 +1,7 @@
 use Rattle.std.proofs.Common.{◌≡◌, ◌++◌, map, drop}
 use Rattle.std.specs.List.{filter_map}
 use Rattle.ex_named.specs.Scopes.{declared, as_entity, and_then}
-use Rattle.ex_declarations.proofs.graphs.supertype_graph.Given as goal
+use Rattle.ex_declarations.proofs.reaching.supertype_graph.Given as goal
 
 abbrev pub invariant-loop-entity : goal.invariant-loop-entity
 invariant-loop-entity l =

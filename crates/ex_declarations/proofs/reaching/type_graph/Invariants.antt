@@ -1,6 +1,6 @@
 use Rattle.std.proofs.Common.{◌≡◌, ◌++◌, map, drop}
 use Rattle.ex_declarations.specs.Declared as spec
-use Rattle.ex_declarations.proofs.graphs.type_graph.Given as goal
+use Rattle.ex_declarations.proofs.reaching.type_graph.Given as goal
 
 abbrev pub invariant-loop-declared : goal.invariant-loop-declared
 invariant-loop-declared l =

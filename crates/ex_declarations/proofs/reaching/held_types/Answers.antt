@@ -4,7 +4,7 @@ use Rattle.std.proofs.lemmas.Result.{IfOk-weaker}
 use Rattle.ex_named.specs.Scopes.{declared, as_defined, and_then}
 use Rattle.ex_declarations.specs.Declared as spec
 use Rattle.ex_declarations.proofs.Selected.{selected}
-use Rattle.ex_declarations.proofs.graphs.held_types.Goals as goal
+use Rattle.ex_declarations.proofs.reaching.held_types.Goals as goal
 
 pub returns-in-Select : goal.returns-in-Select
 returns-in-Select c =
