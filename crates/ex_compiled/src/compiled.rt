@@ -8,7 +8,7 @@ ghost use Rattle.text_forms.specs.Gives.{Gives};
 ghost use Rattle.ex_subtypes.specs.Legal as legal;
 ghost use Rattle.ex_compiled.specs.Compiling as spec;
 
-use ex_subtypes::{Constraints, Illegal, SubtypeFault, EntitySet};
+use ex_subtypes::{Constraints, EntitySet, Illegal, SubtypeFault};
 use ex_types::CheckedSchema;
 use std::alloc::{AllocError, Global};
 use std::marker::Model;

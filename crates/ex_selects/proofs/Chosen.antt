@@ -25,7 +25,7 @@ use Rattle.ex_selects.specs.declared.sorts.Sort.{Sort}
 use Rattle.ex_selects.specs.declared.sorts.Sort.TheVariants as sort
 use Rattle.ex_selects.specs.Ends.{Base, Plain, Instance, Aggregate, Enumeration, Select, Nothing, base_by, base_of, choices, selection}
 use Rattle.ex_selects.specs.Kept.{single, suffices, IsCovered, StandFor, StandForClass, of_class}
-use Rattle.ex_selects.specs.Levels.{asked_choice, element}
+use Rattle.ex_selects.specs.Levels.{chosen_aggregate, element}
 use Rattle.ex_selects.specs.Shared.{shared, unrenamed}
 use Rattle.ex_selects.specs.Sorts.{all_sorts, is_of, of_base, sort_at, sort_of}
 use Rattle.ex_selects.proofs.Renamed.{choices_shared, many_shared, same_truth}
@@ -220,11 +220,11 @@ module _ (types : List NamedType) where
   no_element Nothing e = refl
 
   pub asked_kept : (n : ℕ) (kept : List ℕ) → StandForClass types class.Lists n kept
-      → filter_map (asked_choice types) (choices types n) ≡ filter_map (asked_choice types) kept
+      → filter_map (chosen_aggregate types) (choices types n) ≡ filter_map (chosen_aggregate types) kept
   asked_kept n kept s =
-      all_same class.Lists (asked_choice types) (λ k m is. ap (λ b. option_map (λ t. record { number = Some k; target = t }) (element types b)) is)
+      all_same class.Lists (chosen_aggregate types) (λ k m is. ap (λ b. option_map (λ t. record { number = Some k; target = t }) (element types b)) is)
       (λ k e. ap (option_map (λ t. record { number = Some k; target = t })) (no_element (base_of types k) e)) n
-      ∙ ap (filter_map (asked_choice types)) (exact n kept s)
+      ∙ ap (filter_map (chosen_aggregate types)) (exact n kept s)
 
   -- ---- which are chosen
 

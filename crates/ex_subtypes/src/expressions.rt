@@ -11,8 +11,8 @@ ghost use Rattle.ex_subtypes.specs.Nodes.{all_kept};
 
 use crate::build::{SubtypeFault, first_fault};
 use crate::constraints::{Constraint, all_constraints, are_free};
-use crate::legal::{Illegal, is_abstract, refusal};
 use crate::entity_set::EntitySet;
+use crate::legal::{Illegal, is_abstract, refusal};
 use ex_named::NamedEntity;
 use std::alloc::{AllocError, Global};
 use std::marker::Model;

@@ -7,8 +7,8 @@ ghost use Rattle.lineage.specs.Lineage as lineage;
 ghost use Rattle.ex_subtypes.specs.Edges as edges;
 ghost use Rattle.ex_subtypes.specs.Legal as spec;
 
-use crate::family::supertypes_of;
 use crate::entity_set::EntitySet;
+use crate::family::supertypes_of;
 use ex_named::NamedEntity;
 use lineage::{all_above, is_in, subtypes, supertypes};
 use plain_data::Rows;

@@ -10,10 +10,10 @@ ghost use Rattle.ex_subtypes.specs.Nodes as nodes;
 
 use crate::choices::is_neither;
 use crate::constraints::{Constraint, constraint_at};
+use crate::entity_set::EntitySet;
 use crate::family::all_supertypes;
 use crate::graph::{connected_below, is_closed};
 use crate::places::touched;
-use crate::entity_set::EntitySet;
 use crate::walks::taken_at;
 use ex_named::NamedEntity;
 use lineage::{is_in, supertypes};

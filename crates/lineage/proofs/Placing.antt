@@ -43,7 +43,6 @@ passed marks placed member beyond all = kept_at marks (is_among placed) (is_amon
     apart : (n : ℕ) → n < length marks → (member == n) ≡ false
     apart n less = grind (arith, nat_tests, beyond)
 
-
 pub with_known : (placed : List ℕ) (member : ℕ) → is_among placed member ≡ true → (n : ℕ) → is_among placed n ≡ ((member == n) || is_among placed n)
 with_known placed member there n = either_way (member == n) (is_among placed n) (λ h. ap (is_among placed) (sym (eqb-true member n h)) ∙ there)
   where
