@@ -9,6 +9,7 @@ use Rattle.std.specs.List.{dedup, dedup_from}
 use Rattle.std.specs.List.Sorted.{IsSorted, IsPermutation, IsStrictlySortedBy}
 use Rattle.std.specs.Ordering.{nat_cmp}
 use Rattle.plain_data.specs.Numbers.{is_among}
+use Rattle.plain_data.proofs.Numbers.{is_among-push}
 use Rattle.lineage.specs.Lineage.{family}
 use Rattle.lineage.proofs.Families.{family_sorted, in_family}
 use Rattle.descent.specs.Kept.{AreAbove}
@@ -31,7 +32,7 @@ few_are_family graph e above sorted kept are within moved rise is =
     same_keys kept (family graph e) ordered (family_sorted graph e) (λ q.
     let deduped = ap (λ l. is_among l q) is ∙ among_dedup sorted q in
     let permuted = list_any-IsPermutation (λ m. m == q) (above ++ e ∷ []) sorted moved in
-    let pushed = among_pushed above e q in
+    let pushed = is_among-push above e q in
     let among = in_family graph e q in
     let over = are q in
     grind (arith, nat_tests, deduped, permuted, pushed, among, over, within))

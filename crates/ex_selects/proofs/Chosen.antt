@@ -60,10 +60,10 @@ unfolding IsStrictlySortedBy
 same_single [] [] up rise within covered = refl
 same_single [] (b ∷ ys) up rise within covered = let no = within b (here b ys) in cc
 same_single (a ∷ []) [] up rise within covered = elim (covered a (here a [])) [ inl there ↦ cc | inr two ↦ let no = two.first_there in cc ]
-same_single (a ∷ []) (b ∷ []) up rise within covered = let same = one b a (within b (here b [])) in ap (λ k. Some k) same
+same_single (a ∷ []) (b ∷ []) up rise within covered = let same = only_one b a (within b (here b [])) in ap (λ k. Some k) same
 same_single (a ∷ []) (b ∷ c ∷ ys) up rise within covered =
-    let first = one b a (within b (here b (c ∷ ys))) in
-    let second = one c a (within c (next b c ys)) in
+    let first = only_one b a (within b (here b (c ∷ ys))) in
+    let second = only_one c a (within c (next b c ys)) in
     let less = rise.0.0 in
     absurd (grind (arith, nat_tests, less))
 same_single (a ∷ b ∷ xs) [] up rise within covered = elim (covered a (here a (b ∷ xs))) [ inl there ↦ cc | inr two ↦ let no = two.first_there in cc ]
