@@ -1,5 +1,5 @@
 -- A list of few ancestors, once it is in order and has no number twice.
-use Rattle.std.proofs.Common.{◌≡◌, ℕ, ◌<◌, Bool, true, false, ◌||◌, ◌==◌, List, [], ◌∷◌, ◌++◌, length, refl, ◌∙◌, ap, eqb, arith}
+use Rattle.std.proofs.Common.{◌≡◌, ℕ, ◌<◌, ◌==◌, List, [], ◌∷◌, ◌++◌, length, refl, ◌∙◌, ap, eqb, arith}
 use Rattle.std.proofs.lemmas.Bool.Decides.{nat_tests}
 use Rattle.std.proofs.lemmas.Cmp.{nat_cmp_total}
 use Rattle.std.proofs.lemmas.List.Kept.{IsStrictlySortedBy-dedup}
@@ -13,6 +13,7 @@ use Rattle.graphs.specs.Graphs.{family}
 use Rattle.graphs.proofs.Families.{family_sorted, in_family}
 use Rattle.ancestors.specs.Kept.{AreAbove}
 use Rattle.ancestors.proofs.Members.{same_keys}
+use Rattle.plain_data.proofs.Numbers.{is_among-push}
 
 among_from : (k : ℕ) (xs : List ℕ) (n : ℕ) → is_among (dedup_from eqb k xs) n ≡ is_among (k ∷ xs) n
 among_from k [] n = refl
@@ -31,7 +32,7 @@ few_are_family graph e above sorted kept are within moved rise is =
     same_keys kept (family graph e) ordered (family_sorted graph e) (λ q.
     let deduped = ap (λ l. is_among l q) is ∙ among_dedup sorted q in
     let permuted = list_any-IsPermutation (λ m. m == q) (above ++ e ∷ []) sorted moved in
-    let pushed = among_pushed above e q in
+    let pushed = is_among-push above e q in
     let among = in_family graph e q in
     let over = are q in
     grind (arith, nat_tests, deduped, permuted, pushed, among, over, within))

@@ -6,7 +6,7 @@ ghost use Rattle.std.specs.List.{list_any};
 ghost use Rattle.std.specs.List.Sorted.{IsStrictlySortedBy};
 ghost use Rattle.std.specs.Ordering.{is_lt, nat_cmp};
 ghost use Rattle.std.specs.Str.{bytes_eq};
-ghost use Rattle.name_tables.specs.Names.{bytes_of, by_bytes, place_of};
+ghost use Rattle.name_tables.specs.Names.{bytes_of, by_lent_bytes, place_of};
 ghost use Rattle.ex_named.specs.Outcomes.{Binds, both, given};
 ghost use Rattle.ex_declarations.specs.Declared as spec;
 ghost use Rattle.ex_declarations.specs.Steps.{told};
@@ -94,7 +94,7 @@ fn texts<'a>(alloc: Global, names: &[&'a Name]) -> Result<Vec<&'a [u8]>, AllocEr
 
 /// Whether each text is below those after it.
 fn are_ascending(texts: &[&[u8]]) -> bool
-    ensures { IsTrue result → IsStrictlySortedBy by_bytes texts.now }
+    ensures { IsTrue result → IsStrictlySortedBy by_lent_bytes texts.now }
 {
     texts.is_sorted_by(|text, next| is_below(text, next))
 }

@@ -12,7 +12,7 @@ use ex_tree::Name;
 use std::collections::BTreeSet;
 
 /// Whether a number is in the set.
-pub(crate) fn is_among(set: &BTreeSet<usize>, number: usize) -> bool
+pub(crate) fn is_in(set: &BTreeSet<usize>, number: usize) -> bool
     ensures { result ≡ is_among set.now.keys number }
 {
     set.contains(&number)

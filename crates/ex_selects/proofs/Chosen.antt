@@ -1,6 +1,5 @@
 -- What stands for all that a SELECT chooses from.
 use Rattle.std.proofs.Common.{◌≡◌, ◌<◌, ◌≤◌, ◌+◌, ℕ, Bool, true, false, not, ◌&&◌, ◌||◌, ◌==◌, nat_lt, List, [], ◌∷◌, length, filter, slice_get, Option, Some, None, option_map, ◌⊎◌, inl, inr, ⊎_elim, refl, sym, ◌∙◌, ap, arith}
-use Rattle.std.proofs.lemmas.Bool.{eqb-true}
 use Rattle.std.proofs.lemmas.Bool.Decides.{nat_tests}
 use Rattle.std.proofs.lemmas.Option.{slice_get_cases}
 use Rattle.std.proofs.lemmas.List.Kept.{IsStrictlySortedBy-filter}
@@ -25,7 +24,7 @@ use Rattle.ex_selects.specs.declared.sorts.Sort.{Sort}
 use Rattle.ex_selects.specs.declared.sorts.Sort.TheVariants as sort
 use Rattle.ex_selects.specs.Ends.{Base, Plain, Instance, Aggregate, Enumeration, Select, Nothing, base_by, base_of, choices, selection}
 use Rattle.ex_selects.specs.Kept.{single, suffices, IsCovered, StandFor, StandForClass, of_class}
-use Rattle.ex_selects.specs.Levels.{asked_choice, element}
+use Rattle.ex_selects.specs.Levels.{chosen_aggregate, element}
 use Rattle.ex_selects.specs.Shared.{shared, unrenamed}
 use Rattle.ex_selects.specs.Sorts.{all_sorts, is_of, of_base, sort_at, sort_of}
 use Rattle.ex_selects.proofs.Renamed.{choices_shared, many_shared, same_truth}
@@ -61,10 +60,10 @@ unfolding IsStrictlySortedBy
 same_single [] [] up rise within covered = refl
 same_single [] (b ∷ ys) up rise within covered = let no = within b (here b ys) in cc
 same_single (a ∷ []) [] up rise within covered = elim (covered a (here a [])) [ inl there ↦ cc | inr two ↦ let no = two.first_there in cc ]
-same_single (a ∷ []) (b ∷ []) up rise within covered = let same = one b a (within b (here b [])) in ap (λ k. Some k) same
+same_single (a ∷ []) (b ∷ []) up rise within covered = let same = only_one b a (within b (here b [])) in ap (λ k. Some k) same
 same_single (a ∷ []) (b ∷ c ∷ ys) up rise within covered =
-    let first = one b a (within b (here b (c ∷ ys))) in
-    let second = one c a (within c (next b c ys)) in
+    let first = only_one b a (within b (here b (c ∷ ys))) in
+    let second = only_one c a (within c (next b c ys)) in
     let less = rise.0.0 in
     absurd (grind (arith, nat_tests, less))
 same_single (a ∷ b ∷ xs) [] up rise within covered = elim (covered a (here a (b ∷ xs))) [ inl there ↦ cc | inr two ↦ let no = two.first_there in cc ]
@@ -220,11 +219,11 @@ module _ (types : List NamedType) where
   no_element Nothing e = refl
 
   pub asked_kept : (n : ℕ) (kept : List ℕ) → StandForClass types class.Lists n kept
-      → filter_map (asked_choice types) (choices types n) ≡ filter_map (asked_choice types) kept
+      → filter_map (chosen_aggregate types) (choices types n) ≡ filter_map (chosen_aggregate types) kept
   asked_kept n kept s =
-      all_same class.Lists (asked_choice types) (λ k m is. ap (λ b. option_map (λ t. record { number = Some k; target = t }) (element types b)) is)
+      all_same class.Lists (chosen_aggregate types) (λ k m is. ap (λ b. option_map (λ t. record { number = Some k; target = t }) (element types b)) is)
       (λ k e. ap (option_map (λ t. record { number = Some k; target = t })) (no_element (base_of types k) e)) n
-      ∙ ap (filter_map (asked_choice types)) (exact n kept s)
+      ∙ ap (filter_map (chosen_aggregate types)) (exact n kept s)
 
   -- ---- which are chosen
 

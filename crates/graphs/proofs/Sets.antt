@@ -1,21 +1,13 @@
 -- Numbers among a list, and one number more.
-use Rattle.std.proofs.Common.{◌≡◌, ℕ, Bool, true, false, not, ◌||◌, ◌==◌, List, [], ◌∷◌, ◌++◌, ◌⊎◌, inl, inr, if◌then◌else◌, refl, sym, ◌∙◌, ap, arith, Ordering, Less, Equal, Greater}
+use Rattle.std.proofs.Common.{◌≡◌, ℕ, Bool, true, false, not, ◌||◌, ◌==◌, List, [], ◌∷◌, ◌++◌, ◌⊎◌, inl, inr, refl, sym, ◌∙◌, ap, arith, Ordering, Less, Equal, Greater}
 use Rattle.std.proofs.lemmas.Bool.{eq-eqb}
 use Rattle.std.proofs.lemmas.Bool.Decides.{nat_tests}
 use Rattle.std.specs.BTreeSet.{insert_key}
 use Rattle.std.specs.List.{list_any}
 use Rattle.std.specs.Ordering.{is_eq, match_ordering, nat_cmp}
 use Rattle.plain_data.specs.Numbers.{is_among}
+use Rattle.plain_data.proofs.Disjunctions.{or_again, or_turn}
 use Rattle.plain_data.proofs.Numbers.{is_among-append}
-
-or_again : (a b c : Bool) → a ≡ b → (b || c) ≡ (a || (b || c))
-or_again true b c e = rw (← e) refl
-or_again false b c e = refl
-
-or_turn : (a b c : Bool) → (a || (b || c)) ≡ (b || (a || c))
-or_turn true true c = refl
-or_turn true false c = refl
-or_turn false b c = refl
 
 one_number : (n x y : ℕ) → nat_cmp x y ≡ Equal → (x == n) ≡ (y == n)
 one_number n x y e = grind (arith, nat_tests)

@@ -1,5 +1,5 @@
 -- Rows in the order of their names: what comes before a name, and the first row of it.
-use Rattle.std.proofs.Common.{Bor, slice_get, ◌≡◌, ℕ, zero, suc, ◌+◌, ◌<◌, ◌≤◌, Bool, true, false, not, ◌&&◌, List, [], ◌∷◌, filter, length, Option, Some, None, get_or, ltb, nat_lt, true≢false, refl, sym, subst, ◌∙◌, ap, arith, if◌then◌else◌}
+use Rattle.std.proofs.Common.{Bor, slice_get, ◌≡◌, ℕ, zero, suc, ◌+◌, ◌<◌, ◌≤◌, Bool, true, false, not, ◌&&◌, List, [], ◌∷◌, filter, length, Option, Some, None, get_or, nat_lt, refl, sym, subst, ◌∙◌, ap, arith, if◌then◌else◌}
 use denote.Param.Members.{Mut}
 use Rattle.std.specs.Fn.{Called, ComparesAs}
 use Rattle.std.proofs.lemmas.Fn.{always_returns_same}
@@ -17,6 +17,7 @@ use Rattle.std.specs.declared.cmp.Ordering.TheVariants.{Less, Equal, Greater}
 use Rattle.std.proofs.lemmas.List.Sorted.{searchable_from_sorted, IsPartitionedBy-ltb, ranks_by, sum_by-IsPermutation}
 use Rattle.std.proofs.lemmas.Map.Text.{is_eq-slice_cmp}
 use Rattle.plain_data.specs.Numbers.{numbered_from}
+use Rattle.plain_data.proofs.Orderings.{is_less, not_equal_after, not_equal_before}
 use Rattle.name_tables.specs.Names.{place_of}
 use Rattle.name_tables.specs.Order.{by_bytes, Rows, IsAscending, is_before, rows_before, rank, number_of}
 
@@ -101,23 +102,6 @@ one_found : {X : Type 0} (t : X → Bool) (xs : List X) (i : ℕ) (x : X) → i 
 one_found t [] i x within fails holds = absurd (omega (arith, within))
 one_found t (y ∷ xs) zero x within fails holds = rw holds refl
 one_found t (y ∷ xs) (suc i) x within fails holds = rw (fails 0 y (omega arith)) (one_found t xs i x (omega (arith, within)) (λ k d low. fails (suc k) d (omega (arith, low))) holds)
-
-is_less : (o : Ordering) → is_lt o ≡ ltb (ordering_index o) 1
-is_less Less = refl
-is_less Equal = refl
-is_less Greater = refl
-
-not_equal_before : (o : Ordering) → is_lt o ≡ true → is_eq o ≡ false
-not_equal_before Less e = refl
-not_equal_before Equal e = absurd (true≢false (sym e))
-not_equal_before Greater e = refl
-
-not_equal_after : (o p : Ordering) → is_lt o ≡ false → is_eq o ≡ false → ordering_index o ≤ ordering_index p → is_eq p ≡ false
-not_equal_after o Less up apart below = refl
-not_equal_after o Greater up apart below = refl
-not_equal_after Less Equal up apart below = absurd (true≢false up)
-not_equal_after Equal Equal up apart below = absurd (true≢false apart)
-not_equal_after Greater Equal up apart below = absurd (omega (arith, below))
 
 apart_before : (a b : List ℕ) → is_lt (by_bytes a b) ≡ true → bytes_eq a b ≡ false
 apart_before a b before = sym (is_eq-slice_cmp a b) ∙ not_equal_before (by_bytes a b) before

@@ -6,7 +6,7 @@ ghost use Rattle.std.specs.Option.{option_map};
 ghost use Rattle.rp_value.specs.declared.value.Value.TheVariants as v;
 ghost use Rattle.ex_selects.specs.declared.ends.Base.TheVariants as code;
 ghost use Rattle.ex_selects.specs.Ends as ends;
-ghost use Rattle.ex_selects.specs.Levels.{AreLevels, IsGroup, asked, element};
+ghost use Rattle.ex_selects.specs.Levels.{AreLevels, IsGroup, aggregates, element};
 ghost use Rattle.ex_selects.specs.Seen.{seen, seen_target};
 ghost use Rattle.p21_values.specs.Deciding as deciding;
 ghost use Rattle.p21_values.specs.Taking as spec;
@@ -254,7 +254,7 @@ fn list_at<'s>(
     below: &[Level<'s>],
     rest: &mut Rest<'_>,
 ) -> Taken
-    requires group { IsGroup level.now.targets.items group.now (asked types.now (seen base.now)) }
+    requires group { IsGroup level.now.targets.items group.now (aggregates types.now (seen base.now)) }
     requires below { AreLevels types.now level.now.targets.items below.now }
     requires rows { deciding.StartsWith (deciding.rows_of_list types.now (level.now ∷ below.now) values.now) rest.old }
     ensures taken { IfOk result (λ taken. taken ≡ spec.bare_at types.now (spec.of_list types.now (map (spec.meaning types.now) values.now)) (seen base.now)) }
@@ -370,7 +370,7 @@ fn elements_at<'s>(
     below: &[Level<'s>],
     rest: &mut Rest<'_>,
 ) -> Result<Option<Items<Value>>, AllocError>
-    requires group { IsGroup level.now.targets.items group.now (asked types.now (seen target.now.base)) }
+    requires group { IsGroup level.now.targets.items group.now (aggregates types.now (seen target.now.base)) }
     requires below { AreLevels types.now level.now.targets.items below.now }
     requires rows { deciding.StartsWith (flat_map (deciding.rows types.now (level.now ∷ below.now)) values.now) rest.old }
     ensures taken { IfOk result (λ taken. taken ≡ spec.all_there (map (λ m. spec.place m (seen_target target.now)) (map (spec.meaning types.now) values.now))) }
@@ -398,7 +398,7 @@ fn element_at<'s>(
     below: &[Level<'s>],
     rest: &mut Rest<'_>,
 ) -> Taken
-    requires group { IsGroup level.now.targets.items group.now (asked types.now (seen target.now.base)) }
+    requires group { IsGroup level.now.targets.items group.now (aggregates types.now (seen target.now.base)) }
     requires below { AreLevels types.now level.now.targets.items below.now }
     requires rows { deciding.StartsWith (deciding.rows types.now (level.now ∷ below.now) value.now) rest.old }
     ensures taken { IfOk result (λ taken. taken ≡ spec.place (spec.meaning types.now value.now) (seen_target target.now)) }

@@ -6,8 +6,8 @@ ghost use Rattle.std.specs.Prelude.{◌≡◌, OnOk};
 use ex_named::{
     NamedDataType, NamedDomainRule, NamedLocal, NamedSchema, NamedType, NamedUnderlying, TypeName,
 };
-use ex_typing::{Asked, Known, ask};
-use ex_typing_statements::ask_statements;
+use ex_typing::{Known, TakenName, push_taken};
+use ex_typing_statements::push_taken_of_statements;
 use std::alloc::{AllocError, Global};
 use std::collections::BTreeMap;
 
@@ -24,86 +24,95 @@ const FEWEST_LOOKS: usize = 1 << 17;
 /// So many looks a table has to save for each part of each type.
 const WORTH: usize = 8;
 
-fn ask_rules<'a>(
-    names: &mut Vec<Asked<'a>>,
+fn push_taken_of_rules<'a>(
+    names: &mut Vec<TakenName<'a>>,
     list: &'a [NamedDomainRule],
 ) -> Result<(), AllocError> {
     for rule in list {
-        ask(names, &rule.condition)?;
+        push_taken(names, &rule.condition)?;
     }
     Ok(())
 }
 
-fn ask_locals<'a>(names: &mut Vec<Asked<'a>>, list: &'a [NamedLocal]) -> Result<(), AllocError> {
+fn push_taken_of_locals<'a>(
+    names: &mut Vec<TakenName<'a>>,
+    list: &'a [NamedLocal],
+) -> Result<(), AllocError> {
     for local in list {
         if let Some(value) = &local.value {
-            ask(names, value)?;
+            push_taken(names, value)?;
         }
     }
     Ok(())
 }
 
 /// Puts the names that declarations of constants, types and entities take behind the others.
-fn ask_declarations<'a>(
-    names: &mut Vec<Asked<'a>>,
+fn push_taken_of_declarations<'a>(
+    names: &mut Vec<TakenName<'a>>,
     schema: &'a NamedSchema,
 ) -> Result<(), AllocError> {
     for constant in schema.constants.as_slice() {
-        ask(names, &constant.value)?;
+        push_taken(names, &constant.value)?;
     }
     for declared in schema.types.as_slice() {
-        ask_rules(names, declared.domain_rules.as_slice())?;
+        push_taken_of_rules(names, declared.domain_rules.as_slice())?;
     }
     for entity in schema.entities.as_slice() {
         for derived in entity.derived.as_slice() {
-            ask(names, &derived.value)?;
+            push_taken(names, &derived.value)?;
         }
-        ask_rules(names, entity.domain_rules.as_slice())?;
+        push_taken_of_rules(names, entity.domain_rules.as_slice())?;
     }
     Ok(())
 }
 
 /// Puts the names that functions and rules take behind the others.
-fn ask_algorithms<'a>(
-    names: &mut Vec<Asked<'a>>,
+fn push_taken_of_algorithms<'a>(
+    names: &mut Vec<TakenName<'a>>,
     schema: &'a NamedSchema,
 ) -> Result<(), AllocError> {
     for function in schema.functions.as_slice() {
-        ask_locals(names, function.locals.as_slice())?;
-        ask_statements(names, function.statements.as_slice())?;
+        push_taken_of_locals(names, function.locals.as_slice())?;
+        push_taken_of_statements(names, function.statements.as_slice())?;
     }
     for rule in schema.rules.as_slice() {
-        ask_locals(names, rule.locals.as_slice())?;
-        ask_statements(names, rule.statements.as_slice())?;
-        ask_rules(names, rule.domain_rules.as_slice())?;
+        push_taken_of_locals(names, rule.locals.as_slice())?;
+        push_taken_of_statements(names, rule.statements.as_slice())?;
+        push_taken_of_rules(names, rule.domain_rules.as_slice())?;
     }
     Ok(())
 }
 
 /// How often each name is taken.
-fn counted<'a>(alloc: Global, names: &[Asked<'a>]) -> Result<BTreeMap<&'a str, usize>, AllocError> {
+fn counted<'a>(
+    alloc: Global,
+    names: &[TakenName<'a>],
+) -> Result<BTreeMap<&'a str, usize>, AllocError> {
     let mut counts = BTreeMap::new(alloc);
-    for asked in names {
-        let count: &mut usize = counts.entry(asked.name)?.or_insert(0);
+    for taken in names {
+        let count: &mut usize = counts.entry(taken.name)?.or_insert(0);
         *count = count.saturating_add(1);
     }
     Ok(counts)
 }
 
 /// The names that the schema takes, as often as it does.
-fn asked(alloc: Global, schema: &NamedSchema) -> Result<Vec<Asked<'_>>, AllocError> {
+fn taken_names(alloc: Global, schema: &NamedSchema) -> Result<Vec<TakenName<'_>>, AllocError> {
     let mut names = Vec::new(alloc);
-    ask_declarations(&mut names, schema)?;
-    ask_algorithms(&mut names, schema)?;
+    push_taken_of_declarations(&mut names, schema)?;
+    push_taken_of_algorithms(&mut names, schema)?;
     Ok(names)
 }
 
 /// The pairs of names of which the second is taken of an attribute of the first, each once.
-fn pairs<'a>(alloc: Global, names: &[Asked<'a>]) -> Result<Vec<(&'a str, &'a str)>, AllocError> {
+fn pairs<'a>(
+    alloc: Global,
+    names: &[TakenName<'a>],
+) -> Result<Vec<(&'a str, &'a str)>, AllocError> {
     let mut found = Vec::new(alloc);
-    for asked in names {
-        if let Some(first) = asked.of {
-            found.push((first, asked.name))?;
+    for taken in names {
+        if let Some(first) = taken.of {
+            found.push((first, taken.name))?;
         }
     }
     found.sort()?;
@@ -112,7 +121,7 @@ fn pairs<'a>(alloc: Global, names: &[Asked<'a>]) -> Result<Vec<(&'a str, &'a str
 }
 
 /// Keeps what is found of names in what attributes may be that are kept.
-fn keep_pairs(alloc: Global, known: &mut Known, names: &[Asked<'_>]) -> Result<(), AllocError>
+fn keep_pairs(alloc: Global, known: &mut Known, names: &[TakenName<'_>]) -> Result<(), AllocError>
     ensures { OnOk result (known.new ≡ known.old) }
 {
     let pairs = pairs(alloc, names)?;
@@ -225,14 +234,14 @@ fn worth_keeping<'a>(
 }
 
 /// Keeps what is found of the names that are taken so often that it is worth it.
-pub fn keep_asked(alloc: Global, known: &mut Known, schema: &NamedSchema) -> Result<(), AllocError>
+pub fn keep_taken(alloc: Global, known: &mut Known, schema: &NamedSchema) -> Result<(), AllocError>
     ensures { OnOk result (known.new ≡ known.old) }
 {
     let (all, widest) = sizes(alloc, schema.types.as_slice())?;
     if widest < FEWEST_PARTS {
         return Ok(());
     }
-    let names = asked(alloc, schema)?;
+    let names = taken_names(alloc, schema)?;
     let counts = counted(alloc, &names)?;
     let chosen = worth_keeping(alloc, &counts, all, widest)?;
     for (_, name) in chosen

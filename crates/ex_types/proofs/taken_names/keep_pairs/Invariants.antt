@@ -1,5 +1,5 @@
 use Rattle.std.proofs.Common.{◌≡◌}
-use Rattle.ex_types.proofs.asked.keep_pairs.Given as goal
+use Rattle.ex_types.proofs.taken_names.keep_pairs.Given as goal
 
 abbrev pub invariant-loop : goal.invariant-loop
 invariant-loop l = l.known ≡ l.initial.known
