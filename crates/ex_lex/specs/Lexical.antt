@@ -1,8 +1,9 @@
 -- What stands at the front of a text: a blank or a remark, a token, or a lexical fault (ISO 10303-11:1994, clause 7).
-use Rattle.std.specs.Prelude.{◌≤◌, ℕ, ◌+◌, ◌-◌, Bool, true, false, not, ◌&&◌, ◌||◌, ◌==◌, nat_lt, nat_le, if◌then◌else◌, List, [], ◌∷◌, take, drop, slice_index, Option, Some, None, Result, Ok, Err}
+use Rattle.std.specs.Prelude.{◌≤◌, ℕ, ◌+◌, ◌-◌, Bool, true, false, not, ◌&&◌, ◌||◌, ◌==◌, nat_le, if◌then◌else◌, List, [], ◌∷◌, take, drop, slice_index, Option, Some, None, Result, Ok, Err}
 use Rattle.std.specs.List.{prefix_len}
-use Rattle.std.specs.Char.{is_ascii_digit, is_ascii_alphabetic, is_ascii_alphanumeric}
+use Rattle.std.specs.Char.{is_ascii_digit, is_ascii_alphabetic}
 use Rattle.std.specs.Str.{is_utf8}
+use Rattle.text_forms.specs.Words.{is_word_byte}
 use Rattle.rp_numbers.specs.Whole.{whole_number}
 use Rattle.rp_numbers.specs.Spelling.{digits_len, exponent_len, parse}
 use Rattle.ex_tree.specs.declared.kind.TokenKind.TheVariants as k
@@ -20,9 +21,6 @@ Fits (Token kind n) len = (1 ≤ n) × (n ≤ len)
 Fits (Fault kind) len = Unit {0}
 
 -- ---- words
-
-abbrev pub is_word_byte : ℕ → Bool
-is_word_byte b = is_ascii_alphanumeric b || b == 95
 
 unfoldable pub word : List ℕ → Start
 word z = let n = prefix_len is_word_byte z in Token (kind_of (take n z)) n

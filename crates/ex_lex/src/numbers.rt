@@ -6,9 +6,10 @@ ghost use Rattle.rp_numbers.specs.Whole.{whole_number};
 ghost use Rattle.rp_numbers.specs.Spelling.{parse};
 ghost use Rattle.ex_lex.specs.Lexical as spec;
 
-use crate::front::{Start, byte};
+use crate::front::Start;
 use ex_tree::{LexFaultKind, TokenKind};
 use rp_numbers::{Decimal, digits_len, exponent_len, whole_number};
+use text_forms::byte;
 
 fn integer(digits: &[u8]) -> Start
     ensures { result ≡ spec.integer_by (whole_number digits.now) (length digits.now) }

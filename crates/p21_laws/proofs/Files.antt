@@ -23,7 +23,8 @@ use Rattle.p21_spelling.specs.Instances.{are_values, is_instance, is_mapping, is
 use Rattle.p21_spelling.specs.Tokens.{is_name, is_string, is_word}
 use Rattle.p21_spelling.specs.Values.{all_spelled, deepest, spelling}
 use Rattle.p21_escapes.specs.Encoding.{encoded}
-use Rattle.p21_lexemes.specs.Lexical.{is_letter, is_word_byte}
+use Rattle.text_forms.specs.Words.{is_word_byte}
+use Rattle.p21_lexemes.specs.Lexical.{is_letter}
 use Rattle.p21_tree.specs.declared.header.Header as spelled_header
 use Rattle.p21_tree.specs.declared.instance.Instance as tree
 use Rattle.p21_tree.specs.declared.instance.Mapping.{Mapping}

@@ -1,9 +1,10 @@
 -- What stands at the front of a text: a blank, a token or a lexical fault.
 use Rattle.std.specs.Prelude.{◌≤◌, ℕ, ◌+◌, ◌-◌, ◌*◌, ◌^◌, Bool, true, false, not, ◌&&◌, ◌||◌, ◌==◌, nat_lt, nat_le, if◌then◌else◌, List, [], ◌∷◌, length, take, drop, slice_index, codes, Option, Some, None, option_map, is_ok}
 use Rattle.std.specs.List.{prefix_len, list_any, list_all}
-use Rattle.std.specs.Char.{is_ascii_digit, is_ascii_hexdigit, is_ascii_alphabetic, is_ascii_alphanumeric}
+use Rattle.std.specs.Char.{is_ascii_digit, is_ascii_hexdigit, is_ascii_alphabetic}
 use Rattle.std.specs.Str.{str_eq_ignore_ascii_case}
 use Rattle.memchr.specs.Find.{matches, first_of}
+use Rattle.text_forms.specs.Words.{is_word_byte}
 use Rattle.rp_numbers.specs.Spelling.{sign_len, digits_len, exponent_len, parse}
 use Rattle.rp_numbers.specs.Whole.{value}
 use Rattle.p21_escapes.specs.declared.fault.StringFault.{StringFault}
@@ -26,9 +27,6 @@ Fits (Fault kind) len = Unit {0}
 
 abbrev pub is_letter : ℕ → Bool
 is_letter b = is_ascii_alphabetic b || b == 95
-
-abbrev pub is_word_byte : ℕ → Bool
-is_word_byte b = is_ascii_alphanumeric b || b == 95
 
 abbrev pub is_mark_byte : ℕ → Bool
 is_mark_byte b = is_word_byte b || b == 45

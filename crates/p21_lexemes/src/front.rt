@@ -1,8 +1,9 @@
 //! What stands at the front of a text.
 
-ghost use Rattle.std.specs.Prelude.{◌≡◌, ◌≢◌, ◌<◌, ◌≤◌, ◌+◌, ◌-◌, ◌^◌, ◌==◌, not, length, take, drop, slice_index, false, true, nat_le, IfSome, ℕ};
+ghost use Rattle.std.specs.Prelude.{◌≡◌, ◌<◌, ◌≤◌, ◌+◌, ◌-◌, ◌^◌, ◌==◌, not, length, take, drop, slice_index, false, true, nat_le, IfSome, ℕ};
 ghost use Rattle.std.specs.List.{prefix_len, list_all};
 ghost use Rattle.std.specs.Char.{is_ascii_digit, is_ascii_hexdigit};
+ghost use Rattle.text_forms.specs.Words.{is_word_byte};
 ghost use Rattle.rp_numbers.specs.Spelling as spelling;
 ghost use Rattle.rp_numbers.specs.Whole.{value};
 ghost use Rattle.p21_lexemes.specs.Lexical as spec;
@@ -12,6 +13,7 @@ use memchr::memmem;
 use p21_escapes::{StringFault, string_fault};
 use p21_tree::{FaultKind, MAX_NAME};
 use rp_numbers::{Decimal, digits_len, exponent_len, number_after, sign_len};
+use text_forms::{byte, is_word_byte};
 
 /// What stands at the front of a text.
 #[derive(Clone, Copy)]
@@ -23,34 +25,10 @@ pub enum Start {
     Fault(FaultKind),
 }
 
-pub(crate) fn byte(z: &[u8], at: usize) -> u8
-    ensures value { result ≡ slice_index z.now at }
-    ensures within { result ≢ 0 → at < length z.now }
-{
-    if at < z.len() { z[at] } else { 0 }
-}
-
 pub(crate) fn is_letter(b: u8) -> bool
     ensures { result ≡ spec.is_letter b }
 {
     b.is_ascii_alphabetic() || b == b'_'
-}
-
-// Each byte of a word stands at its own place, and a point at every other.
-static WORD_BYTES: [u8; 256] = *b"\
-    ................................\
-    ................0123456789......\
-    .ABCDEFGHIJKLMNOPQRSTUVWXYZ...._\
-    .abcdefghijklmnopqrstuvwxyz.....\
-    ................................\
-    ................................\
-    ................................\
-    ................................";
-
-fn is_word_byte(b: u8) -> bool
-    ensures { result ≡ spec.is_word_byte b }
-{
-    WORD_BYTES[usize::from(b)] != b'.'
 }
 
 fn mark_len(z: &[u8]) -> usize
@@ -64,7 +42,7 @@ fn mark_len(z: &[u8]) -> usize
 }
 
 pub(crate) fn word_len(z: &[u8]) -> usize
-    ensures value { result ≡ prefix_len spec.is_word_byte z.now }
+    ensures value { result ≡ prefix_len is_word_byte z.now }
     ensures some { spec.is_letter (slice_index z.now 0) ≡ true → 0 < result }
     ensures within { result ≤ length z.now }
 {

@@ -11,11 +11,12 @@ ghost use Rattle.rp_numbers.specs.Whole.{value};
 ghost use Rattle.p21_lexemes.specs.Lexical as spec;
 ghost use Rattle.p21_lexemes.specs.Usual.{IsNear};
 
-use crate::front::{are_few, byte, greatest, is_letter, word_len};
+use crate::front::{are_few, greatest, is_letter, word_len};
 use crate::kinds::{same_kind, single_kind};
 use crate::token::TokenKind;
 use p21_tree::MAX_NAME;
 use rp_numbers::{digits_len, sign_len};
+use text_forms::byte;
 
 /// The length of `#` and a few digits.
 #[tactic(auto, unfolding(crate::specs::Lexical::name))]

@@ -16,7 +16,8 @@ use Rattle.p21_lexemes.specs.declared.token.TokenKind.TheVariants as k
 use Rattle.p21_lexemes.specs.declared.front.Start.{Start}
 use Rattle.p21_lexemes.specs.declared.front.Start.TheVariants.{Blank, Token, Fault}
 use Rattle.rp_numbers.specs.Whole.{value}
-use Rattle.p21_lexemes.specs.Lexical.{front, word, number, real, name, item, string, closed, quoted, binary, is_binary, slash, comment_len, commented, directive, single, punctuation, string_end, is_letter, is_word_byte, is_mark_byte, is_sign, greatest, max_name}
+use Rattle.text_forms.specs.Words.{is_word_byte}
+use Rattle.p21_lexemes.specs.Lexical.{front, word, number, real, name, item, string, closed, quoted, binary, is_binary, slash, comment_len, commented, directive, single, punctuation, string_end, is_letter, is_mark_byte, is_sign, greatest, max_name}
 use Rattle.p21_lexemes.specs.Tokens.{Lexeme, Lexemes, lexemes, lexemes_from, with_front}
 use Rattle.p21_tree.specs.declared.fault.FaultKind.TheVariants as fault
 use Rattle.p21_grammar.specs.Grammar.{inner}

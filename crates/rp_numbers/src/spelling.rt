@@ -131,7 +131,7 @@ fn narrowed(exponent: i128) -> Option<i16>
 }
 
 impl Real<'_> {
-    ghost use Rattle.std.specs.Prelude.{◌≡◌, ◌≤◌, ◌<◌, ◌+◌, ◌-◌, ◌^◌, ◌%◌, ◌==◌, length, take, drop, slice_index, true, nat_le, nat_lt, pos, Some, None, if◌then◌else◌, MatchOption};
+    ghost use Rattle.std.specs.Prelude.{◌≡◌, ◌≤◌, ◌<◌, ◌+◌, ◌-◌, ◌^◌, ◌%◌, ◌==◌, length, take, drop, true, nat_le, pos, Some, None, if◌then◌else◌, MatchOption};
     ghost use Rattle.std.specs.List.{suffix_len, list_all};
     ghost use Rattle.rp_numbers.specs.Spelling as spec;
 
