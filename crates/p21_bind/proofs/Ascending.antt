@@ -14,7 +14,7 @@ use Rattle.p21_instances.proofs.ByName.{below, AreOnce, once-in_order}
 use Rattle.p21_instances.proofs.SortedBy.{Rises, rises_in_order}
 use Rattle.ex_layouts.specs.Entities.{entity_spelled}
 use Rattle.p21_mappings.specs.Contents.{content}
-use Rattle.p21_mappings.specs.Instances.{Read, and_then, by_entities, by_entity, by_mapping, by_layout, by_several, counted, each, has_twice, instance, made, part, same_counts}
+use Rattle.p21_mappings.specs.Instances.{Mapped, and_then, by_entities, by_entity, by_mapping, by_layout, by_several, counted, each, has_twice, instance, made, part, same_counts}
 use Rattle.p21_values.specs.Taking.{all_there}
 use Rattle.p21_mappings.specs.Layouts.{external, internal}
 use Rattle.ex_layouts.specs.declared.layout.Layout.{Layout}
@@ -35,7 +35,7 @@ name_of i = i.name
 
 -- ---- one instance
 
-then_named : {A : Type 0} (name : ℕ) (fits : Bool) (o : Read A) (f : A → Instance) (i : Instance) → ((a : A) → (f a).name ≡ name) → counted fits (and_then o (λ a. Ok (f a))) ≡ Ok i → i.name ≡ name
+then_named : {A : Type 0} (name : ℕ) (fits : Bool) (o : Mapped A) (f : A → Instance) (i : Instance) → ((a : A) → (f a).name ≡ name) → counted fits (and_then o (λ a. Ok (f a))) ≡ Ok i → i.name ≡ name
 then_named name true (Ok a) f i named e = let same : f a ≡ i = cc in ap name_of (sym same) ∙ named a
 then_named name true (Err kind) f i named e = cc
 then_named name false o f i named e = cc
@@ -97,7 +97,7 @@ module _ (schema : Checked) (defined : ℕ → Bool) where
   pub begun : (stood : ℕ → Bool) (x : tree.Instance) (xs : List tree.Instance) (is : List Instance) → instances_after schema defined stood (x ∷ xs) ≡ Ok is → Begun stood x xs is
   begun stood x xs is e = by (instance schema defined (stood x.name) x) (instances_after schema defined (more stood x) xs) refl refl e
     where
-      by : (o : Read Instance) (others : Instances) → instance schema defined (stood x.name) x ≡ o → instances_after schema defined (more stood x) xs ≡ others → first_of (told x.name o) others ≡ Ok is → Begun stood x xs is
+      by : (o : Mapped Instance) (others : Instances) → instance schema defined (stood x.name) x ≡ o → instances_after schema defined (more stood x) xs ≡ others → first_of (told x.name o) others ≡ Ok is → Begun stood x xs is
       by (Ok i) (Ok later) reads follow f =
           let two = instance_named schema defined (stood x.name) x i reads in
           let same : i ∷ later ≡ is = cc in

@@ -10,7 +10,7 @@ use Rattle.p21_tree.specs.declared.instance.Instance as tree
 use Rattle.p21_tree.specs.declared.raw.Raw.{Raw}
 use Rattle.rp_content.specs.declared.content.Content.{Content}
 use Rattle.rp_content.specs.declared.instance.Instance.{Instance}
-use Rattle.p21_mappings.specs.Instances.{Read, instance}
+use Rattle.p21_mappings.specs.Instances.{Mapped, instance}
 use Rattle.p21_mappings.specs.Contents.{content}
 
 -- ---- the instances
@@ -19,7 +19,7 @@ abbrev pub Instances : Type 0
 Instances = Result (List Instance) InstanceFault
 
 -- a fault is told with the name of its instance
-abbrev pub told : ℕ → Read Instance → Result Instance InstanceFault
+abbrev pub told : ℕ → Mapped Instance → Result Instance InstanceFault
 told name (Ok x) = Ok x
 told name (Err kind) = Err (record { instance = name; kind = kind })
 

@@ -8,7 +8,7 @@ use Rattle.ex_slots.specs.Slots.{Slot}
 use Rattle.ex_types.specs.Checked.{Checked}
 use Rattle.p21_bind.specs.Files.{Instances, behind, bound_by, bound_file, first_of, instances, instances_after, told}
 use Rattle.p21_mappings.specs.Contents.{content, header}
-use Rattle.p21_mappings.specs.Instances.{Read, instance}
+use Rattle.p21_mappings.specs.Instances.{Mapped, instance}
 use Rattle.p21_instances.specs.Instances.{in_order, names, references}
 use Rattle.p21_spelling.proofs.Runs.{both_hold, first_holds, second_holds}
 use Rattle.p21_tree.specs.declared.header.Header as spelled_header
@@ -114,7 +114,7 @@ module _ (schema : Checked) (accepted : IsAccepted schema.named) where
 
   -- ---- one after the other
 
-  split : (name : ℕ) (r : Read Instance) (others : Instances) (is : List Instance) → first_of (told name r) others ≡ Ok is
+  split : (name : ℕ) (r : Mapped Instance) (others : Instances) (is : List Instance) → first_of (told name r) others ≡ Ok is
       → (i : Instance) × ((js : List Instance) × ((r ≡ Ok i) × ((others ≡ Ok js) × (i ∷ js ≡ is))))
   split name (Ok i) (Ok js) is e = (i, (js, (refl, (refl, cc))))
   split name (Ok i) (Err fault) is e = cc

@@ -12,7 +12,7 @@ use Rattle.ex_subtypes.specs.declared.legal.Illegal.{Illegal}
 use Rattle.ex_subtypes.specs.declared.legal.Illegal.TheVariants.{NotClosed, NotConnected}
 use Rattle.ex_types.specs.Checked.{Checked, entity_names}
 use Rattle.graphs.proofs.Sets.{either}
-use Rattle.p21_mappings.specs.Instances.{Read, and_then, by_entities, by_entity, by_mapping, by_layout, by_several, counted, each, has_twice, in_places, instance, keywords, made, part, repeats, same_counts, value}
+use Rattle.p21_mappings.specs.Instances.{Mapped, and_then, by_entities, by_entity, by_mapping, by_layout, by_several, counted, each, has_twice, in_places, instance, keywords, made, part, repeats, same_counts, value}
 use Rattle.p21_values.specs.Taking.{all_there}
 use Rattle.ex_layouts.specs.Entities.{ascending, entity_spelled, is_legal, line_of, name_rank}
 use Rattle.ex_layouts.specs.Layouts.{in_name_order, leaf, of_leaf, of_several, order_by, place_in, slots_in, entities_by}
@@ -73,7 +73,7 @@ module _ (schema : Checked) (accepted : IsAccepted schema.named) (is_defined : �
     parts : each (part schema is_defined) (zip slots rs) ≡ Ok lists
     is : make lists ≡ i
 
-  laid_out_by : (rs : List Record) (slots : List (List Slot)) (make : List (List Value) → Instance) (i : Instance) (test : Bool) (r : Read (List (List Value))) → same_counts slots rs ≡ test
+  laid_out_by : (rs : List Record) (slots : List (List Slot)) (make : List (List Value) → Instance) (i : Instance) (test : Bool) (r : Mapped (List (List Value))) → same_counts slots rs ≡ test
       → each (part schema is_defined) (zip slots rs) ≡ r → counted test (and_then r (λ lists. Ok (make lists))) ≡ Ok i → LaidOut rs slots make i
   laid_out_by rs slots make i true (Ok lists) counts parts e = record { counts = counts; lists = lists; parts = parts; is = cc }
   laid_out_by rs slots make i true (Err kind) counts parts e = cc

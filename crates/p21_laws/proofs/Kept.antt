@@ -7,7 +7,7 @@ use Rattle.plain_data.specs.Numbers.{is_among}
 use Rattle.ex_types.specs.Checked.{Checked}
 use Rattle.p21_bind.specs.Files.{AreAscending, bound_file, told}
 use Rattle.p21_mappings.specs.Contents.{header}
-use Rattle.p21_mappings.specs.Instances.{Read, instance}
+use Rattle.p21_mappings.specs.Instances.{Mapped, instance}
 use Rattle.p21_bind.specs.Origins as origins
 use Rattle.p21_bind.specs.Origins.{IsHeaderOfFile, IsInstanceOfFile, IsInstanceOfText}
 use Rattle.p21_bind.specs.Single.{bound_instance}
@@ -83,7 +83,7 @@ module _ (schema : Checked) (accepted : IsAccepted schema.named) where
       in_middle (Said schema accepted IsSpelled) from.before i from.behind
       (subst (AllByRecursion (Said schema accepted IsSpelled)) (ap (λ (c : Content). c.instances) said.1.1 ∙ from.stands) said.1.0)
 
-  not_told : (name : ℕ) (r : Read Instance) (i : Instance) → told name r ≡ Ok i → r ≡ Ok i
+  not_told : (name : ℕ) (r : Mapped Instance) (i : Instance) → told name r ≡ Ok i → r ≡ Ok i
   not_told name (Ok j) i e = cc
   not_told name (Err kind) i e = cc
 

@@ -10,10 +10,10 @@ use Rattle.p21_tree.specs.declared.instance.Mapping.{Mapping}
 use Rattle.p21_tree.specs.declared.instance.Mapping.TheVariants.{Internal, External}
 use Rattle.p21_tree.specs.declared.instance.Record.{Record}
 use Rattle.p21_tree.specs.declared.value.Value.{Value as SpelledValue}
-use Rattle.p21_mappings.specs.Instances.{Read, each, value, part, by_layout, by_entity, by_entities, by_several, by_mapping, instance}
+use Rattle.p21_mappings.specs.Instances.{Mapped, each, value, part, by_layout, by_entity, by_entities, by_several, by_mapping, instance}
 use Rattle.p21_mappings.specs.Referred.{part_references, mapping_references}
 
-each_same : {A B : Type 0} (f g : A → Read B) (xs : List A) → AllByRecursion (λ x. f x ≡ g x) xs → each f xs ≡ each g xs
+each_same : {A B : Type 0} (f g : A → Mapped B) (xs : List A) → AllByRecursion (λ x. f x ≡ g x) xs → each f xs ≡ each g xs
 each_same f g [] same = refl
 each_same f g (x ∷ xs) same = rw (same.0, each_same f g xs same.1) refl
 

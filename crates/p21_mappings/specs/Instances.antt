@@ -25,15 +25,16 @@ use Rattle.rp_value.specs.declared.value.Value.{Value}
 use Rattle.rp_value.specs.declared.value.Value.TheVariants as v
 use Rattle.p21_mappings.specs.Layouts.{internal, external}
 
-abbrev pub Read : Type 0 → Type 0
-Read A = Result A InstanceFaultKind
+-- what is mapped of an instance, or what is wrong with it
+abbrev pub Mapped : Type 0 → Type 0
+Mapped A = Result A InstanceFaultKind
 
-abbrev pub and_then : {A B : Type 0} → Read A → (A → Read B) → Read B
+abbrev pub and_then : {A B : Type 0} → Mapped A → (A → Mapped B) → Mapped B
 and_then (Ok a) next = next a
 and_then (Err kind) next = Err kind
 
 -- what all give, from the left, or the first fault
-abbrev pub each : {A B : Type 0} → (A → Read B) → List A → Read (List B)
+abbrev pub each : {A B : Type 0} → (A → Mapped B) → List A → Mapped (List B)
 each read [] = Ok []
 each read (x ∷ xs) = and_then (read x) (λ y. and_then (each read xs) (λ ys. Ok (y ∷ ys)))
 
@@ -90,7 +91,7 @@ in_places places lists = flat_map (λ place. slice_index_or lists place []) plac
 abbrev pub made : ℕ → Layout → List (List Value) → Instance
 made name layout lists = record { name = name; entities = layout.instance_entities; values = in_places layout.places lists }
 
-abbrev pub counted : {A : Type 0} → Bool → Read A → Read A
+abbrev pub counted : {A : Type 0} → Bool → Mapped A → Mapped A
 counted fits read = if fits then read else Err WrongCount
 
 -- what is wrong with a value that an attribute doesn't take
@@ -98,45 +99,45 @@ abbrev pub misplaced : SpelledValue → InstanceFaultKind
 misplaced x = if has_star x then NotDerived else WrongKind
 
 -- of an attribute that an entity of the instance derives
-abbrev pub derived_value : SpelledValue → Read Value
+abbrev pub derived_value : SpelledValue → Mapped Value
 derived_value x = if is_left_out x then Ok v.Indet else Err (misplaced x)
 
 module _ (schema : Checked) (is_defined : ℕ → Bool) where
-  abbrev pub defined : Option Value → Bool → Read Value
+  abbrev pub defined : Option Value → Bool → Mapped Value
   defined None all = Err WrongKind
   defined (Some x) all = if all then Ok x else Err Undefined
 
   -- the value of an attribute, or the first that holds of what is wrong with it at any depth
-  abbrev pub value : Slot × SpelledValue → Read Value
+  abbrev pub value : Slot × SpelledValue → Mapped Value
   value s =
       if s.0.is_derived then derived_value s.1
       else if has_star s.1 then Err NotDerived
       else defined (bound schema.named.schema.types s.0.data_type s.1) (list_all is_defined (references s.1))
 
-  abbrev pub part : List Slot × Record → Read (List Value)
+  abbrev pub part : List Slot × Record → Mapped (List Value)
   part p = each value (zip p.0 p.1.values)
 
-  abbrev pub by_layout : ℕ → List Record → Option Layout → Read Instance
+  abbrev pub by_layout : ℕ → List Record → Option Layout → Mapped Instance
   by_layout name records None = Err IllegalCombination
   by_layout name records (Some layout) =
       counted (same_counts layout.slots records) (and_then (each part (zip layout.slots records)) (λ lists. Ok (made name layout lists)))
 
-  abbrev pub by_entity : ℕ → List Record → Option ℕ → Read Instance
+  abbrev pub by_entity : ℕ → List Record → Option ℕ → Mapped Instance
   by_entity name records None = Err UnknownEntity
   by_entity name records (Some entity) = by_layout name records (internal schema entity)
 
-  abbrev pub by_entities : ℕ → List Record → Option (List ℕ) → Read Instance
+  abbrev pub by_entities : ℕ → List Record → Option (List ℕ) → Mapped Instance
   by_entities name records None = Err UnknownEntity
   by_entities name records (Some entities) = by_layout name records (external schema entities)
 
   -- the instance of an external mapping of these parts
-  unfoldable pub by_several : ℕ → List Record → Read Instance
+  unfoldable pub by_several : ℕ → List Record → Mapped Instance
   by_several name records = by_entities name records (all_there (map (λ r. entity_spelled schema r.keyword) records))
 
-  abbrev pub by_mapping : ℕ → Mapping → Read Instance
+  abbrev pub by_mapping : ℕ → Mapping → Mapped Instance
   by_mapping name (Internal single) = by_entity name (single ∷ []) (entity_spelled schema single.keyword)
   by_mapping name (External records) = by_several name records
 
   -- an instance whose name stood before or not
-  unfoldable pub instance : Bool → tree.Instance → Read Instance
+  unfoldable pub instance : Bool → tree.Instance → Mapped Instance
   instance stood x = if stood || has_twice x.mapping then Err Twice else by_mapping x.name x.mapping

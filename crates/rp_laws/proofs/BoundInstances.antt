@@ -4,7 +4,7 @@ use Rattle.std.specs.Prelude.{if◌then◌else◌, map, slice_index_or}
 use Rattle.std.specs.List.{AllByRecursion, list_all, zip}
 use Rattle.ex_slots.specs.Slots.{Slot}
 use Rattle.ex_types.specs.Checked.{Checked}
-use Rattle.p21_mappings.specs.Instances.{Read, and_then, each, has_star, is_left_out, has_twice, same_counts, in_places, made, counted, misplaced, derived_value, defined, value, part, by_layout, by_entity, by_entities, by_several, by_mapping, instance}
+use Rattle.p21_mappings.specs.Instances.{Mapped, and_then, each, has_star, is_left_out, has_twice, same_counts, in_places, made, counted, misplaced, derived_value, defined, value, part, by_layout, by_entity, by_entities, by_several, by_mapping, instance}
 use Rattle.p21_values.specs.Taking.{all_there}
 use Rattle.ex_layouts.specs.Entities.{entity_spelled}
 use Rattle.p21_mappings.specs.Layouts.{internal, external}
@@ -25,14 +25,14 @@ use Rattle.rp_laws.proofs.BoundValues.{Passes, indet_passes, values_pass, bound_
 
 -- ---- one after another
 
-one_then : {B : Type 0} (P : B → Type 0) (o : Read B) (others : Read (List B)) (ys : List B) → ((y : B) → o ≡ Ok y → P y) → ((zs : List B) → others ≡ Ok zs → AllByRecursion P zs)
+one_then : {B : Type 0} (P : B → Type 0) (o : Mapped B) (others : Mapped (List B)) (ys : List B) → ((y : B) → o ≡ Ok y → P y) → ((zs : List B) → others ≡ Ok zs → AllByRecursion P zs)
     → and_then o (λ y. and_then others (λ zs. Ok (y ∷ zs))) ≡ Ok ys → AllByRecursion P ys
 one_then P (Ok y) (Ok zs) ys here later e = let same : y ∷ zs ≡ ys = cc in subst (AllByRecursion P) same (here y refl, later zs refl)
 one_then P (Ok y) (Err kind) ys here later e = cc
 one_then P (Err kind) others ys here later e = cc
 
 -- what holds of what one of them gives holds of what each gives
-each_gives : {A B : Type 0} (read : A → Read B) (P : B → Type 0) → ((a : A) (b : B) → read a ≡ Ok b → P b) → (xs : List A) (ys : List B) → each read xs ≡ Ok ys → AllByRecursion P ys
+each_gives : {A B : Type 0} (read : A → Mapped B) (P : B → Type 0) → ((a : A) (b : B) → read a ≡ Ok b → P b) → (xs : List A) (ys : List B) → each read xs ≡ Ok ys → AllByRecursion P ys
 each_gives read P all [] ys e = let same : [] ≡ ys = cc in subst (AllByRecursion P) same tt
 each_gives read P all (x ∷ xs) ys e = one_then P (read x) (each read xs) ys (λ y f. all x y f) (λ zs f. each_gives read P all xs zs f) e
 
@@ -88,7 +88,7 @@ module _ (schema : Checked) (is_defined : ℕ → Bool) where
     pub name_is : i.name ≡ name
     pub references : list_all is_defined (references_of i) ≡ true
 
-  made_bound : (name : ℕ) (layout : Layout) (fits : Bool) (o : Read (List (List Value))) (i : Instance) → ((lists : List (List Value)) → o ≡ Ok lists → AllByRecursion AllPass lists)
+  made_bound : (name : ℕ) (layout : Layout) (fits : Bool) (o : Mapped (List (List Value))) (i : Instance) → ((lists : List (List Value)) → o ≡ Ok lists → AllByRecursion AllPass lists)
       → counted fits (and_then o (λ lists. Ok (made name layout lists))) ≡ Ok i → IsBound name i
   made_bound name layout true (Ok lists) i all e =
       let same : made name layout lists ≡ i = cc in

@@ -11,7 +11,7 @@ use Rattle.p21_tree.specs.declared.fault.InstanceFault.{InstanceFault}
 use Rattle.p21_tree.specs.declared.instance.Mapping.{Mapping}
 use Rattle.p21_read.specs.Single.{mapping_of}
 use Rattle.p21_bind.specs.Files as files
-use Rattle.p21_mappings.specs.Instances.{Read, instance}
+use Rattle.p21_mappings.specs.Instances.{Mapped, instance}
 use Rattle.p21_bind.specs.Single.{bound_instance}
 use Rattle.rp_content.specs.declared.instance.Instance.{Instance}
 use Rattle.rp_content.specs.declared.link.Link.{Link}
@@ -36,7 +36,7 @@ bound_one : (schema : Checked) (defined : ℕ → Bool) (name : ℕ) (mapping : 
 unfolding bound_instance
 bound_one schema defined name mapping i e = by (instance schema defined false (record { name = name; mapping = mapping })) refl e
   where
-    by : (o : Read Instance) → instance schema defined false (record { name = name; mapping = mapping }) ≡ o → files.told name o ≡ Ok i → IsBound schema defined name i
+    by : (o : Mapped Instance) → instance schema defined false (record { name = name; mapping = mapping }) ≡ o → files.told name o ≡ Ok i → IsBound schema defined name i
     by (Ok j) is f =
         let same : j ≡ i = cc in
         (instance_bound schema defined false (record { name = name; mapping = mapping }) i (is ∙ ap Ok same)).1
