@@ -117,7 +117,7 @@ module _ (c : Text) (m : Model) (own : owns c m ≡ false) (none : find (is_gran
       let parts = and_parts (bytes_eq e.key.name g.owner) (has_name g.name e.value) told in
       let owner : e.key.name ≡ g.owner = (bytes_eq-Decides e.key.name g.owner).0 parts.0 in
       any_weaker (λ n. bytes_eq n g.name) (λ n. shows c m (find (is_row (key_of e.key.name n)) gs))
-      (λ n is. ap (λ (k : Key). shows c m (find (is_row k) gs)) (λ i. (owner i, (bytes_eq-Decides n g.name).0 is i)) ∙ ap (shows c m) found ∙ h)
+      (λ n is. ap (λ (k : Key). shows c m (find (is_row k) gs)) (λ i. key_of (owner i) ((bytes_eq-Decides n g.name).0 is i)) ∙ ap (shows c m) found ∙ h)
       e.value parts.1
 
   -- told by the groups that c is granted

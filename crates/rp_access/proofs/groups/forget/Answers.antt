@@ -17,7 +17,7 @@ left_is gs i g within is =
 
 dropped : (p : Text) (key : Key) (q : Grant) (es : List Names) (gs left : List Grant) (t : Bool) → is_grant_to p q ≡ t
     → (list_any (is_grant_to p) (q ∷ left) ≡ false → list_any (is_grant_to p) gs ≡ true → has_name key.name (names_at (key_of p key.owner) es) ≡ false)
-    → list_any (is_grant_to p) left ≡ false → list_any (is_grant_to p) gs ≡ true → has_name key.name (names_at (key_of p key.owner) (dropped_at (q.partner, key.owner) key.name es)) ≡ false
+    → list_any (is_grant_to p) left ≡ false → list_any (is_grant_to p) gs ≡ true → has_name key.name (names_at (key_of p key.owner) (dropped_at (key_of q.partner key.owner) key.name es)) ≡ false
 dropped p key q es gs left true to before rest some = drop_of q.partner key p es to
 dropped p key q es gs left false other before rest some = drop_fewer q.partner key p es (before (λ i. other i || rest i) some)
 

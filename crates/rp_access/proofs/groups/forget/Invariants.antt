@@ -9,6 +9,6 @@ use Rattle.rp_access.proofs.groups.forget.Given as goal
 abbrev pub invariant-loop-grant : goal.invariant-loop-grant
 invariant-loop-grant l = record {
   others : (p : Text) (k : Key) → same_key l.key k ≡ false → has_name k.name (names_at (key_of p k.owner) l.granted.entries) ≡ has_name k.name (names_at (key_of p k.owner) l.fn.granted.entries);
-  fewer : (p : Text) → has_name l.key.name (names_at (p, l.key.owner) l.fn.granted.entries) ≡ false → has_name l.key.name (names_at (p, l.key.owner) l.granted.entries) ≡ false;
-  gone : (p : Text) → list_any (is_grant_to p) (drop l.grant-index l.grants) ≡ false → list_any (is_grant_to p) l.grants ≡ true → has_name l.key.name (names_at (p, l.key.owner) l.granted.entries) ≡ false;
+  fewer : (p : Text) → has_name l.key.name (names_at (key_of p l.key.owner) l.fn.granted.entries) ≡ false → has_name l.key.name (names_at (key_of p l.key.owner) l.granted.entries) ≡ false;
+  gone : (p : Text) → list_any (is_grant_to p) (drop l.grant-index l.grants) ≡ false → list_any (is_grant_to p) l.grants ≡ true → has_name l.key.name (names_at (key_of p l.key.owner) l.granted.entries) ≡ false;
 }
