@@ -18,7 +18,7 @@ use Rattle.graphs.specs.Graphs.{supertypes, Reaches, IsAncestor, is_ancestor, fa
 use Rattle.graphs.proofs.Bounded.{any_at, any_where, is_ancestor_exact}
 use Rattle.graphs.proofs.Families.{family_sorted, in_family, is_among-filter}
 use Rattle.graphs.proofs.Sets.{either, or_left, or_right}
-use Rattle.descent.proofs.Members.{same_keys}
+use Rattle.ancestors.proofs.Members.{same_keys}
 use Rattle.ex_selects.specs.Ends.{choices, chooses_instances, defined, is_entity, members, members_by, selection}
 use Rattle.ex_selects.specs.Shared.{chosen_at_once, listing, lists_entity, shared, unrenamed, with_instances}
 use Rattle.ex_selects.proofs.Standing.{both_true, first_true, second_true}
