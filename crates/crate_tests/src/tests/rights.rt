@@ -77,7 +77,8 @@ static TURNS: [(Asked, Option<AccessFault>, Told); 25] = [
 
 fn key(alloc: Global, owner: &str, name: &str) -> Result<Key, AllocError> {
     let owner = Text::from_str(alloc, owner)?;
-    Ok((owner, Text::from_str(alloc, name)?))
+    let name = Text::from_str(alloc, name)?;
+    Ok(Key { owner, name })
 }
 
 fn model(alloc: Global) -> Result<Key, AllocError> {

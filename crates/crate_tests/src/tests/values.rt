@@ -1,7 +1,7 @@
 //! Values and their copies, where there is memory for them. What they are is their contracts' to say.
 
 use plain_data::{Items, Text};
-use rp_content::{Instance, Types};
+use rp_content::{Entities, Instance};
 use rp_value::{AggregateKind, Decimal, Logical, Value};
 use std::alloc::{AllocError, Global};
 use std::test::*;
@@ -40,7 +40,7 @@ fn sample(alloc: Global) -> Result<Instance, AllocError> {
     push_samples(alloc, &mut values)?;
     Ok(Instance {
         name: 12,
-        types: Types::Leaf(5),
+        entities: Entities::Leaf(5),
         values,
     })
 }
