@@ -1,0 +1,20 @@
+//! Roles: the attributes in which uses are looked for (ISO 10303-11:1994, 15.26).
+
+use ex_named::AttributePlace;
+use plain_data::Items;
+
+pub enum Role {
+    /// All attributes.
+    Every,
+    /// These attributes, in the instances of an entity.
+    Of(usize, Items<AttributePlace>),
+}
+
+impl Drop for Role {
+    fn drop(self) {
+        match self {
+            Role::Every => {}
+            Role::Of(_, attributes) => drop(attributes),
+        }
+    }
+}
