@@ -1,0 +1,2 @@
+pub mod Populations
+pub mod Uses

@@ -3,6 +3,7 @@
 
 mod body;
 mod counter;
+mod domain;
 mod outcome;
 mod report;
 mod role;
@@ -13,16 +14,16 @@ mod tree;
 
 pub use body::Body;
 pub use counter::Counter;
+pub use domain::{Domain, Seen};
 pub use outcome::Outcome;
 pub use report::{Check, Constraint, Culprit, Report, Verdict};
-pub use role::Role;
+pub use role::{NamedRole, Role};
 pub use rule::Rule;
 pub use schema::{
-    Algorithm, Attribute, DefinedType, Derived, Entity, Explicit, Function, Given, GlobalRule,
-    Initial, Inverse, Redeclared, Schema, Underlying,
+    Algorithm, DefinedType, Derivation, Entity, Explicit, ExplicitAttribute, Function, Given,
+    GlobalRule, Initial, Inverse, Redeclaration, Schema, Underlying,
 };
 pub use stop::Stop;
 pub use tree::{
-    Access, CaseAction, Control, Expression, Increment, Interval, Operation, Qualifier, Query,
-    Statement,
+    CaseAction, Control, Expression, Increment, Interval, Operation, Qualifier, Query, Statement,
 };

@@ -1,7 +1,7 @@
 //! Roles: the attributes in which uses are looked for (ISO 10303-11:1994, 15.26).
 
 use ex_named::AttributePlace;
-use plain_data::Items;
+use plain_data::{Items, Text};
 
 pub enum Role {
     /// All attributes.
@@ -17,4 +17,11 @@ impl Drop for Role {
             Role::Of(_, attributes) => drop(attributes),
         }
     }
+}
+
+/// A role by its name, `SCHEMA.ENTITY.ATTRIBUTE` in upper case.
+#[derive(Drop)]
+pub struct NamedRole {
+    pub name: Text,
+    pub role: Role,
 }

@@ -1,6 +1,7 @@
 //! What evaluation looks at of a schema. Entities, defined types, constants, functions and rules are numbered from 0, each
 //! sort by itself, in the order of their declarations.
 
+use crate::role::NamedRole;
 use crate::tree::{Expression, Statement};
 use ex_named::{AttributePlace, NamedDataType, TypeName};
 use ex_tree::InverseAggregate;
@@ -30,40 +31,40 @@ pub struct DefinedType {
     pub domain_rules: Items<Expression>,
 }
 
-/// An attribute that an entity declares of its own.
-#[derive(Drop)]
-pub struct Attribute {
-    /// The number of its name, among the names of attributes.
-    pub name: usize,
-    pub place: AttributePlace,
+/// What gives the value of an attribute: an entity, and a place in its DERIVE clause.
+#[derive(Clone, Copy, PartialEq, Eq)]
+pub struct Derivation {
+    pub entity: usize,
+    pub place: usize,
 }
 
-/// What the declaration of an explicit attribute asks for.
+/// What a declaration of an explicit attribute asks for.
 #[derive(Drop)]
 pub struct Explicit {
     pub data_type: NamedDataType,
     pub is_optional: bool,
 }
 
-/// What an entity asks for by redeclaring an inherited explicit attribute as an explicit one.
+/// An explicit attribute of an entity's own.
 #[derive(Drop)]
-pub struct Redeclared {
-    pub attribute: AttributePlace,
-    pub explicit: Explicit,
+pub struct ExplicitAttribute {
+    pub declaration: Explicit,
+    /// What redeclares it in DERIVE: the entity with most ancestors first, and of several such the first by its name.
+    pub derivations: Items<Derivation>,
 }
 
-/// An expression that gives the value of a constant, or of an attribute.
+/// What an entity asks for by redeclaring an inherited explicit attribute as an explicit one.
+#[derive(Drop)]
+pub struct Redeclaration {
+    pub attribute: AttributePlace,
+    pub declaration: Explicit,
+}
+
+/// An expression that gives the value of a constant, of an attribute or of locals.
 #[derive(Drop)]
 pub struct Given {
     pub data_type: NamedDataType,
     pub value: Expression,
-}
-
-/// What stands in a DERIVE clause: an attribute of one's own, or an inherited one, and what gives its value.
-#[derive(Drop)]
-pub struct Derived {
-    pub attribute: AttributePlace,
-    pub given: Given,
 }
 
 /// An inverse attribute: the instances of an entity that use an instance in an attribute. Without an aggregate it is the
@@ -79,15 +80,13 @@ pub struct Inverse {
 pub struct Entity {
     /// `SCHEMA.NAME`, in upper case.
     pub name: Text,
-    /// The entities above it, each once, and itself.
-    pub line: Items<usize>,
-    /// Those that it declares of its own, of each sort.
-    pub attributes: Items<Attribute>,
     /// By the places of its explicit attributes.
-    pub explicit: Items<Explicit>,
-    pub redeclared: Items<Redeclared>,
-    /// By their places in the DERIVE clause.
-    pub derived: Items<Derived>,
+    pub explicit: Items<ExplicitAttribute>,
+    pub redeclarations: Items<Redeclaration>,
+    /// By the places of its derived attributes: what redeclares it in DERIVE, as of an explicit one, and then its own.
+    pub derived: Items<Items<Derivation>>,
+    /// By the places in its DERIVE clause.
+    pub derivations: Items<Given>,
     /// By the places of its inverse attributes.
     pub inverse: Items<Inverse>,
     /// The attributes that each rule of its UNIQUE clause lists.
@@ -136,8 +135,8 @@ pub struct Schema {
     pub constants: Items<Given>,
     pub functions: Items<Function>,
     pub rules: Items<GlobalRule>,
-    /// The names of attributes, in upper case, each once.
-    pub attribute_names: Items<Text>,
+    /// The roles of explicit attributes in the entities that declare or inherit them.
+    pub roles: Items<NamedRole>,
     /// The defined types, in the order of the bytes of their names.
     pub type_order: Items<usize>,
     /// The entities, in the order of the bytes of their names.
@@ -178,21 +177,19 @@ impl Drop for Entity {
     fn drop(self) {
         let Entity {
             name,
-            line,
-            attributes,
             explicit,
-            redeclared,
+            redeclarations,
             derived,
+            derivations,
             inverse,
             unique_rules,
             domain_rules,
         } = self;
         drop(name);
-        drop(line);
-        drop(attributes);
         drop(explicit);
-        drop(redeclared);
+        drop(redeclarations);
         drop(derived);
+        drop(derivations);
         drop(inverse);
         drop(unique_rules);
         drop(domain_rules);
@@ -207,7 +204,7 @@ impl Drop for Schema {
             constants,
             functions,
             rules,
-            attribute_names,
+            roles,
             type_order,
             entity_order,
             rule_order,
@@ -217,7 +214,7 @@ impl Drop for Schema {
         drop(constants);
         drop(functions);
         drop(rules);
-        drop(attribute_names);
+        drop(roles);
         drop(type_order);
         drop(entity_order);
         drop(rule_order);

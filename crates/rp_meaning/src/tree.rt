@@ -6,16 +6,6 @@ use ex_tree::{BinaryOperator, BuiltInFunction, IntervalOperator, UnaryOperator};
 use plain_data::{Boxed, Items};
 use rp_value::Value;
 
-/// What the name of an attribute behind a point may mean: an attribute of this name that an entity of the instance declares.
-#[derive(Drop)]
-pub struct Access {
-    /// The number of the name, among the names of attributes.
-    pub name: usize,
-    /// The entities that the instance is known to be of, and those above them: what they declare is meant before what
-    /// others do.
-    pub near: Items<usize>,
-}
-
 /// An operator, and the operand on its right.
 #[derive(Drop)]
 #[cycle(expression)]
@@ -27,7 +17,8 @@ pub struct Operation {
 /// What is taken of a value.
 #[cycle(expression)]
 pub enum Qualifier {
-    Attribute(Access),
+    /// The attributes that the name may mean: the first of them of which the instance has the entity.
+    Attribute(Items<AttributePlace>),
     /// The same instance, if it is of this entity.
     Group(usize),
     Index(Expression),
@@ -129,7 +120,7 @@ impl Drop for Qualifier {
     #[cycle(expression_drop)]
     fn drop(self) {
         match self {
-            Qualifier::Attribute(access) => drop(access),
+            Qualifier::Attribute(attributes) => drop(attributes),
             Qualifier::Group(_) => {}
             Qualifier::Index(index) => drop(index),
             Qualifier::Range(first, last) => {
