@@ -1,2 +1,5 @@
+pub mod Computations
 pub mod Populations
 pub mod Uses
+pub mod Bare
+pub mod Types
