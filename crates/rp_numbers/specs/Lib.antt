@@ -1,4 +1,5 @@
 pub mod Decimals
+pub mod Logical
 pub mod Spelling
 pub mod Whole
 pub mod Written

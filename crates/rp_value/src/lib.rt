@@ -3,12 +3,14 @@
 
 mod bits;
 mod characters;
+mod compared;
 mod decimal;
 mod elements;
 mod value;
 
 pub use bits::Bits;
 pub use characters::Characters;
+pub use compared::Compared;
 pub use decimal::HeldDecimal;
 pub use elements::Elements;
 pub use rp_numbers::{Decimal, DecimalFault, Logical};

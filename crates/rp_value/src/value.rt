@@ -16,6 +16,8 @@ pub enum AggregateKind {
     List,
     Bag,
     Set,
+    /// An aggregate initialiser, which goes with every kind. No content of a model holds one.
+    Initializer,
 }
 
 /// A value. It takes at most 24 bytes, and what is larger stands in blocks that its copies share.
