@@ -5,3 +5,9 @@ pub mod Bare
 pub mod Types
 pub mod Operators
 pub mod BuiltIns
+pub mod TypeNames
+pub mod Attributes
+pub mod Expressions
+pub mod Statements
+pub mod Levels
+pub mod Outcomes

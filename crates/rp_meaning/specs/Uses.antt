@@ -62,9 +62,24 @@ is_in (Of entity attributes) u = is_among u.entities entity && list_any (same_at
 abbrev pub uses_at : ℕ → List Use → List User
 uses_at place uses = map (λ u. u.1) (filter (λ u. u.0 == place) uses)
 
-abbrev pub users_among : Role → List User → List Value
-users_among role all = map (λ u. v.Inst u.place) (filter (is_in role) all)
+abbrev pub places_among : Role → List User → List ℕ
+places_among role all = map (λ u. u.place) (filter (is_in role) all)
 
--- the users of what stands at a place, in the order of the population, each as often as it uses it in the role
+-- the places of the users of what stands at a place, in the order of the population, each as often as it uses it in the role
+abbrev pub user_places : List Instance → Role → ℕ → List ℕ
+user_places population role place = if nat_lt place (length population) then places_among role (uses_at place (uses_from 0 population)) else []
+
+abbrev pub instances : List ℕ → List Value
+instances = map (λ place. v.Inst place)
+
 abbrev pub users : List Instance → Role → ℕ → List Value
-users population role place = if nat_lt place (length population) then users_among role (uses_at place (uses_from 0 population)) else []
+users population role place = instances (user_places population role place)
+
+-- each once: the uses of one instance stand together
+abbrev pub once_after : ℕ → List ℕ → List ℕ
+once_after last [] = []
+once_after last (x ∷ xs) = if x == last then once_after last xs else x ∷ once_after x xs
+
+abbrev pub each_once : List ℕ → List ℕ
+each_once [] = []
+each_once (x ∷ xs) = x ∷ once_after x xs
