@@ -1,0 +1,3 @@
+pub mod Steadiness
+pub mod Kept
+pub mod Limits

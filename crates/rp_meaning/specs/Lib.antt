@@ -11,3 +11,8 @@ pub mod Expressions
 pub mod Statements
 pub mod Levels
 pub mod Outcomes
+pub mod Laws
+pub mod Faults
+pub mod TypeRules
+pub mod Sequence
+pub mod Report

@@ -4,6 +4,7 @@
 mod body;
 mod counter;
 mod domain;
+mod laws;
 mod outcome;
 mod report;
 mod role;
@@ -15,6 +16,7 @@ mod tree;
 pub use body::Body;
 pub use counter::Counter;
 pub use domain::{Domain, Seen};
+pub use laws::{a_limit_is_of_steps, kept_values_serve, limits_only_cut};
 pub use outcome::Outcome;
 pub use report::{Check, Constraint, Culprit, Report, Verdict};
 pub use role::{NamedRole, Role};
