@@ -91,18 +91,24 @@ module _ (schema : Schema) (population : List Instance) where
   abbrev pub of_instance : List Rule → ℕ → Candidate
   of_instance rules place = (instance_culprit place, map (λ rule. (rule, v.Inst place)) rules)
 
+  abbrev pub type_candidates : ℕ → ℕ → List Candidate
+  type_candidates number place = map (of_attribute (r.Type number place) number) (checked_of schema population)
+
+  -- the instances of an entity
+  abbrev pub candidates_of : ℕ → List Rule → List Candidate
+  candidates_of entity rules = map (of_instance rules) (places_of population entity)
+
   abbrev pub type_check : ℕ → ℕ → Checking
-  type_check number place = checking (check_by (c.Type number place)) (map (of_attribute (r.Type number place) number) (checked_of schema population))
+  type_check number place = checking (check_by (c.Type number place)) (type_candidates number place)
 
   abbrev pub where_check : ℕ → ℕ → Checking
-  where_check entity place = checking (check_by (c.Where entity place)) (map (of_instance (r.Entity entity place ∷ [])) (places_of population entity))
+  where_check entity place = checking (check_by (c.Where entity place)) (candidates_of entity (r.Entity entity place ∷ []))
 
   abbrev pub unique_check : ℕ → ℕ → List AttributePlace → Checking
-  unique_check entity place attributes =
-      checking (unique_by entity place) (map (of_instance (map (r.Unique entity place) (places (length attributes)))) (places_of population entity))
+  unique_check entity place attributes = checking (unique_by entity place) (candidates_of entity (map (r.Unique entity place) (places (length attributes))))
 
   abbrev pub inverse_check : ℕ → ℕ → Checking
-  inverse_check entity place = checking (check_by (c.Inverse entity place)) (map (of_instance (r.Inverse entity place ∷ [])) (places_of population entity))
+  inverse_check entity place = checking (check_by (c.Inverse entity place)) (candidates_of entity (r.Inverse entity place ∷ []))
 
   -- its verdict is what is said of its condition, without culprits
   abbrev pub rule_check : ℕ → ℕ → Checking
