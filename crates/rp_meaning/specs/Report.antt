@@ -50,7 +50,7 @@ is_whole values count = length values == count && not (list_any is_indeterminate
 -- A row with `?`, or with an attribute that has no value, isn't compared.
 abbrev pub row_of : Result → Option Row
 row_of result =
-  if is_whole (flat_map value_in result.1) (length result.1) then Some (record { culprit = result.0; values = flat_map value_in result.1 }) else None
+    if is_whole (flat_map value_in result.1) (length result.1) then Some (record { culprit = result.0; values = flat_map value_in result.1 }) else None
 
 -- in all attributes, by `:=:`
 abbrev pub agree : List Value → List Value → Bool
@@ -112,11 +112,17 @@ module _ (schema : Schema) (population : List Instance) where
 
   -- its verdict is what is said of its condition, without culprits
   abbrev pub rule_check : ℕ → ℕ → Checking
-  rule_check number place used = (record {
-    constraint = c.Rule number place;
-    verdict = verdict_of (one world (r.Global number place, v.Indet) used).0;
-    violating = []; limited = []; not_run = []; unknown = [];
-  }, (one world (r.Global number place, v.Indet) used).1)
+  rule_check number place used = (
+    record {
+      constraint = c.Rule number place;
+      verdict = verdict_of (one world (r.Global number place, v.Indet) used).0;
+      violating = [];
+      limited = [];
+      not_run = [];
+      unknown = [];
+    },
+    (one world (r.Global number place, v.Indet) used).1,
+  )
 
   -- ---- all, by the names of what declares them and by their places there
 
