@@ -11,3 +11,9 @@ pub mod Expressions
 pub mod Statements
 pub mod Levels
 pub mod Outcomes
+pub mod CompiledTypes
+pub mod CompiledNames
+pub mod CompiledExpressions
+pub mod CompiledStatements
+pub mod CompiledTrees
+pub mod Compiled

@@ -2,6 +2,7 @@
 #![tactic(auto)]
 
 mod body;
+mod compiled;
 mod counter;
 mod domain;
 mod outcome;
@@ -13,6 +14,7 @@ mod stop;
 mod tree;
 
 pub use body::Body;
+pub use compiled::compiled_as_typed;
 pub use counter::Counter;
 pub use domain::{Domain, Seen};
 pub use outcome::Outcome;

@@ -1,0 +1,56 @@
+-- Defined types as they are evaluated: what they are behind all names, and what SELECTs choose from (ISO 10303-11:1994, 8.4.2 and 9.1).
+use Rattle.std.specs.Prelude.{ℕ, zero, suc, Bool, true, false, not, ◌==◌, if◌then◌else◌, List, [], ◌∷◌, filter, length, slice_get}
+use Rattle.std.specs.List.{flat_map}
+use Rattle.std.specs.Option.{option_map_or}
+use Rattle.ex_named.specs.declared.declaration.NamedType.{NamedType}
+use Rattle.ex_named.specs.declared.declaration.NamedUnderlying.{NamedUnderlying}
+use Rattle.ex_named.specs.declared.declaration.NamedUnderlying.TheVariants as u
+use Rattle.ex_named.specs.declared.expression.NamedDataType.{NamedDataType, NamedDataType-F, out-NamedDataType}
+use Rattle.ex_named.specs.declared.reference.TypeName.{TypeName}
+use Rattle.ex_named.specs.declared.reference.TypeName.TheVariants as t
+use Rattle.ex_renamings.specs.Renamings.{renamed, end, is_select}
+use Rattle.ex_selects.specs.Ends.{members as listed, selection}
+use Rattle.lineage.specs.Lineage.{family}
+use Rattle.rp_meaning.specs.declared.schema.Underlying.{Underlying}
+use Rattle.rp_meaning.specs.declared.schema.Underlying.TheVariants as b
+
+abbrev pub underlying_by : ℕ → NamedUnderlying → Underlying
+underlying_by number (u.Enumeration items) = b.Enumeration number
+underlying_by number (u.Select members) = b.Select
+underlying_by number (u.Data data_type) = b.Data data_type
+
+abbrev pub name_in : NamedDataType-F NamedDataType → List TypeName
+name_in (NamedDataType-F.Named name) = name ∷ []
+name_in _ = []
+
+-- what a type lists, or the one that it renames
+abbrev pub named_by : NamedUnderlying → List TypeName
+named_by (u.Enumeration items) = []
+named_by (u.Select members) = members
+named_by (u.Data data_type) = name_in (out-NamedDataType data_type)
+
+module _ (types : List NamedType) where
+  -- what a type is behind all names
+  abbrev pub underlying : ℕ → Underlying
+  underlying number = option_map_or (λ x. underlying_by (end types number) x.underlying) (slice_get types (end types number)) b.Select
+
+  -- the types that one renames, so many at most, the nearest first
+  abbrev pub renamed_within : ℕ → ℕ → List ℕ
+  renamed_within zero number = []
+  renamed_within (suc n) number = if renamed types number == number then [] else renamed types number ∷ renamed_within n (renamed types number)
+
+  -- Where renamings form no cycle, fewer follow each other than there are types.
+  abbrev pub beneath : ℕ → List ℕ
+  beneath number = renamed_within (length types) number
+
+  -- the members of a SELECT: one that renames another has it as its one member
+  abbrev pub members : ℕ → List TypeName
+  members number = if is_select types number then option_map_or (λ x. named_by x.underlying) (slice_get types number) [] else []
+
+  abbrev pub is_choice : TypeName → Bool
+  is_choice (t.Entity entity) = true
+  is_choice (t.Defined number) = not (is_select types number)
+
+  -- what a SELECT and those in it list that is no SELECT itself
+  abbrev pub choices : ℕ → List TypeName
+  choices number = flat_map (λ k. filter is_choice (listed types k)) (family (selection types) number)
