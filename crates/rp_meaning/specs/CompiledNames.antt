@@ -1,6 +1,6 @@
 -- The names of what a schema declares: in the order of their bytes, and as TYPEOF and USEDIN have them
 -- (ISO 10303-11:1994, 15.25 and 15.26).
-use Rattle.std.specs.Prelude.{ℕ, zero, Bool, ◌&&◌, ◌==◌, if◌then◌else◌, List, [], ◌∷◌, ◌++◌, map, filter, length, Option, Some, None}
+use Rattle.std.specs.Prelude.{ℕ, zero, Bool, ◌&&◌, ◌==◌, if◌then◌else◌, List, ◌∷◌, ◌++◌, map, filter, length, Some, None}
 use Rattle.std.specs.List.{flat_map, filter_map}
 use Rattle.std.specs.Str.{bytes_eq}
 use Rattle.ex_attributes.specs.Attributes.{Attributes}

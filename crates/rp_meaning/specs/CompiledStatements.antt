@@ -1,5 +1,5 @@
 -- Statements as they are executed, by recursion on the tree (ISO 10303-11:1994, clause 13).
-use Rattle.std.specs.Prelude.{ℕ, List, [], ◌∷◌, ◌++◌, map, Option, Some, None, slice_index_or}
+use Rattle.std.specs.Prelude.{List, [], ◌∷◌, ◌++◌, map, Option, Some, None, slice_index_or}
 use Rattle.std.specs.Option.{option_map}
 use Rattle.ex_named.specs.declared.expression.NamedDataType.{NamedDataType}
 use Rattle.ex_named.specs.declared.expression.NamedDataType.TheVariants as d

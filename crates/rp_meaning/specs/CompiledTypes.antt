@@ -1,5 +1,5 @@
 -- Defined types as they are evaluated: what they are behind all names, and what SELECTs choose from (ISO 10303-11:1994, 8.4.2 and 9.1).
-use Rattle.std.specs.Prelude.{ℕ, zero, suc, Bool, true, false, not, ◌==◌, if◌then◌else◌, List, [], ◌∷◌, filter, length, slice_get}
+use Rattle.std.specs.Prelude.{ℕ, zero, suc, Bool, true, not, ◌==◌, if◌then◌else◌, List, [], ◌∷◌, filter, length, slice_get}
 use Rattle.std.specs.List.{flat_map}
 use Rattle.std.specs.Option.{option_map_or}
 use Rattle.ex_named.specs.declared.declaration.NamedType.{NamedType}
