@@ -1,1 +1,4 @@
+pub mod Steadiness
+pub mod Kept
+pub mod Limits
 pub mod CompiledKinds

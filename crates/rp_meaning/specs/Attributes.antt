@@ -19,8 +19,8 @@ use Rattle.rp_meaning.specs.declared.schema.Entity.{Entity}
 use Rattle.rp_meaning.specs.declared.schema.Given.{Given}
 use Rattle.rp_meaning.specs.declared.schema.Inverse.{Inverse}
 use Rattle.rp_meaning.specs.declared.schema.Schema.{Schema}
-use Rattle.rp_meaning.specs.Populations.{Instance, is_of}
-use Rattle.rp_meaning.specs.Uses.{same_attribute, user_places, each_once, instances}
+use Rattle.rp_meaning.specs.Populations.{Instance, instances, is_of}
+use Rattle.rp_meaning.specs.Uses.{same_attribute, user_places, each_once}
 
 -- which of these attributes is meant in an instance: the first of which it has the entity
 abbrev pub chosen : List AttributePlace → Instance → Option AttributePlace
@@ -43,8 +43,8 @@ module _ (schema : Schema) where
   own_derivations a = unwrap_or (option_and_then (λ e. slice_get e.derived a.place) (entity_at a.entity)) []
 
   -- what gives an attribute's value, of several the first of which an instance has the entity
-  abbrev pub deriving : List Derivation → Instance → Option Derivation
-  deriving derivations i = find (λ x. is_of i x.entity) derivations
+  abbrev pub derivation_in : List Derivation → Instance → Option Derivation
+  derivation_in derivations i = find (λ x. is_of i x.entity) derivations
 
   abbrev pub derivation : ℕ → ℕ → Option Given
   derivation entity place = option_and_then (λ e. slice_get e.derivations place) (entity_at entity)

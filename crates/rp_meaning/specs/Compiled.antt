@@ -25,8 +25,8 @@ use Rattle.ex_slots.specs.Slots.{declared_by, derived_place}
 use Rattle.ex_types.specs.Checked.{Checked, entity_names, type_names}
 use Rattle.ex_types.specs.Declarations.{known, nowhere, of_type_number, of_entity, of_function, of_rule}
 use Rattle.ex_typing.specs.Expressions.{TypingScope}
-use Rattle.lineage.specs.Lineage.{family, numbers_from}
-use Rattle.lineage.specs.Numbered.{numbered}
+use Rattle.graphs.specs.Graphs.{family, numbers_from}
+use Rattle.plain_data.specs.Numbers.{numbered}
 use Rattle.rp_meaning.specs.declared.role.NamedRole.{NamedRole}
 use Rattle.rp_meaning.specs.declared.schema.Algorithm.{Algorithm}
 use Rattle.rp_meaning.specs.declared.schema.DefinedType.{DefinedType}

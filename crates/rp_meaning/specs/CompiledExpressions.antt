@@ -27,7 +27,8 @@ use Rattle.ex_tree.specs.declared.expression.Literal.{Literal}
 use Rattle.ex_tree.specs.declared.expression.Literal.TheVariants as l
 use Rattle.ex_typing.specs.Expressions as typing
 use Rattle.ex_typing.specs.Expressions.{Known, TypingScope, within, TypedExpression, TypedQualifier, TypedOperation}
-use Rattle.lineage.specs.Lineage.{family, is_among}
+use Rattle.graphs.specs.Graphs.{family}
+use Rattle.plain_data.specs.Numbers.{is_among}
 use Rattle.rp_value.specs.declared.value.Value.{Value, out-Value}
 use Rattle.rp_value.specs.declared.value.Value.TheOpen.{Value-F}
 use Rattle.rp_value.specs.declared.value.Value.TheVariants as v

@@ -10,7 +10,7 @@ use Rattle.ex_named.specs.declared.reference.TypeName.{TypeName}
 use Rattle.ex_named.specs.declared.reference.TypeName.TheVariants as t
 use Rattle.ex_renamings.specs.Renamings.{renamed, end, is_select}
 use Rattle.ex_selects.specs.Ends.{members as listed, selection}
-use Rattle.lineage.specs.Lineage.{family}
+use Rattle.graphs.specs.Graphs.{family}
 use Rattle.rp_meaning.specs.declared.schema.Underlying.{Underlying}
 use Rattle.rp_meaning.specs.declared.schema.Underlying.TheVariants as b
 

@@ -24,7 +24,7 @@ use Rattle.rp_meaning.specs.declared.tree.Interval.{Interval}
 use Rattle.rp_meaning.specs.declared.tree.Operation.{Operation}
 use Rattle.rp_meaning.specs.declared.tree.Qualifier.{Qualifier}
 use Rattle.rp_meaning.specs.declared.tree.Query.{Query}
-use Rattle.rp_meaning.specs.Attributes.{chosen, stored_value, deriving, explicit_derivations, own_derivations, inverse_at, inverse_places, of_users, aggregate, role_by}
+use Rattle.rp_meaning.specs.Attributes.{chosen, stored_value, derivation_in, explicit_derivations, own_derivations, inverse_at, inverse_places, of_users, aggregate, role_by}
 use Rattle.rp_meaning.specs.Bare.{is_true, aggregate_of, place_of, text_of}
 use Rattle.rp_meaning.specs.BuiltIns.{absolute, binary_length, exists, high_index, index, initializer, low_index, null_value, odd, range, size, size_of, text_length, value_in}
 use Rattle.rp_meaning.specs.Computations.{Computation, pure, steps, ◌>>=◌, ◌>>◌}
@@ -105,8 +105,8 @@ module _ (world : World) (below : Body → Computation Value) where
   inverse_by None place = pure v.Indet
 
   abbrev pub attribute_by : AttributeSort → AttributePlace → Instance → ℕ → Computation Value
-  attribute_by sort.Explicit a i place = derived_by (deriving world.schema (explicit_derivations world.schema a) i) (stored_value i a) place
-  attribute_by sort.Derived a i place = derived_by (deriving world.schema (own_derivations world.schema a) i) v.Indet place
+  attribute_by sort.Explicit a i place = derived_by (derivation_in world.schema (explicit_derivations world.schema a) i) (stored_value i a) place
+  attribute_by sort.Derived a i place = derived_by (derivation_in world.schema (own_derivations world.schema a) i) v.Indet place
   attribute_by sort.Inverse a i place = inverse_by (inverse_at world.schema a.entity a.place) place
 
   -- an instance that isn't of the attribute's entity has none
@@ -160,28 +160,36 @@ module _ (world : World) (below : Body → Computation Value) where
   abbrev pub type_names_value : Value → Computation Value
   type_names_value x = costing (length (type_names world.schema world.population x)) (aggregate k.Set (texts world.schema world.population (type_names world.schema world.population x)))
 
+  abbrev pub of_one : BuiltInFunction → Value → Computation Value
+  of_one f.Abs x = pure (absolute x)
+  of_one f.BLength x = pure (binary_length x)
+  of_one f.Exists x = pure (exists x)
+  of_one f.HiIndex x = pure (high_index x)
+  of_one f.Length x = pure (text_length x)
+  of_one f.LoIndex x = pure (low_index x)
+  of_one f.Odd x = pure (odd x)
+  of_one f.SizeOf x = pure (size_of x)
+  of_one f.TypeOf x = type_names_value x
+  of_one _ x = pure v.Indet
+
+  abbrev pub of_two : BuiltInFunction → Value → Value → Computation Value
+  of_two f.Nvl x y = pure (null_value x y)
+  of_two f.UsedIn x y = used_in_by (text_of y) (place_of x)
+  of_two f.ValueIn x y = costing (count x) (value_in x y)
+  of_two _ x y = pure v.Indet
+
   abbrev pub built_in : BuiltInFunction → List Value → Computation Value
-  built_in f.Abs (x ∷ []) = pure (absolute x)
-  built_in f.BLength (x ∷ []) = pure (binary_length x)
-  built_in f.Exists (x ∷ []) = pure (exists x)
-  built_in f.HiIndex (x ∷ []) = pure (high_index x)
-  built_in f.Length (x ∷ []) = pure (text_length x)
-  built_in f.LoIndex (x ∷ []) = pure (low_index x)
-  built_in f.Nvl (x ∷ y ∷ []) = pure (null_value x y)
-  built_in f.Odd (x ∷ []) = pure (odd x)
-  built_in f.SizeOf (x ∷ []) = pure (size_of x)
-  built_in f.TypeOf (x ∷ []) = type_names_value x
-  built_in f.UsedIn (x ∷ y ∷ []) = used_in_by (text_of y) (place_of x)
-  built_in f.ValueIn (x ∷ y ∷ []) = costing (count x) (value_in x y)
-  built_in _ _ = pure v.Indet
+  built_in function (x ∷ []) = of_one function x
+  built_in function (x ∷ y ∷ []) = of_two function x y
+  built_in function _ = pure v.Indet
 
   -- ---- the tree
 
-  abbrev pub expression_layer : Expression-F Meaning Meaning Operating Operating Meaning → Meaning
+  abbrev pub expression_layer : Expression-F Meaning Operating Meaning Operating Meaning → Meaning
   expression_layer (Expression-F.Literal x) = λ s. steps 1 >> pure x
   expression_layer Expression-F.Itself = λ s. steps 1 >> pure s.itself
   expression_layer (Expression-F.Variable slot) = λ s. steps 1 >> pure (slice_index_or s.variables slot v.Indet)
-  expression_layer (Expression-F.Attribute a) = λ s. steps 1 >> attribute (a ∷ []) s.itself
+  expression_layer (Expression-F.«Expression::Attribute» a) = λ s. steps 1 >> attribute (a ∷ []) s.itself
   expression_layer (Expression-F.Constant number) = λ s. steps 1 >> below (b.Constant number)
   expression_layer (Expression-F.Population entity) = λ s. steps 1 >> extent_value entity
   expression_layer (Expression-F.Call number arguments) = λ s. steps 1 >> (each_after s [] arguments >>= (λ values. below (b.Function number values)))
@@ -194,21 +202,33 @@ module _ (world : World) (below : Body → Computation Value) where
   expression_layer (Expression-F.Query x) = λ s. steps 1 >> x s
   expression_layer (Expression-F.Initializer elements) = λ s. steps 1 >> (each_after s [] elements >>= (λ values. costing (size (initializer values)) (initializer values)))
 
-  abbrev pub operation_layer : Operation-F Meaning Meaning Operating Operating Meaning → Operating
+  abbrev pub operation_layer : Operation-F Meaning Operating Meaning Operating Meaning → Operating
   operation_layer x = λ s a. steps 1 >> (x.right s >>= operated x.operator a)
 
-  abbrev pub qualifier_layer : Qualifier-F Meaning Meaning Operating Operating Meaning → Operating
-  qualifier_layer (Qualifier-F.Attribute attributes) = λ s a. steps 1 >> attribute attributes a
+  abbrev pub qualifier_layer : Qualifier-F Meaning Operating Meaning Operating Meaning → Operating
+  qualifier_layer (Qualifier-F.«Qualifier::Attribute» attributes) = λ s a. steps 1 >> attribute attributes a
   qualifier_layer (Qualifier-F.Group entity) = λ s a. steps 1 >> pure (group entity a)
   qualifier_layer (Qualifier-F.Index x) = λ s a. steps 1 >> (x s >>= (λ at. pure (index a at)))
   qualifier_layer (Qualifier-F.Range x y) = λ s a. steps 1 >> (x s >>= (λ first. y s >>= (λ last. pure (range a first last))))
 
-  abbrev pub interval_layer : Interval-F Meaning Meaning Operating Operating Meaning → Meaning
+  abbrev pub interval_layer : Interval-F Meaning Operating Meaning Operating Meaning → Meaning
   interval_layer x = λ s. x.low s >>= (λ low. x.item s >>= (λ item. x.high s >>= (λ high.
       costing (interval_cost low item high) (within x.low_operator x.high_operator low item high))))
 
-  abbrev pub query_layer : Query-F Meaning Meaning Operating Operating Meaning → Meaning
+  abbrev pub query_layer : Query-F Meaning Operating Meaning Operating Meaning → Meaning
   query_layer x = λ s. x.source s >>= (λ a. queried x.condition s (aggregate_of a))
 
   unfoldable pub expression : Expression → Meaning
-  expression = fold-Expression Meaning Meaning Operating Operating Meaning expression_layer interval_layer operation_layer qualifier_layer query_layer
+  expression = fold-Expression Meaning Operating Meaning Operating Meaning expression_layer qualifier_layer interval_layer operation_layer query_layer
+
+  unfoldable pub qualifier : Qualifier → Operating
+  qualifier = fold-Qualifier Meaning Operating Meaning Operating Meaning expression_layer qualifier_layer interval_layer operation_layer query_layer
+
+  unfoldable pub interval : Interval → Meaning
+  interval = fold-Interval Meaning Operating Meaning Operating Meaning expression_layer qualifier_layer interval_layer operation_layer query_layer
+
+  unfoldable pub operation : Operation → Operating
+  operation = fold-Operation Meaning Operating Meaning Operating Meaning expression_layer qualifier_layer interval_layer operation_layer query_layer
+
+  unfoldable pub query : Query → Meaning
+  query = fold-Query Meaning Operating Meaning Operating Meaning expression_layer qualifier_layer interval_layer operation_layer query_layer

@@ -11,6 +11,11 @@ pub mod Expressions
 pub mod Statements
 pub mod Levels
 pub mod Outcomes
+pub mod Laws
+pub mod Faults
+pub mod TypeRules
+pub mod Sequence
+pub mod Report
 pub mod CompiledTypes
 pub mod CompiledNames
 pub mod CompiledExpressions

@@ -1,6 +1,6 @@
 -- Populations: instances in their order, each with the values of its explicit attributes (ISO 10303-11:1994, 9.2.3).
-use Rattle.std.specs.Prelude.{ℕ, Bool, List, [], ◌∷◌, ◌+◌, Option, Some, None, if◌then◌else◌}
-use Rattle.lineage.specs.Lineage.{is_among}
+use Rattle.std.specs.Prelude.{ℕ, Bool, List, [], ◌∷◌, ◌+◌, map, if◌then◌else◌}
+use Rattle.plain_data.specs.Numbers.{is_among}
 use Rattle.ex_named.specs.declared.reference.AttributePlace.{AttributePlace}
 use Rattle.rp_value.specs.declared.value.Value.{Value}
 use Rattle.rp_value.specs.declared.value.Value.TheVariants as v
@@ -24,10 +24,18 @@ stored _ _ _ = []
 abbrev pub is_of : Instance → ℕ → Bool
 is_of i entity = is_among i.entities entity
 
--- the instances of an entity, the first of which stands at this place
-unfoldable pub extent_from : ℕ → ℕ → List Instance → List Value
-extent_from entity at [] = []
-extent_from entity at (i ∷ others) = if is_of i entity then v.Inst at ∷ extent_from entity (at + 1) others else extent_from entity (at + 1) others
+-- the places of the instances of an entity, the first of all instances standing at this place
+unfoldable pub places_from : ℕ → ℕ → List Instance → List ℕ
+places_from entity at [] = []
+places_from entity at (i ∷ others) = if is_of i entity then at ∷ places_from entity (at + 1) others else places_from entity (at + 1) others
 
+abbrev pub places_of : List Instance → ℕ → List ℕ
+places_of population entity = places_from entity 0 population
+
+-- the instances at these places
+abbrev pub instances : List ℕ → List Value
+instances = map (λ place. v.Inst place)
+
+-- the instances of an entity, in their order
 abbrev pub extent : List Instance → ℕ → List Value
-extent population entity = extent_from entity 0 population
+extent population entity = instances (places_of population entity)

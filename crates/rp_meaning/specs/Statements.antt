@@ -176,7 +176,7 @@ module _ (world : World) (turns : ℕ) (below : Body → Computation Value) wher
   abbrev pub given_value : Given → Scope → Computation Value
   given_value x s = value x.value s >>= (λ a. pure (given world.schema.types x.data_type a))
 
-  abbrev pub statement_layer : Statement-F Labelled Action → Action
+  abbrev pub statement_layer : Statement-F Action Labelled → Action
   statement_layer Statement-F.Null = λ s. steps 1 >> pure (Next s)
   statement_layer (Statement-F.Assignment slot data_type x) = λ s. steps 1 >> (value x s >>= (λ a. pure (Next (assigned s slot (given world.schema.types data_type a)))))
   statement_layer (Statement-F.Case selector actions) = λ s. steps 1 >> (value selector s >>= (λ a. matched value a actions s))
@@ -187,14 +187,14 @@ module _ (world : World) (turns : ℕ) (below : Body → Computation Value) wher
   statement_layer (Statement-F.Return x) = λ s. steps 1 >> (value x s >>= (λ a. pure (Returned a)))
   statement_layer Statement-F.Skip = λ s. steps 1 >> pure (Skipped s)
 
-  abbrev pub action_layer : CaseAction-F Labelled Action → Labelled
+  abbrev pub action_layer : CaseAction-F Action Labelled → Labelled
   action_layer x = (x.labels, x.statement)
 
   unfoldable pub statement : Statement → Action
-  statement = fold-Statement Labelled Action action_layer statement_layer
+  statement = fold-Statement Action Labelled statement_layer action_layer
 
   unfoldable pub labelled : CaseAction → Labelled
-  labelled = fold-CaseAction Labelled Action action_layer statement_layer
+  labelled = fold-CaseAction Action Labelled statement_layer action_layer
 
   abbrev pub statements : List Statement → Action
   statements list s = one_by_one s (map statement list)

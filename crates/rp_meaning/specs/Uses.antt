@@ -1,17 +1,16 @@
 -- Who uses whom in a population (ISO 10303-11:1994, 15.26).
 use Rattle.std.specs.Prelude.{ℕ, ◌+◌, ◌==◌, ◌&&◌, Bool, true, false, List, [], ◌∷◌, ◌++◌, map, filter, length, nat_lt, if◌then◌else◌}
 use Rattle.std.specs.List.{flat_map, list_any}
-use Rattle.lineage.specs.Lineage.{is_among}
+use Rattle.plain_data.specs.Numbers.{is_among}
 use Rattle.ex_named.specs.declared.reference.AttributePlace.{AttributePlace}
 use Rattle.ex_named.specs.declared.reference.AttributeSort.{AttributeSort}
 use Rattle.ex_named.specs.declared.reference.AttributeSort.TheVariants as sort
 use Rattle.rp_value.specs.declared.value.Value.{Value}
 use Rattle.rp_value.specs.declared.value.Value.TheFolds.{fold-Value}
 use Rattle.rp_value.specs.declared.value.Value.TheOpen.{Value-F}
-use Rattle.rp_value.specs.declared.value.Value.TheVariants as v
 use Rattle.rp_meaning.specs.declared.role.Role.{Role}
 use Rattle.rp_meaning.specs.declared.role.Role.TheVariants.{Every, Of}
-use Rattle.rp_meaning.specs.Populations.{Stored, Instance}
+use Rattle.rp_meaning.specs.Populations.{Stored, Instance, instances}
 
 abbrev pub same_sort : AttributeSort → AttributeSort → Bool
 same_sort sort.Explicit sort.Explicit = true
@@ -68,9 +67,6 @@ places_among role all = map (λ u. u.place) (filter (is_in role) all)
 -- the places of the users of what stands at a place, in the order of the population, each as often as it uses it in the role
 abbrev pub user_places : List Instance → Role → ℕ → List ℕ
 user_places population role place = if nat_lt place (length population) then places_among role (uses_at place (uses_from 0 population)) else []
-
-abbrev pub instances : List ℕ → List Value
-instances = map (λ place. v.Inst place)
 
 abbrev pub users : List Instance → Role → ℕ → List Value
 users population role place = instances (user_places population role place)

@@ -23,9 +23,9 @@ pub struct DefinedType {
     /// The defined types beneath it that it renames, the nearest first.
     pub beneath: Items<usize>,
     pub underlying: Underlying,
-    /// What a SELECT lists, or the one type that a SELECT renames.
-    pub members: Items<TypeName>,
-    /// What a SELECT chooses from: its members, and for each that is a SELECT those of that one.
+    /// Of a SELECT: itself, and the SELECTs among its members, at any depth.
+    pub selects: Items<usize>,
+    /// What a SELECT chooses from: its members at any depth that are no SELECTs.
     pub choices: Items<TypeName>,
     /// The conditions of its WHERE clause.
     pub domain_rules: Items<Expression>,
@@ -160,14 +160,14 @@ impl Drop for DefinedType {
             name,
             beneath,
             underlying,
-            members,
+            selects,
             choices,
             domain_rules,
         } = self;
         drop(name);
         drop(beneath);
         drop(underlying);
-        drop(members);
+        drop(selects);
         drop(choices);
         drop(domain_rules);
     }
