@@ -1,5 +1,5 @@
 -- A schema as it is evaluated (ISO 10303-11:1994, clause 9).
-use Rattle.std.specs.Prelude.{ℕ, zero, Bool, false, ◌==◌, ◌+◌, if◌then◌else◌, List, [], ◌∷◌, ◌++◌, map, filter, length, Option, Some, None, is_some, unwrap_or, slice_get}
+use Rattle.std.specs.Prelude.{ℕ, zero, ◌==◌, ◌+◌, List, [], ◌∷◌, ◌++◌, map, filter, length, Option, unwrap_or, slice_get}
 use Rattle.std.specs.List.{flat_map, filter_map}
 use Rattle.std.specs.Option.{option_map, option_map_or, option_to_list}
 use Rattle.ex_attributes.specs.Attributes.{own, redeclaration, meant, same_place}
@@ -70,16 +70,22 @@ inverse x = record { aggregate = x.aggregate; entity = x.entity; attribute = dec
 
 -- ---- DERIVE
 
--- what stands in this place of an entity's DERIVE clause, if it passes
-abbrev pub derivation_if : Bool → ℕ → ℕ → Option Derivation
-derivation_if passes entity place = if passes then Some (record { entity = entity; place = place }) else None
+abbrev pub derivation_at : ℕ → ℕ → Derivation
+derivation_at entity place = record { entity = entity; place = place }
 
-abbrev pub redeclares : AttributePlace → NamedDerived → Bool
-redeclares attribute x = option_map_or (same_place attribute) (derived_place x) false
+-- what gives the attributes of an entity's own their values
+abbrev pub own_derivation : ℕ → ℕ → NamedDerived → Option Derivation
+own_derivation entity place x = option_map (λ name. derivation_at entity place) (own x.attribute)
 
--- what gives the values of attributes of an entity's own
 abbrev pub own_derivations : ℕ → List NamedDerived → List Derivation
-own_derivations entity list = filter_map (λ d. d) (numbered (λ place x. derivation_if (is_some (own x.attribute)) entity place) list)
+own_derivations entity list = filter_map (λ d. d) (numbered (own_derivation entity) list)
+
+-- an inherited attribute, and what gives it its value
+abbrev pub Rederived : Type 0
+Rederived = AttributePlace × Derivation
+
+abbrev pub rederived : ℕ → ℕ → NamedDerived → Option Rederived
+rederived entity place x = option_map (λ attribute. (attribute, derivation_at entity place)) (derived_place x)
 
 module _ (entities : List NamedEntity) (supertypes : List (List ℕ)) where
   -- how many entities stand above one, and itself
@@ -90,13 +96,15 @@ module _ (entities : List NamedEntity) (supertypes : List (List ℕ)) where
   abbrev pub deepest_first : List ℕ
   deepest_first = flat_map (λ above. filter (λ entity. depth entity + above == length entities) (in_order (entity_names entities))) (numbers_from zero (length entities))
 
-  -- what redeclares an attribute in an entity's DERIVE clause
-  abbrev pub derivations_by : AttributePlace → ℕ → List Derivation
-  derivations_by attribute entity = option_map_or (λ x. filter_map (λ d. d) (numbered (λ place d. derivation_if (redeclares attribute d) entity place) x.derived)) (slice_get entities entity) []
+  abbrev pub rederived_by : ℕ → List Rederived
+  rederived_by entity = option_map_or (λ x. filter_map (λ d. d) (numbered (rederived entity) x.derived)) (slice_get entities entity) []
 
-  -- what redeclares an attribute in DERIVE, in the order in which one gives the value
+  -- what redeclares attributes in DERIVE: the first whose entity an instance has gives the value
+  abbrev pub all_rederived : List Rederived
+  all_rederived = flat_map rederived_by deepest_first
+
   abbrev pub derivations : AttributePlace → List Derivation
-  derivations attribute = flat_map (derivations_by attribute) deepest_first
+  derivations attribute = map (λ d. d.1) (filter (λ d. same_place d.0 attribute) all_rederived)
 
   abbrev pub explicit : ℕ → ℕ → NamedExplicit → ExplicitAttribute
   explicit entity place x = record { declaration = explicit_declaration x; derivations = derivations (record { entity = entity; sort = sort.Explicit; place = place }) }

@@ -130,9 +130,13 @@ near supertypes kinds = if may_be_any kinds then [] else flat_map (λ kind. fami
 abbrev pub declared_in : Attributes → List ℕ → ℕ → List AttributePlace
 declared_in attributes name entity = map (λ a. a.place) (filter (λ a. a.place.entity == entity) (named name attributes.declared))
 
--- those that a name may mean: of near entities first, else in the order of the entities
-abbrev pub attributes_named : Attributes → List ℕ → List ℕ → List ℕ → List AttributePlace
-attributes_named attributes order near name = flat_map (declared_in attributes name) (filter (is_among near) order ++ filter (λ n. not (is_among near n)) order)
+-- those that these entities declare, in their order
+abbrev pub attributes_named : Attributes → List ℕ → List ℕ → List AttributePlace
+attributes_named attributes entities name = flat_map (declared_in attributes name) entities
+
+-- those of near entities come first
+abbrev pub nearest_first : List ℕ → List AttributePlace → List AttributePlace
+nearest_first near places = filter (λ p. is_among near p.entity) places ++ filter (λ p. not (is_among near p.entity)) places
 
 -- ---- USEDIN
 
@@ -167,9 +171,10 @@ module _ (schema : Declared) where
   built_in f.UsedIn (x ∷ y ∷ []) = used_in x y (text_of y)
   built_in word arguments = e.BuiltIn word arguments
 
-  -- the attribute of this name of a value of these kinds
-  abbrev pub attribute : List ℕ → Kinds → Qualifier
-  attribute name kinds = q.Attribute (attributes_named schema.known.attributes schema.entity_order (near schema.known.attributes.supertypes (plain schema.known.types kinds)) name)
+  -- the attributes that a name may mean behind a value of these kinds
+  abbrev pub meant : List ℕ → Kinds → List AttributePlace
+  meant name kinds = nearest_first (near schema.known.attributes.supertypes (plain schema.known.types kinds))
+      (attributes_named schema.known.attributes schema.entity_order name)
 
   -- ---- one layer of each tree, given its parts
 
@@ -193,7 +198,7 @@ module _ (schema : Declared) where
   expression_tree (NamedExpression-F.Initializer elements) = λ s. e.Initializer (each s elements)
 
   abbrev pub qualifier_tree : QualifierParts → TypingScope → Typed → Qualifier
-  qualifier_tree (NamedQualifier-F.«NamedQualifier::Attribute» at name) = λ s base. attribute name.text base.kinds
+  qualifier_tree (NamedQualifier-F.«NamedQualifier::Attribute» at name) = λ s base. q.Attribute (meant name.text base.kinds)
   qualifier_tree (NamedQualifier-F.Group at entity) = λ s base. q.Group entity
   qualifier_tree (NamedQualifier-F.Index at index) = λ s base. q.Index (index.tree s)
   qualifier_tree (NamedQualifier-F.Range at low high) = λ s base. q.Range (low.tree s) (high.tree s)

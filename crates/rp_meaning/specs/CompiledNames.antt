@@ -9,7 +9,7 @@ use Rattle.ex_named.specs.declared.reference.AttributePlace.{AttributePlace}
 use Rattle.ex_slots.specs.Slots.{is_explicit}
 use Rattle.graphs.specs.Graphs.{family, numbers_from}
 use Rattle.plain_data.specs.Numbers.{is_among, numbered}
-use Rattle.name_order.specs.Order.{rank}
+use Rattle.name_tables.specs.Order.{rank}
 use Rattle.rp_meaning.specs.declared.role.NamedRole.{NamedRole}
 use Rattle.rp_meaning.specs.declared.role.Role.TheVariants as role
 
