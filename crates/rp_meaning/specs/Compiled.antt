@@ -46,7 +46,7 @@ use Rattle.rp_meaning.specs.CompiledExpressions as expressions
 use Rattle.rp_meaning.specs.CompiledExpressions.{Declared}
 use Rattle.rp_meaning.specs.CompiledNames.{in_order, joined, roles_of}
 use Rattle.rp_meaning.specs.CompiledStatements.{statements}
-use Rattle.rp_meaning.specs.CompiledTypes.{underlying, beneath, members, choices}
+use Rattle.rp_meaning.specs.CompiledTypes.{underlying, beneath, selects, choices}
 
 -- ---- attributes
 
@@ -150,7 +150,7 @@ module _ (schema : NamedSchema) where
     name = joined schema.name.text x.name.text;
     beneath = beneath schema.types number;
     underlying = underlying schema.types number;
-    members = members schema.types number;
+    selects = selects schema.types number;
     choices = choices schema.types number;
     domain_rules = conditions (of_type_number number) x.domain_rules;
   }

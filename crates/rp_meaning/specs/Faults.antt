@@ -1,6 +1,6 @@
 -- Which values of attributes violate what their declarations ask for: that they are set, that bounds and widths hold and nothing
 -- stands twice where it may not (ISO 10303-11:1994, 8.1, 8.2), and that references lead to instances that are allowed.
-use Rattle.std.specs.Prelude.{ℕ, ◌+◌, ◌==◌, ◌&&◌, ◌||◌, not, nat_le, nat_lt, Bool, true, false, List, [], ◌∷◌, map, filter, length, Option, Some, None, slice_get, if◌then◌else◌}
+use Rattle.std.specs.Prelude.{ℕ, ◌+◌, ◌==◌, ◌&&◌, ◌||◌, not, nat_le, nat_lt, Bool, true, false, List, [], ◌∷◌, ◌++◌, map, filter, length, Option, Some, None, slice_get, if◌then◌else◌}
 use Rattle.std.specs.List.{list_any, flat_map}
 use Rattle.std.specs.Option.{is_some, option_and_then, option_map, option_map_or}
 use Rattle.std.specs.Fmt.{char_count}
@@ -29,29 +29,19 @@ use Rattle.rp_meaning.specs.Attributes.{derivation_in, entity_at, explicit_deriv
 use Rattle.rp_meaning.specs.Bare.{is_indeterminate}
 use Rattle.rp_meaning.specs.Outcomes.{holds_count}
 use Rattle.rp_meaning.specs.Populations.{Instance, Stored, is_of}
-use Rattle.rp_meaning.specs.Types.{End, Select, Written, aggregate_type, end, end_of, given}
+use Rattle.rp_meaning.specs.Reading.{present}
+use Rattle.rp_meaning.specs.Types.{End, Select, Written, aggregate_type, end, end_of}
 use Rattle.rp_meaning.specs.Uses.{same_attribute}
-
--- ---- values as they are read
-
-abbrev pub present_in : ℕ → Value-F Value → Value
-present_in count (Value-F.Inst place) = if nat_lt place count then v.Inst place else v.Indet
-present_in count x = roll-Value x
-
--- a value of a population of so many instances, in which a reference that leaves the population is `?`
-unfoldable pub present : ℕ → Value → Value
-present count = fold-Value Value (present_in count)
-
--- a value of an attribute as it is read, from the value as it is written
-abbrev pub read_as : List DefinedType → ℕ → NamedDataType → Value → Value
-read_as types count data_type x = given types data_type (present count x)
 
 -- ---- what types ask of values
 
 -- whether an element isn't set that has to be
 abbrev pub lacks_element : NamedDataType-F NamedDataType → List Value → Bool
 lacks_element (NamedDataType-F.Array bounds optional unique element) items = not optional && list_any is_indeterminate items
-lacks_element _ items = list_any is_indeterminate items
+lacks_element (NamedDataType-F.List bounds unique element) items = list_any is_indeterminate items
+lacks_element (NamedDataType-F.Bag bounds element) items = list_any is_indeterminate items
+lacks_element (NamedDataType-F.Set bounds element) items = list_any is_indeterminate items
+lacks_element _ items = false
 
 abbrev pub has_twice : List Value → Bool
 has_twice items = nat_lt (length (set_union [] items)) (length items)
@@ -101,6 +91,21 @@ abbrev pub is_type : ℕ → TypeName → Bool
 is_type number (t.Defined other) = other == number
 is_type number (t.Entity entity) = false
 
+-- ---- which instances types allow
+
+abbrev pub allows_choice : Instance → TypeName → Bool
+allows_choice i (t.Entity entity) = is_of i entity
+allows_choice i (t.Defined number) = false
+
+abbrev pub allows_written : Instance → NamedDataType-F NamedDataType → Bool
+allows_written i (NamedDataType-F.Named (t.Entity entity)) = is_of i entity
+allows_written i _ = false
+
+abbrev pub allows : Instance → End → Bool
+allows i (Select choices) = list_any (allows_choice i) choices
+allows i (Written data_type) = allows_written i (out-NamedDataType data_type)
+allows i _ = false
+
 module _ (types : List DefinedType) where
   -- A value, and whether it is at fault by a type. In a SELECT the type is asked under which the value is written, if the SELECT chooses
   -- from it.
@@ -134,19 +139,6 @@ module _ (types : List DefinedType) where
   pub record Referring : Type 0 where
     pub holds_instance : Bool
     pub is_astray : End → Bool
-
-  abbrev pub allows_choice : Instance → TypeName → Bool
-  allows_choice i (t.Entity entity) = is_of i entity
-  allows_choice i (t.Defined number) = false
-
-  abbrev pub allows_written : Instance → NamedDataType-F NamedDataType → Bool
-  allows_written i (NamedDataType-F.Named (t.Entity entity)) = is_of i entity
-  allows_written i _ = false
-
-  abbrev pub allows : Instance → End → Bool
-  allows i (Select choices) = list_any (allows_choice i) choices
-  allows i (Written data_type) = allows_written i (out-NamedDataType data_type)
-  allows i _ = false
 
   abbrev pub allows_at : Option Instance → End → Bool
   allows_at None e = false

@@ -12,6 +12,7 @@ pub mod Statements
 pub mod Levels
 pub mod Outcomes
 pub mod Laws
+pub mod Reading
 pub mod Faults
 pub mod TypeRules
 pub mod Sequence

@@ -1,5 +1,5 @@
 -- The report of a validation: all checks of a population, each with its verdict and culprits, and the steps that they take.
-use Rattle.std.specs.Prelude.{ℕ, ◌==◌, ◌&&◌, ◌||◌, not, Bool, true, false, List, [], ◌∷◌, ◌++◌, map, filter, length, Option, Some, None, slice_get, if◌then◌else◌}
+use Rattle.std.specs.Prelude.{ℕ, ◌+◌, ◌==◌, ◌&&◌, not, Bool, true, false, List, [], ◌∷◌, ◌++◌, map, filter, length, Option, Some, None, slice_get, if◌then◌else◌}
 use Rattle.std.specs.List.{list_any, filter_map, flat_map, range_with_len}
 use Rattle.std.specs.Option.{option_map_or}
 use Rattle.ex_named.specs.declared.reference.AttributePlace.{AttributePlace}

@@ -1,14 +1,17 @@
 //! What holds of every evaluation.
 
-ghost use Rattle.std.specs.Prelude.{◌≡◌, ℕ, nat_le, if◌then◌else◌};
+ghost use Rattle.std.specs.Prelude.{◌≡◌, ℕ, ◌≤◌, List, nat_le, if◌then◌else◌};
 ghost use Rattle.rp_meaning.specs.Expressions.{Scope, World, expression};
 ghost use Rattle.rp_meaning.specs.Laws.{Steady, Taken, kept};
 ghost use Rattle.rp_meaning.specs.Levels.{bodies};
 ghost use Rattle.rp_meaning.specs.Outcomes.{evaluation, outcome};
+ghost use Rattle.rp_meaning.specs.Populations.{Instance};
+ghost use Rattle.rp_meaning.specs.Report.{report};
 ghost use Rattle.rp_meaning.specs.declared.body.Body.{Body};
 ghost use Rattle.rp_meaning.specs.declared.counter.Counter.{Counter};
 ghost use Rattle.rp_meaning.specs.declared.outcome.Outcome.TheVariants as o;
 ghost use Rattle.rp_meaning.specs.declared.rule.Rule.{Rule};
+ghost use Rattle.rp_meaning.specs.declared.schema.Schema.{Schema};
 ghost use Rattle.rp_meaning.specs.declared.tree.Expression.{Expression};
 ghost use Rattle.rp_value.specs.declared.value.Value.{Value};
 
@@ -31,4 +34,10 @@ pub fn a_limit_is_of_steps()
 /// more than are left, or where more bodies nested than may nest there.
 pub fn kept_values_serve()
     ensures { (world : World) (levels others : ℕ) (body : Body) (old new c : Counter) (a : Value) → (t : Taken (λ l. bodies world l body) levels old new a) → bodies world others body c ≡ kept t.steps t.bodies a others c }
+{}
+
+/// No evaluation takes more steps than it may, and no validation more than 20,000,000.
+pub fn steps_are_bounded()
+    ensures evaluations { (world : World) (rule : Rule) (itself x : Value) (limit steps : ℕ) → outcome world rule itself limit ≡ o.Value x steps → steps ≤ limit }
+    ensures validations { (schema : Schema) (population : List Instance) → (report schema population).steps ≤ 20000000 }
 {}
