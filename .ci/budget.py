@@ -34,6 +34,7 @@ ROW = re.compile(r"\| `(?P<crate>\w+)` \| (?P<lines>\d+) \| (?P<allowed>\d+) \|(
 TURN_HEAD = "| crate | turn | tried | minutes |\n|---|--:|--:|--:|\n"
 TURN_ROW = re.compile(r"\| `(?P<crate>\w+)` \| (?P<turns>\d+(?: \d+)*) \| (?P<tried>\d*) ?\| (?P<minutes>(?:\d+\.\d+)?) ?\|")
 EXCEPTION = re.compile(r"- `(?P<function>[^`]+)`, at most (?P<most>\d+): \S.*")
+LARGE = re.compile(r"- `(?P<crate>\w+)`, at most (?P<most>\d+) lines: \S.*")
 OTHERS = re.compile(r"^Measured .*?(\d+\.\d+) of them beside the crates", re.MULTILINE)
 
 # In which turns a crate's edits are tried, and how many were in how many minutes when they were last measured (0 if they weren't).
@@ -76,12 +77,14 @@ class Budget:
         self.turn_table, rows = rows_under(text, TURN_HEAD, TURN_ROW, "crate")
         self.shares = {crate: Share(tuple(map(int, row["turns"].split())), int(row["tried"] or 0), float(row["minutes"] or 0))
                        for crate, row in rows.items()}
-        self.exceptions = {}
+        self.exceptions, self.large = {}, {}
         for line in re.findall(r"^- `.*$", text, re.MULTILINE):
-            entry = EXCEPTION.fullmatch(line)
-            if not entry or entry["function"] in self.exceptions:
-                sys.exit(f"check_budget: docs/BUDGET.md: write - `function`, at most N: why, once for each: {line}")
-            self.exceptions[entry["function"]] = int(entry["most"])
+            entry = EXCEPTION.fullmatch(line) or LARGE.fullmatch(line)
+            found, name = (self.exceptions, "function") if entry and entry.re is EXCEPTION else (self.large, "crate")
+            if not entry or entry[name] in found:
+                sys.exit("check_budget: docs/BUDGET.md: write - `function`, at most N: why, or - `crate`, at most N lines: why, "
+                         f"once for each: {line}")
+            found[entry[name]] = int(entry["most"])
 
     # ---- crates
 

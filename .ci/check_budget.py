@@ -13,6 +13,8 @@
 
 What it refuses:
 - a crate of crates.txt that the table of docs/BUDGET.md doesn't have, and a row of it for a crate that isn't there
+- a crate of over 1500 lines of source that the list of docs/BUDGET.md doesn't name, or over what it is allowed there; and
+  an entry of that list for a crate that isn't
 - more edits in a crate's must-fail/ than its row allows
 - edits in tools/edits whose crate has no turn, and a crate with turns for none
 - edits that take more than a gate may, by what the tables say: those of must-fail/, those of a turn, or with them the whole
@@ -34,6 +36,7 @@ from budget import BUDGET, KINDS, TOP, TURNS, Share, edit_files, lines_of, opera
 MEASURE = os.path.join(TOP, "out/minutes.json")
 TESTS, MOST_TESTS = "crate_tests", 4
 MOST_OPERATIONS = 250
+MOST_LINES = 1500
 MEASURED = re.compile(r"^Measured .*$", re.MULTILINE)
 
 COMMENT_OR_TEXT = re.compile(
@@ -48,6 +51,16 @@ TEST = re.compile(r"#\s*\[\s*(?:\w+\s*::\s*)*test\b[^\]]*\]")
 def faults_of_table(crates, budget):
     yield from (f"{it} has no row in docs/BUDGET.md" for it in crates if it not in budget.rows)
     yield from (f"docs/BUDGET.md has a row for {it}, which crates.txt doesn't list" for it in budget.rows if it not in crates)
+
+
+def faults_of_lines(crates, budget):
+    for crate in crates:
+        count, allowed = lines_of(crate), budget.large.get(crate, MOST_LINES)
+        if count > allowed:
+            yield f"{crate} has {count} lines of source, and {allowed} are allowed: cut it, or say in docs/BUDGET.md why not"
+    for crate in budget.large:
+        if crate not in crates or lines_of(crate) <= MOST_LINES:
+            yield f"docs/BUDGET.md allows more lines to {crate}, which hasn't over {MOST_LINES}"
 
 
 def faults_of_edits(crates, budget):
@@ -115,6 +128,7 @@ def check(crates, budget):
     show(crates, budget)
     faults = [
         *faults_of_table(crates, budget),
+        *faults_of_lines(crates, budget),
         *faults_of_edits(crates, budget),
         *faults_of_turns(budget),
         *faults_of_costs(budget),

@@ -27,15 +27,14 @@ MIB = 1024 * 1024
 
 # What may follow a number in a document, the constant that it has to be, by its source, and what it counts in.
 LIMITS = (
-    (r"line over ([\d,]+) MiB", "rp_io/src/chunk.rt", "LINE_LIMIT", MIB),
-    (r"(?:a file or a text|is|of at most|At most|file is at most) (?:over )?([\d,]+) MiB", "rp_config/src/files.rt", "FILE_LIMIT", MIB),
-    (r"(?:a file or a text|is|of at most|At most|file is at most) (?:over )?([\d,]+) MiB", "rp_plans/src/faults.rt", "FILE_LIMIT", MIB),
+    (r"line over ([\d,]+) MiB", "rp_io/src/limits.rt", "LINE_LIMIT", MIB),
+    (r"(?:a file or a text|is|of at most|At most|file is at most) (?:over )?([\d,]+) MiB", "rp_io/src/limits.rt", "FILE_LIMIT", MIB),
     (r"over ([\d,]+) instances", "rp_rows/src/limits.rt", "MAX_INSTANCES", 1),
     (r"instances or ([\d,]+) links", "rp_rows/src/limits.rt", "MAX_LINKS", 1),
     (r"(?:over|has) ([\d,]+) models", "rp_rows/src/limits.rt", "MAX_MODELS", 1),
     (r"more than ([\d,]+) schemas", "rp_core/src/opening.rt", "MAX_SCHEMAS", 1),
     (r"more than ([\d,]+) partners", "rp_core/src/opening.rt", "MAX_PARTNERS", 1),
-    (r"greatest name is ([\d,]+)", "rp_rows/src/limits.rt", "MAX_NAME", 1),
+    (r"greatest name is ([\d,]+)", "p21_tree/src/instance.rt", "MAX_NAME", 1),
     (r"nested ([\d,]+) lists deep", "p21_grammar/src/grammar.rt", "MAX_NESTING", 1),
     (r"open at once \| ([\d,]+)", "ex_declaration_syntax/src/declarations.rt", "MAX_LEVELS", 1),
 )

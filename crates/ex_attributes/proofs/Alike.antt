@@ -4,7 +4,7 @@ use Rattle.std.specs.Cmp.Lexicographic.{bytes_decides}
 use Rattle.std.specs.List.{list_any, flat_map}
 use Rattle.std.specs.Prelude.{Some}
 use Rattle.std.specs.Str.{bytes_eq}
-use Rattle.lineage.specs.Lineage.{family}
+use Rattle.graphs.specs.Graphs.{family}
 use Rattle.ex_kinds.specs.Kinds.{Kinds}
 use Rattle.ex_renamings.specs.Leading.{is_marked, leading}
 use Rattle.ex_kinds.specs.Types.{declared, own, alternative, alternatives, meanings_by, plain}

@@ -1,14 +1,13 @@
 -- Attributes in the order of where they are declared: the first that is declared in a place.
-use Rattle.std.proofs.Common.{◌≡◌, ℕ, zero, suc, ◌<◌, ◌≤◌, Bool, true, false, List, [], ◌∷◌, filter, length, get_or, ltb, nat_lt, true≢false, if◌then◌else◌, refl, sym, subst, ◌∙◌, ap, arith}
+use Rattle.std.proofs.Common.{◌≡◌, ℕ, zero, suc, ◌<◌, ◌≤◌, Bool, true, false, List, [], ◌∷◌, filter, length, get_or, nat_lt, if◌then◌else◌, refl, sym, subst, ◌∙◌, ap, arith}
 use Rattle.std.specs.Cmp.{IsTotalOrder}
 use Rattle.std.specs.Cmp.Lexicographic.{slice_cmp, on_texts}
 use Rattle.std.specs.List.Sorted.{IsNonDecreasingBy, IsPartitionPoint, IsPartitionedBy}
-use Rattle.std.specs.Ordering.{nat_cmp, is_lt, is_eq, ordering_index}
-use Rattle.std.specs.declared.cmp.Ordering.{Ordering}
-use Rattle.std.specs.declared.cmp.Ordering.TheVariants.{Less, Equal, Greater}
+use Rattle.std.specs.Ordering.{nat_cmp, is_eq, ordering_index}
 use Rattle.std.proofs.lemmas.List.{get_or_default}
 use Rattle.std.proofs.lemmas.List.Sorted.{searchable_from_sorted, IsPartitionedBy-ltb}
 use Rattle.std.proofs.lemmas.Map.Text.{is_eq-slice_cmp}
+use Rattle.plain_data.proofs.Orderings.{is_less, not_equal_after, not_equal_before}
 use Rattle.ex_named.specs.declared.reference.AttributePlace.{AttributePlace}
 use Rattle.ex_attributes.specs.declared.attribute.Attribute.{Attribute}
 use Rattle.ex_attributes.specs.Attributes.{place_key, same_place, kinds_of_first}
@@ -25,23 +24,6 @@ first_passing t (y ∷ xs) (suc i) x within fails holds = rw (fails 0 y (omega a
 none_passing : (t : Attribute → Bool) (xs : List Attribute) → ((k : ℕ) (d : Attribute) → k < length xs → t (get_or xs k d) ≡ false) → kinds_of_first (filter t xs) ≡ []
 none_passing t [] fails = refl
 none_passing t (x ∷ xs) fails = rw (fails 0 x (omega arith)) (none_passing t xs (λ k d within. fails (suc k) d (omega (arith, within))))
-
-is_less : (o : Ordering) → is_lt o ≡ ltb (ordering_index o) 1
-is_less Less = refl
-is_less Equal = refl
-is_less Greater = refl
-
-not_equal_before : (o : Ordering) → is_lt o ≡ true → is_eq o ≡ false
-not_equal_before Less e = refl
-not_equal_before Equal e = absurd (true≢false (sym e))
-not_equal_before Greater e = refl
-
-not_equal_after : (o p : Ordering) → is_lt o ≡ false → is_eq o ≡ false → ordering_index o ≤ ordering_index p → is_eq p ≡ false
-not_equal_after o Less up apart below = refl
-not_equal_after o Greater up apart below = refl
-not_equal_after Less Equal up apart below = absurd (true≢false up)
-not_equal_after Equal Equal up apart below = absurd (true≢false apart)
-not_equal_after Greater Equal up apart below = absurd (omega (arith, below))
 
 module _ (place : AttributePlace) (rows : List Attribute) (in_order : IsInOrder rows) where
   rises : IsNonDecreasingBy (λ (a : Attribute). ordering_index (slice_cmp nat_cmp (place_key a.place) (place_key place))) rows

@@ -8,8 +8,8 @@ use Rattle.std.specs.Str.{bytes_eq}
 use Rattle.std.proofs.Math.Seq.{drop-cons}
 use Rattle.std.proofs.lemmas.Bool.Decides.{nat_tests}
 use Rattle.std.proofs.lemmas.List.Kept.{IsNonDecreasingBy-filter}
-use Rattle.lineage.specs.Lineage.{is_among}
-use Rattle.descent.proofs.InTurn.{of_members}
+use Rattle.plain_data.specs.Numbers.{is_among}
+use Rattle.ancestors.proofs.InTurn.{of_members}
 use Rattle.ex_attributes.specs.Tables.{rows_at, places_at, places_from, HasPlaces, behind}
 
 -- ---- the places of keys

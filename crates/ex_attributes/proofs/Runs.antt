@@ -1,59 +1,21 @@
 -- The attributes of a name by where they stand, and those of one entity among them, found by halving.
-use Rattle.std.proofs.Common.{◌≡◌, ℕ, zero, suc, ◌<◌, ◌≤◌, ◌==◌, Bool, true, false, List, [], ◌∷◌, ◌++◌, map, length, take, drop, leb, ltb, if◌then◌else◌, refl, sym, ◌∙◌, ap, arith}
-use Rattle.std.specs.Prelude.{filter, not}
+use Rattle.std.proofs.Common.{◌≡◌, ℕ, suc, ◌<◌, ◌==◌, Bool, true, false, List, [], ◌∷◌, ◌++◌, map, length, if◌then◌else◌, refl, sym, ◌∙◌, ap, arith}
+use Rattle.std.specs.Prelude.{filter}
 use Rattle.std.specs.BTreeMap.{BTreeMap}
 use Rattle.std.specs.Global.{Vec}
 use Rattle.std.specs.List.{flat_map}
-use Rattle.std.specs.List.Sorted.{IsPartitionPoint, IsNonDecreasingBy, IsStrictlyIncreasing}
+use Rattle.std.specs.List.Sorted.{IsNonDecreasingBy, IsStrictlyIncreasing}
 use Rattle.std.specs.Option.{option_map_or}
 use Rattle.std.specs.Str.{bytes_eq}
 use Rattle.std.proofs.lemmas.Bool.Decides.{nat_tests}
 use Rattle.std.proofs.lemmas.List.{get_or-map, length-map}
 use Rattle.std.proofs.lemmas.List.Kept.{IsNonDecreasingBy-filter}
-use Rattle.lineage.specs.Lineage.{is_among}
-use Rattle.descent.proofs.InTurn.{of_members}
+use Rattle.plain_data.specs.Numbers.{is_among}
+use Rattle.ancestors.proofs.InTurn.{of_members}
 use Rattle.ex_attributes.specs.declared.attribute.Attribute.{Attribute}
 use Rattle.ex_attributes.specs.Attributes.{named}
 use Rattle.ex_attributes.specs.Tables.{rows_at, places_at, places_from, HasNames, declarer_at}
 use Rattle.ex_attributes.proofs.Places.{stands, moved, longer, rows_from}
-
--- ---- halving
-
-fails : {X : Type 0} (p : X → Bool) (xs : List X) → IsPartitionPoint (λ y. p y ≡ true) (λ y. p y ≡ false) xs 0 → filter p xs ≡ []
-fails p [] point = refl
-fails p (x ∷ xs) point =
-    let first : p x ≡ false = point.1 0 x (omega arith) (omega arith) in
-    rw first (fails p xs (λ k d _ h. absurd (omega arith), λ k d _ h. point.1 (suc k) d (omega arith) (omega arith)))
-
--- what stands before the place between those that pass and those that fail
-point_takes : {X : Type 0} (p : X → Bool) (xs : List X) (i : ℕ) → i ≤ length xs → IsPartitionPoint (λ y. p y ≡ true) (λ y. p y ≡ false) xs i → take i xs ≡ filter p xs
-point_takes p [] zero within point = refl
-point_takes p [] (suc i) within point = absurd (omega arith)
-point_takes p (x ∷ xs) zero within point = sym (fails p (x ∷ xs) point)
-point_takes p (x ∷ xs) (suc i) within point =
-    let passes : p x ≡ true = point.0 0 x (omega arith) (omega arith) in
-    rw passes (ap (λ ys. x ∷ ys) (point_takes p xs i (omega arith) (λ k d _ h. point.0 (suc k) d (omega arith) (omega arith), λ k d h g. point.1 (suc k) d (omega arith) (omega arith))))
-
--- what stands from there on
-point_drops : {X : Type 0} (p : X → Bool) (xs : List X) (i : ℕ) → i ≤ length xs → IsPartitionPoint (λ y. p y ≡ true) (λ y. p y ≡ false) xs i → drop i xs ≡ filter (λ y. not (p y)) xs
-point_drops p [] zero within point = refl
-point_drops p [] (suc i) within point = absurd (omega arith)
-point_drops p (x ∷ xs) zero within point =
-    let first : p x ≡ false = point.1 0 x (omega arith) (omega arith) in
-    rw first (ap (λ ys. x ∷ ys) (point_drops p xs 0 (omega arith) (λ k d _ h. absurd (omega arith), λ k d _ h. point.1 (suc k) d (omega arith) (omega arith))))
-point_drops p (x ∷ xs) (suc i) within point =
-    let passes : p x ≡ true = point.0 0 x (omega arith) (omega arith) in
-    rw passes (point_drops p xs i (omega arith) (λ k d _ h. point.0 (suc k) d (omega arith) (omega arith), λ k d h g. point.1 (suc k) d (omega arith) (omega arith)))
-
-module _ {X : Type 0} (n : X → ℕ) where
-  -- those of one number, found by halving twice
-  same_number : (e : ℕ) (xs : List X) → filter (λ x. leb (n x) e) (filter (λ x. not (ltb (n x) e)) xs) ≡ filter (λ x. e == n x) xs
-  same_number e [] = refl
-  same_number e (x ∷ xs) = grind (arith, nat_tests, same_number e xs)
-
-  pub run : (e : ℕ) (xs : List X) (start end : ℕ) → start ≤ length xs → IsPartitionPoint (λ x. ltb (n x) e ≡ true) (λ x. ltb (n x) e ≡ false) xs start → end ≤ length (drop start xs) → IsPartitionPoint (λ x. leb (n x) e ≡ true) (λ x. leb (n x) e ≡ false) (drop start xs) end → take end (drop start xs) ≡ filter (λ x. e == n x) xs
-  run e xs start end within before inside behind =
-      point_takes (λ x. leb (n x) e) (drop start xs) end inside behind ∙ ap (filter (λ x. leb (n x) e)) (point_drops (λ x. ltb (n x) e) xs start within before) ∙ same_number e xs
 
 -- ---- numbers along a list
 

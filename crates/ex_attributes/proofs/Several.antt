@@ -2,7 +2,7 @@
 use Rattle.std.proofs.Common.{◌≡◌, ℕ, suc, ◌+◌, ◌-◌, ◌<◌, Bool, true, false, ◌==◌, List, [], ◌∷◌, filter, length, if◌then◌else◌, refl, ◌∙◌, ap, arith}
 use Rattle.std.specs.List.{list_any}
 use Rattle.std.proofs.lemmas.Bool.Decides.{nat_tests}
-use Rattle.lineage.specs.Lineage.{numbers_from}
+use Rattle.graphs.specs.Graphs.{numbers_from}
 use Rattle.ex_attributes.specs.declared.attribute.Redeclared.{Redeclared}
 use Rattle.ex_attributes.specs.Attributes.{Attributes, is_several, latest, named, is_ambiguous_in_some, named_attributes}
 

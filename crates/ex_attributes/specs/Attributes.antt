@@ -2,6 +2,7 @@
 use Rattle.std.specs.Prelude.{ℕ, zero, Bool, true, false, not, ◌==◌, ◌&&◌, ◌||◌, List, [], ◌∷◌, ◌++◌, map, filter, length, Option, Some, None, option_map, if◌then◌else◌}
 use Rattle.std.specs.List.{list_any, flat_map, filter_map}
 use Rattle.std.specs.Str.{bytes_eq}
+use Rattle.plain_data.specs.Numbers.{is_among, numbered}
 use Rattle.ex_tree.specs.declared.declaration.InverseAggregate.{InverseAggregate}
 use Rattle.ex_tree.specs.declared.expression.Name.{Name}
 use Rattle.ex_named.specs.declared.declaration.NamedAttribute.{NamedAttribute}
@@ -17,9 +18,8 @@ use Rattle.ex_named.specs.declared.reference.AttributePlace.{AttributePlace}
 use Rattle.ex_named.specs.declared.reference.AttributeSort.{AttributeSort}
 use Rattle.ex_named.specs.declared.reference.AttributeSort.TheVariants.{Explicit, Derived, Inverse}
 use Rattle.ex_named.specs.declared.reference.AttributeUse.{AttributeUse}
-use Rattle.ex_named.specs.Scopes.{is_among, and_then}
-use Rattle.lineage.specs.Numbered.{numbered}
-use Rattle.lineage.specs.Lineage.{family, numbers_from}
+use Rattle.ex_named.specs.Scopes.{and_then}
+use Rattle.graphs.specs.Graphs.{family, numbers_from}
 use Rattle.ex_kinds.specs.declared.fault.TypeFaultKind.TheVariants.{Qualifier, Ambiguous}
 use Rattle.ex_kinds.specs.declared.kind.Sort.{Sort}
 use Rattle.ex_kinds.specs.declared.kind.Sort.TheVariants as k

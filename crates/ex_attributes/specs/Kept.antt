@@ -1,7 +1,7 @@
 -- What is found of a name in each type, where all types that have it have it alike.
 use Rattle.std.specs.Prelude.{◌≡◌, ℕ, Bool, true, false, List}
 use Rattle.std.specs.List.{flat_map}
-use Rattle.lineage.specs.Lineage.{family}
+use Rattle.graphs.specs.Graphs.{family}
 use Rattle.ex_kinds.specs.Kinds.{Kinds}
 use Rattle.ex_renamings.specs.Leading.{is_marked}
 use Rattle.ex_kinds.specs.Types.{declared, own, alternatives, plain}

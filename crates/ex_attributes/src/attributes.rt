@@ -1,16 +1,16 @@
 //! The attributes of a schema's entities.
 
 ghost use Rattle.std.specs.Prelude.{◌≡◌, nat_lt, map, length, IfOk};
-ghost use Rattle.lineage.specs.Lineage as lineage;
+ghost use Rattle.graphs.specs.Graphs as graphs;
 ghost use Rattle.ex_attributes.specs.Attributes as spec;
 
 use crate::declared_attributes::declared_by_all;
 use crate::declared_rows::DeclaredRows;
 use crate::redeclarations::redeclared_by_all;
 use crate::redeclared_rows::RedeclaredRows;
-use descent::{Descent, Family};
+use ancestors::{Descent, Family};
 use ex_named::NamedEntity;
-use lineage::family;
+use graphs::family;
 use plain_data::Rows;
 use std::alloc::{AllocError, Global};
 use std::marker::Model;
@@ -103,14 +103,14 @@ impl Attributes {
 
     /// The entity and the ones above it.
     pub(crate) fn family(&self, entity: usize) -> Family<'_>
-        ensures { result ≡ lineage.family self.now.supertypes entity }
+        ensures { result ≡ graphs.family self.now.supertypes entity }
     {
         Family::of(&self.supertypes, entity)
     }
 
     /// The numbers of the entity and of the ones above it.
     pub(crate) fn members(&self, alloc: Global, entity: usize) -> Result<Vec<usize>, AllocError>
-        ensures { IfOk result (λ found. found.items ≡ lineage.family self.now.supertypes entity) }
+        ensures { IfOk result (λ found. found.items ≡ graphs.family self.now.supertypes entity) }
     {
         family(alloc, self.supertypes.graph(), entity)?
             .into_iter()

@@ -3,7 +3,7 @@
 ghost use Rattle.std.specs.Prelude.{◌≡◌, ◌≤◌, ◌==◌, true, false, [], length, if◌then◌else◌, IfOk, filter};
 ghost use Rattle.std.specs.List.{flat_map};
 ghost use Rattle.std.specs.List.Sorted.{IsNonDecreasingBy, IsPartitionPoint};
-ghost use Rattle.ex_named.specs.Scopes.{is_among};
+ghost use Rattle.plain_data.specs.Numbers.{is_among};
 ghost use Rattle.ex_attributes.specs.Attributes as spec;
 ghost use Rattle.ex_attributes.specs.Steps.{read};
 ghost use Rattle.ex_attributes.specs.Tables as tables;
@@ -11,7 +11,7 @@ ghost use Rattle.ex_attributes.specs.Tables as tables;
 use crate::attribute::Attribute;
 use crate::order::{attributes_ascend, attributes_in_order, is_same_place, place_order};
 use crate::tables::{places_of, push_rows_at, put_name, rows_at};
-use descent::Family;
+use ancestors::Family;
 use ex_kinds::ValueKind;
 use ex_named::AttributePlace;
 use std::alloc::{AllocError, Global};

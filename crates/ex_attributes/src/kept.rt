@@ -1,6 +1,6 @@
 //! What is found of a name in each type, found for all types at once.
 
-ghost use Rattle.std.specs.Prelude.{◌≡◌, ℕ, IfOk, IfSome, IsTrue};
+ghost use Rattle.std.specs.Prelude.{◌≡◌, ℕ, true, IfOk, IfSome, IsTrue};
 ghost use Rattle.std.specs.Str.{bytes_eq};
 ghost use Rattle.ex_renamings.specs.Leading.{is_marked as is_marked_in};
 ghost use Rattle.ex_attributes.specs.Attributes as attributes_spec;
@@ -51,18 +51,11 @@ pub struct KeptAmong {
 }
 
 impl KeptAmong {
-    /// Whether it is of this name.
-    pub fn is_of(&self, name: &str) -> bool
-        ensures { result ≡ bytes_eq self.now.name name.now }
+    /// Whether it was found of this name among these kinds.
+    pub fn was_found_of(&self, name: &str, kinds: &[ValueKind]) -> bool
+        ensures { IsTrue result → (bytes_eq self.now.name name.now ≡ true) × (self.now.kinds ≡ kinds.now) }
     {
-        self.name.as_str() == name
-    }
-
-    /// Whether it is of these kinds.
-    pub fn is_among(&self, kinds: &[ValueKind]) -> bool
-        ensures { IsTrue result → self.now.kinds ≡ kinds.now }
-    {
-        are_same(self.kinds.as_slice(), kinds)
+        self.name.as_str() == name && are_same(self.kinds.as_slice(), kinds)
     }
 }
 

@@ -1,8 +1,8 @@
 //! What an attribute may be: by its latest redeclarations, else by its declaration.
 
 ghost use Rattle.std.specs.Prelude.{◌≡◌, ℕ, ◌==◌, ◌&&◌, ◌||◌, not, [], IfOk, OnOk};
-ghost use Rattle.lineage.specs.Lineage.{family as family_of};
-ghost use Rattle.ex_named.specs.Scopes.{is_among};
+ghost use Rattle.plain_data.specs.Numbers.{is_among};
+ghost use Rattle.graphs.specs.Graphs.{family as family_of};
 ghost use Rattle.ex_attributes.specs.Attributes as spec;
 ghost use Rattle.ex_attributes.specs.Steps.{read};
 

@@ -2,7 +2,7 @@
 
 ghost use Rattle.std.specs.Prelude.{◌≡◌, ◌==◌, ◌&&◌, IfOk, filter, length};
 ghost use Rattle.std.specs.List.{flat_map};
-ghost use Rattle.ex_named.specs.Scopes.{is_among};
+ghost use Rattle.plain_data.specs.Numbers.{is_among};
 ghost use Rattle.ex_attributes.specs.Attributes as spec;
 ghost use Rattle.ex_attributes.specs.Steps.{read};
 ghost use Rattle.ex_attributes.specs.Tables as tables;
@@ -11,7 +11,7 @@ use crate::attribute::Redeclared;
 use crate::keys::{place_key, redeclared_keys, redeclarer_key, redeclarer_keys};
 use crate::order::redeclarations_ascend;
 use crate::tables::{places_at, places_by_key, push_rows_at, rows_at};
-use descent::Family;
+use ancestors::Family;
 use ex_named::AttributePlace;
 use std::alloc::{AllocError, Global};
 use std::collections::BTreeMap;

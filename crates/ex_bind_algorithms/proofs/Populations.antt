@@ -9,18 +9,13 @@ use Rattle.std.specs.BTreeSet.{insert_key}
 use Rattle.std.specs.List.{All}
 use Rattle.std.specs.List.Sorted.{IsStrictlySortedBy}
 use Rattle.std.specs.Ordering.{match_ordering, nat_cmp}
-use Rattle.lineage.proofs.Sets.{contained, is_among-insert}
-use Rattle.ex_named.specs.Scopes.{is_among}
+use Rattle.plain_data.specs.Numbers.{is_among}
+use Rattle.graphs.proofs.Sets.{contained, is_among-insert}
+use Rattle.plain_data.proofs.Disjunctions.{or_swap}
 use Rattle.ex_bind_algorithms.specs.Algorithms.{in_order}
 
-turned_or : (a b : Bool) → (a || b) ≡ (b || a)
-turned_or true true = refl
-turned_or true false = refl
-turned_or false true = refl
-turned_or false false = refl
-
 pub among_insert : (xs : List ℕ) (k n : ℕ) → is_among (insert_key nat_cmp xs k) n ≡ (is_among xs n || k == n)
-among_insert xs k n = is_among-insert xs k n ∙ turned_or (k == n) (is_among xs n)
+among_insert xs k n = is_among-insert xs k n ∙ or_swap (k == n) (is_among xs n)
 
 pub among_in_order : (ns : List ℕ) (k : ℕ) → is_among (in_order ns) k ≡ is_among ns k
 among_in_order [] k = refl

@@ -5,7 +5,7 @@ ghost use Rattle.ex_named.specs.Outcomes.{Binds};
 ghost use Rattle.ex_bind_algorithms.specs.Algorithms as spec;
 
 use crate::variables::frame_of;
-use descent::Family;
+use ancestors::Family;
 use ex_bind::{copy_name, data_type, expression};
 use ex_named::{Binding, NamedConstant, both};
 use ex_scopes::{Declarations, Scope};

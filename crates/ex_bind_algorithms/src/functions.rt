@@ -7,7 +7,7 @@ ghost use Rattle.ex_bind_algorithms.specs.Algorithms as spec;
 use crate::variables::{
     frame_of, local_variables, parameters, push_local_names, push_parameter_names,
 };
-use descent::Family;
+use ancestors::Family;
 use ex_bind::{copy_name, data_type};
 use ex_bind_statements::statements;
 use ex_declarations::once;

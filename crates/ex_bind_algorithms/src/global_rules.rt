@@ -3,12 +3,13 @@
 ghost use Rattle.std.specs.Prelude.{◌≡◌, ℕ, ◌==◌, ◌||◌, [], false, IfOk, OnOk};
 ghost use Rattle.std.specs.List.Sorted.{IsStrictlySortedBy};
 ghost use Rattle.std.specs.Ordering.{nat_cmp};
+ghost use Rattle.plain_data.specs.Numbers.{is_among};
 ghost use Rattle.ex_named.specs.Outcomes.{Binds, each};
-ghost use Rattle.ex_named.specs.Scopes.{entity as entity_named, is_among};
+ghost use Rattle.ex_named.specs.Scopes.{entity as entity_named};
 ghost use Rattle.ex_bind_algorithms.specs.Algorithms as spec;
 
 use crate::variables::{frame_of, local_variables, push_labels, push_local_names};
-use descent::Family;
+use ancestors::Family;
 use ex_bind::{copy_name, domain_rules};
 use ex_bind_statements::statements;
 use ex_declarations::once;
@@ -16,10 +17,9 @@ use ex_named::{Binding, Gathered, NamedRule, both};
 use ex_scopes::{Declarations, Scope};
 use ex_tree::{Name, Rule};
 use name_tables::SortedNames;
-use plain_data::Items;
+use plain_data::{Failure, Items};
 use std::alloc::{AllocError, Global};
 use std::collections::BTreeSet;
-use text_forms::Failure;
 
 /// A rule with its names bound. Its locals and labels are one scope, in which the labels hide nothing.
 #[tactic(auto, unfolding(crate::specs::Algorithms::named_rule))]

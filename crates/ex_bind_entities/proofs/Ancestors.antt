@@ -1,9 +1,9 @@
 -- An entity together with its ancestors.
 use Rattle.std.proofs.Common.{◌≡◌, ℕ, zero, suc, ◌≤◌, true, false, ◌&&◌, ◌||◌, ◌==◌, nat_lt, List, [], ◌∷◌, filter, length, refl, ◌∙◌, arith}
 use Rattle.std.proofs.lemmas.Bool.Decides.{nat_tests}
-use Rattle.ex_named.specs.Scopes.{is_among}
-use Rattle.lineage.specs.Lineage.{supertypes, reaches, is_ancestor, family}
-use Rattle.lineage.proofs.Families as families
+use Rattle.plain_data.specs.Numbers.{is_among}
+use Rattle.graphs.specs.Graphs.{supertypes, reaches, is_ancestor, family}
+use Rattle.graphs.proofs.Families as families
 
 pub in_family : (graph : List (List ℕ)) (e k : ℕ) → is_among (family graph e) k ≡ (nat_lt k (length graph) && (k == e || is_ancestor graph e k))
 in_family = families.in_family

@@ -1,6 +1,7 @@
 -- Attributes of ancestors: an entity beyond the graph has none.
 use Rattle.std.proofs.Common.{◌≡◌, ℕ, ◌≤◌, Bool, true, false, ◌&&◌, ◌||◌, ◌==◌, nat_lt, if◌then◌else◌, List, length, Ok, refl, ◌∙◌, ap, arith}
 use Rattle.std.proofs.lemmas.Bool.Decides.{nat_tests}
+use Rattle.plain_data.specs.Numbers.{is_among}
 use Rattle.name_tables.specs.Names.{named}
 use Rattle.ex_tree.specs.declared.declaration.QualifiedAttribute.{QualifiedAttribute}
 use Rattle.ex_tree.specs.declared.expression.Name.{Name}
@@ -9,8 +10,8 @@ use Rattle.ex_named.specs.declared.reference.AttributeSort.{AttributeSort}
 use Rattle.ex_named.specs.declared.reference.AttributeUse.{AttributeUse}
 use Rattle.ex_named.specs.declared.declaration.NamedRedeclaration.{NamedRedeclaration}
 use Rattle.ex_named.specs.Outcomes.{refused, given}
-use Rattle.ex_named.specs.Scopes.{Declarations, is_among, entity}
-use Rattle.lineage.specs.Lineage.{family, is_ancestor}
+use Rattle.ex_named.specs.Scopes.{Declarations, entity}
+use Rattle.graphs.specs.Graphs.{family, is_ancestor}
 use Rattle.ex_scopes.specs.Sorts.{any_sort}
 use Rattle.ex_bind_entities.specs.Entities.{next, use_of, attribute_of, redeclaration_in, redeclaration, unique_in}
 use Rattle.ex_bind_entities.proofs.Ancestors.{none_declared, in_family}

@@ -10,7 +10,7 @@ use Rattle.ex_named.specs.Outcomes.{refused, given, both}
 use Rattle.ex_named.specs.Scopes.{Declarations}
 use Rattle.ex_bind.specs.Rules.{domain_rules, labels, scope_of}
 use Rattle.ex_declarations.specs.Declared.{once}
-use Rattle.lineage.specs.Lineage.{is_ancestor}
+use Rattle.graphs.specs.Graphs.{is_ancestor}
 use Rattle.ex_bind_entities.specs.Entities.{entity_names, make_entity, named_entity, underlying, named_type}
 use Rattle.ex_bind_entities.specs.Wholes.{entity_parts, type_names, type_parts}
 

@@ -1,6 +1,7 @@
 -- Entities and types with their names bound (ISO 10303-11:1994, 9.1 and 9.2).
 use Rattle.std.specs.Prelude.{ℕ, Bool, true, ◌||◌, ◌==◌, List, [], ◌∷◌, ◌++◌, map, Option, Some, None, if◌then◌else◌, Ok, Err}
 use Rattle.std.specs.List.{filter_map, flat_map, list_any}
+use Rattle.plain_data.specs.Numbers.{is_among}
 use Rattle.name_tables.specs.Names.{named}
 use Rattle.ex_tree.specs.declared.expression.Name.{Name}
 use Rattle.ex_tree.specs.declared.declaration.AttributeDeclaration.{AttributeDeclaration}
@@ -51,7 +52,7 @@ use Rattle.ex_named.specs.Expressions.{expression}
 use Rattle.ex_scopes.specs.Attributes.{meaning_if}
 use Rattle.ex_scopes.specs.Sorts.{any_sort, explicit_alone, explicit_or_derived}
 use Rattle.ex_bind.specs.Rules.{domain_rules, labels, scope_of}
-use Rattle.lineage.specs.Lineage.{family, is_ancestor}
+use Rattle.graphs.specs.Graphs.{family, is_ancestor}
 use Rattle.ex_declarations.specs.Declared.{once, explicit_names, derived_names, inverse_names}
 
 abbrev pub next : {A B : Type 0} → Outcome A → (A → Outcome B) → Outcome B
@@ -107,7 +108,7 @@ module _ (schema : Declarations) (supertypes : List (List ℕ)) where
 
   -- an attribute that was redeclared before: its name, and an entity that declares it
   abbrev pub stands_before : List (List ℕ × ℕ) → Name × List ℕ → Bool
-  stands_before before r = list_any (λ e. list_any (λ f. f == e) (named r.0.text before)) r.1
+  stands_before before r = list_any (is_among (named r.0.text before)) r.1
 
   abbrev pub once_redeclared_after : List (List ℕ × ℕ) → Outcome (Unit {0}) → List (Name × List ℕ) → Outcome (Unit {0})
   once_redeclared_after before found [] = found

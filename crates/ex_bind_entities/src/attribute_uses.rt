@@ -6,7 +6,7 @@ ghost use Rattle.ex_scopes.specs.Sorts.{admitted};
 ghost use Rattle.ex_bind_entities.specs.Entities as spec;
 
 use crate::families::EntityContext;
-use descent::Family;
+use ancestors::Family;
 use ex_named::{AttributeUse, Binding, NameFaultKind, refused};
 use ex_scopes::{Declarations, Sorts};
 use ex_tree::Name;

@@ -3,7 +3,7 @@
 ghost use Rattle.std.specs.Prelude.{◌≡◌, true};
 ghost use Rattle.ex_named.specs.Outcomes.{Binds, each};
 ghost use Rattle.ex_bind.specs.Rules.{scope_of};
-ghost use Rattle.lineage.specs.Lineage.{family};
+ghost use Rattle.graphs.specs.Graphs.{family};
 ghost use Rattle.ex_bind_entities.specs.Entities as spec;
 ghost use Rattle.ex_scopes.specs.Sorts.{admitted};
 

@@ -6,7 +6,7 @@ ghost use Rattle.ex_named.specs.Outcomes.{Binds, each, optional};
 ghost use Rattle.ex_named.specs.Outcomes as outcomes;
 ghost use Rattle.ex_named.specs.Scopes as scopes;
 ghost use Rattle.ex_bind.specs.Rules.{scope_of};
-ghost use Rattle.lineage.specs.Lineage.{family, is_ancestor};
+ghost use Rattle.graphs.specs.Graphs.{family, is_ancestor};
 ghost use Rattle.ex_bind_entities.specs.Entities as spec;
 ghost use Rattle.ex_bind_entities.specs.Wholes as parts;
 
@@ -16,7 +16,7 @@ use crate::repeated::once_redeclared;
 use crate::scope_names::{no_variables, scope_names};
 use crate::supertypes::supertype;
 use crate::unique_rules::unique_rules;
-use descent::Descent;
+use ancestors::Descent;
 use ex_bind::{copy_name, domain_rules};
 use ex_declarations::once;
 use ex_named::{

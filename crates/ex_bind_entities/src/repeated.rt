@@ -2,24 +2,25 @@
 
 ghost use Rattle.std.specs.Prelude.{◌≡◌, Ok, [], ◌++◌, ◌==◌, map, if◌then◌else◌, IfOk, OnOk};
 ghost use Rattle.std.specs.List.{flat_map, list_any};
+ghost use Rattle.plain_data.specs.Numbers.{is_among};
 ghost use Rattle.ex_named.specs.declared.declaration.NamedRedeclaration.{NamedRedeclaration};
 ghost use Rattle.ex_named.specs.declared.fault.NameFaultKind.TheVariants.{DeclaredTwice};
 ghost use Rattle.ex_named.specs.Outcomes.{Binds, Outcome};
 ghost use Rattle.ex_named.specs.Outcomes as outcomes;
 ghost use Rattle.ex_named.specs.Scopes.{attributes_of};
-ghost use Rattle.lineage.specs.Lineage.{family};
+ghost use Rattle.graphs.specs.Graphs.{family};
 ghost use Rattle.ex_bind_entities.specs.Entities as spec;
 ghost use Rattle.ex_bind_entities.specs.Inherited as parts;
 
 use crate::families::EntityContext;
 use crate::redeclarations::redeclaration;
-use descent::Family;
+use ancestors::Family;
 use ex_named::{Binding, Gathered, NameFaultKind, NamedRedeclaration, refused};
 use ex_scopes::Sorts;
 use ex_tree::{AttributeDeclaration, EntityBody, ExplicitAttribute, Name, QualifiedAttribute};
 use name_tables::NameRows;
+use plain_data::Failure;
 use std::alloc::{AllocError, Global};
-use text_forms::Failure;
 
 /// Puts the attribute behind others, if it is declared again.
 fn push_inherited<'a>(
@@ -97,17 +98,18 @@ fn declaring(
     }
 }
 
-fn is_among(numbers: &[usize], number: usize) -> bool
-    ensures { result ≡ list_any (λ n. n == number) numbers.now }
+/// Whether the number is one of these.
+fn is_one_of(numbers: &[usize], number: usize) -> bool
+    ensures { result ≡ is_among numbers.now number }
 {
     numbers.iter().any(|other| *other == number)
 }
 
 /// Whether one of the numbers is among the others.
 fn is_any_among(others: &[usize], numbers: &[usize]) -> bool
-    ensures { result ≡ list_any (λ e. list_any (λ f. f == e) others.now) numbers.now }
+    ensures { result ≡ list_any (is_among others.now) numbers.now }
 {
-    numbers.iter().any(|number| is_among(others, *number))
+    numbers.iter().any(|number| is_one_of(others, *number))
 }
 
 /// Puts each number beside this name.

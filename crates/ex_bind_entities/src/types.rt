@@ -4,13 +4,13 @@ ghost use Rattle.std.specs.Prelude.{◌≡◌, ℕ, List, [], true};
 ghost use Rattle.ex_named.specs.Outcomes.{Binds, each};
 ghost use Rattle.ex_named.specs.Scopes as scopes;
 ghost use Rattle.ex_bind.specs.Rules.{scope_of};
-ghost use Rattle.lineage.specs.Lineage.{is_ancestor};
+ghost use Rattle.graphs.specs.Graphs.{is_ancestor};
 ghost use Rattle.ex_bind_entities.specs.Entities as spec;
 ghost use Rattle.ex_bind_entities.specs.Wholes as parts;
 
 use crate::entities::not_cyclic;
 use crate::scope_names::{labels_once, names_once, no_variables};
-use descent::Family;
+use ancestors::Family;
 use ex_bind::{copy_name, copy_names, data_type, domain_rules};
 use ex_named::{
     Binding, Declared, Gathered, NameFaultKind, NamedDataType, NamedDomainRule, NamedType,

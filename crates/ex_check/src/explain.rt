@@ -13,9 +13,9 @@ use crate::report::{CheckFault, Verdict, refused, warned};
 use crate::schema::compile_schema;
 use crate::shown::push_shown;
 use ex_types::CheckedSchema;
+use plain_data::Failure;
 use rp_io::{Sink, write_all};
 use std::alloc::{AllocError, Global};
-use text_forms::Failure;
 
 /// Puts each warning behind the others, with its line of the text.
 fn push_explained(

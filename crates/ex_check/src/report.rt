@@ -5,7 +5,7 @@ ghost use Rattle.std.specs.List.{flat_map};
 ghost use Rattle.std.specs.String.{string_bytes};
 ghost use Rattle.std.specs.Io.KnownBytes.{Appends};
 ghost use Rattle.rp_io.specs.Front.{AppendsFront};
-ghost use Rattle.text_forms.specs.Gives.{Gives};
+ghost use Rattle.plain_data.specs.Gives.{Gives};
 ghost use Rattle.ex_check.specs.Check as spec;
 
 use crate::fault::SchemaFault;
@@ -13,9 +13,9 @@ use crate::place::Position;
 use crate::schema::compile_schema;
 use ex_compiled::Compiled;
 use ex_types::CheckedSchema;
+use plain_data::Failure;
 use rp_io::{Sink, write_all};
 use std::alloc::{AllocError, Global};
-use text_forms::Failure;
 
 /// Whether a text is a schema.
 #[derive(Clone, Copy, PartialEq, Eq)]

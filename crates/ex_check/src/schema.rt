@@ -2,7 +2,7 @@
 
 ghost use Rattle.std.specs.Prelude.{◌≡◌, IfOk, map};
 ghost use Rattle.std.specs.List.Sorted.{IsStrictlyIncreasing};
-ghost use Rattle.text_forms.specs.Gives.{Gives};
+ghost use Rattle.plain_data.specs.Gives.{Gives};
 ghost use Rattle.ex_lex.specs.Spelling.{Rise};
 ghost use Rattle.ex_check.specs.Check as spec;
 
@@ -13,8 +13,8 @@ use ex_resolve::{Named, resolve};
 use ex_syntax::parse;
 use ex_tree::Schema as Tree;
 use ex_types::{CheckedSchema, check};
+use plain_data::Failure;
 use std::alloc::Global;
-use text_forms::Failure;
 
 /// The tree that a text spells; else the first fault of its tokens, or else of its syntax.
 #[tactic(auto, unfolding(crate::specs::Check::syntax), using(crate::proofs::Warnings::strings_rise))]
@@ -22,16 +22,8 @@ fn tree_of(alloc: Global, text: &[u8]) -> Result<Tree, Failure<SchemaFault>>
     ensures value { Gives (λ tree. tree) result (spec.syntax text.now) }
     ensures ascending { IfOk result (λ tree. Rise 0 (map (λ s. s.at) tree.strings)) }
 {
-    let tokens = match tokens(alloc, text) {
-        Ok(tokens) => tokens,
-        Err(Failure::Fault(fault)) => return Err(Failure::Fault(SchemaFault::Lexical(fault))),
-        Err(Failure::NoMemory) => return Err(Failure::NoMemory),
-    };
-    match parse(alloc, &tokens) {
-        Ok(schema) => Ok(schema),
-        Err(Failure::Fault(fault)) => Err(Failure::Fault(SchemaFault::Syntactic(fault))),
-        Err(Failure::NoMemory) => Err(Failure::NoMemory),
-    }
+    let tokens = tokens(alloc, text).map_err(|failure| failure.map(SchemaFault::Lexical))?;
+    parse(alloc, &tokens).map_err(|failure| failure.map(SchemaFault::Syntactic))
 }
 
 /// The schema of a text with its names bound; else the first fault of its tokens, or else of its syntax, or else of its
@@ -42,11 +34,7 @@ fn named_of(alloc: Global, text: &[u8]) -> Result<Named, Failure<SchemaFault>>
     ensures ascending { IfOk result (λ schema. Rise 0 (map (λ s. s.at) schema.schema.strings)) }
 {
     let tree = tree_of(alloc, text)?;
-    match resolve(alloc, tree) {
-        Ok(schema) => Ok(schema),
-        Err(Failure::Fault(fault)) => Err(Failure::Fault(SchemaFault::Naming(fault))),
-        Err(Failure::NoMemory) => Err(Failure::NoMemory),
-    }
+    resolve(alloc, tree).map_err(|failure| failure.map(SchemaFault::Naming))
 }
 
 /// The schema of a text with its types checked; else the first fault of its tokens, or else of its syntax, or else of its
@@ -57,11 +45,7 @@ fn checked_of(alloc: Global, text: &[u8]) -> Result<CheckedSchema, Failure<Schem
     ensures ascending { IfOk result (λ schema. IsStrictlyIncreasing schema.warnings) }
 {
     let named = named_of(alloc, text)?;
-    match check(alloc, named) {
-        Ok(schema) => Ok(schema),
-        Err(Failure::Fault(fault)) => Err(Failure::Fault(SchemaFault::Typing(fault))),
-        Err(Failure::NoMemory) => Err(Failure::NoMemory),
-    }
+    check(alloc, named).map_err(|failure| failure.map(SchemaFault::Typing))
 }
 
 /// The schema of a text, whose warnings stand in the text's order; else the first fault of its tokens, or else of its
@@ -72,9 +56,5 @@ pub fn compile_schema(alloc: Global, text: &[u8]) -> Result<Compiled, Failure<Sc
     ensures ascending { IfOk result (λ compiled. IsStrictlyIncreasing compiled.warnings) }
 {
     let schema = checked_of(alloc, text)?;
-    match Compiled::build(alloc, schema) {
-        Ok(compiled) => Ok(compiled),
-        Err(Failure::Fault(fault)) => Err(Failure::Fault(SchemaFault::Constraining(fault))),
-        Err(Failure::NoMemory) => Err(Failure::NoMemory),
-    }
+    Compiled::build(alloc, schema).map_err(|failure| failure.map(SchemaFault::Constraining))
 }

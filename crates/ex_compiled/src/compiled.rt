@@ -2,16 +2,17 @@
 
 ghost use Rattle.std.specs.Prelude.{◌≡◌, ℕ, List, Some, None, IfOk, IsTrue};
 ghost use Rattle.std.specs.List.Sorted.{IsStrictlyIncreasing};
-ghost use Rattle.lineage.specs.Lineage.{is_among, line as line_of};
-ghost use Rattle.text_forms.specs.Gives.{Gives};
+ghost use Rattle.plain_data.specs.Numbers.{is_among};
+ghost use Rattle.graphs.specs.Graphs.{line as line_of};
+ghost use Rattle.plain_data.specs.Gives.{Gives};
 ghost use Rattle.ex_subtypes.specs.Legal as legal;
 ghost use Rattle.ex_compiled.specs.Compiling as spec;
 
-use ex_subtypes::{Constraints, Illegal, SubtypeFault, TypeSet};
+use ex_subtypes::{Constraints, EntitySet, Illegal, SubtypeFault};
 use ex_types::CheckedSchema;
+use plain_data::Failure;
 use std::alloc::{AllocError, Global};
 use std::marker::Model;
-use text_forms::Failure;
 
 /// A checked schema whose supertype expressions can be read.
 #[derive(Drop)]
@@ -69,7 +70,7 @@ impl Compiled {
     ///
     /// Its time is near-linear in the set, its members' supertypes, and the nodes of their expressions at which members
     /// stand, with those above them.
-    pub fn legal(&self, alloc: Global, set: &TypeSet) -> Result<Option<Illegal>, AllocError>
+    pub fn legal(&self, alloc: Global, set: &EntitySet) -> Result<Option<Illegal>, AllocError>
         ensures { IfOk result (λ found. found ≡ legal.refusal self.now.named.schema.entities set.now) }
     {
         self.constraints.legal(alloc, self.schema.entities(), set)
@@ -82,7 +83,7 @@ impl Compiled {
         requires { line_of self.now.named.supertypes entity ≡ Some line.now }
         ensures { IsTrue result → (set : List ℕ) → IsStrictlyIncreasing set → ((n : ℕ) → is_among set n ≡ is_among line.now n) → legal.refusal self.now.named.schema.entities set ≡ None }
     {
-        self.schema.named().proved();
+        self.schema.resolved().proved();
         self.constraints
             .is_unconstrained(self.schema.entities(), entity, line)
     }

@@ -1,7 +1,7 @@
 //! Functions and rules.
 
 ghost use Rattle.std.specs.Prelude.{◌≡◌};
-ghost use Rattle.text_forms.specs.Gives.{Reads, Takes, Keeps};
+ghost use Rattle.text_forms.specs.Reads.{Reads, Takes, Keeps};
 ghost use Rattle.ex_forms.specs.Input as input;
 ghost use Rattle.ex_declaration_syntax.specs.Algorithms as spec;
 ghost use Rattle.ex_tree.specs.declared.kind.TokenKind.TheVariants as k;

@@ -2,15 +2,14 @@
 //! proved by itself.
 
 ghost use Rattle.std.specs.Prelude.{◌<◌};
-ghost use Rattle.text_forms.specs.Gives.{Reads, Takes, Keeps};
+ghost use Rattle.text_forms.specs.Reads.{Reads, Takes, Keeps};
 ghost use Rattle.ex_forms.specs.Nests.{Nests};
 ghost use Rattle.ex_declaration_syntax.specs.DataTypes as spec;
 
 use ex_forms::{Cursor, Read, name, whole};
 use ex_tree::{ArrayBounds, Bounds, DataType, SimpleType, TokenKind, Width};
-use plain_data::Boxed;
+use plain_data::{Boxed, Failure};
 use std::alloc::Global;
-use text_forms::Failure;
 
 #[tactic(auto, unfolding(crate::specs::DataTypes::width_spec))]
 fn width_spec(cursor: &mut Cursor<'_>, levels: u8) -> Read<Width>

@@ -1,7 +1,7 @@
 //! Rules with their labels, names of attributes, constants and types.
 
 ghost use Rattle.std.specs.Prelude.{◌≡◌};
-ghost use Rattle.text_forms.specs.Gives.{Reads, Takes, Keeps};
+ghost use Rattle.text_forms.specs.Reads.{Reads, Takes, Keeps};
 ghost use Rattle.ex_forms.specs.Input as input;
 ghost use Rattle.ex_declaration_syntax.specs.Declarations as spec;
 ghost use Rattle.ex_tree.specs.declared.kind.TokenKind.TheVariants as k;
@@ -14,9 +14,8 @@ use ex_tree::{
     AttributeDeclaration, Constant, DomainRule, Name, QualifiedAttribute, TokenKind,
     TypeDeclaration, UnderlyingType,
 };
-use plain_data::Items;
+use plain_data::{Failure, Items};
 use std::alloc::Global;
-use text_forms::Failure;
 
 /// So many parentheses, statements and types may be open at once.
 pub(crate) const MAX_LEVELS: u8 = 64;

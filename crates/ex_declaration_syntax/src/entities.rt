@@ -1,7 +1,7 @@
 //! Entities.
 
 ghost use Rattle.std.specs.Prelude.{◌≡◌};
-ghost use Rattle.text_forms.specs.Gives.{Reads, Takes, Keeps};
+ghost use Rattle.text_forms.specs.Reads.{Reads, Takes, Keeps};
 ghost use Rattle.ex_forms.specs.Input as input;
 ghost use Rattle.ex_declaration_syntax.specs.Declarations.{begins_attribute};
 ghost use Rattle.ex_declaration_syntax.specs.Entities as spec;

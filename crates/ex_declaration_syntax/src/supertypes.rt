@@ -2,15 +2,14 @@
 //! parameter, so that each form is proved by itself.
 
 ghost use Rattle.std.specs.Prelude.{◌≡◌, ◌<◌};
-ghost use Rattle.text_forms.specs.Gives.{Reads, Takes};
+ghost use Rattle.text_forms.specs.Reads.{Reads, Takes};
 ghost use Rattle.ex_forms.specs.Nests.{Nests};
 ghost use Rattle.ex_declaration_syntax.specs.Supertypes as spec;
 
 use ex_forms::{Cursor, Form, Read, name, separated};
 use ex_tree::{SupertypeExpression, TokenKind};
-use plain_data::Items;
+use plain_data::{Failure, Items};
 use std::alloc::Global;
-use text_forms::Failure;
 
 /// Operands of AND; one that is alone is itself the expression.
 fn and_of(mut operands: Items<SupertypeExpression>) -> SupertypeExpression

@@ -1,7 +1,7 @@
 -- What a schema declares (ISO 10303-11:1994, clause 9 and 10).
 use Rattle.std.specs.Prelude.{ℕ, zero, suc, Bool, true, false, List, [], ◌∷◌, ◌++◌, map, Option, Some, None, is_some, if◌then◌else◌, Ok}
 use Rattle.std.specs.List.{filter_map, flat_map}
-use Rattle.lineage.specs.Numbered.{numbered}
+use Rattle.plain_data.specs.Numbers.{numbered}
 use Rattle.name_tables.specs.Names.{place_of}
 use Rattle.ex_tree.specs.declared.expression.Name.{Name}
 use Rattle.ex_tree.specs.declared.data_type.DataType.{DataType}

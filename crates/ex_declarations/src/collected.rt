@@ -1,9 +1,9 @@
 //! All that a schema declares.
 
 ghost use Rattle.std.specs.Prelude.{◌≡◌, [], ◌∷◌, map, IfOk, OnOk};
+ghost use Rattle.plain_data.specs.Numbers.{numbered};
 ghost use Rattle.ex_declarations.specs.Declared as spec;
 ghost use Rattle.ex_declarations.specs.Steps.{and_attributes, and_items, and_names, and_types, rows_of};
-ghost use Rattle.lineage.specs.Numbered.{numbered};
 
 use crate::attribute_names::{derived_names, explicit_names, inverse_names};
 use crate::own_names::own_names;

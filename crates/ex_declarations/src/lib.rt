@@ -3,13 +3,13 @@
 
 mod attribute_names;
 mod collected;
-mod graphs;
 mod own_names;
+mod reaching;
 mod sorts;
 mod uniqueness;
 
 pub use collected::declarations;
-pub use graphs::{supertype_graph, type_graph};
 pub use own_names::declared_names;
+pub use reaching::{supertype_graph, type_graph};
 pub use sorts::{entities, types};
 pub use uniqueness::once;

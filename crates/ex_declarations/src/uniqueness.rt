@@ -6,7 +6,7 @@ ghost use Rattle.std.specs.List.{list_any};
 ghost use Rattle.std.specs.List.Sorted.{IsStrictlySortedBy};
 ghost use Rattle.std.specs.Ordering.{is_lt, nat_cmp};
 ghost use Rattle.std.specs.Str.{bytes_eq};
-ghost use Rattle.name_tables.specs.Names.{bytes_of, by_bytes, place_of};
+ghost use Rattle.name_tables.specs.Names.{bytes_of, by_lent_bytes, place_of};
 ghost use Rattle.ex_named.specs.Outcomes.{Binds, both, given};
 ghost use Rattle.ex_declarations.specs.Declared as spec;
 ghost use Rattle.ex_declarations.specs.Steps.{told};
@@ -14,9 +14,9 @@ ghost use Rattle.ex_declarations.specs.Steps.{told};
 use ex_named::{Binding, NameFault, NameFaultKind};
 use ex_tree::Name;
 use name_tables::{NameTable, hashes_differ};
+use plain_data::Failure;
 use std::alloc::{AllocError, Global};
 use std::cmp::Ordering;
-use text_forms::Failure;
 
 /// Of a fault that was found, if any, and one more the one of lesser offset; the first, where they lie at one.
 fn least(found: Option<NameFault>, next: NameFault) -> NameFault
@@ -94,7 +94,7 @@ fn texts<'a>(alloc: Global, names: &[&'a Name]) -> Result<Vec<&'a [u8]>, AllocEr
 
 /// Whether each text is below those after it.
 fn are_ascending(texts: &[&[u8]]) -> bool
-    ensures { IsTrue result → IsStrictlySortedBy by_bytes texts.now }
+    ensures { IsTrue result → IsStrictlySortedBy by_lent_bytes texts.now }
 {
     texts.is_sorted_by(|text, next| is_below(text, next))
 }

@@ -1,7 +1,7 @@
 //! Expressions, by how tightly their operators bind.
 
 ghost use Rattle.std.specs.Prelude.{◌≡◌};
-ghost use Rattle.text_forms.specs.Gives.{Reads, Takes};
+ghost use Rattle.text_forms.specs.Reads.{Reads, Takes};
 ghost use Rattle.ex_expressions.specs.Expressions as spec;
 ghost use Rattle.ex_expressions.specs.Nests.{NestsBoth};
 

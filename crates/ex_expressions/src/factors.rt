@@ -1,7 +1,7 @@
 //! Operands, and the unary operators before them.
 
 ghost use Rattle.std.specs.Prelude.{◌≡◌, ◌<◌, IsOk};
-ghost use Rattle.text_forms.specs.Gives.{Reads, Takes, Keeps};
+ghost use Rattle.text_forms.specs.Reads.{Reads, Takes, Keeps};
 ghost use Rattle.ex_expressions.specs.Expressions as spec;
 ghost use Rattle.ex_expressions.specs.Nests.{NestsBoth};
 ghost use Rattle.ex_expressions.specs.Queries as queries;
@@ -11,9 +11,8 @@ use crate::literals::signed_real;
 use crate::operators::{interval_operator, unary_operator};
 use ex_forms::{Cursor, Read, TokenKind, name};
 use ex_tree::{Expression, Interval, IntervalOperator, Query};
-use plain_data::{Boxed, Items};
+use plain_data::{Boxed, Failure, Items};
 use std::alloc::Global;
-use text_forms::Failure;
 
 fn begins_sign(cursor: &Cursor<'_>) -> bool
     ensures { result ≡ spec.begins_sign cursor.now }

@@ -1,7 +1,7 @@
 //! What the forms that nest have in common. They are parameters, so that each form is proved by itself.
 
 ghost use Rattle.std.specs.Prelude.{◌≡◌, ◌<◌};
-ghost use Rattle.text_forms.specs.Gives.{Reads, Takes};
+ghost use Rattle.text_forms.specs.Reads.{Reads, Takes};
 ghost use Rattle.ex_forms.specs.Input as input;
 ghost use Rattle.ex_tree.specs.declared.kind.TokenKind.TheVariants as k;
 ghost use Rattle.ex_expressions.specs.Expressions as spec;

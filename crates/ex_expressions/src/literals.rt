@@ -2,7 +2,7 @@
 
 ghost use Rattle.std.specs.Prelude.{◌≡◌, IfOk, false, option_map};
 ghost use Rattle.std.specs.Str.{encode_utf8_all};
-ghost use Rattle.text_forms.specs.Gives.{Reads, Takes};
+ghost use Rattle.text_forms.specs.Reads.{Reads, Takes};
 ghost use Rattle.ex_lex.specs.Strings.{characters};
 ghost use Rattle.ex_forms.specs.Input as input;
 ghost use Rattle.ex_expressions.specs.Literals as spec;
@@ -10,10 +10,9 @@ ghost use Rattle.ex_expressions.specs.Literals as spec;
 use ex_forms::{Cursor, Read, refused, whole};
 use ex_lex::character;
 use ex_tree::{Literal, TokenKind};
-use plain_data::Text;
+use plain_data::{Failure, Text};
 use rp_numbers::{Decimal, Logical};
 use std::alloc::{AllocError, Global};
-use text_forms::Failure;
 
 /// What stands between the first byte of a token and its last.
 fn inner(token: &[u8]) -> &[u8]

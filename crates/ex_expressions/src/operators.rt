@@ -1,14 +1,13 @@
 //! Operators, and the operands between which they stand.
 
 ghost use Rattle.std.specs.Prelude.{◌≡◌, ◌∷◌, [], IfOk};
-ghost use Rattle.text_forms.specs.Gives.{Reads, Takes};
+ghost use Rattle.text_forms.specs.Reads.{Reads, Takes};
 ghost use Rattle.ex_expressions.specs.Operators as spec;
 
 use ex_forms::{Begins, Cursor, Form, Read, many};
 use ex_tree::{BinaryOperator, Expression, IntervalOperator, Operation, TokenKind, UnaryOperator};
-use plain_data::{Boxed, Items};
+use plain_data::{Boxed, Failure, Items};
 use std::alloc::{AllocError, Global};
-use text_forms::Failure;
 
 /// How tightly an operator binds, from the most.
 #[derive(Clone, Copy)]

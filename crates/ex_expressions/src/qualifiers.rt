@@ -1,7 +1,7 @@
 //! Primaries: what takes qualifiers, and the qualifiers.
 
 ghost use Rattle.std.specs.Prelude.{◌≡◌, ◌<◌, IfOk};
-ghost use Rattle.text_forms.specs.Gives.{Reads, Takes};
+ghost use Rattle.text_forms.specs.Reads.{Reads, Takes};
 ghost use Rattle.ex_tree.specs.declared.kind.TokenKind.TheVariants as k;
 ghost use Rattle.ex_forms.specs.Input as input;
 ghost use Rattle.ex_expressions.specs.Expressions as spec;
@@ -11,9 +11,8 @@ use crate::grammar::Grammar;
 use crate::literals::{begins_literal, literal};
 use ex_forms::{Begins, Cursor, Form, Read, TokenKind, many, name, optional};
 use ex_tree::{BuiltInFunction, Expression, Qualifier};
-use plain_data::{Boxed, Items};
+use plain_data::{Boxed, Failure, Items};
 use std::alloc::{AllocError, Global};
-use text_forms::Failure;
 
 fn built_in_function(kind: TokenKind) -> Option<BuiltInFunction>
     ensures { result ≡ spec.built_in_function kind }

@@ -2,8 +2,8 @@
 use Rattle.std.specs.Prelude.{ℕ, ◌<◌, ◌-◌, Result}
 use Rattle.std.specs.declared.alloc.Global.{Global}
 use denote.Ref.{MutBor}
-use Rattle.text_forms.specs.declared.Failure.{Failure}
-use Rattle.text_forms.specs.Gives.{Reads, Takes}
+use Rattle.plain_data.specs.declared.failure.Failure.{Failure}
+use Rattle.text_forms.specs.Reads.{Reads, Takes}
 use Rattle.ex_tree.specs.declared.fault.ParseFault.{ParseFault}
 use Rattle.ex_forms.specs.Input.{Lexemes, Parser}
 

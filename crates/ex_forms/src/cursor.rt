@@ -4,14 +4,15 @@ ghost use Rattle.std.specs.Prelude.{◌≡◌, ◌<◌, ◌≤◌, true, IsOk, O
 ghost use Rattle.std.specs.List.{list_any};
 ghost use Rattle.text_forms.specs.Forms.{rest, turns};
 ghost use Rattle.text_forms.specs.Forms as forms;
-ghost use Rattle.text_forms.specs.Gives.{Reads, ReadsAs, Takes};
+ghost use Rattle.text_forms.specs.Reads.{Reads, ReadsAs, Takes};
 ghost use Rattle.ex_lex.specs.Lexeme.{lexeme};
 ghost use Rattle.ex_forms.specs.Input as spec;
 
 use ex_lex::TokenList;
 use ex_tree::{ParseFault, ParseFaultKind, Token, TokenKind};
+use plain_data::Failure;
 use std::marker::Model;
-use text_forms::{Failure, TokenSource};
+use text_forms::TokenSource;
 
 /// What reads a form: its tree; else the fault, or want of memory.
 pub type Read<T> = Result<T, Failure<ParseFault>>;

@@ -1,14 +1,14 @@
 //! Identifiers and whole numbers.
 
 ghost use Rattle.std.specs.Prelude.{◌≡◌, IfOk, option_map};
-ghost use Rattle.text_forms.specs.Gives.{Reads, Takes};
+ghost use Rattle.text_forms.specs.Reads.{Reads, Takes};
 ghost use Rattle.ex_forms.specs.Input as spec;
 
 use crate::cursor::{Cursor, Read, refused};
 use ex_tree::{Identifier, Name, TokenKind};
+use plain_data::Failure;
 use rp_numbers::whole_number;
 use std::alloc::{AllocError, Global};
-use text_forms::Failure;
 
 /// The bytes as a text, where they are one.
 pub fn utf8(bytes: &[u8]) -> Option<&str>

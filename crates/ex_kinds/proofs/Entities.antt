@@ -1,9 +1,10 @@
 -- The entities of kinds, as one kind more comes.
-use Rattle.std.proofs.Common.{◌≡◌, ℕ, zero, suc, Bool, true, false, ◌==◌, ◌||◌, List, [], ◌∷◌, ◌++◌, Option, Some, None, refl, sym, ◌∙◌, ap, arith}
+use Rattle.std.proofs.Common.{◌≡◌, ℕ, zero, suc, Bool, false, ◌==◌, ◌||◌, List, [], ◌∷◌, ◌++◌, Option, Some, None, refl, sym, ◌∙◌, ap, arith}
 use Rattle.std.proofs.lemmas.Bool.Decides.{nat_tests}
 use Rattle.std.proofs.lemmas.List.Folds.{list_any-append}
 use Rattle.std.specs.List.{list_any}
-use Rattle.lineage.specs.Lineage.{is_among}
+use Rattle.plain_data.specs.Numbers.{is_among}
+use Rattle.plain_data.proofs.Disjunctions.{or_last}
 use Rattle.ex_kinds.specs.Indexed.{entity_at, AreEntities}
 use Rattle.ex_kinds.specs.Kinds.{itself, same}
 use Rattle.ex_kinds.specs.declared.kind.Sort.{Sort}
@@ -57,13 +58,7 @@ with_last : (kinds : List ValueKind) (kind : ValueKind) (n : ℕ)
 with_last kinds kind n =
     list_any-append (λ other. same other (itself (k.Entity n))) kinds (kind ∷ [])
     ∙ ap (λ b. list_any (λ other. same other (itself (k.Entity n))) kinds || (b || false)) (same_at kind.depth kind.sort n)
-    ∙ turned (list_any (λ other. same other (itself (k.Entity n))) kinds) (is_number (entity_at kind.depth kind.sort) n)
-  where
-    turned : (a b : Bool) → (a || (b || false)) ≡ (b || a)
-    turned true true = refl
-    turned true false = refl
-    turned false true = refl
-    turned false false = refl
+    ∙ or_last (list_any (λ other. same other (itself (k.Entity n))) kinds) (is_number (entity_at kind.depth kind.sort) n)
 
 -- a kind of no entity changes nothing
 pub of_none : (entities : List ℕ) (kinds : List ValueKind) (kind : ValueKind) → entity_at kind.depth kind.sort ≡ None → AreEntities entities kinds → AreEntities entities (kinds ++ kind ∷ [])

@@ -2,7 +2,7 @@
 use Rattle.std.proofs.Common.{◌≡◌, ℕ, zero, suc, Bool, true, false, ◌||◌, ◌&&◌, List, [], ◌∷◌, ◌++◌, map, filter, refl, sym, ◌∙◌, ap}
 use Rattle.std.specs.Prelude.{Option, Some, None, slice_get, slice_index_or}
 use Rattle.std.specs.List.{list_any, flat_map}
-use Rattle.lineage.specs.Lineage.{family}
+use Rattle.graphs.specs.Graphs.{family}
 use Rattle.ex_kinds.specs.declared.kind.ValueKind.{ValueKind}
 use Rattle.ex_kinds.specs.declared.kind.Sort.{Sort}
 use Rattle.ex_kinds.specs.declared.kind.Sort.TheVariants as k

@@ -1,7 +1,7 @@
 -- Which entities' instances are among kinds.
 use Rattle.std.specs.Prelude.{◌≡◌, ℕ, zero, List, Option, Some, None}
 use Rattle.std.specs.List.{list_any}
-use Rattle.lineage.specs.Lineage.{is_among}
+use Rattle.plain_data.specs.Numbers.{is_among}
 use Rattle.ex_kinds.specs.declared.kind.Sort.{Sort}
 use Rattle.ex_kinds.specs.declared.kind.Sort.TheVariants as k
 use Rattle.ex_kinds.specs.declared.kind.ValueKind.{ValueKind}

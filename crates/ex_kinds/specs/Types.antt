@@ -1,11 +1,11 @@
 -- What the defined types of a schema stand for, and what a value may be in the end.
 use Rattle.std.specs.Prelude.{ℕ, zero, suc, Bool, true, false, ◌||◌, ◌&&◌, ◌==◌, nat_lt, length, is_some, List, [], ◌∷◌, map, filter, Option, Some, None, slice_index_or}
 use Rattle.std.specs.List.{list_any, flat_map, filter_map}
+use Rattle.plain_data.specs.Numbers.{numbered}
 use Rattle.ex_named.specs.declared.declaration.NamedType.{NamedType}
 use Rattle.ex_named.specs.declared.declaration.NamedUnderlying.{NamedUnderlying}
 use Rattle.ex_named.specs.declared.declaration.NamedUnderlying.TheVariants as u
-use Rattle.lineage.specs.Numbered.{numbered}
-use Rattle.lineage.specs.Lineage.{family}
+use Rattle.graphs.specs.Graphs.{family}
 use Rattle.ex_kinds.specs.declared.kind.ValueKind.{ValueKind}
 use Rattle.ex_kinds.specs.declared.kind.Sort.{Sort}
 use Rattle.ex_kinds.specs.declared.kind.Sort.TheVariants as k

@@ -1,15 +1,15 @@
 //! What is said of an expression.
 
 ghost use Rattle.std.specs.Prelude.{◌≡◌, Result, IfOk};
-ghost use Rattle.text_forms.specs.Gives.{Gives};
+ghost use Rattle.plain_data.specs.Gives.{Gives};
 ghost use Rattle.ex_kinds.specs.Faults as spec;
 ghost use Rattle.ex_kinds.specs.Kinds.{Kinds};
 ghost use Rattle.ex_kinds.specs.declared.fault.TypeFaultKind.{TypeFaultKind};
 
 use crate::fault::{TypeFault, TypeFaultKind, either, fault_at};
 use crate::kinds::Kinds;
+use plain_data::Failure;
 use std::alloc::{AllocError, Global};
-use text_forms::Failure;
 
 /// What the value of an expression may be, and the fault that is told of it.
 #[derive(Drop)]

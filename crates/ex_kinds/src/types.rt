@@ -2,9 +2,9 @@
 
 ghost use Rattle.std.specs.Prelude.{◌≡◌, ◌++◌, length, map, IfOk, OnOk};
 ghost use Rattle.std.specs.List.{filter_map, flat_map, list_any};
-ghost use Rattle.lineage.specs.Lineage as lineage;
+ghost use Rattle.graphs.specs.Graphs as graphs;
 ghost use Rattle.ex_kinds.specs.Kinds.{of_name};
-ghost use Rattle.ex_renamings.specs.Leading as graphs;
+ghost use Rattle.ex_renamings.specs.Leading as leads;
 ghost use Rattle.ex_kinds.specs.Types as spec;
 
 use crate::data_type::{kind_of_name, kinds_of, kinds_of_one};
@@ -15,7 +15,7 @@ use crate::meeting::{
 };
 use ex_named::{NamedType, NamedUnderlying, TypeName};
 use ex_renamings::{Turned, is_marked};
-use lineage::family;
+use graphs::family;
 use plain_data::Rows;
 use std::alloc::{AllocError, Global};
 use std::marker::Model;
@@ -188,14 +188,14 @@ impl Types {
 
     /// Of each type, whether it is marked or one of those that it is, by renaming or by selection.
     pub fn leading(&self, alloc: Global, marks: &[bool]) -> Result<Vec<bool>, AllocError>
-        ensures { IfOk result (λ found. found.items ≡ graphs.leading (spec.alternatives self.now) marks.now) }
+        ensures { IfOk result (λ found. found.items ≡ leads.leading (spec.alternatives self.now) marks.now) }
     {
         Turned::of(alloc, &self.alternatives)?.leading(alloc, marks)
     }
 
     /// Puts what the type stands for behind the others.
     fn push_plain(&self, alloc: Global, found: &mut Kinds, number: usize) -> Result<(), AllocError>
-        ensures { OnOk result (found.new ≡ found.old ++ flat_map (λ m. spec.own (spec.declared self.now m)) (lineage.family (spec.alternatives self.now) number)) }
+        ensures { OnOk result (found.new ≡ found.old ++ flat_map (λ m. spec.own (spec.declared self.now m)) (graphs.family (spec.alternatives self.now) number)) }
     {
         let members = members(alloc, self.alternatives.as_slice(), number)?;
         for member in &members {
@@ -243,7 +243,7 @@ fn any_with_instances(types: &Types, kinds: &[ValueKind]) -> bool
 
 /// A type and those that are reached from it, in ascending order.
 fn members(alloc: Global, graph: &[Rows<usize>], number: usize) -> Result<Vec<usize>, AllocError>
-    ensures { IfOk result (λ found. found.items ≡ lineage.family graph.now number) }
+    ensures { IfOk result (λ found. found.items ≡ graphs.family graph.now number) }
 {
     family(alloc, graph, number)?.into_iter().collect(alloc)
 }

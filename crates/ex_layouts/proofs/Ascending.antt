@@ -1,5 +1,5 @@
 -- Sets of numbers in ascending order.
-use Rattle.std.proofs.Common.{◌≡◌, ◌≤◌, ◌<◌, ℕ, zero, suc, ◌+◌, max, Bool, true, false, ◌||◌, ◌&&◌, nat_lt, slice_index, ◌==◌, List, [], ◌∷◌, length, filter, fold, ⊎_elim, refl, sym, ◌∙◌, ap, subst, arith, le_refl, le_trans}
+use Rattle.std.proofs.Common.{◌≡◌, ◌≤◌, ◌<◌, ℕ, zero, suc, ◌+◌, max, Bool, true, false, ◌||◌, ◌&&◌, nat_lt, slice_index, ◌==◌, List, [], ◌∷◌, length, filter, fold, ⊎_elim, refl, sym, ◌∙◌, ap, subst, arith, le_refl}
 use Rattle.std.proofs.lemmas.Bool.Decides.{nat_tests}
 use Rattle.std.proofs.lemmas.Bool.{cases_Bool}
 use Rattle.std.proofs.lemmas.List.FromFn.{get_or-range_with_len, length-range_with_len}
@@ -7,9 +7,11 @@ use Rattle.std.proofs.lemmas.List.Kept.{IsStrictlySortedBy-filter}
 use Rattle.std.proofs.lemmas.Map.Keys.{sorted_from_strictly_increasing, IsStrictlyIncreasing-from_sorted}
 use Rattle.std.specs.List.Sorted.{IsStrictlyIncreasing}
 use Rattle.std.specs.Ordering.{nat_cmp}
-use Rattle.lineage.proofs.Families.{among_numbers, is_among-filter}
-use Rattle.lineage.proofs.Numbers.{numbers_are}
-use Rattle.lineage.specs.Lineage.{is_among, numbers_from}
+use Rattle.plain_data.specs.Numbers.{is_among}
+use Rattle.plain_data.proofs.Numbers.{at_most_greatest}
+use Rattle.graphs.proofs.Families.{among_numbers, is_among-filter}
+use Rattle.graphs.proofs.Numbers.{numbers_are}
+use Rattle.graphs.specs.Graphs.{numbers_from}
 use Rattle.ex_layouts.specs.Entities.{ascending}
 
 -- each is the number or more, and more than the one before it
@@ -80,23 +82,12 @@ all_below limit (x ∷ xs) low =
     in_tail true b e = refl
     in_tail false b e = e
 
-grown : (numbers : List ℕ) (most : ℕ) → most ≤ fold max most numbers
-grown [] most = le_refl most
-grown (x ∷ xs) most = let more : most ≤ max most x = omega arith in le_trans more (grown xs (max most x))
-
-at_most : (numbers : List ℕ) (most n : ℕ) → is_among numbers n ≡ true → n ≤ fold max most numbers
-at_most [] most n is = cc
-at_most (x ∷ xs) most n is = ⊎_elim
-    (λ (same : (x == n) ≡ true). let is_n : x ≡ n = grind (arith, nat_tests) in let more : n ≤ max most x = omega arith in le_trans more (grown xs (max most x)))
-    (λ (other : (x == n) ≡ false). at_most xs (max most x) n (rw other at is))
-    (cases_Bool (x == n))
-
 -- the set of some numbers is these in ascending order
 pub one_set : (numbers set : List ℕ) → IsStrictlyIncreasing set → ((n : ℕ) → is_among set n ≡ is_among numbers n) → set ≡ ascending numbers
 unfolding ascending
 one_set numbers set up same =
     let limit = suc (fold max zero numbers) in
-    let low : AreBelow limit set = all_below limit set (λ n is. let most = at_most numbers zero n (sym (same n) ∙ is) in omega arith) in
+    let low : AreBelow limit set = all_below limit set (λ n is. let most = at_most_greatest numbers zero n (sym (same n) ∙ is) in omega arith) in
     let low2 : AreBelow (zero + limit) set = (let e : limit ≡ zero + limit = omega arith in subst (λ n. AreBelow n set) e low) in
     sym (selected limit zero set (rises set zero up (λ some. omega arith)) low2) ∙ (λ i. filter (λ n. same n i) (numbers_from zero limit))
 
@@ -123,5 +114,5 @@ pub ascending_has : (numbers : List ℕ) (n : ℕ) → is_among (ascending numbe
 unfolding ascending
 ascending_has numbers n =
     let limit = suc (fold max zero numbers) in
-    let low : is_among numbers n ≡ true → nat_lt n limit ≡ true = (λ is. let most = at_most numbers zero n is in grind (arith, nat_tests, most)) in
+    let low : is_among numbers n ≡ true → nat_lt n limit ≡ true = (λ is. let most = at_most_greatest numbers zero n is in grind (arith, nat_tests, most)) in
     is_among-filter (is_among numbers) (numbers_from zero limit) n ∙ ap (λ t. t && is_among numbers n) (among_numbers limit n) ∙ within (is_among numbers n) (nat_lt n limit) low

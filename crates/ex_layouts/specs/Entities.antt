@@ -3,14 +3,15 @@
 use Rattle.std.specs.Prelude.{ℕ, zero, suc, max, Bool, not, List, [], filter, fold, Option, is_some, slice_get}
 use Rattle.std.specs.Option.{option_map_or, unwrap_or}
 use Rattle.std.specs.Str.{str_to_ascii_uppercase}
+use Rattle.plain_data.specs.Numbers.{is_among}
 use Rattle.ex_named.specs.declared.declaration.NamedEntity.{NamedEntity}
 use Rattle.ex_subtypes.specs.Legal.{refusal}
 use Rattle.ex_types.specs.Checked.{Checked, entity_names}
-use Rattle.lineage.specs.Lineage.{is_among, line, numbers_from}
-use Rattle.name_order.specs.Order.{rank}
+use Rattle.graphs.specs.Graphs.{line, numbers_from}
+use Rattle.name_tables.specs.Order.{rank}
 use Rattle.name_tables.specs.Names.{place_of}
-use Rattle.rp_content.specs.declared.instance.Types.{Types}
-use Rattle.rp_content.specs.declared.instance.Types.TheVariants.{Leaf, Several}
+use Rattle.rp_content.specs.declared.instance.Entities.{Entities}
+use Rattle.rp_content.specs.declared.instance.Entities.TheVariants.{Leaf, Several}
 
 -- the numbers in ascending order, each once
 unfoldable pub ascending : List ℕ → List ℕ
@@ -37,7 +38,7 @@ module _ (schema : Checked) where
   line_of entity = unwrap_or (line schema.named.supertypes entity) []
 
   -- those of an instance, in the order in which its values stand
-  abbrev pub entities_of : Types → List ℕ
+  abbrev pub entities_of : Entities → List ℕ
   entities_of (Leaf entity) = line_of entity
   entities_of (Several all) = all
 

@@ -2,16 +2,16 @@
 -- each record that a file writes of them (ISO 10303-11:1994, 9.2.1; ISO 10303-21:2002, 10.2.5).
 use Rattle.std.specs.Prelude.{◌≡◌, ℕ, zero, ◌==◌, nat_lt, if◌then◌else◌, List, [], ◌∷◌, map, Option, Some, None}
 use Rattle.std.specs.List.{find, flat_map, list_all, position_or_len}
+use Rattle.plain_data.specs.Numbers.{is_among}
 use Rattle.ex_layouts.specs.Entities.{entities, is_legal, line_of, name_rank}
 use Rattle.ex_layouts.specs.declared.layout.Layout.{Layout}
 use Rattle.ex_layouts.specs.declared.read_slot.ReadSlot.{ReadSlot}
 use Rattle.ex_selects.specs.Ends.{target}
 use Rattle.ex_slots.specs.Slots.{Slot, slots, slots_of, is_derived, derived_by}
 use Rattle.ex_types.specs.Checked.{Checked}
-use Rattle.lineage.specs.Lineage.{is_among}
 use Rattle.p21_instances.specs.Instances.{in_order}
-use Rattle.rp_content.specs.declared.instance.Types.{Types}
-use Rattle.rp_content.specs.declared.instance.Types.TheVariants.{Leaf, Several}
+use Rattle.rp_content.specs.declared.instance.Entities.{Entities}
+use Rattle.rp_content.specs.declared.instance.Entities.TheVariants.{Leaf, Several}
 
 -- the layout, if there can be instances of its entities
 abbrev pub legal : Layout → Option Layout
@@ -33,7 +33,7 @@ module _ (schema : Checked) where
 
   abbrev pub of_leaf : ℕ → Layout
   of_leaf entity = record {
-    types = Leaf entity;
+    instance_entities = Leaf entity;
     entities = line_of schema entity;
     slots = leaf_slots entity ∷ [];
     read_slots = map read_slot (leaf_slots entity) ∷ [];
@@ -53,9 +53,9 @@ module _ (schema : Checked) where
   unfoldable pub slots_in : List ℕ → List (List Slot)
   slots_in numbers = map (slots_of (entities schema) (is_derived (flat_map (derived_by (entities schema)) numbers))) numbers
 
-  abbrev pub types_by : List ℕ → Option ℕ → Types
-  types_by numbers None = Several (in_name_order numbers)
-  types_by numbers (Some entity) = Leaf entity
+  abbrev pub entities_by : List ℕ → Option ℕ → Entities
+  entities_by numbers None = Several (in_name_order numbers)
+  entities_by numbers (Some entity) = Leaf entity
 
   -- values are kept by the leaf's line, and else in the order of the entities' names
   abbrev pub order_by : List ℕ → Option ℕ → List ℕ
@@ -65,7 +65,7 @@ module _ (schema : Checked) where
   -- of entities whose records stand in this order
   abbrev pub of_several : List ℕ → Layout
   of_several numbers = record {
-    types = types_by numbers (leaf numbers);
+    instance_entities = entities_by numbers (leaf numbers);
     entities = numbers;
     slots = slots_in numbers;
     read_slots = map (map read_slot) (slots_in numbers);
@@ -79,6 +79,6 @@ module _ (schema : Checked) where
 
   -- ---- by the entities of an instance
 
-  abbrev pub layout : Types → Layout
+  abbrev pub layout : Entities → Layout
   layout (Leaf entity) = of_leaf entity
   layout (Several all) = of_several all

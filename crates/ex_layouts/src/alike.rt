@@ -64,20 +64,3 @@ pub fn are_alike(mut bytes: &[u8], mut others: &[u8]) -> bool
     }
     are_alike_below_eight(bytes, others)
 }
-
-/// Whether the numbers are the same.
-pub fn are_same(mut numbers: &[usize], mut others: &[usize]) -> bool
-    ensures { IsTrue result → numbers.entry.now ≡ others.entry.now }
-{
-    'numbers: while let [number, more @ ..] = numbers {
-        let [other, more_others @ ..] = others else {
-            return false;
-        };
-        if *number != *other {
-            return false;
-        }
-        numbers = more;
-        others = more_others;
-    }
-    others.is_empty()
-}

@@ -5,7 +5,7 @@ ghost use Rattle.std.specs.BTreeMap.{get};
 ghost use Rattle.std.specs.List.{flat_map, list_all, find};
 ghost use Rattle.std.specs.Option.{option_or, unwrap_or};
 ghost use Rattle.std.specs.Ordering.{nat_cmp};
-ghost use Rattle.lineage.specs.Lineage.{is_among};
+ghost use Rattle.plain_data.specs.Numbers.{is_among};
 ghost use Rattle.ex_layouts.specs.Entities as entities_spec;
 ghost use Rattle.ex_layouts.specs.Entities.{line_of};
 ghost use Rattle.ex_layouts.specs.Layouts as spec;
@@ -13,9 +13,9 @@ ghost use Rattle.ex_layouts.specs.Layouts as spec;
 use crate::loaded::LoadedSchema;
 use crate::read_slot::{ReadSlot, all_read, read_slots};
 use ex_slots::{Slot, slots, slots_of_each};
-use ex_subtypes::TypeSet;
+use ex_subtypes::EntitySet;
 use plain_data::{Items, Rows};
-use rp_content::Types;
+use rp_content::Entities;
 use std::alloc::{AllocError, Global};
 use std::collections::BTreeMap;
 
@@ -23,7 +23,7 @@ use std::collections::BTreeMap;
 /// above it, or one of each entity.
 pub struct Layout<'s> {
     /// The entities as an instance keeps them.
-    pub types: Types,
+    pub instance_entities: Entities,
     /// The entities, in the order in which the records have their attributes.
     pub entities: Rows<usize>,
     /// The attributes of each record.
@@ -67,14 +67,14 @@ impl<'s> Layout<'s> {
 impl<'s> Drop for Layout<'s> {
     fn drop(self) {
         let Layout {
-            types,
+            instance_entities,
             entities,
             slots,
             read_slots,
             places,
             is_legal: _,
         } = self;
-        drop(types);
+        drop(instance_entities);
         drop(entities);
         drop(slots);
         drop(read_slots);
@@ -97,7 +97,7 @@ fn of_line<'s>(
     let slots = slots(alloc, schema.entities(), line.as_slice())?;
     let read_slots = read_slots(alloc, schema, &slots)?;
     Ok(Layout {
-        types: Types::Leaf(entity),
+        instance_entities: Entities::Leaf(entity),
         entities: line,
         slots: only(alloc, Rows::from_vec(slots))?,
         read_slots: only(alloc, read_slots)?,
@@ -155,7 +155,7 @@ fn is_leaf(
     ensures { IfOk result (λ found. found ≡ list_all (is_among (line_of schema.now entity)) numbers.now) }
 {
     let line = schema.line_of(alloc, entity)?;
-    let line = TypeSet::of(alloc, line.as_slice())?;
+    let line = EntitySet::of(alloc, line.as_slice())?;
     Ok(numbers.iter().all(|number| line.has(*number)))
 }
 
@@ -227,25 +227,25 @@ fn places_in(alloc: Global, numbers: &[usize], order: &[usize]) -> Result<Rows<u
     Ok(Rows::from_vec(places))
 }
 
-/// The types of an instance of these entities, and where their parts stand in the order in which values are kept.
+/// These entities as an instance keeps them, and where their parts stand in the order in which values are kept.
 fn arranged(
     alloc: Global,
     schema: &LoadedSchema<'_>,
     numbers: &[usize],
-) -> Result<(Types, Rows<usize>), AllocError>
-    ensures types { IfOk result (λ found. found.0 ≡ spec.types_by schema.now numbers.now (spec.leaf schema.now numbers.now)) }
+) -> Result<(Entities, Rows<usize>), AllocError>
+    ensures entities { IfOk result (λ found. found.0 ≡ spec.entities_by schema.now numbers.now (spec.leaf schema.now numbers.now)) }
     ensures places { IfOk result (λ found. found.1 ≡ map (spec.place_in numbers.now) (spec.order_by schema.now numbers.now (spec.leaf schema.now numbers.now))) }
 {
     match leaf_of(alloc, schema, numbers)? {
         Some(entity) => {
             let line = schema.line_of(alloc, entity)?;
             let places = places_in(alloc, numbers, line.as_slice())?;
-            Ok((Types::Leaf(entity), places))
+            Ok((Entities::Leaf(entity), places))
         }
         None => {
             let order = in_name_order(alloc, schema, numbers)?;
             let places = places_in(alloc, numbers, order.as_slice())?;
-            Ok((Types::Several(order), places))
+            Ok((Entities::Several(order), places))
         }
     }
 }
@@ -274,9 +274,9 @@ fn of_list<'s>(
 {
     let slots = slots_in(alloc, schema, numbers)?;
     let read_slots = all_read(alloc, schema, slots.as_slice())?;
-    let (types, places) = arranged(alloc, schema, numbers)?;
+    let (instance_entities, places) = arranged(alloc, schema, numbers)?;
     Ok(Layout {
-        types,
+        instance_entities,
         entities: Rows::from_vec(Vec::from_slice(alloc, numbers)?),
         slots,
         read_slots,
@@ -306,17 +306,17 @@ pub fn legal_several<'s>(
 pub fn layout_of<'s>(
     alloc: Global,
     schema: &LoadedSchema<'s>,
-    types: &Types,
+    entities: &Entities,
 ) -> Result<Layout<'s>, AllocError>
-    ensures { IfOk result (λ layout. layout ≡ spec.layout schema.now types.now) }
+    ensures { IfOk result (λ layout. layout ≡ spec.layout schema.now entities.now) }
 {
-    match types {
-        Types::Leaf(entity) => {
+    match entities {
+        Entities::Leaf(entity) => {
             let line = schema.line_of(alloc, *entity)?;
             let is_legal = schema.is_legal_line(alloc, *entity, line.as_slice())?;
             of_line(alloc, schema, *entity, line, is_legal)
         }
-        Types::Several(all) => {
+        Entities::Several(all) => {
             let is_legal = schema.is_legal(alloc, all.as_slice())?;
             of_list(alloc, schema, all.as_slice(), is_legal)
         }

@@ -1,11 +1,11 @@
 //! What was found in a schema for some instances, kept for those that follow.
 
-use crate::alike::{are_alike, are_same};
+use crate::alike::are_alike;
 use crate::hints::Hints;
 use crate::layout::Layout;
 use crate::loaded::LoadedSchema;
 use plain_data::Text;
-use rp_content::Types;
+use rp_content::Entities;
 use std::alloc::{AllocError, Global};
 use std::marker::Model;
 
@@ -159,7 +159,7 @@ impl<'s> Layouts<'s> {
     }
 
     /// The schema that they are of.
-    pub fn schema(&self) -> &'s LoadedSchema<'s>
+    pub fn loaded(&self) -> &'s LoadedSchema<'s>
         ensures { result.now ≡ self.now }
     {
         self.schema
@@ -220,18 +220,18 @@ impl<'s> Layouts<'s> {
     {
         let hint = hint_of_all(entities);
         match self.combinations.get(self.combination_hints.place(hint)) {
-            Some(layout) if are_same(layout.entities.as_slice(), entities) => Some(layout),
+            Some(layout) if layout.entities.as_slice() == entities => Some(layout),
             _ => None,
         }
     }
 
     /// What an instance of these entities has values of, if it is kept.
-    pub fn known(&self, types: &Types) -> Option<&Layout<'s>>
-        ensures { IfSome result (λ layout. layout.now ≡ spec.layout self.now types.now) }
+    pub fn known(&self, entities: &Entities) -> Option<&Layout<'s>>
+        ensures { IfSome result (λ layout. layout.now ≡ spec.layout self.now entities.now) }
     {
-        match types {
-            Types::Leaf(entity) => self.leaf(*entity),
-            Types::Several(all) => self.several(all.as_slice()),
+        match entities {
+            Entities::Leaf(entity) => self.leaf(*entity),
+            Entities::Several(all) => self.several(all.as_slice()),
         }
     }
 
@@ -267,13 +267,13 @@ impl<'s> Layouts<'s> {
     }
 
     /// Keeps what an instance of these entities has values of, as the two above do.
-    pub fn keep(&mut self, types: &Types, layout: Layout<'s>) -> Result<(), AllocError>
-        requires { layout ≡ spec.layout self.old types.now }
+    pub fn keep(&mut self, entities: &Entities, layout: Layout<'s>) -> Result<(), AllocError>
+        requires { layout ≡ spec.layout self.old entities.now }
         ensures { self.new ≡ self.old }
     {
-        match types {
-            Types::Leaf(entity) => self.keep_leaf(*entity, layout),
-            Types::Several(_) => self.keep_several(layout),
+        match entities {
+            Entities::Leaf(entity) => self.keep_leaf(*entity, layout),
+            Entities::Several(_) => self.keep_several(layout),
         }
     }
 }

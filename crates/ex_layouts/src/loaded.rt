@@ -7,7 +7,7 @@ ghost use Rattle.ex_layouts.specs.Entities as spec;
 use ex_compiled::Compiled;
 use ex_named::NamedEntity;
 use ex_selects::DefinedTypes;
-use ex_subtypes::TypeSet;
+use ex_subtypes::EntitySet;
 use ex_types::CheckedSchema;
 use plain_data::{Rows, Text};
 use std::alloc::{AllocError, Global};
@@ -43,15 +43,15 @@ impl<'s> Model for LoadedSchema<'s> {
 }
 
 /// The set of these entities.
-fn set_of(alloc: Global, numbers: &[usize]) -> Result<TypeSet, AllocError>
+fn set_of(alloc: Global, numbers: &[usize]) -> Result<EntitySet, AllocError>
     ensures { IfOk result (λ set. set ≡ spec.ascending numbers.now) }
 {
-    let set = TypeSet::of(alloc, numbers)?;
+    let set = EntitySet::of(alloc, numbers)?;
     Ok(set)
 }
 
 /// Whether an instance may have exactly the entities of the set.
-fn is_legal_set(alloc: Global, compiled: &Compiled, set: &TypeSet) -> Result<bool, AllocError>
+fn is_legal_set(alloc: Global, compiled: &Compiled, set: &EntitySet) -> Result<bool, AllocError>
     ensures { IfOk result (λ legal. legal ≡ not (is_some (refusal compiled.now.named.schema.entities set.now))) }
 {
     let found = compiled.legal(alloc, set)?;
@@ -60,7 +60,7 @@ fn is_legal_set(alloc: Global, compiled: &Compiled, set: &TypeSet) -> Result<boo
 
 impl<'s> LoadedSchema<'s> {
     ghost use Rattle.std.specs.Prelude.{◌≡◌, Some, IfOk};
-    ghost use Rattle.lineage.specs.Lineage.{line as found_line};
+    ghost use Rattle.graphs.specs.Graphs.{line as found_line};
     ghost use Rattle.ex_layouts.specs.Entities as spec;
 
     /// The schema with what is found in it once.

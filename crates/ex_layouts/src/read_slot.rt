@@ -12,7 +12,7 @@ use std::alloc::{AllocError, Global};
 /// What has to be known of a slot to read a value, found once for all values.
 #[derive(Drop)]
 pub struct ReadSlot<'s> {
-    /// Whether a type of the instance redeclares it in DERIVE.
+    /// Whether an entity of the instance redeclares it in DERIVE.
     pub is_derived: bool,
     pub expected: Expected<'s>,
 }

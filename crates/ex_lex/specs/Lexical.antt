@@ -1,10 +1,11 @@
 -- What stands at the front of a text: a blank or a remark, a token, or a lexical fault (ISO 10303-11:1994, clause 7).
-use Rattle.std.specs.Prelude.{◌≤◌, ℕ, ◌+◌, ◌-◌, Bool, true, false, not, ◌&&◌, ◌||◌, ◌==◌, nat_lt, nat_le, if◌then◌else◌, List, [], ◌∷◌, take, drop, slice_index, Option, Some, None, Result, Ok, Err}
+use Rattle.std.specs.Prelude.{◌≤◌, ℕ, ◌+◌, ◌-◌, Bool, true, false, not, ◌&&◌, ◌||◌, ◌==◌, nat_le, if◌then◌else◌, List, [], ◌∷◌, take, drop, slice_index, Option, Some, None, Result, Ok, Err}
 use Rattle.std.specs.List.{prefix_len}
-use Rattle.std.specs.Char.{is_ascii_digit, is_ascii_alphabetic, is_ascii_alphanumeric}
+use Rattle.std.specs.Char.{is_ascii_digit, is_ascii_alphabetic}
 use Rattle.std.specs.Str.{is_utf8}
+use Rattle.text_forms.specs.Words.{is_word_byte}
 use Rattle.rp_numbers.specs.Whole.{whole_number}
-use Rattle.rp_numbers.specs.Spelling.{parse}
+use Rattle.rp_numbers.specs.Spelling.{digits_len, exponent_len, parse}
 use Rattle.ex_tree.specs.declared.kind.TokenKind.TheVariants as k
 use Rattle.ex_tree.specs.declared.fault.LexFaultKind.TheVariants as fault
 use Rattle.ex_lex.specs.declared.front.Start.{Start}
@@ -21,26 +22,10 @@ Fits (Fault kind) len = Unit {0}
 
 -- ---- words
 
-abbrev pub is_word_byte : ℕ → Bool
-is_word_byte b = is_ascii_alphanumeric b || b == 95
-
 unfoldable pub word : List ℕ → Start
 word z = let n = prefix_len is_word_byte z in Token (kind_of (take n z)) n
 
 -- ---- numbers
-
-abbrev pub digits_len : List ℕ → ℕ
-digits_len z = prefix_len is_ascii_digit z
-
-abbrev pub sign_len : List ℕ → ℕ
-sign_len z = if slice_index z 0 == 43 || slice_index z 0 == 45 then 1 else 0
-
--- `E`, a sign and digits, or nothing where no digits are there
-abbrev pub exponent_len : List ℕ → ℕ
-exponent_len z =
-    let sign = sign_len (drop 1 z) in
-    let digits = digits_len (drop (1 + sign) z) in
-    if (slice_index z 0 == 69 || slice_index z 0 == 101) && nat_lt 0 digits then 1 + sign + digits else 0
 
 abbrev pub integer_by : Option ℕ → ℕ → Start
 integer_by None n = Fault fault.TooBig

@@ -1,14 +1,14 @@
 //! The cut of a text into its tokens.
 
 ghost use Rattle.std.specs.Prelude.{IfOk, map};
-ghost use Rattle.text_forms.specs.Gives.{Gives};
+ghost use Rattle.plain_data.specs.Gives.{Gives};
 ghost use Rattle.ex_lex.specs.Spelling as spec;
 
 use crate::front::{Start, front};
 use crate::lexed::TokenList;
 use ex_tree::{LexFault, Token};
+use plain_data::Failure;
 use std::alloc::Global;
-use text_forms::Failure;
 
 /// The tokens of a text, with places in bytes from 0.
 ///

@@ -1,8 +1,9 @@
 //! What stands at the front of a text.
 
-ghost use Rattle.std.specs.Prelude.{◌≡◌, ◌≢◌, ◌<◌, ◌≤◌, ◌+◌, ◌^◌, ◌==◌, not, length, slice_index, true, false, IfSome};
+ghost use Rattle.std.specs.Prelude.{◌≡◌, ◌<◌, ◌≤◌, ◌+◌, ◌^◌, ◌==◌, not, length, slice_index, true, false, IfSome};
 ghost use Rattle.std.specs.List.{prefix_len};
 ghost use Rattle.std.specs.Char.{is_ascii_alphabetic};
+ghost use Rattle.text_forms.specs.Words.{is_word_byte};
 ghost use Rattle.ex_lex.specs.Lexical as spec;
 
 use crate::numbers::number;
@@ -10,6 +11,7 @@ use crate::strings::{binary, encoded_string, simple_string};
 use crate::symbols::symbol;
 use crate::words::word_kind;
 use ex_tree::{LexFaultKind, TokenKind};
+use text_forms::{byte, is_word_byte};
 
 /// What stands at the front of a text.
 #[derive(Clone, Copy)]
@@ -21,33 +23,8 @@ pub enum Start {
     Fault(LexFaultKind),
 }
 
-/// The byte there, or 0 past the end.
-pub fn byte(z: &[u8], at: usize) -> u8
-    ensures value { result ≡ slice_index z.now at }
-    ensures within { result ≢ 0 → at < length z.now }
-{
-    if at < z.len() { z[at] } else { 0 }
-}
-
-// Each byte of a word stands at its own place, and a point at every other. A table is read faster than a choice among bytes.
-static WORD_BYTES: [u8; 256] = *b"\
-    ................................\
-    ................0123456789......\
-    .ABCDEFGHIJKLMNOPQRSTUVWXYZ...._\
-    .abcdefghijklmnopqrstuvwxyz.....\
-    ................................\
-    ................................\
-    ................................\
-    ................................";
-
-fn is_word_byte(b: u8) -> bool
-    ensures { result ≡ spec.is_word_byte b }
-{
-    WORD_BYTES[usize::from(b)] != b'.'
-}
-
 fn word_len(z: &[u8]) -> usize
-    ensures value { result ≡ prefix_len spec.is_word_byte z.now }
+    ensures value { result ≡ prefix_len is_word_byte z.now }
     ensures some { is_ascii_alphabetic (slice_index z.now 0) ≡ true → 0 < result }
     ensures within { result ≤ length z.now }
 {

@@ -12,5 +12,5 @@ mod words;
 pub use cut::tokens;
 pub use ex_tree::{LexFault, LexFaultKind, Token, TokenKind};
 pub use lexed::TokenList;
+pub use plain_data::Failure;
 pub use strings::character;
-pub use text_forms::Failure;

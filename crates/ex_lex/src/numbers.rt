@@ -1,43 +1,15 @@
 //! Integer and real literals.
 
-ghost use Rattle.std.specs.Prelude.{◌≡◌, ◌<◌, ◌≤◌, length, slice_index, true};
+ghost use Rattle.std.specs.Prelude.{◌≡◌, length, slice_index, true};
 ghost use Rattle.std.specs.Char.{is_ascii_digit};
 ghost use Rattle.rp_numbers.specs.Whole.{whole_number};
 ghost use Rattle.rp_numbers.specs.Spelling.{parse};
 ghost use Rattle.ex_lex.specs.Lexical as spec;
 
-use crate::front::{Start, byte};
+use crate::front::Start;
 use ex_tree::{LexFaultKind, TokenKind};
-use rp_numbers::{Decimal, whole_number};
-
-fn sign_len(z: &[u8]) -> usize
-    ensures value { result ≡ spec.sign_len z.now }
-    ensures within { result ≤ length z.now }
-{
-    let b = byte(z, 0);
-    if b == b'+' || b == b'-' { 1 } else { 0 }
-}
-
-fn digits_len(z: &[u8]) -> usize
-    ensures value { result ≡ spec.digits_len z.now }
-    ensures some { is_ascii_digit (slice_index z.now 0) ≡ true → 0 < result }
-    ensures within { result ≤ length z.now }
-{
-    z.iter().take_while(|b| b.is_ascii_digit()).count()
-}
-
-fn exponent_len(z: &[u8]) -> usize
-    ensures value { result ≡ spec.exponent_len z.now }
-    ensures within { result ≤ length z.now }
-{
-    let e = byte(z, 0);
-    if e != b'E' && e != b'e' {
-        return 0;
-    }
-    let sign = sign_len(&z[1..]);
-    let digits = digits_len(&z[1 + sign..]);
-    if digits > 0 { 1 + sign + digits } else { 0 }
-}
+use rp_numbers::{Decimal, digits_len, exponent_len, whole_number};
+use text_forms::byte;
 
 fn integer(digits: &[u8]) -> Start
     ensures { result ≡ spec.integer_by (whole_number digits.now) (length digits.now) }

@@ -8,9 +8,10 @@ ghost use Rattle.std.specs.Str.Parse.{digits_value};
 ghost use Rattle.ex_lex.specs.Lexical as spec;
 ghost use Rattle.ex_lex.specs.Strings as strings;
 
-use crate::front::{Start, byte};
+use crate::front::Start;
 use ex_tree::{LexFaultKind, TokenKind};
 use std::str;
+use text_forms::byte;
 
 /// The place after the apostrophe that ends a string, where `z` begins at the place 1.
 fn string_end(mut z: &[u8]) -> Option<usize>

@@ -1,8 +1,8 @@
 -- What binding gives: a tree with its names bound, or the fault of least offset.
 use Rattle.std.specs.Prelude.{ℕ, nat_lt, List, [], ◌∷◌, ◌++◌, Option, Some, None, Result, Ok, Err, if◌then◌else◌}
-use Rattle.text_forms.specs.Gives.{Gives}
-use Rattle.text_forms.specs.declared.Failure.{Failure}
-use Rattle.text_forms.specs.declared.Failure.TheVariants.{NoMemory, Fault}
+use Rattle.plain_data.specs.Gives.{Gives}
+use Rattle.plain_data.specs.declared.failure.Failure.{Failure}
+use Rattle.plain_data.specs.declared.failure.Failure.TheVariants.{NoMemory, Fault}
 use Rattle.ex_named.specs.declared.fault.NameFault.{NameFault}
 use Rattle.ex_named.specs.declared.fault.NameFaultKind.{NameFaultKind}
 

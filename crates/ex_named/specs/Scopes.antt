@@ -1,6 +1,7 @@
 -- What a name means (ISO 10303-11:1994, clause 10).
 use Rattle.std.specs.Prelude.{ℕ, suc, ◌+◌, ◌-◌, Bool, false, ◌==◌, List, [], ◌∷◌, length, filter, Option, Some, None, option_map, unwrap_or, slice_get, if◌then◌else◌, Ok}
-use Rattle.std.specs.List.{find, list_any}
+use Rattle.std.specs.List.{find}
+use Rattle.plain_data.specs.Numbers.{is_among}
 use Rattle.name_tables.specs.Names.{named, place_of}
 use Rattle.ex_tree.specs.declared.expression.Name.{Name}
 use Rattle.ex_named.specs.declared.expression.NamedExpression.{NamedExpression}
@@ -43,9 +44,6 @@ pub record Scope : Type 0 where
 abbrev pub first : {A : Type 0} → List A → Option A
 first [] = None
 first (a ∷ others) = Some a
-
-abbrev pub is_among : List ℕ → ℕ → Bool
-is_among numbers k = list_any (λ n. n == k) numbers
 
 -- whether a number is marked in a list of marks
 abbrev pub is_marked : List Bool → ℕ → Bool

@@ -4,10 +4,9 @@ ghost use Rattle.std.specs.Prelude.{◌≡◌, [], Result, Ok, Err, IfOk, OnOk};
 ghost use Rattle.ex_named.specs.Outcomes as spec;
 
 use crate::fault::{NameFault, NameFaultKind};
-use plain_data::Items;
+use plain_data::{Failure, Items};
 use std::alloc::{AllocError, Global};
 use std::marker::Model;
-use text_forms::Failure;
 
 pub type Binding<T> = Result<T, Failure<NameFault>>;
 

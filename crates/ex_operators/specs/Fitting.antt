@@ -1,7 +1,7 @@
 -- What fits what. A kind that nothing is known of, as of `?` and GENERIC, fits everywhere.
 use Rattle.std.specs.Prelude.{nat_lt, Bool, true, false, not, ◌||◌, ◌&&◌, List, [], ◌∷◌, length}
 use Rattle.std.specs.List.{list_any}
-use Rattle.ex_named.specs.Scopes.{is_among}
+use Rattle.plain_data.specs.Numbers.{is_among}
 use Rattle.ex_kinds.specs.Kinds.{Kinds}
 use Rattle.ex_kinds.specs.Types.{Possible, plain, possible}
 

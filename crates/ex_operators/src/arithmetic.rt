@@ -1,7 +1,7 @@
 //! Arithmetic, and the sums, differences and products of aggregates. None is on what may be REAL.
 
 ghost use Rattle.std.specs.Prelude.{◌≡◌, IfOk};
-ghost use Rattle.text_forms.specs.Gives.{Gives};
+ghost use Rattle.plain_data.specs.Gives.{Gives};
 ghost use Rattle.ex_kinds.specs.Kinds.{elements};
 ghost use Rattle.ex_operators.specs.Operators as spec;
 
@@ -12,8 +12,8 @@ use crate::possibilities::{
 };
 use crate::ruling::{Ruling, kinds_if, or_else_fault, with_more};
 use ex_kinds::{Kinds, PlainSort, Sort, TypeFaultKind, aggregate_of, join};
+use plain_data::Failure;
 use std::alloc::{AllocError, Global};
-use text_forms::Failure;
 
 fn may_be_real(operand: &Operand<'_>) -> bool
     ensures { result ≡ spec.may_be_real operand.now.possible }

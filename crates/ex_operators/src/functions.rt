@@ -1,7 +1,7 @@
 //! Calls of functions.
 
 ghost use Rattle.std.specs.Prelude.{◌≡◌, [], ◌∷◌, IfOk};
-ghost use Rattle.text_forms.specs.Gives.{Gives};
+ghost use Rattle.plain_data.specs.Gives.{Gives};
 ghost use Rattle.ex_kinds.specs.Kinds as kinds;
 ghost use Rattle.ex_kinds.specs.declared.fault.TypeFaultKind.TheVariants.{Arguments};
 ghost use Rattle.ex_operators.specs.Operators as rules;
@@ -18,8 +18,8 @@ use ex_kinds::{
     Kinds, Sort, TypeFaultKind, Types, ValueKind, aggregate_of, copied, join, kinds_of_one,
 };
 use ex_tree::BuiltInFunction;
+use plain_data::Failure;
 use std::alloc::{AllocError, Global};
-use text_forms::Failure;
 
 /// What a built-in function gives for these arguments, in a schema with or without entities.
 #[tactic(auto, unfolding(crate::specs::Taken::built_in))]

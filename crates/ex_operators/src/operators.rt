@@ -1,7 +1,7 @@
 //! Operators.
 
 ghost use Rattle.std.specs.Prelude.{◌≡◌, IfOk};
-ghost use Rattle.text_forms.specs.Gives.{Gives};
+ghost use Rattle.plain_data.specs.Gives.{Gives};
 ghost use Rattle.ex_kinds.specs.declared.fault.TypeFaultKind.TheVariants.{Operand as OperandFault};
 ghost use Rattle.ex_operators.specs.Operators as spec;
 
@@ -13,8 +13,8 @@ use crate::possibilities::{
 use crate::ruling::{Ruling, logical, or_else_fault};
 use ex_kinds::{Kinds, TypeFaultKind, Types, ValueKind};
 use ex_tree::{BinaryOperator, IntervalOperator, UnaryOperator};
+use plain_data::Failure;
 use std::alloc::{AllocError, Global};
-use text_forms::Failure;
 
 /// What an operator before its operand gives.
 #[tactic(auto, unfolding(crate::specs::Operators::unary))]

@@ -2,7 +2,7 @@
 
 ghost use Rattle.std.specs.Prelude.{◌≡◌, ℕ, IfOk};
 ghost use Rattle.std.specs.List.{list_any};
-ghost use Rattle.ex_named.specs.Scopes.{is_among};
+ghost use Rattle.plain_data.specs.Numbers.{is_among};
 ghost use Rattle.ex_operators.specs.Fitting as spec;
 
 use crate::operand::Operand;

@@ -1,12 +1,12 @@
 //! Rulings, and the kinds that they are made of.
 
 ghost use Rattle.std.specs.Prelude.{◌≡◌, ◌++◌, IfOk};
-ghost use Rattle.text_forms.specs.Gives.{Gives};
+ghost use Rattle.plain_data.specs.Gives.{Gives};
 ghost use Rattle.ex_operators.specs.Operators as spec;
 
 use ex_kinds::{Kinds, Sort, TypeFaultKind, ValueKind, aggregate_of, kinds_of_one};
+use plain_data::Failure;
 use std::alloc::{AllocError, Global};
-use text_forms::Failure;
 
 /// What a rule says: the kinds of the result, or what is wrong.
 pub type Ruling = Result<Kinds, Failure<TypeFaultKind>>;

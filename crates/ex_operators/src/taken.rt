@@ -1,7 +1,7 @@
 //! Elements, qualifiers and QUERY.
 
 ghost use Rattle.std.specs.Prelude.{◌≡◌, IfOk};
-ghost use Rattle.text_forms.specs.Gives.{Gives};
+ghost use Rattle.plain_data.specs.Gives.{Gives};
 ghost use Rattle.ex_operators.specs.Taken as spec;
 
 use crate::fitting::is_integer;

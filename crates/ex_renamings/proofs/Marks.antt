@@ -4,11 +4,11 @@ use Rattle.std.specs.Prelude.{if◌then◌else◌}
 use Rattle.std.specs.List.{list_any}
 use Rattle.std.proofs.lemmas.Bool.{cases_Bool}
 use Rattle.std.proofs.lemmas.Bool.Decides.{nat_tests}
-use Rattle.lineage.specs.Lineage.{Reaches, is_ancestor, family, numbers_from}
-use Rattle.lineage.proofs.Bounded.{any_where, is_member, is_ancestor_exact}
-use Rattle.lineage.proofs.Certain.{both}
-use Rattle.lineage.proofs.Families.{in_family}
-use Rattle.lineage.proofs.Sets.{either}
+use Rattle.graphs.specs.Graphs.{Reaches, is_ancestor, family, numbers_from}
+use Rattle.graphs.proofs.Bounded.{any_where, is_member, is_ancestor_exact}
+use Rattle.graphs.proofs.Certain.{both}
+use Rattle.graphs.proofs.Families.{in_family}
+use Rattle.graphs.proofs.Sets.{either}
 use Rattle.ex_renamings.specs.Leading.{is_marked, leads, leading}
 
 pub any_same : {A : Type 0} → (p q : A → Bool) → ((x : A) → p x ≡ q x) → (xs : List A) → list_any p xs ≡ list_any q xs

@@ -2,11 +2,12 @@
 use Rattle.std.proofs.Common.{◌≡◌, ℕ, zero, suc, ◌<◌, ◌≤◌, Bool, true, false, not, ◌||◌, ◌&&◌, ◌==◌, nat_lt, List, length, ⊎_elim, refl, sym, ◌∙◌, arith}
 use Rattle.std.proofs.lemmas.Bool.{cases_Bool, eqb-true}
 use Rattle.std.proofs.lemmas.Bool.Decides.{nat_tests}
-use Rattle.lineage.specs.Lineage.{is_among, supertypes, Reaches, IsAncestor, is_ancestor, family}
-use Rattle.lineage.proofs.Bounded.{any_at, any_where, is_member, is_ancestor_exact}
-use Rattle.lineage.proofs.Certain.{both, is_less, each_passes}
-use Rattle.lineage.proofs.Families.{in_family}
-use Rattle.lineage.proofs.Sets.{either, or_right}
+use Rattle.plain_data.specs.Numbers.{is_among}
+use Rattle.graphs.specs.Graphs.{supertypes, Reaches, IsAncestor, is_ancestor, family}
+use Rattle.graphs.proofs.Bounded.{any_at, any_where, is_member, is_ancestor_exact}
+use Rattle.graphs.proofs.Certain.{both, is_less, each_passes}
+use Rattle.graphs.proofs.Families.{in_family}
+use Rattle.graphs.proofs.Sets.{either, or_right}
 use Rattle.ex_renamings.specs.Leading.{is_marked, leads, steps_of, leads_on, none_leads, some_leads_on, is_right}
 
 module _ (graph : List (List ℕ)) where

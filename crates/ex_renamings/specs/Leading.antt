@@ -1,7 +1,7 @@
 -- Which members of a graph lead to a marked one. The graph has a list for each member: to whom it leads by one step.
 use Rattle.std.specs.Prelude.{ℕ, zero, Bool, false, not, ◌||◌, ◌&&◌, ◌==◌, nat_lt, List, length, map, slice_index_or, if◌then◌else◌}
 use Rattle.std.specs.List.{list_any, list_all}
-use Rattle.lineage.specs.Lineage.{supertypes, family, numbers_from}
+use Rattle.graphs.specs.Graphs.{supertypes, family, numbers_from}
 
 -- none is marked beyond the end
 abbrev pub is_marked : List Bool → ℕ → Bool

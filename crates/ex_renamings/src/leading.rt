@@ -1,17 +1,17 @@
 //! Which members of a graph lead to a marked one: by a walk from the marked ones, whose result is tested here.
 
 ghost use Rattle.std.specs.Prelude.{◌≡◌, ◌<◌, ℕ, zero, length, map, IfOk, IsTrue};
-ghost use Rattle.lineage.specs.Lineage as lineage;
+ghost use Rattle.graphs.specs.Graphs as graphs;
 ghost use Rattle.ex_renamings.specs.Leading as spec;
 
-use lineage::{family, subtypes};
+use graphs::{family, subtypes};
 use plain_data::Rows;
 use std::alloc::{AllocError, Global};
 use std::marker::Model;
 
 /// What a member's list has.
 fn listed(graph: &[Rows<usize>], member: usize) -> &[usize]
-    ensures { result.now ≡ lineage.supertypes graph.now member }
+    ensures { result.now ≡ graphs.supertypes graph.now member }
 {
     match graph.get(member) {
         Some(list) => list.as_slice(),

@@ -10,8 +10,8 @@ use Rattle.ex_named.specs.declared.declaration.NamedSchema.{NamedSchema}
 use Rattle.ex_named.specs.declared.fault.NameFaultKind.TheVariants.{CyclicSubtype}
 use Rattle.ex_named.specs.Outcomes.{refused}
 use Rattle.ex_named.specs.Scopes.{Declarations, and_then, as_entity, declared, entity}
-use Rattle.lineage.specs.Lineage.{IsAcyclic, is_ancestor, numbers_from}
-use Rattle.lineage.proofs.Marks.{acyclic_from_marks}
+use Rattle.graphs.specs.Graphs.{IsAcyclic, is_ancestor, numbers_from}
+use Rattle.graphs.proofs.Marks.{acyclic_from_marks}
 use Rattle.ex_declarations.specs.Declared.{declarations, entities, supertype_graph}
 use Rattle.ex_bind_entities.specs.Entities.{entity_head, named_entity}
 use Rattle.ex_resolve.proofs.Wholes.{given_ok, both_ok, Gave, each_ok, meant}

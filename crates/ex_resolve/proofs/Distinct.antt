@@ -5,6 +5,7 @@ use Rattle.std.proofs.lemmas.Slice.Eq.{bytes_eq-Decides}
 use Rattle.std.specs.List.{filter, filter_map}
 use Rattle.std.specs.Option.{option_map}
 use Rattle.std.specs.Str.{bytes_eq}
+use Rattle.plain_data.specs.Numbers.{numbered_from}
 use Rattle.name_tables.specs.Names.{place_of}
 use Rattle.ex_tree.specs.declared.expression.Name.{Name}
 use Rattle.ex_tree.specs.declared.declaration.Constant.{Constant}
@@ -26,7 +27,6 @@ use Rattle.ex_named.specs.declared.reference.Declared.{Declared}
 use Rattle.ex_named.specs.declared.reference.Declared.TheVariants as d
 use Rattle.ex_named.specs.Outcomes.{Outcome, given, both, refused}
 use Rattle.ex_named.specs.Scopes.{Declarations}
-use Rattle.lineage.specs.Numbered.{numbered_from}
 use Rattle.ex_declarations.specs.Declared.{declarations, declared_names, names_from, type_of, entity_of, function_of, rule_of, entities, types, functions, rules, once, once_after, fresh, supertype_graph, type_graph}
 use Rattle.ex_bind_entities.specs.Entities.{named_entity, named_type}
 use Rattle.ex_bind_algorithms.specs.Algorithms.{constant, named_function, function_in, named_rule, rule_in}

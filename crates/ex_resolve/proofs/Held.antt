@@ -30,8 +30,8 @@ use Rattle.ex_named.specs.declared.reference.TypeName.TheVariants as t
 use Rattle.ex_named.specs.DataTypes.{data_type, data_type_layer}
 use Rattle.ex_named.specs.Outcomes.{Outcome, given, each, refused}
 use Rattle.ex_named.specs.Scopes.{Declarations, and_then, as_defined, as_type, declared, or_undeclared, type_name}
-use Rattle.lineage.specs.Lineage.{IsAcyclic, is_ancestor, numbers_from}
-use Rattle.lineage.proofs.Marks.{acyclic_from_marks}
+use Rattle.graphs.specs.Graphs.{IsAcyclic, is_ancestor, numbers_from}
+use Rattle.graphs.proofs.Marks.{acyclic_from_marks}
 use Rattle.ex_declarations.specs.Declared as tree
 use Rattle.ex_declarations.specs.Declared.{declarations, named_in, named_in_layer, type_graph, type_named, types}
 use Rattle.ex_bind_entities.specs.Entities.{named_type, renamed, underlying, underlying_data}

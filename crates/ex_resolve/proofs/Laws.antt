@@ -1,6 +1,6 @@
 -- What holds of each schema whose names are bound.
 use Rattle.std.proofs.Common.{Ok, ap, ◌∙◌}
-use Rattle.lineage.specs.Lineage.{IsAcyclic}
+use Rattle.graphs.specs.Graphs.{IsAcyclic}
 use Rattle.ex_resolve.proofs.Wholes.{given_ok}
 use Rattle.ex_resolve.proofs.Accepted.{Parts, parts_of}
 use Rattle.ex_resolve.proofs.Distinct.{declares_once}

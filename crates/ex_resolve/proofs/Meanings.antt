@@ -3,6 +3,7 @@ use Rattle.std.proofs.Common.{◌≡◌, ℕ, zero, suc, ◌+◌, ◌-◌, ◌<�
 use Rattle.std.specs.List.{find, list_all}
 use Rattle.std.specs.Option.{option_map}
 use Rattle.std.specs.Str.{bytes_eq}
+use Rattle.plain_data.specs.Numbers.{is_among}
 use Rattle.name_tables.specs.Names.{named, place_of}
 use Rattle.ex_tree.specs.declared.expression.Name.{Name}
 use Rattle.ex_named.specs.declared.expression.NamedExpression.{NamedExpression}
@@ -18,7 +19,7 @@ use Rattle.ex_named.specs.declared.reference.TypeName.{TypeName}
 use Rattle.ex_named.specs.declared.reference.TypeName.TheVariants as t
 use Rattle.ex_named.specs.declared.fault.NameFaultKind.TheVariants.{Undeclared}
 use Rattle.ex_named.specs.Outcomes.{refused}
-use Rattle.ex_named.specs.Scopes.{Declarations, Scope, and_then, or_else, or_undeclared, is_among, is_marked, meaning_of, nested_variable, frame_variable, variable, assigned, assigned_by, itself, declared, as_type, as_entity, as_defined, as_function, type_name, entity, attributes_of, attribute, declared_value, value, item_from, value_or_item, name, item_of_type, item_of_declared, item_of_by, item_of, function_by, function}
+use Rattle.ex_named.specs.Scopes.{Declarations, Scope, and_then, or_else, or_undeclared, is_marked, meaning_of, nested_variable, frame_variable, variable, assigned, assigned_by, itself, declared, as_type, as_entity, as_defined, as_function, type_name, entity, attributes_of, attribute, declared_value, value, item_from, value_or_item, name, item_of_type, item_of_declared, item_of_by, item_of, function_by, function}
 use Rattle.ex_resolve.proofs.Layers.{expression_made}
 use Rattle.ex_resolve.proofs.Truths.{true_and, and_true, below, first_in, found_in, all_kept, all_named}
 use Rattle.ex_resolve.proofs.Wholes.{given_ok, meant}

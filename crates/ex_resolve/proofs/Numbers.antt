@@ -2,12 +2,12 @@
 use Rattle.std.proofs.Common.{◌≡◌, ℕ, zero, suc, ◌+◌, ◌-◌, ◌<◌, ◌≤◌, List, [], ◌∷◌, ◌++◌, map, length, refl, sym, ap, ◌∙◌, append_assoc, length-append, slice_index_or, get_or, drop, arith}
 use Rattle.std.proofs.Math.Seq.{drop-cons}
 use Rattle.std.proofs.lemmas.List.{length-map}
+use Rattle.plain_data.specs.Numbers.{numbered, numbered_from}
 use Rattle.ex_tree.specs.declared.declaration.Entity.{Entity}
 use Rattle.ex_tree.specs.declared.declaration.TypeDeclaration.{TypeDeclaration}
 use Rattle.ex_named.specs.Scopes.{Declarations}
-use Rattle.lineage.specs.Lineage.{numbers_from}
+use Rattle.graphs.specs.Graphs.{numbers_from}
 use Rattle.ex_declarations.specs.Declared.{supertype_graph, type_graph}
-use Rattle.lineage.specs.Numbered.{numbered, numbered_from}
 
 pub length-numbers : {A : Type 0} (f : ℕ → A) (start n : ℕ) → length (map f (numbers_from start n)) ≡ n
 length-numbers f start zero = refl

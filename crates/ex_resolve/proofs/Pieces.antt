@@ -15,7 +15,7 @@ use Rattle.ex_named.specs.Expressions.{expression}
 use Rattle.ex_named.specs.Outcomes.{each, optional}
 use Rattle.ex_named.specs.Scopes.{Declarations, Scope, entity}
 use Rattle.ex_named.specs.Statements.{statements}
-use Rattle.lineage.specs.Lineage.{family}
+use Rattle.graphs.specs.Graphs.{family}
 use Rattle.ex_bind.specs.Rules.{domain_rules, scope_of}
 use Rattle.ex_bind_algorithms.specs.Algorithms.{body_scope, constant, function_in, function_names, local_names, local_variable, named_function, named_rule, parameter, populations, rule_in}
 use Rattle.ex_bind_entities.specs.Entities.{derived_attribute, entity_attributes, entity_head, entity_rules, explicit_attribute, inverse_attribute, make_entity, named_entity, named_type, supertype, underlying, unique_rule}

@@ -3,6 +3,7 @@ use Rattle.std.proofs.Common.{◌≡◌, ℕ, zero, suc, ◌+◌, ◌<◌, ◌�
 use Rattle.std.proofs.lemmas.List.{length-map, map-append}
 use Rattle.std.specs.Prelude.{slice_get, slice_index_or}
 use Rattle.std.specs.List.{cons_option, filter, filter_map, flat_map, list_all}
+use Rattle.plain_data.specs.Numbers.{numbered, numbered_from}
 use Rattle.ex_tree.specs.declared.declaration.AttributeDeclaration.{AttributeDeclaration}
 use Rattle.ex_tree.specs.declared.declaration.AttributeDeclaration.TheVariants as a
 use Rattle.ex_tree.specs.declared.declaration.Constant.{Constant}
@@ -33,7 +34,6 @@ use Rattle.ex_named.specs.declared.reference.Declared.TheVariants as d
 use Rattle.ex_named.specs.declared.reference.EnumerationItem.{EnumerationItem}
 use Rattle.ex_named.specs.Scopes.{Declarations}
 use Rattle.ex_scopes.specs.Sorts.{explicit_alone, explicit_or_derived}
-use Rattle.lineage.specs.Numbered.{numbered, numbered_from}
 use Rattle.ex_declarations.specs.Declared.{attributes_of_entity, concatenated, declarations, declared_names, derived_names, entities, entity_of, explicit_names, function_of, functions, inverse_names, items_of, items_of_type, names_from, own_name, placed, supertype_graph, type_graph, type_of, types}
 use Rattle.ex_bind_algorithms.specs.Algorithms.{constant, named_function}
 use Rattle.ex_bind_entities.specs.Entities as bind

@@ -67,7 +67,7 @@ use Rattle.ex_named.specs.Outcomes.{Outcome, given, each, optional, refused}
 use Rattle.ex_named.specs.Scopes.{Declarations, Scope, attributes_of, entity, meaning_of, type_name}
 use Rattle.ex_scopes.specs.Attributes.{stands, meaning_if}
 use Rattle.ex_scopes.specs.Sorts.{any_sort, explicit_alone, explicit_or_derived}
-use Rattle.lineage.specs.Lineage.{family, is_ancestor}
+use Rattle.graphs.specs.Graphs.{family, is_ancestor}
 use Rattle.ex_bind.specs.Rules.{domain_rule, domain_rules, scope_of}
 use Rattle.ex_bind_algorithms.specs.Algorithms.{body_scope, constant, function_names, local_names, local_variable, named_function, named_rule, parameter, parameter_names, populations}
 use Rattle.ex_bind_entities.specs.Entities as bind

@@ -1,6 +1,7 @@
 -- A schema with its names bound, or the fault of least offset (ISO 10303-11:1994, clause 10).
 use Rattle.std.specs.Prelude.{◌≡◌, ℕ, Bool, true, false, List, [], map, filter, Option, option_map, slice_index_or, Ok}
 use Rattle.std.specs.List.{filter_map, flat_map}
+use Rattle.plain_data.specs.Numbers.{numbered}
 use Rattle.ex_tree.specs.declared.declaration.Constant.{Constant}
 use Rattle.ex_tree.specs.declared.declaration.Declaration.{Declaration}
 use Rattle.ex_tree.specs.declared.declaration.Entity.{Entity}
@@ -19,8 +20,7 @@ use Rattle.ex_named.specs.declared.reference.AttributeSort.TheVariants.{Explicit
 use Rattle.ex_named.specs.Outcomes.{Outcome, given, both, each}
 use Rattle.ex_named.specs.Scopes.{Declarations}
 use Rattle.ex_declarations.specs.Declared.{declarations, declared_names, entity_of, type_of, function_of, rule_of, entities, types, functions, rules, once, supertype_graph, type_graph, each_numbered}
-use Rattle.lineage.specs.Numbered.{numbered}
-use Rattle.lineage.specs.Lineage.{line}
+use Rattle.graphs.specs.Graphs.{line}
 use Rattle.ex_bind_entities.specs.Entities.{named_entity, named_type}
 use Rattle.ex_bind_algorithms.specs.Algorithms.{constant, named_function, named_rule}
 

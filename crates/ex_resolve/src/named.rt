@@ -3,14 +3,14 @@
 ghost use Rattle.std.specs.Prelude.{◌≡◌, ◌↔◌, ◌++◌, ◌≤◌, ◌-◌, ℕ, IfOk, IsTrue, Some, filter, length, map};
 ghost use Rattle.std.specs.List.{flat_map};
 ghost use Rattle.std.specs.List.Sorted.{IsStrictlyIncreasing};
-ghost use Rattle.lineage.specs.Lineage as lineage;
-ghost use Rattle.lineage.specs.Numbered.{numbered_from};
+ghost use Rattle.plain_data.specs.Numbers.{is_among, numbered_from};
+ghost use Rattle.graphs.specs.Graphs as graphs;
 ghost use Rattle.ex_resolve.specs.Proved as proved;
 ghost use Rattle.ex_resolve.specs.Ranges as ranges;
 ghost use Rattle.ex_resolve.specs.Schemas as spec;
 
 use ex_named::{AttributePlace, AttributeSort, NamedAttribute, NamedEntity, NamedSchema};
-use lineage::{ancestors, line};
+use graphs::{ancestors, line};
 use plain_data::Rows;
 use std::alloc::{AllocError, Global};
 use std::marker::Model;
@@ -64,16 +64,17 @@ impl Named {
     pub fn proved(&self)
         ensures resolved { spec.IsResolved self.now }
         ensures listed { self.now.supertypes ≡ map (λ e. e.supertypes) self.now.schema.entities }
-        ensures acyclic { lineage.IsAcyclic self.now.supertypes }
+        ensures acyclic { graphs.IsAcyclic self.now.supertypes }
         ensures once { proved.DeclaresOnce self.now.schema }
         ensures identified { proved.HasIdentifiers self.now.schema }
-        ensures held { lineage.IsAcyclic (proved.held_types self.now.schema.types) }
+        ensures held { graphs.IsAcyclic (proved.held_types self.now.schema.types) }
         ensures in_range { ranges.InRange self.now.schema }
     {
         let _ = &self.schema;
     }
 
-    pub fn schema(&self) -> &NamedSchema
+    /// The schema alone, without the graph of its supertypes.
+    pub fn named(&self) -> &NamedSchema
         ensures { result.now ≡ self.now.schema }
     {
         &self.schema
@@ -83,7 +84,7 @@ impl Named {
     /// each of its members.
     pub fn ancestors(&self, alloc: Global, entity: usize) -> Result<Rows<usize>, AllocError>
         ensures ascending { IfOk result (λ found. IsStrictlyIncreasing found) }
-        ensures exact { IfOk result (λ found. (a : ℕ) → IsTrue (lineage.is_among found a) ↔ lineage.IsAncestor self.now.supertypes entity a) }
+        ensures exact { IfOk result (λ found. (a : ℕ) → IsTrue (is_among found a) ↔ graphs.IsAncestor self.now.supertypes entity a) }
     {
         ancestors(alloc, self.supertypes.as_slice(), entity)
     }
@@ -91,7 +92,7 @@ impl Named {
     /// The entities above one and itself: supertypes first, in the order of SUBTYPE OF, depth first, each once, at its first
     /// place.
     pub fn line(&self, alloc: Global, entity: usize) -> Result<Rows<usize>, AllocError>
-        ensures { IfOk result (λ found. lineage.line self.now.supertypes entity ≡ Some found) }
+        ensures { IfOk result (λ found. graphs.line self.now.supertypes entity ≡ Some found) }
     {
         line(alloc, self.supertypes.as_slice(), entity)
     }

@@ -5,10 +5,10 @@ ghost use Rattle.ex_named.specs.Outcomes.{Binds, each};
 ghost use Rattle.ex_bind_algorithms.specs.Algorithms as algorithms;
 ghost use Rattle.ex_bind_entities.specs.Entities as entities_spec;
 ghost use Rattle.ex_declarations.specs.Declared.{each_numbered};
-ghost use Rattle.lineage.specs.Lineage.{is_ancestor, numbers_from};
+ghost use Rattle.graphs.specs.Graphs.{is_ancestor, numbers_from};
 
 use crate::queue::Queue;
-use descent::Descent;
+use ancestors::Descent;
 use ex_bind_algorithms::{constant, named_function, named_rule};
 use ex_bind_entities::{named_entity, named_type};
 use ex_named::{
@@ -16,7 +16,7 @@ use ex_named::{
 };
 use ex_scopes::Declarations;
 use ex_tree::{Constant, Entity, Function, Rule, TypeDeclaration};
-use lineage::cyclic_marks;
+use graphs::cyclic_marks;
 use plain_data::{Items, Rows};
 use std::alloc::Global;
 

@@ -22,9 +22,8 @@ use ex_scopes::Declarations;
 use ex_tree::{
     Constant, Declaration, Entity, Function, Name, Rule, Schema, StringToken, TypeDeclaration,
 };
-use plain_data::{Items, Rows};
+use plain_data::{Failure, Items, Rows};
 use std::alloc::{AllocError, Global};
-use text_forms::Failure;
 
 type Classes = (Items<NamedType>, Items<NamedEntity>);
 
@@ -197,7 +196,6 @@ fn made(
             rules,
             strings,
         }),
-        Err(Failure::NoMemory) => Err(Failure::NoMemory),
-        Err(Failure::Fault(fault)) => Err(Failure::Fault(fault)),
+        Err(failure) => Err(failure),
     }
 }

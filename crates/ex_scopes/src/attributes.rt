@@ -4,14 +4,14 @@
 ghost use Rattle.std.specs.Prelude.{◌≡◌, ◌≤◌, ◌==◌, [], ◌∷◌, ◌++◌, IfOk, IsTrue, OnOk, OnErr, filter};
 ghost use Rattle.std.specs.List.{flat_map};
 ghost use Rattle.std.specs.List.Sorted.{IsNonDecreasingBy};
+ghost use Rattle.plain_data.specs.Numbers.{is_among};
 ghost use Rattle.name_tables.specs.Names.{named};
-ghost use Rattle.ex_named.specs.Scopes.{is_among};
 ghost use Rattle.ex_scopes.specs.Attributes as spec;
 ghost use Rattle.ex_scopes.specs.Sorts.{admitted};
 
 use crate::seen::Seen;
 use crate::sorts::Sorts;
-use descent::Family;
+use ancestors::Family;
 use ex_named::{AttributeMeaning, AttributePlace};
 use name_tables::NameRows;
 use std::alloc::{AllocError, Global};

@@ -8,10 +8,10 @@ ghost use Rattle.ex_scopes.specs.Sorts.{admitted};
 
 use crate::attributes::AttributeRows;
 use crate::items::ItemRows;
-use crate::lookup::{is_among, is_marked, or_undeclared};
+use crate::lookup::{is_in, is_marked, or_undeclared};
 use crate::scope::Scope;
 use crate::sorts::Sorts;
-use descent::Family;
+use ancestors::Family;
 use ex_named::{
     AttributeMeaning, AttributePlace, AttributeUse, Binding, Declared, EnumerationItem,
     NameFaultKind, NamedExpression, TypeName, refused,
@@ -228,7 +228,7 @@ impl<'a> Declarations<'a> {
                 name.at,
                 Items::new(alloc),
             )),
-            Some(Declared::Entity(number)) if is_among(scope.populations(), number) => Some(
+            Some(Declared::Entity(number)) if is_in(scope.populations(), number) => Some(
                 NamedExpression::Population(number),
             ),
             _ => None,
@@ -245,7 +245,7 @@ impl<'a> Declarations<'a> {
         }
         Ok(match self.declares(text) {
             Some(Declared::Constant(_) | Declared::Function(_)) => true,
-            Some(Declared::Entity(number)) => is_among(scope.populations(), number),
+            Some(Declared::Entity(number)) => is_in(scope.populations(), number),
             _ => false,
         })
     }

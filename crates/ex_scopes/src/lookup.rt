@@ -3,6 +3,7 @@
 ghost use Rattle.std.specs.Prelude.{◌≡◌, ◌<◌, length, IfSome};
 ghost use Rattle.std.specs.List.{position};
 ghost use Rattle.std.specs.Str.{bytes_eq};
+ghost use Rattle.plain_data.specs.Numbers.{is_among};
 ghost use Rattle.ex_named.specs.Outcomes.{Binds};
 ghost use Rattle.ex_named.specs.Scopes as spec;
 
@@ -11,8 +12,8 @@ use ex_tree::Name;
 use std::collections::BTreeSet;
 
 /// Whether a number is in the set.
-pub(crate) fn is_among(set: &BTreeSet<usize>, number: usize) -> bool
-    ensures { result ≡ spec.is_among set.now.keys number }
+pub(crate) fn is_in(set: &BTreeSet<usize>, number: usize) -> bool
+    ensures { result ≡ is_among set.now.keys number }
 {
     set.contains(&number)
 }

@@ -6,7 +6,7 @@ ghost use Rattle.ex_named.specs.Outcomes.{Binds};
 ghost use Rattle.ex_named.specs.Scopes as spec;
 
 use crate::lookup::{or_undeclared, place_among};
-use descent::Family;
+use ancestors::Family;
 use ex_named::{Binding, NameFaultKind, NamedExpression, refused};
 use ex_tree::Name;
 use name_tables::SortedNames;

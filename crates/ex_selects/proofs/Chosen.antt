@@ -1,6 +1,5 @@
 -- What stands for all that a SELECT chooses from.
 use Rattle.std.proofs.Common.{◌≡◌, ◌<◌, ◌≤◌, ◌+◌, ℕ, Bool, true, false, not, ◌&&◌, ◌||◌, ◌==◌, nat_lt, List, [], ◌∷◌, length, filter, slice_get, Option, Some, None, option_map, ◌⊎◌, inl, inr, ⊎_elim, refl, sym, ◌∙◌, ap, arith}
-use Rattle.std.proofs.lemmas.Bool.{eqb-true}
 use Rattle.std.proofs.lemmas.Bool.Decides.{nat_tests}
 use Rattle.std.proofs.lemmas.Option.{slice_get_cases}
 use Rattle.std.proofs.lemmas.List.Kept.{IsStrictlySortedBy-filter}
@@ -8,24 +7,27 @@ use Rattle.std.specs.List.{filter_map, cons_option}
 use Rattle.std.specs.List.Sorted.{IsStrictlySortedBy}
 use Rattle.std.specs.Option.{option_map_or}
 use Rattle.std.specs.Ordering.{nat_cmp}
+use Rattle.plain_data.specs.Numbers.{is_among}
+use Rattle.plain_data.proofs.Numbers.{only_one}
 use Rattle.ex_tree.specs.declared.data_type.SimpleType.TheVariants as s
 use Rattle.ex_named.specs.declared.declaration.NamedType.{NamedType}
 use Rattle.ex_named.specs.declared.declaration.NamedUnderlying.{NamedUnderlying}
 use Rattle.ex_named.specs.declared.declaration.NamedUnderlying.TheVariants as u
 use Rattle.ex_renamings.specs.Renamings.{end, is_listed, is_select}
-use Rattle.lineage.specs.Lineage.{is_among, is_ancestor, family}
-use Rattle.lineage.proofs.Families.{family_sorted, in_family, is_among-filter}
-use Rattle.lineage.proofs.Sets.{either, or_left, or_right}
+use Rattle.graphs.specs.Graphs.{is_ancestor, family}
+use Rattle.graphs.proofs.Families.{family_sorted, in_family, is_among-filter}
+use Rattle.graphs.proofs.Sets.{or_left, or_right}
+use Rattle.ancestors.proofs.Members.{same_keys}
 use Rattle.ex_selects.specs.declared.sorts.Class.{Class}
 use Rattle.ex_selects.specs.declared.sorts.Class.TheVariants as class
 use Rattle.ex_selects.specs.declared.sorts.Sort.{Sort}
 use Rattle.ex_selects.specs.declared.sorts.Sort.TheVariants as sort
 use Rattle.ex_selects.specs.Ends.{Base, Plain, Instance, Aggregate, Enumeration, Select, Nothing, base_by, base_of, choices, selection}
 use Rattle.ex_selects.specs.Kept.{single, suffices, IsCovered, StandFor, StandForClass, of_class}
-use Rattle.ex_selects.specs.Levels.{asked_choice, element}
+use Rattle.ex_selects.specs.Levels.{chosen_aggregate, element}
 use Rattle.ex_selects.specs.Shared.{shared, unrenamed}
 use Rattle.ex_selects.specs.Sorts.{all_sorts, is_of, of_base, sort_at, sort_of}
-use Rattle.ex_selects.proofs.Renamed.{choices_shared, many_shared, same_keys, same_truth}
+use Rattle.ex_selects.proofs.Renamed.{choices_shared, many_shared, same_truth}
 use Rattle.ex_selects.proofs.Standing.{both_true, first_true, second_true, two_of}
 use Rattle.ex_selects.proofs.Tables.{map_get, numbered_index}
 
@@ -38,14 +40,11 @@ record Pair (ks : List ℕ) : Type 0 where
   pub first_there : is_among ks first ≡ true
   pub second_there : is_among ks second ≡ true
 
-one : (k x : ℕ) → is_among (x ∷ []) k ≡ true → x ≡ k
-one k x there = ⊎_elim (λ (is : (x == k) ≡ true). eqb-true x k is) (λ (no : false ≡ true). cc) (either (x == k) false there)
-
 in_one : (k x : ℕ) → (is_among (x ∷ []) k ≡ true) ⊎ Pair (x ∷ []) → x ≡ k
-in_one k x (inl there) = one k x there
+in_one k x (inl there) = only_one k x there
 in_one k x (inr two) =
-    let first = one two.first x two.first_there in
-    let second = one two.second x two.second_there in
+    let first = only_one two.first x two.first_there in
+    let second = only_one two.second x two.second_there in
     let other = two.other in
     grind (arith, nat_tests)
 
@@ -61,10 +60,10 @@ unfolding IsStrictlySortedBy
 same_single [] [] up rise within covered = refl
 same_single [] (b ∷ ys) up rise within covered = let no = within b (here b ys) in cc
 same_single (a ∷ []) [] up rise within covered = elim (covered a (here a [])) [ inl there ↦ cc | inr two ↦ let no = two.first_there in cc ]
-same_single (a ∷ []) (b ∷ []) up rise within covered = let same = one b a (within b (here b [])) in ap (λ k. Some k) same
+same_single (a ∷ []) (b ∷ []) up rise within covered = let same = only_one b a (within b (here b [])) in ap (λ k. Some k) same
 same_single (a ∷ []) (b ∷ c ∷ ys) up rise within covered =
-    let first = one b a (within b (here b (c ∷ ys))) in
-    let second = one c a (within c (next b c ys)) in
+    let first = only_one b a (within b (here b (c ∷ ys))) in
+    let second = only_one c a (within c (next b c ys)) in
     let less = rise.0.0 in
     absurd (grind (arith, nat_tests, less))
 same_single (a ∷ b ∷ xs) [] up rise within covered = elim (covered a (here a (b ∷ xs))) [ inl there ↦ cc | inr two ↦ let no = two.first_there in cc ]
@@ -220,11 +219,11 @@ module _ (types : List NamedType) where
   no_element Nothing e = refl
 
   pub asked_kept : (n : ℕ) (kept : List ℕ) → StandForClass types class.Lists n kept
-      → filter_map (asked_choice types) (choices types n) ≡ filter_map (asked_choice types) kept
+      → filter_map (chosen_aggregate types) (choices types n) ≡ filter_map (chosen_aggregate types) kept
   asked_kept n kept s =
-      all_same class.Lists (asked_choice types) (λ k m is. ap (λ b. option_map (λ t. record { number = Some k; target = t }) (element types b)) is)
+      all_same class.Lists (chosen_aggregate types) (λ k m is. ap (λ b. option_map (λ t. record { number = Some k; target = t }) (element types b)) is)
       (λ k e. ap (option_map (λ t. record { number = Some k; target = t })) (no_element (base_of types k) e)) n
-      ∙ ap (filter_map (asked_choice types)) (exact n kept s)
+      ∙ ap (filter_map (chosen_aggregate types)) (exact n kept s)
 
   -- ---- which are chosen
 

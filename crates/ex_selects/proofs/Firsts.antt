@@ -9,10 +9,10 @@ use Rattle.std.specs.List.Sorted.{IsStrictlySortedBy}
 use Rattle.std.specs.Option.{option_or}
 use Rattle.std.specs.Ordering.{nat_cmp}
 use Rattle.std.specs.Str.{bytes_eq}
+use Rattle.plain_data.specs.Numbers.{is_among}
 use Rattle.ex_named.specs.declared.declaration.NamedType.{NamedType}
-use Rattle.lineage.specs.Lineage.{is_among}
-use Rattle.lineage.proofs.Families.{is_among-filter}
-use Rattle.lineage.proofs.Sets.{or_left}
+use Rattle.graphs.proofs.Families.{is_among-filter}
+use Rattle.graphs.proofs.Sets.{or_left}
 use Rattle.name_tables.specs.Names.{first_of, place_of}
 use Rattle.name_tables.proofs.Places.{place_of-push}
 use Rattle.ex_selects.specs.declared.sorts.Class.{Class}

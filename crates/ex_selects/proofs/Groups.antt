@@ -10,7 +10,7 @@ use Rattle.ex_selects.specs.declared.ends.Target as code
 use Rattle.ex_selects.specs.declared.levels.Candidate.{Candidate}
 use Rattle.ex_selects.specs.declared.levels.Level.{Level}
 use Rattle.ex_selects.specs.Seen.{seen, seen_target}
-use Rattle.ex_selects.specs.Levels.{Keeps, Asked, IsGroup, asked_choice, asked, AreGroups, IsLevel, AreLevels, last_asking}
+use Rattle.ex_selects.specs.Levels.{Keeps, PossibleAggregate, IsGroup, chosen_aggregate, aggregates, AreGroups, IsLevel, AreLevels, last_asking}
 use Rattle.ex_selects.proofs.Places.{kept_at, new_at}
 
 -- ---- types that are put
@@ -34,13 +34,13 @@ pushed_there ds es d is =
 
 -- ---- groups
 
-pub group_kept : (ds es : List code.Target) (g : List Candidate) (qs : List Asked) → Keeps ds es → IsGroup ds g qs → IsGroup es g qs
+pub group_kept : (ds es : List code.Target) (g : List Candidate) (qs : List PossibleAggregate) → Keeps ds es → IsGroup ds g qs → IsGroup es g qs
 group_kept ds es [] [] keeps is = tt
 group_kept ds es [] (a ∷ qs) keeps is = absurd is
 group_kept ds es (c ∷ g) [] keeps is = absurd is
 group_kept ds es (c ∷ g) (a ∷ qs) keeps is = (is.0, (keeps c.place a.target is.1.0, group_kept ds es g qs keeps is.1.1))
 
-pub group_more : (ds : List code.Target) (g : List Candidate) (qs : List Asked) (c : Candidate) (a : Asked) → IsGroup ds g qs → c.number ≡ a.number
+pub group_more : (ds : List code.Target) (g : List Candidate) (qs : List PossibleAggregate) (c : Candidate) (a : PossibleAggregate) → IsGroup ds g qs → c.number ≡ a.number
     → slice_get (map seen_target ds) c.place ≡ Some a.target → IsGroup ds (g ++ c ∷ []) (qs ++ a ∷ [])
 group_more ds [] [] c a is number place = (number, (place, tt))
 group_more ds [] (b ∷ qs) c a is number place = absurd is
@@ -53,10 +53,10 @@ module _ (types : List NamedType) where
   groups_kept ds es [] (g ∷ gs) keeps are = absurd are
   groups_kept ds es (t ∷ ts) [] keeps are = absurd are
   groups_kept ds es (t ∷ ts) (g ∷ gs) keeps are =
-      (group_kept ds es g (asked types (seen t.base)) keeps are.0, groups_kept ds es ts gs keeps are.1)
+      (group_kept ds es g (aggregates types (seen t.base)) keeps are.0, groups_kept ds es ts gs keeps are.1)
 
   pub groups_more : (ds : List code.Target) (ts : List code.Target) (gs : List (List Candidate)) (t : code.Target) (g : List Candidate) → AreGroups types ds ts gs
-      → IsGroup ds g (asked types (seen t.base)) → AreGroups types ds (ts ++ t ∷ []) (gs ++ g ∷ [])
+      → IsGroup ds g (aggregates types (seen t.base)) → AreGroups types ds (ts ++ t ∷ []) (gs ++ g ∷ [])
   groups_more ds [] [] t g are is = (is, tt)
   groups_more ds [] (h ∷ gs) t g are is = absurd are
   groups_more ds (u ∷ ts) [] t g are is = absurd are
@@ -70,7 +70,7 @@ module _ (types : List NamedType) where
   levels_more asking (k ∷ ls) l are is = (are.0, levels_more k.targets.items ls l are.1 is)
 
   pub group_there : (ds ts : List code.Target) (gs : List (List Candidate)) (place : ℕ) (t : code.Target) → AreGroups types ds ts gs → slice_get ts place ≡ Some t
-      → (g : List Candidate) × ((slice_get gs place ≡ Some g) × IsGroup ds g (asked types (seen t.base)))
+      → (g : List Candidate) × ((slice_get gs place ≡ Some g) × IsGroup ds g (aggregates types (seen t.base)))
   group_there ds [] gs place t are e = cc
   group_there ds (u ∷ ts) [] place t are e = absurd are
   group_there ds (u ∷ ts) (g ∷ gs) zero t are e =
@@ -100,8 +100,8 @@ options_more {B = B} f ks i within =
     at_last None = refl
     at_last (Some x) = refl
 
-pub choices_more : (types : List NamedType) (ds : List code.Target) (g : List Candidate) (qs : List Asked) (ks : List ℕ) (i : ℕ) → i < length ks
-    → IsGroup ds g ((qs ++ filter_map (asked_choice types) (take i ks)) ++ option_to_list (asked_choice types (get_or ks i 0)))
-    → IsGroup ds g (qs ++ filter_map (asked_choice types) (take (i + 1) ks))
+pub choices_more : (types : List NamedType) (ds : List code.Target) (g : List Candidate) (qs : List PossibleAggregate) (ks : List ℕ) (i : ℕ) → i < length ks
+    → IsGroup ds g ((qs ++ filter_map (chosen_aggregate types) (take i ks)) ++ option_to_list (chosen_aggregate types (get_or ks i 0)))
+    → IsGroup ds g (qs ++ filter_map (chosen_aggregate types) (take (i + 1) ks))
 choices_more types ds g qs ks i within is =
-    rw (options_more (asked_choice types) ks i within, ← append_assoc qs (filter_map (asked_choice types) (take i ks)) (option_to_list (asked_choice types (get_or ks i 0)))) is
+    rw (options_more (chosen_aggregate types) ks i within, ← append_assoc qs (filter_map (chosen_aggregate types) (take i ks)) (option_to_list (chosen_aggregate types (get_or ks i 0)))) is

@@ -1,26 +1,24 @@
 -- A SELECT chooses the same once those that rename it have nothing of their own.
-use Rattle.std.proofs.Common.{◌≡◌, ◌<◌, ◌≤◌, ◌+◌, ℕ, zero, suc, Bool, true, false, not, ◌&&◌, ◌||◌, ◌==◌, nat_lt, BTreeSet, List, [], ◌∷◌, map, length, filter, slice_get, Option, Some, None, ◌⊎◌, inl, inr, ⊎_elim, refl, sym, ◌∙◌, ap, subst, arith}
+use Rattle.std.proofs.Common.{◌≡◌, ◌<◌, ◌≤◌, ◌+◌, ℕ, zero, suc, Bool, true, false, not, ◌&&◌, ◌||◌, ◌==◌, nat_lt, List, [], ◌∷◌, map, length, filter, slice_get, Option, Some, None, ◌⊎◌, inl, inr, ⊎_elim, refl, sym, ◌∙◌, ap, subst, arith}
 use Rattle.std.proofs.lemmas.Bool.{cases_Bool, eq-eqb, eqb-true}
 use Rattle.std.proofs.lemmas.Bool.Decides.{nat_tests}
-use Rattle.std.proofs.lemmas.Cmp.{nat_cmp_total}
 use Rattle.std.proofs.lemmas.List.Kept.{IsStrictlySortedBy-filter}
-use Rattle.std.proofs.lemmas.Map.Lookups.{btree_set_from_contains, exact_unsigned}
 use Rattle.std.proofs.lemmas.Option.{slice_get_cases, slice_get_past}
 use Rattle.std.specs.List.{filter_map, list_any}
-use Rattle.std.specs.List.Sorted.{IsStrictlySortedBy}
 use Rattle.std.specs.Option.{option_map_or}
 use Rattle.std.specs.Ordering.{nat_cmp}
+use Rattle.plain_data.specs.Numbers.{is_among, numbered}
 use Rattle.ex_named.specs.declared.declaration.NamedType.{NamedType}
 use Rattle.ex_named.specs.declared.declaration.NamedUnderlying.{NamedUnderlying}
 use Rattle.ex_named.specs.declared.declaration.NamedUnderlying.TheVariants as u
 use Rattle.ex_renamings.specs.Leading.{is_marked}
 use Rattle.ex_renamings.specs.Renamings.{end, is_listed, is_select, lists_members, renamed, renamed_by, renamed_times}
 use Rattle.ex_renamings.proofs.Marks.{any_same, leading_at}
-use Rattle.lineage.specs.Lineage.{is_among, supertypes, Reaches, IsAncestor, is_ancestor, family}
-use Rattle.lineage.specs.Numbered.{numbered}
-use Rattle.lineage.proofs.Bounded.{any_at, any_where, is_ancestor_exact}
-use Rattle.lineage.proofs.Families.{family_sorted, in_family, is_among-filter}
-use Rattle.lineage.proofs.Sets.{contained, either, or_left, or_right}
+use Rattle.graphs.specs.Graphs.{supertypes, Reaches, IsAncestor, is_ancestor, family}
+use Rattle.graphs.proofs.Bounded.{any_at, any_where, is_ancestor_exact}
+use Rattle.graphs.proofs.Families.{family_sorted, in_family, is_among-filter}
+use Rattle.graphs.proofs.Sets.{either, or_left, or_right}
+use Rattle.ancestors.proofs.Members.{same_keys}
 use Rattle.ex_selects.specs.Ends.{choices, chooses_instances, defined, is_entity, members, members_by, selection}
 use Rattle.ex_selects.specs.Shared.{chosen_at_once, listing, lists_entity, shared, unrenamed, with_instances}
 use Rattle.ex_selects.proofs.Standing.{both_true, first_true, second_true}
@@ -30,12 +28,6 @@ pub same_truth : (a b : Bool) → (a ≡ true → b ≡ true) → (b ≡ true �
 same_truth true b h g = sym (h refl)
 same_truth false true h g = g refl
 same_truth false false h g = refl
-
-pub same_keys : (xs ys : List ℕ) → IsStrictlySortedBy nat_cmp xs → IsStrictlySortedBy nat_cmp ys → ((q : ℕ) → is_among xs q ≡ is_among ys q) → xs ≡ ys
-same_keys xs ys up rise same =
-    let first : BTreeSet ℕ = record { keys = xs } in
-    let second : BTreeSet ℕ = record { keys = ys } in
-    btree_set_from_contains nat_cmp_total first second up rise (λ q. contained xs q ∙ same q ∙ sym (contained ys q)) exact_unsigned
 
 among_map : (f : ℕ → ℕ) (xs : List ℕ) (m : ℕ) → is_among xs m ≡ true → is_among (map f xs) (f m) ≡ true
 among_map f [] m there = cc

@@ -1,5 +1,5 @@
 -- What stands for others among numbers, and for all of a class in a family.
-use Rattle.std.proofs.Common.{◌≡◌, ◌<◌, ℕ, zero, suc, ◌+◌, Bool, true, false, not, ◌&&◌, ◌||◌, ◌==◌, nat_lt, List, [], ◌∷◌, ◌++◌, length, take, drop, get_or, Option, Some, None, ◌⊎◌, inl, inr, ⊎_elim, refl, sym, ◌∙◌, ap, subst, arith}
+use Rattle.std.proofs.Common.{◌≡◌, ◌<◌, ℕ, zero, suc, ◌+◌, Bool, true, false, not, ◌&&◌, ◌||◌, ◌==◌, nat_lt, List, [], ◌∷◌, ◌++◌, length, take, get_or, Option, Some, None, ◌⊎◌, inl, inr, ⊎_elim, refl, sym, ◌∙◌, ap, subst, arith}
 use Rattle.std.proofs.lemmas.Bool.{eq-eqb, eqb-true}
 use Rattle.std.proofs.lemmas.Bool.Decides.{nat_tests}
 use Rattle.std.proofs.lemmas.List.{take_more}
@@ -9,11 +9,13 @@ use Rattle.std.specs.List.Sorted.{IsStrictlySortedBy}
 use Rattle.std.specs.Option.{option_map_or}
 use Rattle.std.specs.Ordering.{nat_cmp}
 use Rattle.std.specs.declared.cmp.Ordering.TheVariants.{Less}
-use Rattle.lineage.specs.Lineage.{is_among, family, supertypes, IsAncestor, is_ancestor, Reaches}
-use Rattle.lineage.proofs.Bounded.{any_at, any_where, is_ancestor_exact}
-use Rattle.lineage.proofs.Families.{in_family, is_among-filter}
-use Rattle.lineage.proofs.Search.{ancestor_direct}
-use Rattle.lineage.proofs.Sets.{either, in_either, in_first, in_last, or_left, or_right}
+use Rattle.plain_data.specs.Numbers.{is_among}
+use Rattle.plain_data.proofs.Numbers.{only_one}
+use Rattle.graphs.specs.Graphs.{family, supertypes, IsAncestor, is_ancestor, Reaches}
+use Rattle.graphs.proofs.Bounded.{any_at, any_where, is_ancestor_exact}
+use Rattle.graphs.proofs.Families.{in_family, is_among-filter}
+use Rattle.graphs.proofs.Search.{ancestor_direct}
+use Rattle.graphs.proofs.Sets.{either, in_either, in_first, in_last, or_left, or_right}
 use Rattle.ex_selects.specs.declared.sorts.Class.{Class}
 use Rattle.ex_selects.specs.declared.sorts.Sort.{Sort}
 use Rattle.ex_selects.specs.declared.sorts.Sort.TheVariants as sort
@@ -128,16 +130,13 @@ module _ (sorts : List Sort) where
 
   -- ---- one number after the other
 
-  one_number : (k x : ℕ) → is_among (x ∷ []) k ≡ true → x ≡ k
-  one_number k x there = ⊎_elim (λ (is : (x == k) ≡ true). eqb-true x k is) (λ (no : false ≡ true). cc) (either (x == k) false there)
-
   pub stand_skip : (all kept : List ℕ) (x : ℕ) → StandFor sorts all kept → has_two sorts kept (sort_at sorts x) ≡ true → StandFor sorts (all ++ x ∷ []) kept
   stand_skip all kept x s two = record {
     ascend = s.ascend;
     within = λ k there. in_first all (x ∷ []) k (s.within k there);
     whole = λ k there. ⊎_elim
         (λ (before : is_among all k ≡ true). s.whole k before)
-        (λ (last : is_among (x ∷ []) k ≡ true). rw (← one_number k x last) (inr two))
+        (λ (last : is_among (x ∷ []) k ≡ true). rw (← only_one k x last) (inr two))
         (in_either all (x ∷ []) k there);
   }
 
@@ -146,11 +145,11 @@ module _ (sorts : List Sort) where
     ascend = up;
     within = λ k there. ⊎_elim
         (λ (before : is_among kept k ≡ true). in_first all (x ∷ []) k (s.within k before))
-        (λ (last : is_among (x ∷ []) k ≡ true). rw (← one_number k x last) (in_last all x))
+        (λ (last : is_among (x ∷ []) k ≡ true). rw (← only_one k x last) (in_last all x))
         (in_either kept (x ∷ []) k there);
     whole = λ k there. ⊎_elim
         (λ (before : is_among all k ≡ true). covered_more kept (kept ++ x ∷ []) k (λ j. in_first kept (x ∷ []) j) (s.whole k before))
-        (λ (last : is_among (x ∷ []) k ≡ true). rw (← one_number k x last) (inl (in_last kept x)))
+        (λ (last : is_among (x ∷ []) k ≡ true). rw (← only_one k x last) (inl (in_last kept x)))
         (in_either all (x ∷ []) k there);
   }
 
@@ -195,23 +194,6 @@ module _ (sorts : List Sort) (numbers kept : List ℕ) (i x : ℕ) (up : IsStric
 
   pub thin_skip : has_two sorts kept (sort_at sorts x) ≡ true → StandFor sorts (take (i + 1) numbers) kept
   thin_skip two = rw (take_more numbers i 0 within, ← is) (stand_skip sorts (take i numbers) kept x s two)
-
--- ---- numbers that are put into a set
-
-turned : (a b c : Bool) → ((a || b) || c) ≡ (b || (a || c))
-turned true true c = refl
-turned true false c = refl
-turned false b c = refl
-
-cut : (i k : ℕ) (numbers : List ℕ) → i < length numbers → is_among (drop i numbers) k ≡ ((get_or numbers i 0 == k) || is_among (drop (i + 1) numbers) k)
-cut i k [] within = let no : ⊥ = omega arith in absurd no
-cut zero k (n ∷ ns) within = refl
-cut (suc i) k (n ∷ ns) within = let same : suc i + 1 ≡ suc (i + 1) = omega arith in rw same (cut i k ns (omega arith))
-
-pub set_next : (i : ℕ) (numbers found more : List ℕ) (k : ℕ) → i < length numbers → is_among more k ≡ ((get_or numbers i 0 == k) || is_among found k)
-    → (is_among more k || is_among (drop (i + 1) numbers) k) ≡ (is_among found k || is_among (drop i numbers) k)
-set_next i numbers found more k within e =
-    rw (e, cut i k numbers within) (turned (get_or numbers i 0 == k) (is_among found k) (is_among (drop (i + 1) numbers) k))
 
 -- ---- a family
 

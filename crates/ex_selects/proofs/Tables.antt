@@ -1,7 +1,7 @@
 -- What stands in tables of types, also at numbers of no type.
 use Rattle.std.proofs.Common.{◌≡◌, ℕ, zero, suc, ◌+◌, List, [], ◌∷◌, length, map, slice_get, slice_index_or, refl, ◌∙◌, ap, arith}
 use Rattle.std.specs.Option.{option_map_or}
-use Rattle.lineage.specs.Numbered.{numbered_from}
+use Rattle.plain_data.specs.Numbers.{numbered_from}
 use Rattle.ex_named.specs.declared.declaration.NamedType.{NamedType}
 use Rattle.ex_selects.specs.Items.{items, items_by}
 

@@ -2,6 +2,7 @@
 use Rattle.std.specs.Prelude.{ℕ, pos, ℤ, Bool, true, false, not, ◌^◌, nat_lt, if◌then◌else◌, List, [], filter, Option, Some, None, slice_get}
 use Rattle.std.specs.List.{filter_map, list_any}
 use Rattle.std.specs.Option.{option_map_or}
+use Rattle.plain_data.specs.Numbers.{numbered}
 use Rattle.ex_tree.specs.declared.data_type.SimpleType.{SimpleType}
 use Rattle.ex_named.specs.declared.declaration.NamedType.{NamedType}
 use Rattle.ex_named.specs.declared.declaration.NamedUnderlying.{NamedUnderlying}
@@ -10,8 +11,7 @@ use Rattle.ex_named.specs.declared.expression.NamedDataType.{NamedDataType, Name
 use Rattle.ex_named.specs.declared.reference.TypeName.{TypeName}
 use Rattle.ex_named.specs.declared.reference.TypeName.TheVariants as t
 use Rattle.ex_renamings.specs.Renamings.{end, is_select}
-use Rattle.lineage.specs.Lineage.{family}
-use Rattle.lineage.specs.Numbered.{numbered}
+use Rattle.graphs.specs.Graphs.{family}
 use Rattle.rp_value.specs.declared.value.AggregateKind.{AggregateKind}
 use Rattle.rp_value.specs.declared.value.AggregateKind.TheVariants as aggregate
 

@@ -15,16 +15,16 @@ Keeps before after = (place : ℕ) (t : Target) → slice_get (map seen_target b
 
 -- ---- the aggregates that a list may be of
 
--- by the defined type that it is, where a SELECT chooses it, with the type of its elements
-pub record Asked : Type 0 where
+-- one of them: the defined type that it is, where a SELECT chooses it, and the type of its elements
+pub record PossibleAggregate : Type 0 where
   pub number : Option ℕ
   pub target : Target
 
 -- these aggregates, with their elements' types among those
-abbrev pub IsGroup : List code_target.Target → List Candidate → List Asked → Type 0
+abbrev pub IsGroup : List code_target.Target → List Candidate → List PossibleAggregate → Type 0
 IsGroup targets [] [] = ⊤
-IsGroup targets (c ∷ group) (a ∷ asked) =
-    (c.number ≡ a.number) × ((slice_get (map seen_target targets) c.place ≡ Some a.target) × IsGroup targets group asked)
+IsGroup targets (c ∷ group) (a ∷ aggregates) =
+    (c.number ≡ a.number) × ((slice_get (map seen_target targets) c.place ≡ Some a.target) × IsGroup targets group aggregates)
 IsGroup targets _ _ = ⊥
 
 -- whose elements a further level below these is of
@@ -38,21 +38,21 @@ module _ (types : List NamedType) where
   element (Aggregate kind low inner) = Some (target types inner)
   element _ = None
 
-  abbrev pub asked_at : Base → Option ℕ → Option Asked
-  asked_at base number = option_map (λ t. record { number = number; target = t }) (element base)
+  abbrev pub aggregate_at : Base → Option ℕ → Option PossibleAggregate
+  aggregate_at base number = option_map (λ t. record { number = number; target = t }) (element base)
 
-  abbrev pub asked_choice : ℕ → Option Asked
-  asked_choice number = asked_at (base_of types number) (Some number)
+  abbrev pub chosen_aggregate : ℕ → Option PossibleAggregate
+  chosen_aggregate number = aggregate_at (base_of types number) (Some number)
 
   -- the aggregates that a list of this type may be of
-  abbrev pub asked : Base → List Asked
-  asked (Select number) = filter_map asked_choice (choices types number)
-  asked base = option_to_list (asked_at base None)
+  abbrev pub aggregates : Base → List PossibleAggregate
+  aggregates (Select number) = filter_map chosen_aggregate (choices types number)
+  aggregates base = option_to_list (aggregate_at base None)
 
   -- of each of these types its group
   abbrev pub AreGroups : List code_target.Target → List code_target.Target → List (List Candidate) → Type 0
   AreGroups targets [] [] = ⊤
-  AreGroups targets (t ∷ ts) (g ∷ gs) = IsGroup targets g (asked (seen t.base)) × AreGroups targets ts gs
+  AreGroups targets (t ∷ ts) (g ∷ gs) = IsGroup targets g (aggregates (seen t.base)) × AreGroups targets ts gs
   AreGroups targets _ _ = ⊥
 
   abbrev pub IsLevel : List code_target.Target → Level → Type 0

@@ -1,10 +1,10 @@
 -- What SELECTs choose from, once for all types that rename one SELECT.
 use Rattle.std.specs.Prelude.{ℕ, Bool, ◌&&◌, ◌==◌, if◌then◌else◌, List, [], map}
 use Rattle.std.specs.List.{filter_map, list_any}
+use Rattle.plain_data.specs.Numbers.{numbered}
 use Rattle.ex_named.specs.declared.declaration.NamedType.{NamedType}
 use Rattle.ex_renamings.specs.Leading.{leading}
 use Rattle.ex_renamings.specs.Renamings.{end, is_select}
-use Rattle.lineage.specs.Numbered.{numbered}
 use Rattle.ex_selects.specs.Ends.{defined, is_entity, members}
 
 module _ (types : List NamedType) where

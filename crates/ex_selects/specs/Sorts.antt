@@ -1,9 +1,9 @@
 -- Defined types by the values of a file that they take.
 use Rattle.std.specs.Prelude.{ℕ, Bool, true, false, List, slice_index_or}
+use Rattle.plain_data.specs.Numbers.{numbered}
 use Rattle.ex_tree.specs.declared.data_type.SimpleType.{SimpleType}
 use Rattle.ex_tree.specs.declared.data_type.SimpleType.TheVariants as s
 use Rattle.ex_named.specs.declared.declaration.NamedType.{NamedType}
-use Rattle.lineage.specs.Numbered.{numbered}
 use Rattle.ex_selects.specs.declared.sorts.Class.{Class}
 use Rattle.ex_selects.specs.declared.sorts.Class.TheVariants as c
 use Rattle.ex_selects.specs.declared.sorts.Sort.{Sort}

@@ -6,12 +6,12 @@
 ghost use Rattle.std.specs.Prelude.{◌≡◌, ◌<◌, ◌||◌, ◌&&◌, ◌==◌, ℕ, length, ⊤, MatchOption, Some, None, IfOk, OnOk};
 ghost use Rattle.std.specs.List.Sorted.{IsStrictlySortedBy};
 ghost use Rattle.std.specs.Ordering.{nat_cmp};
-ghost use Rattle.lineage.specs.Lineage.{is_among};
+ghost use Rattle.plain_data.specs.Numbers.{is_among};
 ghost use Rattle.ex_selects.specs.Sorts as sorted;
 ghost use Rattle.ex_selects.specs.Kept as spec;
 
 use crate::sorts::{Class, Sort, is_of, sort_at};
-use lineage::{NONE, subtypes, supertypes, traces};
+use graphs::{NONE, subtypes, supertypes, traces};
 use plain_data::Rows;
 use std::alloc::{AllocError, Global};
 use std::collections::BTreeSet;

@@ -202,7 +202,7 @@ fn push_candidate<'s>(
     group: &mut Rows<Candidate>,
 ) -> Result<(), AllocError>
     ensures kept { OnOk result (spec.Keeps targets.old targets.new) }
-    ensures more { (asked : List spec.Asked) → spec.IsGroup targets.old group.old asked → OnOk result (spec.IsGroup targets.new group.new (asked ++ option_to_list (spec.asked_at types.now (seen base.now) number))) }
+    ensures more { (aggregates : List spec.PossibleAggregate) → spec.IsGroup targets.old group.old aggregates → OnOk result (spec.IsGroup targets.new group.new (aggregates ++ option_to_list (spec.aggregate_at types.now (seen base.now) number))) }
 {
     match element(types, base) {
         Some(target) => {
@@ -222,7 +222,7 @@ fn push_choices<'s>(
     group: &mut Rows<Candidate>,
 ) -> Result<(), AllocError>
     ensures kept { OnOk result (spec.Keeps targets.old targets.new) }
-    ensures more { (asked : List spec.Asked) → spec.IsGroup targets.old group.old asked → OnOk result (spec.IsGroup targets.new group.new (asked ++ filter_map (spec.asked_choice types.now) numbers.now)) }
+    ensures more { (aggregates : List spec.PossibleAggregate) → spec.IsGroup targets.old group.old aggregates → OnOk result (spec.IsGroup targets.new group.new (aggregates ++ filter_map (spec.chosen_aggregate types.now) numbers.now)) }
 {
     for number in numbers {
         push_candidate(
@@ -245,7 +245,7 @@ fn push_select<'s>(
     group: &mut Rows<Candidate>,
 ) -> Result<(), AllocError>
     ensures kept { OnOk result (spec.Keeps targets.old targets.new) }
-    ensures more { (asked : List spec.Asked) → spec.IsGroup targets.old group.old asked → OnOk result (spec.IsGroup targets.new group.new (asked ++ spec.asked types.now (ends.Select number))) }
+    ensures more { (aggregates : List spec.PossibleAggregate) → spec.IsGroup targets.old group.old aggregates → OnOk result (spec.IsGroup targets.new group.new (aggregates ++ spec.aggregates types.now (ends.Select number))) }
 {
     match types.kept(Class::Lists, number) {
         Some(lists) => push_choices(types.types(), lists, targets, group),
@@ -265,7 +265,7 @@ fn push_asked<'s>(
     group: &mut Rows<Candidate>,
 ) -> Result<(), AllocError>
     ensures kept { OnOk result (spec.Keeps targets.old targets.new) }
-    ensures more { (asked : List spec.Asked) → spec.IsGroup targets.old group.old asked → OnOk result (spec.IsGroup targets.new group.new (asked ++ spec.asked types.now (seen base.now))) }
+    ensures more { (aggregates : List spec.PossibleAggregate) → spec.IsGroup targets.old group.old aggregates → OnOk result (spec.IsGroup targets.new group.new (aggregates ++ spec.aggregates types.now (seen base.now))) }
 {
     match base {
         Base::Select(number) => push_select(alloc, types, *number, targets, group),
@@ -281,7 +281,7 @@ fn group_of<'s>(
     targets: &mut Distinct<'s>,
 ) -> Result<Rows<Candidate>, AllocError>
     ensures kept { OnOk result (spec.Keeps targets.old targets.new) }
-    ensures group { IfOk result (λ group. spec.IsGroup targets.new group (spec.asked types.now (seen base.now))) }
+    ensures group { IfOk result (λ group. spec.IsGroup targets.new group (spec.aggregates types.now (seen base.now))) }
 {
     let mut group = Rows::new(alloc);
     push_asked(alloc, types, base, targets, &mut group)?;

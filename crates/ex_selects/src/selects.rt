@@ -3,13 +3,13 @@
 ghost use Rattle.std.specs.Prelude.{◌≡◌, ◌++◌, map, not, filter, length, IfOk, OnOk};
 ghost use Rattle.std.specs.List.{filter_map, list_any};
 ghost use Rattle.ex_renamings.specs.Renamings.{is_select};
-ghost use Rattle.lineage.specs.Lineage as lineage;
+ghost use Rattle.graphs.specs.Graphs as graphs;
 ghost use Rattle.ex_selects.specs.Ends as spec;
 ghost use Rattle.ex_selects.specs.Shared as shared;
 
 use ex_named::{NamedUnderlying, TypeName};
 use ex_renamings::{Renamings, Turned};
-use lineage::family;
+use graphs::family;
 use plain_data::Rows;
 use std::alloc::{AllocError, Global};
 
@@ -123,7 +123,7 @@ pub fn shared_selection(
 
 /// A type and those that it chooses from.
 fn family_of(alloc: Global, graph: &[Rows<usize>], number: usize) -> Result<Vec<usize>, AllocError>
-    ensures { IfOk result (λ found. found.items ≡ lineage.family graph.now number) }
+    ensures { IfOk result (λ found. found.items ≡ graphs.family graph.now number) }
 {
     family(alloc, graph, number)?.into_iter().collect(alloc)
 }

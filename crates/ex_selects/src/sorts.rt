@@ -1,7 +1,7 @@
 //! Defined types by the values of a file that they take.
 
 ghost use Rattle.std.specs.Prelude.{◌≡◌, ◌++◌, map, IfOk};
-ghost use Rattle.lineage.specs.Numbered.{numbered};
+ghost use Rattle.plain_data.specs.Numbers.{numbered};
 ghost use Rattle.ex_selects.specs.Ends as ends;
 ghost use Rattle.ex_selects.specs.Seen.{seen};
 ghost use Rattle.ex_selects.specs.Sorts as spec;

@@ -1,7 +1,7 @@
 //! The defined types of a schema, found by their names.
 
 ghost use Rattle.std.specs.Prelude.{◌≡◌, ◌++◌, [], map, slice_index_or, IfOk, OnOk};
-ghost use Rattle.lineage.specs.Lineage.{is_among};
+ghost use Rattle.plain_data.specs.Numbers.{is_among};
 ghost use Rattle.name_tables.specs.Names.{place_of};
 ghost use Rattle.std.specs.Str.{str_to_ascii_uppercase};
 ghost use Rattle.ex_selects.specs.Ends as ends;
@@ -17,7 +17,7 @@ use crate::kept::{Kept, kept_at, kept_by_class, table_of};
 use crate::selects::{shared_selection, unrenamed, walked_choices, with_instances};
 use crate::sorts::{Class, all_sorts};
 use crate::takers::{Takers, all_takers, takers_at};
-use descent::Descent;
+use ancestors::Descent;
 use ex_named::NamedType;
 use ex_renamings::{Renamings, is_marked};
 use name_tables::NameTable;
@@ -129,9 +129,9 @@ fn place_at(all: &[NameTable<'_>], number: usize, name: &[u8]) -> Option<usize>
 
 impl<'s> DefinedTypes<'s> {
     ghost use Rattle.std.specs.Prelude.{◌≡◌, ⊤, MatchOption, IfOk, map};
+    ghost use Rattle.plain_data.specs.Numbers.{is_among};
     ghost use Rattle.ex_selects.specs.Kept as kept;
     ghost use Rattle.ex_selects.specs.Takers as takers;
-    ghost use Rattle.lineage.specs.Lineage.{is_among};
     ghost use Rattle.name_tables.specs.Names.{place_of};
     ghost use Rattle.ex_selects.specs.Ends as ends;
     ghost use Rattle.ex_selects.specs.Items as spec;

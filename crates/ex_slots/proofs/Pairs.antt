@@ -3,27 +3,13 @@ use Rattle.std.proofs.Common.{◌≡◌, ℕ, Bool, true, false, ◌||◌, ◌&&
 use Rattle.std.specs.BTreeSet.{insert_key}
 use Rattle.std.specs.List.{list_any, flat_map}
 use Rattle.std.proofs.lemmas.List.Folds.{list_any-append}
+use Rattle.plain_data.proofs.Disjunctions.{or_again, or_turn}
 use Rattle.ex_named.specs.declared.declaration.NamedEntity.{NamedEntity}
 use Rattle.ex_named.specs.declared.reference.AttributePlace.{AttributePlace}
 use Rattle.ex_named.specs.declared.reference.AttributeSort.{AttributeSort}
 use Rattle.ex_named.specs.declared.reference.AttributeSort.TheVariants.{Explicit}
 use Rattle.ex_slots.specs.Slots as spec
 use Rattle.std.specs.Ordering.{match_ordering}
-
-or_again : (a b c : Bool) → a ≡ b → (b || c) ≡ (a || (b || c))
-or_again true b c e = rw (← e) refl
-or_again false b c e = refl
-
-or_turn : (a b c : Bool) → (a || (b || c)) ≡ (b || (a || c))
-or_turn true true c = refl
-or_turn true false c = refl
-or_turn false b c = refl
-
-pub or_swap : (a b : Bool) → (a || b) ≡ (b || a)
-or_swap true true = refl
-or_swap true false = refl
-or_swap false true = refl
-or_swap false false = refl
 
 module _ {X : Type 0} (R : X → X → Ordering) (t : X → Bool) (same : (x y : X) → R x y ≡ Equal → t x ≡ t y) where
   at_head : (o : Ordering) (k x : X) (xs : List X) → R k x ≡ o → list_any t (insert_key R xs k) ≡ (t k || list_any t xs)
@@ -42,13 +28,13 @@ pub told_of_both : (xs ys : List AttributePlace) (e p : ℕ) → spec.is_derived
 told_of_both xs ys e p = list_any-append (spec.is_explicit_at e p) xs ys
 
 -- slots by a set of pairs are those by the places that it has
-pub given_again : (entities : List NamedEntity) (types : List ℕ) (pairs : List (ℕ × ℕ)) (places : List AttributePlace) → spec.AreExplicit pairs places
-    → flat_map (spec.slots_of entities (spec.has pairs)) types ≡ flat_map (spec.slots_of entities (spec.is_derived places)) types
-given_again entities types pairs places same = λ i. flat_map (spec.slots_of entities (λ e p. same e p i)) types
+pub given_again : (entities : List NamedEntity) (numbers : List ℕ) (pairs : List (ℕ × ℕ)) (places : List AttributePlace) → spec.AreExplicit pairs places
+    → flat_map (spec.slots_of entities (spec.has pairs)) numbers ≡ flat_map (spec.slots_of entities (spec.is_derived places)) numbers
+given_again entities numbers pairs places same = λ i. flat_map (spec.slots_of entities (λ e p. same e p i)) numbers
 
-pub each_again : (entities : List NamedEntity) (types : List ℕ) (pairs : List (ℕ × ℕ)) (places : List AttributePlace) → spec.AreExplicit pairs places
-    → map (spec.slots_of entities (spec.has pairs)) types ≡ map (spec.slots_of entities (spec.is_derived places)) types
-each_again entities types pairs places same = λ i. map (spec.slots_of entities (λ e p. same e p i)) types
+pub each_again : (entities : List NamedEntity) (numbers : List ℕ) (pairs : List (ℕ × ℕ)) (places : List AttributePlace) → spec.AreExplicit pairs places
+    → map (spec.slots_of entities (spec.has pairs)) numbers ≡ map (spec.slots_of entities (spec.is_derived places)) numbers
+each_again entities numbers pairs places same = λ i. map (spec.slots_of entities (λ e p. same e p i)) numbers
 
 and_so : (a b : Bool) → (a && b) ≡ (a && true && b)
 and_so true b = refl

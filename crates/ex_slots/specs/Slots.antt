@@ -4,6 +4,7 @@ use Rattle.std.specs.Prelude.{◌≡◌, ℕ, Bool, true, false, Option, ◌==�
 use Rattle.std.specs.List.{list_any, flat_map, filter_map}
 use Rattle.std.specs.Option.{option_map, option_map_or}
 use Rattle.std.specs.Borrow.{Bor}
+use Rattle.plain_data.specs.Numbers.{numbered}
 use Rattle.ex_tree.specs.declared.expression.Name.{Name}
 use Rattle.ex_named.specs.declared.declaration.NamedAttribute.{NamedAttribute}
 use Rattle.ex_named.specs.declared.declaration.NamedDerived.{NamedDerived}
@@ -15,12 +16,11 @@ use Rattle.ex_named.specs.declared.reference.AttributePlace.{AttributePlace}
 use Rattle.ex_named.specs.declared.reference.AttributeSort.{AttributeSort}
 use Rattle.ex_named.specs.declared.reference.AttributeSort.TheVariants as sort
 use Rattle.ex_named.specs.Scopes.{and_then}
-use Rattle.lineage.specs.Numbered.{numbered}
 use Rattle.ex_attributes.specs.Attributes.{own, redeclaration, meant}
 use Rattle.ex_slots.specs.declared.redeclared.Clause.{Clause}
 use Rattle.ex_slots.specs.declared.redeclared.Clause.TheVariants.{Explicit, Derive}
 
--- an explicit attribute in an instance: its declaration, what that says of it, and whether a type of the instance redeclares it
+-- an explicit attribute in an instance: its declaration, what that says of it, and whether an entity of the instance redeclares it
 -- in DERIVE
 pub record Slot : Type 0 where
   pub place : AttributePlace
@@ -96,9 +96,9 @@ module _ (entities : List NamedEntity) where
   abbrev pub slots_of : (ℕ → ℕ → Bool) → ℕ → List Slot
   slots_of derived entity = option_map_or (λ e. numbered (slot derived entity) (declared_by e)) (slice_get entities entity) []
 
-  -- those of an instance of these types: type after type in this order, each type's own explicit attributes in theirs
+  -- those of an instance of these entities: one after the other in this order, each one's own explicit attributes in theirs
   unfoldable pub slots : List ℕ → List Slot
-  slots types = flat_map (slots_of (is_derived (flat_map derived_by types))) types
+  slots numbers = flat_map (slots_of (is_derived (flat_map derived_by numbers))) numbers
 
 -- ---- a set of places, as it is kept
 

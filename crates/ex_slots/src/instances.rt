@@ -2,7 +2,7 @@
 
 ghost use Rattle.std.specs.Prelude.{◌≡◌, ◌++◌, ◌||◌, ℕ, map, IfOk, OnOk};
 ghost use Rattle.std.specs.List.{filter_map, flat_map};
-ghost use Rattle.lineage.specs.Numbered.{numbered};
+ghost use Rattle.plain_data.specs.Numbers.{numbered};
 ghost use Rattle.ex_slots.specs.Slots as spec;
 
 use crate::slot::Slot;
@@ -67,17 +67,17 @@ fn insert_derived_of(
     }
 }
 
-/// The explicit attributes that an instance's types redeclare in DERIVE.
+/// The explicit attributes that an instance's entities redeclare in DERIVE.
 #[tactic(auto, using(crate::proofs::Pairs::told_of_both))]
 fn derived_among(
     alloc: Global,
     entities: &[NamedEntity],
-    types: &[usize],
+    numbers: &[usize],
 ) -> Result<Places, AllocError>
-    ensures { IfOk result (λ found. spec.AreExplicit found.keys (flat_map (spec.derived_by entities.now) types.now)) }
+    ensures { IfOk result (λ found. spec.AreExplicit found.keys (flat_map (spec.derived_by entities.now) numbers.now)) }
 {
     let mut found = BTreeSet::new(alloc);
-    for number in types {
+    for number in numbers {
         insert_derived_of(&mut found, entities, *number)?;
     }
     Ok(found)
@@ -165,37 +165,37 @@ fn push_slots_of<'s>(
     }
 }
 
-/// The slots of types, given what they redeclare in DERIVE.
+/// The slots of entities, given what they redeclare in DERIVE.
 fn slots_given<'s>(
     alloc: Global,
     entities: &'s [NamedEntity],
-    types: &[usize],
+    numbers: &[usize],
     derived: &Places,
 ) -> Result<Vec<Slot<'s>>, AllocError>
-    ensures { IfOk result (λ found. found.items ≡ flat_map (spec.slots_of entities.now (spec.has derived.now.keys)) types.now) }
+    ensures { IfOk result (λ found. found.items ≡ flat_map (spec.slots_of entities.now (spec.has derived.now.keys)) numbers.now) }
 {
     let mut found = Vec::new(alloc);
-    for number in types {
+    for number in numbers {
         push_slots_of(alloc, &mut found, entities, *number, derived)?;
     }
     Ok(found)
 }
 
-/// The slots of an instance of these types: type after type in this order, each type's own explicit attributes in theirs.
-/// In the order of an entity's line they are what files write in one list of values. A type twice has its slots twice.
+/// The slots of an instance of these entities: one after the other in this order, each one's own explicit attributes in theirs.
+/// In the order of an entity's line they are what files write in one list of values. An entity twice has its slots twice.
 #[tactic(auto, unfolding(crate::specs::Slots::slots), using(crate::proofs::Pairs::given_again))]
 pub fn slots<'s>(
     alloc: Global,
     entities: &'s [NamedEntity],
-    types: &[usize],
+    numbers: &[usize],
 ) -> Result<Vec<Slot<'s>>, AllocError>
-    ensures { IfOk result (λ found. found.items ≡ spec.slots entities.now types.now) }
+    ensures { IfOk result (λ found. found.items ≡ spec.slots entities.now numbers.now) }
 {
-    let derived = derived_among(alloc, entities, types)?;
-    slots_given(alloc, entities, types, &derived)
+    let derived = derived_among(alloc, entities, numbers)?;
+    slots_given(alloc, entities, numbers, &derived)
 }
 
-/// The slots of one type, given what the instance's types redeclare in DERIVE.
+/// The slots of one entity, given what the instance's entities redeclare in DERIVE.
 fn slots_of_one<'s>(
     alloc: Global,
     entities: &'s [NamedEntity],
@@ -209,31 +209,31 @@ fn slots_of_one<'s>(
     Ok(Rows::from_vec(found))
 }
 
-/// The slots of each type, given what they redeclare in DERIVE.
+/// The slots of each entity, given what they redeclare in DERIVE.
 fn each_given<'s>(
     alloc: Global,
     entities: &'s [NamedEntity],
-    types: &[usize],
+    numbers: &[usize],
     derived: &Places,
 ) -> Result<Vec<Rows<Slot<'s>>>, AllocError>
-    ensures { IfOk result (λ found. found.items ≡ map (spec.slots_of entities.now (spec.has derived.now.keys)) types.now) }
+    ensures { IfOk result (λ found. found.items ≡ map (spec.slots_of entities.now (spec.has derived.now.keys)) numbers.now) }
 {
-    let mut found = Vec::with_capacity(alloc, types.len())?;
-    for number in types {
+    let mut found = Vec::with_capacity(alloc, numbers.len())?;
+    for number in numbers {
         found.push(slots_of_one(alloc, entities, *number, derived)?)?;
     }
     Ok(found)
 }
 
-/// The slots of an instance of these types, those of each type by themselves, as files write them in the list of values of each.
+/// The slots of an instance of these entities, those of each by themselves, as files write them in the list of values of each.
 #[tactic(auto, using(crate::proofs::Pairs::each_again))]
 pub fn slots_of_each<'s>(
     alloc: Global,
     entities: &'s [NamedEntity],
-    types: &[usize],
+    numbers: &[usize],
 ) -> Result<Vec<Rows<Slot<'s>>>, AllocError>
-    ensures { IfOk result (λ found. found.items ≡ map (spec.slots_of entities.now (spec.is_derived (flat_map (spec.derived_by entities.now) types.now))) types.now) }
+    ensures { IfOk result (λ found. found.items ≡ map (spec.slots_of entities.now (spec.is_derived (flat_map (spec.derived_by entities.now) numbers.now))) numbers.now) }
 {
-    let derived = derived_among(alloc, entities, types)?;
-    each_given(alloc, entities, types, &derived)
+    let derived = derived_among(alloc, entities, numbers)?;
+    each_given(alloc, entities, numbers, &derived)
 }

@@ -75,7 +75,7 @@ impl<'s> Slot<'s> {
         self.is_optional
     }
 
-    /// Whether a type of the instance redeclares it in DERIVE: a file writes `*` for it.
+    /// Whether an entity of the instance redeclares it in DERIVE: a file writes `*` for it.
     pub fn is_derived(&self) -> bool
         ensures { result ≡ self.now.is_derived }
     {

@@ -1,9 +1,11 @@
 //! What governs the turns of a REPEAT.
 
 ghost use Rattle.std.specs.Prelude.{◌≡◌};
-ghost use Rattle.text_forms.specs.Gives.{Reads, Takes, Keeps};
+ghost use Rattle.text_forms.specs.Reads.{Reads, Takes, Keeps};
 ghost use Rattle.ex_tree.specs.declared.kind.TokenKind.TheVariants as k;
-ghost use Rattle.ex_forms.specs.Input.{optional, sees};
+ghost use Rattle.text_forms.specs.Forms.{◌>>◌};
+ghost use Rattle.ex_forms.specs.Input.{expect, optional, sees};
+ghost use Rattle.ex_expressions.specs.Expressions as expressions;
 ghost use Rattle.ex_statements.specs.Statements as spec;
 
 use ex_expressions::{expression, simple_expression};
@@ -54,40 +56,31 @@ fn increment_option(alloc: Global, cursor: &mut Cursor<'_>, levels: u8) -> Read<
     Ok(Some(increment_control(alloc, cursor, levels)?))
 }
 
-/// The condition after WHILE, if it stands next.
-#[tactic(auto, unfolding(crate::specs::Statements::while_control))]
-fn while_control(alloc: Global, cursor: &mut Cursor<'_>, levels: u8) -> Read<Option<Expression>>
-    ensures reads { Reads (optional (sees k.While) (spec.while_control levels) cursor.old) result cursor.new }
+/// The condition after this word, if it stands next.
+fn condition(
+    alloc: Global,
+    cursor: &mut Cursor<'_>,
+    word: TokenKind,
+    levels: u8,
+) -> Read<Option<Expression>>
+    ensures reads { Reads (optional (sees word) (expect word >> expressions.expression levels) cursor.old) result cursor.new }
     ensures keeps { Keeps result cursor.old cursor.new }
 {
-    if !cursor.sees(TokenKind::While) {
+    if !cursor.sees(word) {
         return Ok(None);
     }
-    cursor.expect(TokenKind::While)?;
+    cursor.expect(word)?;
     Ok(Some(expression(alloc, cursor, levels)?))
 }
 
-/// The condition after UNTIL, if it stands next.
-#[tactic(auto, unfolding(crate::specs::Statements::until_control))]
-fn until_control(alloc: Global, cursor: &mut Cursor<'_>, levels: u8) -> Read<Option<Expression>>
-    ensures reads { Reads (optional (sees k.Until) (spec.until_control levels) cursor.old) result cursor.new }
-    ensures keeps { Keeps result cursor.old cursor.new }
-{
-    if !cursor.sees(TokenKind::Until) {
-        return Ok(None);
-    }
-    cursor.expect(TokenKind::Until)?;
-    Ok(Some(expression(alloc, cursor, levels)?))
-}
-
-#[tactic(auto, unfolding(crate::specs::Statements::repeat_control))]
+#[tactic(auto, unfolding(crate::specs::Statements::repeat_control, crate::specs::Statements::while_control, crate::specs::Statements::until_control))]
 pub fn repeat_control(alloc: Global, cursor: &mut Cursor<'_>, levels: u8) -> Read<RepeatControl>
     ensures reads { Reads (spec.repeat_control levels cursor.old) result cursor.new }
     ensures keeps { Keeps result cursor.old cursor.new }
 {
     let increment = increment_option(alloc, cursor, levels)?;
-    let while_condition = while_control(alloc, cursor, levels)?;
-    let until_condition = until_control(alloc, cursor, levels)?;
+    let while_condition = condition(alloc, cursor, TokenKind::While, levels)?;
+    let until_condition = condition(alloc, cursor, TokenKind::Until, levels)?;
     Ok(RepeatControl {
         increment,
         while_condition,

@@ -1,7 +1,7 @@
 //! Statements that hold no others.
 
 ghost use Rattle.std.specs.Prelude.{◌≡◌};
-ghost use Rattle.text_forms.specs.Gives.{Reads, Takes};
+ghost use Rattle.text_forms.specs.Reads.{Reads, Takes};
 ghost use Rattle.ex_statements.specs.Statements as spec;
 
 use ex_expressions::expression;

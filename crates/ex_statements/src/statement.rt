@@ -2,7 +2,7 @@
 //! proved by itself.
 
 ghost use Rattle.std.specs.Prelude.{◌≡◌, ◌<◌, true};
-ghost use Rattle.text_forms.specs.Gives.{Reads, Takes, Keeps};
+ghost use Rattle.text_forms.specs.Reads.{Reads, Takes, Keeps};
 ghost use Rattle.ex_tree.specs.declared.kind.TokenKind.TheVariants as k;
 ghost use Rattle.ex_forms.specs.Input.{optional, sees};
 ghost use Rattle.ex_statements.specs.Nests.{Nests};
@@ -14,9 +14,8 @@ use crate::simple::{assignment, escape, null, return_value, skip};
 use ex_expressions::{ExpressionForm, begins_expression, expression};
 use ex_forms::{Begins, Cursor, Form, Read, TokenKind, many, separated, some};
 use ex_tree::{Case, CaseAction, Statement};
-use plain_data::{Boxed, Items};
+use plain_data::{Boxed, Failure, Items};
 use std::alloc::Global;
-use text_forms::Failure;
 
 /// Where a statement stands, and what reads one that stands in it.
 #[derive(Clone, Copy)]

@@ -2,10 +2,11 @@
 use Rattle.std.proofs.Common.{◌≡◌, ◌↔◌, ◌<◌, ℕ, zero, suc, ◌+◌, ◌-◌, add-one, Bool, true, false, ◌&&◌, ◌||◌, ◌==◌, nat_lt, List, [], ◌∷◌, if◌then◌else◌, length, map, refl, sym, ◌∙◌, ap, arith}
 use Rattle.std.proofs.lemmas.List.{get_or-map, get_or_past, length-map}
 use Rattle.std.specs.List.{list_all}
-use Rattle.lineage.specs.Lineage.{is_among, supertypes, Reaches, IsAncestor, is_ancestor, numbers_from}
-use Rattle.lineage.proofs.Bounded.{answer_is}
-use Rattle.lineage.proofs.Left.{within_or, beyond_or}
-use Rattle.lineage.proofs.Families.{is_among-filter, among_numbers}
+use Rattle.plain_data.specs.Numbers.{is_among}
+use Rattle.graphs.specs.Graphs.{supertypes, Reaches, IsAncestor, is_ancestor, numbers_from}
+use Rattle.graphs.proofs.Bounded.{answer_is}
+use Rattle.graphs.proofs.Left.{within_or, beyond_or}
+use Rattle.graphs.proofs.Families.{is_among-filter, among_numbers}
 use Rattle.ex_subtypes.specs.Legal.{is_beside, is_connected, member, places, steps}
 use Rattle.ex_subtypes.specs.Edges.{AreBelow, HasSameSteps, goes_up}
 

@@ -4,7 +4,7 @@ use Rattle.std.proofs.lemmas.Bool.{cases_Bool, cases_order, eq-eqb, eqb-false, e
 use Rattle.std.proofs.lemmas.Bool.Decides.{nat_tests}
 use Rattle.std.proofs.lemmas.List.Folds.{list_any_at}
 use Rattle.std.specs.Ordering.{is_eq, nat_cmp}
-use Rattle.lineage.specs.Lineage.{is_among}
+use Rattle.plain_data.specs.Numbers.{is_among}
 use Rattle.ex_subtypes.specs.Combinations.{is_distinct}
 use Rattle.ex_subtypes.specs.Edges.{is_that}
 use Rattle.ex_subtypes.proofs.Joins.{new_head}

@@ -2,8 +2,8 @@
 use Rattle.std.proofs.Common.{◌≡◌, ℕ, Bool, true, false, ◌||◌, ◌==◌, if◌then◌else◌, List, [], ◌∷◌, ◌++◌, map, fold, ⊎_elim, refl, sym, ◌∙◌, ap, subst, append_assoc, append-nil}
 use Rattle.std.proofs.lemmas.Bool.{cases_Bool, eq-eqb, eqb-true}
 use Rattle.std.specs.List.{flat_map}
-use Rattle.lineage.specs.Lineage.{is_among}
-use Rattle.lineage.proofs.Sets.{is_among-append}
+use Rattle.plain_data.specs.Numbers.{is_among}
+use Rattle.plain_data.proofs.Numbers.{is_among-append}
 use Rattle.ex_subtypes.specs.declared.choices.Choice.{Choice}
 use Rattle.ex_subtypes.specs.declared.choices.Choice.TheVariants.{Nothing, Combination}
 use Rattle.ex_subtypes.specs.declared.choices.Connective.{Connective}

@@ -4,11 +4,12 @@ use Rattle.std.proofs.lemmas.Bool.{cases_Bool, eq-eqb, eqb-true}
 use Rattle.std.proofs.lemmas.Bool.Decides.{nat_tests}
 use Rattle.std.specs.List.{list_all, list_any}
 use Rattle.std.specs.List.Sorted.{IsStrictlyIncreasing}
+use Rattle.plain_data.specs.Numbers.{is_among}
 use Rattle.ex_named.specs.declared.declaration.NamedEntity.{NamedEntity}
-use Rattle.lineage.specs.Lineage.{each_once, is_among, supertypes, Reaches, IsAncestor, is_ancestor, line, line_within, numbers_from}
-use Rattle.lineage.proofs.Bounded.{answer_is, any_at}
-use Rattle.lineage.proofs.Families.{among_numbers, is_among-filter}
-use Rattle.lineage.proofs.Sets.{either, or_left, or_right}
+use Rattle.graphs.specs.Graphs.{each_once, supertypes, Reaches, IsAncestor, is_ancestor, line, line_within, numbers_from}
+use Rattle.graphs.proofs.Bounded.{answer_is, any_at}
+use Rattle.graphs.proofs.Families.{among_numbers, is_among-filter}
+use Rattle.graphs.proofs.Sets.{either, or_left, or_right}
 use Rattle.ex_subtypes.specs.Legal.{breaks, first_of, graph, is_abstract, is_bare, is_beside, is_closed, is_connected, member, refusal, steps}
 use Rattle.ex_subtypes.specs.Nodes.{all_kept, kept_at}
 use Rattle.ex_subtypes.proofs.Broken.{breaks_none}

@@ -1,9 +1,10 @@
 -- The members of a line: closed under supertypes, each but the last below which all others are, and connected.
 use Rattle.std.proofs.Common.{◌≡◌, ℕ, zero, suc, Bool, true, false, ◌||◌, ◌==◌, List, [], ◌∷◌, ◌++◌, Option, Some, None, ◌⊎◌, inl, inr, ⊎_elim, refl, sym, ◌∙◌, ap, subst}
 use Rattle.std.proofs.lemmas.Bool.{cases_Bool, eq-eqb, eqb-true}
-use Rattle.lineage.specs.Lineage.{is_among, supertypes, joined, joined_at, line_within}
-use Rattle.lineage.proofs.Sets.{either, in_either, in_first, in_last, in_second, or_left, or_right}
-use Rattle.lineage.proofs.Lines.{joined_some}
+use Rattle.plain_data.specs.Numbers.{is_among}
+use Rattle.graphs.specs.Graphs.{supertypes, joined, joined_at, line_within}
+use Rattle.graphs.proofs.Sets.{either, in_either, in_first, in_last, in_second, or_left, or_right}
+use Rattle.graphs.proofs.Lines.{joined_some}
 use Rattle.ex_subtypes.specs.Legal.{is_beside}
 
 module _ (graph : List (List ℕ)) where

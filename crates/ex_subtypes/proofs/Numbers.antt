@@ -1,5 +1,5 @@
 -- Ascending numbers: which are there, and where.
-use Rattle.std.proofs.Common.{◌≡◌, ◌<◌, ◌≤◌, ℕ, suc, Bool, true, false, ◌==◌, ◌&&◌, ◌||◌, nat_lt, List, [], ◌∷◌, get_or, length, Result, Ok, Err, Option, is_ok, ⊎_elim, refl, sym, ◌∙◌, ap, ◌+◌, drop, add-one, drop-cons, arith}
+use Rattle.std.proofs.Common.{◌≡◌, ◌<◌, ◌≤◌, ℕ, Bool, true, false, ◌==◌, ◌&&◌, ◌||◌, nat_lt, List, ◌∷◌, get_or, length, Result, Ok, Err, Option, is_ok, ⊎_elim, refl, sym, ◌∙◌, ap, ◌+◌, drop, add-one, drop-cons, arith}
 use Rattle.std.proofs.lemmas.Bool.{cases_Bool, cases_eq, eq-eqb}
 use Rattle.std.proofs.lemmas.Bool.Decides.{nat_tests}
 use Rattle.std.proofs.lemmas.List.Folds.{list_any_at}
@@ -9,19 +9,11 @@ use Rattle.std.specs.List.Sorted.{IsBinarySearchResult, IsStrictlyIncreasing}
 use Rattle.std.specs.BTreeSet.{insert_key}
 use Rattle.std.specs.Ordering.{nat_cmp}
 use Rattle.std.specs.Result.{result_ok}
-use Rattle.lineage.specs.Lineage.{is_among}
-use Rattle.lineage.proofs.Sets.{is_among-insert}
+use Rattle.plain_data.specs.Numbers.{is_among}
+use Rattle.graphs.proofs.Sets.{is_among-insert}
+use Rattle.plain_data.proofs.Disjunctions.{or_turn_left}
+use Rattle.plain_data.proofs.Numbers.{none_among, not_above, not_below}
 use Rattle.ex_subtypes.specs.Edges.{is_that, stands_at}
-
-none_among : (xs : List ℕ) (x : ℕ) → ((k : ℕ) → k < length xs → (get_or xs k 0 == x) ≡ false) → is_among xs x ≡ false
-none_among [] x h = refl
-none_among (y ∷ ys) x h = rw (h 0 (omega arith), none_among ys x (λ k within. h (suc k) (omega arith))) refl
-
-not_below : (a x : ℕ) → a < x → (a == x) ≡ false
-not_below a x h = grind (arith, nat_tests)
-
-not_above : (a x : ℕ) → x < a → (a == x) ≡ false
-not_above a x h = grind (arith, nat_tests)
 
 module _ (xs : List ℕ) (up : IsStrictlyIncreasing xs) where
   pub rises : (i j : ℕ) → i ≤ j → j < length xs → get_or xs i 0 ≤ get_or xs j 0
@@ -64,11 +56,6 @@ module _ (xs : List ℕ) (up : IsStrictlyIncreasing xs) where
 
 -- ---- one number more
 
-or_turn : (a b c : Bool) → ((a || b) || c) ≡ (b || (a || c))
-or_turn true true c = refl
-or_turn true false c = refl
-or_turn false b c = refl
-
 -- the number at k is put into a set, and then those behind it
 pub put_next : (old new numbers : List ℕ) (k n : ℕ) (told : Bool) → k < length numbers → new ≡ insert_key nat_cmp old (get_or numbers k 0)
     → (is_among old n || is_among (drop k numbers) n) ≡ told → (is_among new n || is_among (drop (k + 1) numbers) n) ≡ told
@@ -77,6 +64,6 @@ put_next old new numbers k n told within is_new so_far =
     let rest = is_among (drop (k + 1) numbers) n in
     let cut : drop k numbers ≡ x ∷ drop (k + 1) numbers = rw (add-one, drop-cons numbers k 0) refl in
     ap (λ b. b || rest) (ap (λ l. is_among l n) is_new ∙ is_among-insert old x n)
-    ∙ or_turn (x == n) (is_among old n) rest
+    ∙ or_turn_left (x == n) (is_among old n) rest
     ∙ ap (λ l. is_among old n || is_among l n) (sym cut)
     ∙ so_far

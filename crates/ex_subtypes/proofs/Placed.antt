@@ -3,8 +3,8 @@ use Rattle.std.proofs.Common.{◌≡◌, ℕ, zero, suc, ◌+◌, ◌<◌, ◌�
 use Rattle.std.proofs.lemmas.Bool.{and_parts, eq-eqb, le-ltb, lt-ltb, ltb-false, ltb-true, not-true}
 use Rattle.std.proofs.lemmas.List.{get_or_append_left, get_or-append-add, length-append}
 use Rattle.std.specs.List.{flat_map}
-use Rattle.lineage.specs.Lineage.{is_among}
-use Rattle.lineage.proofs.Families.{is_among-filter}
+use Rattle.plain_data.specs.Numbers.{is_among}
+use Rattle.graphs.proofs.Families.{is_among-filter}
 use Rattle.ex_named.specs.declared.declaration.NamedSupertype.{NamedSupertype}
 use Rattle.ex_named.specs.declared.declaration.NamedSupertype.TheFolds.{fold-roll-NamedSupertype, ind-NamedSupertype, map-NamedSupertype}
 use Rattle.ex_named.specs.declared.declaration.NamedSupertype.TheOpen.{NamedSupertype-F}

@@ -7,11 +7,10 @@ use Rattle.std.specs.BTreeSet.{insert_key}
 use Rattle.std.specs.List.{flat_map, list_all}
 use Rattle.std.specs.Option.{option_map_or}
 use Rattle.std.specs.Ordering.{nat_cmp}
+use Rattle.plain_data.specs.Numbers.{is_among, numbered_from}
 use Rattle.ex_named.specs.declared.declaration.NamedEntity.{NamedEntity}
 use Rattle.ex_named.specs.declared.declaration.NamedSupertype.{NamedSupertype}
-use Rattle.lineage.specs.Lineage.{is_among}
-use Rattle.lineage.specs.Numbered.{numbered_from}
-use Rattle.lineage.proofs.Sets.{is_among-insert, or_left, or_right}
+use Rattle.graphs.proofs.Sets.{is_among-insert, or_left, or_right}
 use Rattle.ex_subtypes.specs.declared.build.Mention.{Mention}
 use Rattle.ex_subtypes.specs.declared.build.SubtypeFault.{SubtypeFault}
 use Rattle.ex_subtypes.specs.declared.build.SubtypeFaultKind.TheVariants.{NamedTwice, NotDirectSubtype}

@@ -3,8 +3,8 @@ use Rattle.std.proofs.Common.{◌≡◌, ℕ, Bool, true, false, ◌||◌, List,
 use Rattle.std.proofs.lemmas.Bool.{eq-eqb}
 use Rattle.std.proofs.lemmas.List.Folds.{list_any-append}
 use Rattle.std.specs.List.{AllByRecursion, list_any}
-use Rattle.lineage.specs.Lineage.{is_among}
-use Rattle.lineage.proofs.Sets.{or_left, or_right, in_first, in_second, in_either}
+use Rattle.plain_data.specs.Numbers.{is_among}
+use Rattle.graphs.proofs.Sets.{or_left, or_right, in_first, in_second, in_either}
 use Rattle.ex_subtypes.specs.declared.choices.Connective.{Connective}
 use Rattle.ex_subtypes.specs.declared.choices.Connective.TheVariants.{OneOf, And, AndOr}
 use Rattle.ex_named.specs.declared.declaration.NamedSupertype.{NamedSupertype}

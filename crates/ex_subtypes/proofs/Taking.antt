@@ -3,8 +3,9 @@ use Rattle.std.proofs.Common.{if◌then◌else◌, ◌≡◌, ℕ, Bool, true, f
 use Rattle.std.proofs.lemmas.Bool.{cases_Bool, eq-eqb}
 use Rattle.std.proofs.lemmas.List.Folds.{list_any-append, list_all-append}
 use Rattle.std.specs.List.{AllByRecursion, list_any}
-use Rattle.lineage.specs.Lineage.{is_among}
-use Rattle.lineage.proofs.Sets.{is_among-append, or_right, either as one_of_two}
+use Rattle.plain_data.specs.Numbers.{is_among}
+use Rattle.plain_data.proofs.Numbers.{is_among-append}
+use Rattle.graphs.proofs.Sets.{or_right, either as one_of_two}
 use Rattle.ex_subtypes.specs.declared.choices.Choice.{Choice}
 use Rattle.ex_subtypes.specs.declared.choices.Choice.TheVariants.{Nothing, Combination, Neither}
 use Rattle.ex_subtypes.specs.Combinations.{Saying, unions, either, both, either_or_both, same, agrees, touches, is_combination, taken}

@@ -1,7 +1,7 @@
 -- The combinations of entities that a supertype expression allows (ISO 10303-11:1994, 9.2.4 and annex B).
 use Rattle.std.specs.Prelude.{ℕ, Bool, true, false, not, if◌then◌else◌, List, [], ◌∷◌, ◌++◌, map, fold}
 use Rattle.std.specs.List.{flat_map, list_all, list_any}
-use Rattle.lineage.specs.Lineage.{is_among}
+use Rattle.plain_data.specs.Numbers.{is_among}
 use Rattle.ex_subtypes.specs.declared.choices.Choice.{Choice}
 use Rattle.ex_subtypes.specs.declared.choices.Choice.TheVariants.{Nothing, Combination, Neither}
 use Rattle.ex_subtypes.specs.declared.choices.Connective.{Connective}

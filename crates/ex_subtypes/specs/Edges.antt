@@ -1,6 +1,7 @@
 -- Steps between places of a set, in any order.
 use Rattle.std.specs.Prelude.{◌≡◌, ℕ, Bool, false, ◌&&◌, ◌==◌, nat_lt, List, length, Option, Some, None}
-use Rattle.lineage.specs.Lineage.{is_among, supertypes}
+use Rattle.plain_data.specs.Numbers.{is_among}
+use Rattle.graphs.specs.Graphs.{supertypes}
 use Rattle.ex_subtypes.specs.Legal.{member}
 
 abbrev pub is_that : Option ℕ → ℕ → Bool

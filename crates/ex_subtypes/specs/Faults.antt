@@ -1,12 +1,11 @@
 -- Supertype expressions that can't be read: an entity named twice, or one that is no direct subtype (ISO 10303-11:1994, 9.2.4).
 use Rattle.std.specs.Prelude.{ℕ, Bool, true, false, not, ◌&&◌, ◌||◌, ◌==◌, nat_lt, if◌then◌else◌, List, [], ◌∷◌, ◌++◌, fold, Option, Some, None, Result, Ok, Err}
 use Rattle.std.specs.List.{flat_map}
+use Rattle.plain_data.specs.Numbers.{is_among, numbered}
 use Rattle.ex_named.specs.declared.declaration.NamedEntity.{NamedEntity}
 use Rattle.ex_named.specs.declared.declaration.NamedSupertype.{NamedSupertype}
 use Rattle.ex_named.specs.declared.declaration.NamedSupertype.TheFolds.{fold-NamedSupertype}
 use Rattle.ex_named.specs.declared.declaration.NamedSupertype.TheOpen.{NamedSupertype-F}
-use Rattle.lineage.specs.Lineage.{is_among}
-use Rattle.lineage.specs.Numbered.{numbered}
 use Rattle.ex_subtypes.specs.declared.build.Mention.{Mention}
 use Rattle.ex_subtypes.specs.declared.build.SubtypeFault.{SubtypeFault}
 use Rattle.ex_subtypes.specs.declared.build.SubtypeFaultKind.{SubtypeFaultKind}

@@ -4,9 +4,10 @@ use Rattle.std.specs.Cmp.Lexicographic.{slice_cmp}
 use Rattle.std.specs.List.{list_all, list_any}
 use Rattle.std.specs.Option.{option_map, option_map_or}
 use Rattle.std.specs.Ordering.{is_lt, nat_cmp}
+use Rattle.plain_data.specs.Numbers.{is_among}
 use Rattle.ex_named.specs.declared.declaration.NamedEntity.{NamedEntity}
 use Rattle.ex_named.specs.declared.declaration.NamedSupertype.{NamedSupertype}
-use Rattle.lineage.specs.Lineage.{is_among, supertypes, numbers_from, is_ancestor}
+use Rattle.graphs.specs.Graphs.{supertypes, numbers_from, is_ancestor}
 use Rattle.ex_subtypes.specs.declared.choices.Choice.{Choice}
 use Rattle.ex_subtypes.specs.declared.choices.Choice.TheVariants.{Neither}
 use Rattle.ex_subtypes.specs.declared.legal.Illegal.{Illegal}

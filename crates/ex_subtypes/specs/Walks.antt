@@ -1,6 +1,6 @@
 -- What a set of entities takes of a supertype expression, from what it takes of the parts.
 use Rattle.std.specs.Prelude.{ℕ, if◌then◌else◌, List}
-use Rattle.lineage.specs.Lineage.{is_among}
+use Rattle.plain_data.specs.Numbers.{is_among}
 use Rattle.ex_named.specs.declared.declaration.NamedSupertype.{NamedSupertype}
 use Rattle.ex_named.specs.declared.declaration.NamedSupertype.TheFolds.{fold-NamedSupertype}
 use Rattle.ex_named.specs.declared.declaration.NamedSupertype.TheOpen.{NamedSupertype-F}

@@ -2,14 +2,14 @@
 
 ghost use Rattle.std.specs.Prelude.{◌≡◌, ◌++◌, [], fold, IfOk};
 ghost use Rattle.std.specs.List.{flat_map};
-ghost use Rattle.lineage.specs.Lineage.{is_among};
+ghost use Rattle.plain_data.specs.Numbers.{is_among};
 ghost use Rattle.ex_subtypes.specs.Faults as spec;
 ghost use Rattle.ex_subtypes.specs.Legal.{constraints_of};
 
 use crate::family::all_subtypes;
 use crate::sets::set_of;
 use ex_named::{NamedEntity, NamedSupertype};
-use lineage::{is_in, supertypes};
+use graphs::{is_in, supertypes};
 use std::alloc::{AllocError, Global};
 use std::collections::BTreeSet;
 

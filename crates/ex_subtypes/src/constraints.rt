@@ -1,9 +1,9 @@
 //! What is kept of the supertype expressions of a schema.
 
 ghost use Rattle.std.specs.Prelude.{◌≡◌, ℕ, [], true, slice_get, None, IfOk, IsTrue};
-ghost use Rattle.lineage.specs.Lineage.{is_among};
 ghost use Rattle.std.specs.List.{list_all};
 ghost use Rattle.std.specs.Option.{option_copied, option_map};
+ghost use Rattle.plain_data.specs.Numbers.{is_among};
 ghost use Rattle.ex_subtypes.specs.Combinations.{is_distinct, names};
 ghost use Rattle.ex_subtypes.specs.Legal as legal;
 ghost use Rattle.ex_subtypes.specs.Nodes as spec;

@@ -2,20 +2,21 @@
 
 ghost use Rattle.std.specs.Prelude.{◌≡◌, ℕ, List, Some, None, IfOk, IsTrue};
 ghost use Rattle.std.specs.List.Sorted.{IsStrictlyIncreasing};
-ghost use Rattle.lineage.specs.Lineage.{is_among, line as line_of};
-ghost use Rattle.text_forms.specs.Gives.{Gives};
+ghost use Rattle.plain_data.specs.Numbers.{is_among};
+ghost use Rattle.graphs.specs.Graphs.{line as line_of};
+ghost use Rattle.plain_data.specs.Gives.{Gives};
 ghost use Rattle.ex_subtypes.specs.Faults as faults;
 ghost use Rattle.ex_subtypes.specs.Legal as spec;
 ghost use Rattle.ex_subtypes.specs.Nodes.{all_kept};
 
 use crate::build::{SubtypeFault, first_fault};
 use crate::constraints::{Constraint, all_constraints, are_free};
+use crate::entity_set::EntitySet;
 use crate::legal::{Illegal, is_abstract, refusal};
-use crate::type_set::TypeSet;
 use ex_named::NamedEntity;
+use plain_data::Failure;
 use std::alloc::{AllocError, Global};
 use std::marker::Model;
-use text_forms::Failure;
 
 /// What is kept of the supertype expressions of a schema's entities.
 #[derive(Drop)]
@@ -64,7 +65,7 @@ impl Constraints {
         &self,
         alloc: Global,
         entities: &[NamedEntity],
-        set: &TypeSet,
+        set: &EntitySet,
     ) -> Result<Option<Illegal>, AllocError>
         requires readable { spec.AreReadable entities.now }
         requires kept { self.now ≡ all_kept entities.now }

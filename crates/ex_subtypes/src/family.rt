@@ -2,12 +2,13 @@
 
 ghost use Rattle.std.specs.Prelude.{◌≡◌, ◌&&◌, ℕ, nat_lt, length, map, IfOk};
 ghost use Rattle.std.specs.List.{list_any};
-ghost use Rattle.lineage.specs.Lineage.{is_among, supertypes};
+ghost use Rattle.plain_data.specs.Numbers.{is_among};
+ghost use Rattle.graphs.specs.Graphs.{supertypes};
 ghost use Rattle.ex_subtypes.specs.Legal as spec;
 
 use crate::sets::put_all;
 use ex_named::NamedEntity;
-use lineage::subtypes;
+use graphs::subtypes;
 use plain_data::Rows;
 use std::alloc::{AllocError, Global};
 use std::collections::BTreeSet;

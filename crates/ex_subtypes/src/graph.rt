@@ -2,20 +2,21 @@
 
 ghost use Rattle.std.specs.Prelude.{◌≡◌, ℕ, ◌&&◌, ◌||◌, ◌==◌, nat_lt, length, zero, is_some, IfOk, IfSome};
 ghost use Rattle.std.specs.List.{list_all};
-ghost use Rattle.lineage.specs.Lineage as lineage;
+ghost use Rattle.plain_data.specs.Numbers.{is_among};
+ghost use Rattle.graphs.specs.Graphs as graphs;
 ghost use Rattle.ex_subtypes.specs.Edges as edges;
 ghost use Rattle.ex_subtypes.specs.Legal as spec;
 
+use crate::entity_set::EntitySet;
 use crate::family::supertypes_of;
-use crate::type_set::TypeSet;
 use ex_named::NamedEntity;
-use lineage::{all_above, is_in, subtypes, supertypes};
+use graphs::{all_above, is_in, subtypes, supertypes};
 use plain_data::Rows;
 use std::alloc::{AllocError, Global};
 use std::collections::BTreeSet;
 
 /// Whether all supertypes of the members are there.
-pub fn is_closed(entities: &[NamedEntity], set: &TypeSet) -> bool
+pub fn is_closed(entities: &[NamedEntity], set: &EntitySet) -> bool
     ensures { result ≡ spec.is_closed (spec.graph entities.now) set.now }
 {
     for member in set.as_slice() {
@@ -26,15 +27,15 @@ pub fn is_closed(entities: &[NamedEntity], set: &TypeSet) -> bool
     true
 }
 
-fn all_there(set: &TypeSet, numbers: &[usize]) -> bool
-    ensures { result ≡ list_all (lineage.is_among set.now) numbers.now }
+fn all_there(set: &EntitySet, numbers: &[usize]) -> bool
+    ensures { result ≡ list_all (is_among set.now) numbers.now }
 {
     numbers.iter().all(|number| set.has(*number))
 }
 
 /// The places of those of the numbers that are there.
-fn places_of(alloc: Global, set: &TypeSet, numbers: &[usize]) -> Result<Rows<usize>, AllocError>
-    ensures { IfOk result (λ places. (n : ℕ) → lineage.is_among places n ≡ edges.one_stands_at set.now numbers.now n) }
+fn places_of(alloc: Global, set: &EntitySet, numbers: &[usize]) -> Result<Rows<usize>, AllocError>
+    ensures { IfOk result (λ places. (n : ℕ) → is_among places n ≡ edges.one_stands_at set.now numbers.now n) }
 {
     let mut places = Vec::new(alloc);
     for number in numbers {
@@ -49,10 +50,10 @@ fn places_of(alloc: Global, set: &TypeSet, numbers: &[usize]) -> Result<Rows<usi
 fn steps_up(
     alloc: Global,
     entities: &[NamedEntity],
-    set: &TypeSet,
+    set: &EntitySet,
 ) -> Result<Vec<Rows<usize>>, AllocError>
     ensures length { IfOk result (λ up. length up.items ≡ length set.now) }
-    ensures up { IfOk result (λ up. (e n : ℕ) → lineage.is_among (lineage.supertypes up.items e) n ≡ edges.goes_up (spec.graph entities.now) set.now e n) }
+    ensures up { IfOk result (λ up. (e n : ℕ) → is_among (graphs.supertypes up.items e) n ≡ edges.goes_up (spec.graph entities.now) set.now e n) }
 {
     let members = set.as_slice();
     let mut up = Vec::with_capacity(alloc, members.len())?;
@@ -64,7 +65,7 @@ fn steps_up(
 
 /// The first numbers, and then the second.
 fn joined(alloc: Global, first: &[usize], second: &[usize]) -> Result<Rows<usize>, AllocError>
-    ensures { IfOk result (λ both. (n : ℕ) → lineage.is_among both n ≡ (lineage.is_among first.now n || lineage.is_among second.now n)) }
+    ensures { IfOk result (λ both. (n : ℕ) → is_among both n ≡ (is_among first.now n || is_among second.now n)) }
 {
     let mut both = Vec::from_slice(alloc, first)?;
     both.extend_from_slice(second)?;
@@ -78,7 +79,7 @@ fn all_joined(
     other: &[Rows<usize>],
 ) -> Result<Vec<Rows<usize>>, AllocError>
     requires { length other.now ≡ length one.now }
-    ensures { IfOk result (λ both. (e n : ℕ) → lineage.is_among (lineage.supertypes both.items e) n ≡ (lineage.is_among (lineage.supertypes one.now e) n || lineage.is_among (lineage.supertypes other.now e) n)) }
+    ensures { IfOk result (λ both. (e n : ℕ) → is_among (graphs.supertypes both.items e) n ≡ (is_among (graphs.supertypes one.now e) n || is_among (graphs.supertypes other.now e) n)) }
 {
     let mut both = Vec::with_capacity(alloc, one.len())?;
     for place in 0..one.len() {
@@ -88,14 +89,14 @@ fn all_joined(
 }
 
 fn is_reached(reached: &BTreeSet<usize>, place: usize) -> bool
-    ensures { result ≡ (place == zero || lineage.is_among reached.now.keys place) }
+    ensures { result ≡ (place == zero || is_among reached.now.keys place) }
 {
     place == 0 || is_in(reached, place)
 }
 
 /// Whether each of so many places is 0 or was reached, and there is one.
 fn are_reached(reached: &BTreeSet<usize>, count: usize) -> bool
-    ensures { result ≡ (nat_lt zero count && list_all (λ place. place == zero || lineage.is_among reached.now.keys place) (lineage.numbers_from zero count)) }
+    ensures { result ≡ (nat_lt zero count && list_all (λ place. place == zero || is_among reached.now.keys place) (graphs.numbers_from zero count)) }
 {
     for place in 0..count {
         if !is_reached(reached, place) {
@@ -109,7 +110,7 @@ fn are_reached(reached: &BTreeSet<usize>, count: usize) -> bool
 pub fn connected_below(
     alloc: Global,
     entities: &[NamedEntity],
-    set: &TypeSet,
+    set: &EntitySet,
 ) -> Result<Option<Vec<Rows<usize>>>, AllocError>
     ensures connected { IfOk result (λ below. is_some below ≡ spec.is_connected (spec.graph entities.now) set.now) }
     ensures below { IfOk result (λ below. IfSome below (λ rows. edges.AreBelow (spec.graph entities.now) set.now rows.items)) }

@@ -3,20 +3,20 @@
 ghost use Rattle.std.specs.Prelude.{◌≡◌, ℕ, ◌&&◌, not, IfOk};
 ghost use Rattle.std.specs.Cmp.Lexicographic.{slice_cmp};
 ghost use Rattle.std.specs.Ordering.{is_lt, nat_cmp};
-ghost use Rattle.lineage.specs.Lineage.{is_among};
+ghost use Rattle.plain_data.specs.Numbers.{is_among};
 ghost use Rattle.ex_subtypes.specs.Edges as edges;
 ghost use Rattle.ex_subtypes.specs.Legal as spec;
 ghost use Rattle.ex_subtypes.specs.Nodes as nodes;
 
 use crate::choices::is_neither;
 use crate::constraints::{Constraint, constraint_at};
+use crate::entity_set::EntitySet;
 use crate::family::all_supertypes;
 use crate::graph::{connected_below, is_closed};
 use crate::places::touched;
-use crate::type_set::TypeSet;
 use crate::walks::taken_at;
 use ex_named::NamedEntity;
-use lineage::{is_in, supertypes};
+use graphs::{is_in, supertypes};
 use plain_data::Rows;
 use std::alloc::{AllocError, Global};
 use std::cmp::Ordering;
@@ -40,7 +40,7 @@ fn breaks(
     alloc: Global,
     entities: &[NamedEntity],
     constraints: &[Option<Constraint>],
-    set: &TypeSet,
+    set: &EntitySet,
     number: usize,
     below: &[usize],
 ) -> Result<bool, AllocError>
@@ -103,7 +103,7 @@ fn first_broken(
     alloc: Global,
     entities: &[NamedEntity],
     constraints: &[Option<Constraint>],
-    set: &TypeSet,
+    set: &EntitySet,
     below: &[Rows<usize>],
 ) -> Result<Option<usize>, AllocError>
     requires readable { spec.AreReadable entities.now }
@@ -130,7 +130,7 @@ fn first_broken(
 }
 
 /// Of the members that are abstract and not above another, the one whose name comes first.
-fn first_below(entities: &[NamedEntity], above: &BTreeSet<usize>, set: &TypeSet) -> Option<usize>
+fn first_below(entities: &[NamedEntity], above: &BTreeSet<usize>, set: &EntitySet) -> Option<usize>
     ensures { result ≡ spec.first_of entities.now (λ e. spec.is_abstract entities.now e && not (is_among above.now.keys e)) set.now }
 {
     let mut best = None;
@@ -146,7 +146,7 @@ fn first_below(entities: &[NamedEntity], above: &BTreeSet<usize>, set: &TypeSet)
 fn first_bare(
     alloc: Global,
     entities: &[NamedEntity],
-    set: &TypeSet,
+    set: &EntitySet,
 ) -> Result<Option<usize>, AllocError>
     ensures { IfOk result (λ found. found ≡ spec.first_of entities.now (spec.is_bare entities.now set.now) set.now) }
 {
@@ -160,7 +160,7 @@ pub fn refusal(
     alloc: Global,
     entities: &[NamedEntity],
     constraints: &[Option<Constraint>],
-    set: &TypeSet,
+    set: &EntitySet,
 ) -> Result<Option<Illegal>, AllocError>
     requires readable { spec.AreReadable entities.now }
     requires kept { constraints.now ≡ nodes.all_kept entities.now }

@@ -4,6 +4,7 @@
 mod build;
 mod choices;
 mod constraints;
+mod entity_set;
 mod expressions;
 mod family;
 mod graph;
@@ -11,10 +12,9 @@ mod legal;
 mod nodes;
 mod places;
 mod sets;
-mod type_set;
 mod walks;
 
 pub use build::{SubtypeFault, SubtypeFaultKind};
+pub use entity_set::EntitySet;
 pub use expressions::Constraints;
 pub use legal::Illegal;
-pub use type_set::TypeSet;

@@ -3,7 +3,7 @@
 ghost use Rattle.std.specs.Prelude.{◌≡◌, ℕ, true, IfOk};
 ghost use Rattle.std.specs.List.{list_any};
 ghost use Rattle.std.specs.List.Sorted.{IsNonDecreasing};
-ghost use Rattle.lineage.specs.Lineage.{is_among};
+ghost use Rattle.plain_data.specs.Numbers.{is_among};
 ghost use Rattle.ex_subtypes.specs.Combinations.{is_distinct};
 ghost use Rattle.ex_subtypes.specs.Edges.{is_that, stands_at};
 ghost use Rattle.ex_subtypes.specs.Places as spec;

@@ -1,16 +1,16 @@
 //! Schemas.
 
 ghost use Rattle.std.specs.Prelude.{◌≡◌};
-ghost use Rattle.text_forms.specs.Gives.{Reads, Takes, Gives};
+ghost use Rattle.plain_data.specs.Gives.{Gives};
+ghost use Rattle.text_forms.specs.Reads.{Reads, Takes};
 ghost use Rattle.ex_syntax.specs.Schemas as spec;
 
 use ex_declaration_syntax::{constants, entity_decl, function_decl, rule_decl, type_decl};
 use ex_expressions::strings;
 use ex_forms::{Begins, Cursor, Form, Read, TokenList, many, name};
 use ex_tree::{Declaration, ParseFault, Schema, TokenKind};
-use plain_data::Items;
+use plain_data::{Failure, Items};
 use std::alloc::Global;
-use text_forms::Failure;
 
 #[tactic(auto, unfolding(crate::specs::Schemas::declaration))]
 fn declaration(alloc: Global, cursor: &mut Cursor<'_>) -> Read<Declaration>

@@ -4,7 +4,7 @@ ghost use Rattle.std.specs.Prelude.{◌≡◌, IfOk, map};
 ghost use Rattle.ex_kinds.specs.Kinds.{of_type};
 ghost use Rattle.ex_types.specs.Declarations as spec;
 
-use crate::asked::keep_asked;
+use crate::taken_names::keep_taken;
 use crate::variables::parameters;
 use ex_attributes::Attributes;
 use ex_kinds::{Kinds, Types, kinds_of};
@@ -56,6 +56,6 @@ pub fn known(alloc: Global, schema: &NamedSchema) -> Result<Known, AllocError>
     let constants = constant_kinds(alloc, schema.constants.as_slice())?;
     let functions = signatures(alloc, schema.functions.as_slice())?;
     let mut known = Known::new(alloc, types, attributes, constants, functions);
-    keep_asked(alloc, &mut known, schema)?;
+    keep_taken(alloc, &mut known, schema)?;
     Ok(known)
 }

@@ -2,7 +2,6 @@
 #![tactic(auto)]
 
 mod algorithms;
-mod asked;
 mod constants;
 mod declarations;
 mod defined_types;
@@ -11,6 +10,7 @@ mod known;
 mod names;
 mod rules;
 mod schema;
+mod taken_names;
 mod uses;
 mod variables;
 

@@ -1,11 +1,11 @@
 //! The names of entities and of types in the order of their bytes.
 
 ghost use Rattle.std.specs.Prelude.{◌≡◌, map, IfOk};
-ghost use Rattle.name_order.specs.Order.{IsOrderOf};
+ghost use Rattle.name_tables.specs.Order.{IsOrderOf};
 ghost use Rattle.ex_types.specs.Checked as spec;
 
 use ex_named::{NamedEntity, NamedType};
-use name_order::NameOrder;
+use name_tables::NameOrder;
 use std::alloc::{AllocError, Global};
 
 fn entity_names(alloc: Global, entities: &[NamedEntity]) -> Result<Vec<&str>, AllocError>

@@ -2,9 +2,10 @@
 
 ghost use Rattle.std.specs.Prelude.{◌≡◌, ◌↔◌, ℕ, IfOk, IsTrue, Some, Ok, length, map};
 ghost use Rattle.std.specs.List.Sorted.{IsStrictlyIncreasing};
-ghost use Rattle.text_forms.specs.Gives.{Gives};
-ghost use Rattle.lineage.specs.Lineage as lineage;
-ghost use Rattle.name_order.specs.Order.{rank};
+ghost use Rattle.plain_data.specs.Numbers.{is_among};
+ghost use Rattle.plain_data.specs.Gives.{Gives};
+ghost use Rattle.graphs.specs.Graphs as graphs;
+ghost use Rattle.name_tables.specs.Order.{rank};
 ghost use Rattle.name_tables.specs.Names.{place_of};
 ghost use Rattle.ex_resolve.specs.Schemas as schemas;
 ghost use Rattle.ex_types.specs.Checked as spec;
@@ -18,15 +19,14 @@ use ex_named::{AttributePlace, NamedConstant, NamedEntity, NamedFunction, NamedR
 use ex_resolve::Named;
 use ex_typing::Known;
 use ex_warnings::warnings;
-use name_order::NameOrder;
-use plain_data::Rows;
+use name_tables::NameOrder;
+use plain_data::{Failure, Rows};
 use std::alloc::{AllocError, Global};
 use std::marker::Model;
-use text_forms::Failure;
 
 /// A schema whose types are checked: the one that its named schema is accepted as.
 pub struct CheckedSchema {
-    named: Named,
+    resolved: Named,
     /// What its declarations say of kinds.
     known: Known,
     /// The first bytes of the literals that are warned of.
@@ -39,13 +39,13 @@ pub struct CheckedSchema {
 impl Drop for CheckedSchema {
     fn drop(self) {
         let CheckedSchema {
-            named,
+            resolved,
             known,
             warnings,
             entity_order,
             type_order,
         } = self;
-        drop(named);
+        drop(resolved);
         drop(known);
         drop(warnings);
         drop(entity_order);
@@ -58,14 +58,14 @@ impl Model for CheckedSchema {
 
     ghost Value = { spec.Checked };
 
-    ghost view = { λ s. record { named = s.named; warnings = s.warnings } };
+    ghost view = { λ s. record { named = s.resolved; warnings = s.warnings } };
 
     ghost use Rattle.std.specs.Prelude.{◌≡◌, Ok};
     ghost use Rattle.ex_types.specs.Declarations.{known as known_of};
-    ghost use Rattle.name_order.specs.Order.{IsOrderOf};
+    ghost use Rattle.name_tables.specs.Order.{IsOrderOf};
 
-    ghost invariant = { λ s. (s.known ≡ known_of s.named.schema) × (spec.checked s.named ≡ Ok (record { named = s.named; warnings = s.warnings }))
-        × IsOrderOf (spec.entity_names s.named.schema.entities) s.entity_order × IsOrderOf (spec.type_names s.named.schema.types) s.type_order };
+    ghost invariant = { λ s. (s.known ≡ known_of s.resolved.schema) × (spec.checked s.resolved ≡ Ok (record { named = s.resolved; warnings = s.warnings }))
+        × IsOrderOf (spec.entity_names s.resolved.schema.entities) s.entity_order × IsOrderOf (spec.type_names s.resolved.schema.types) s.type_order };
 
     ghost use Rattle.std.specs.Coded.{codes};
     ghost use Rattle.ex_resolve.specs.contracts.named.Named as named_schema;
@@ -78,14 +78,14 @@ impl CheckedSchema {
     pub fn proved(&self)
         ensures { spec.checked self.now.named ≡ Ok self.now }
     {
-        let _ = &self.named;
+        let _ = &self.resolved;
     }
 
-    /// The schema with its names bound.
-    pub fn named(&self) -> &Named
+    /// The schema with its names bound, and the graph of its supertypes.
+    pub fn resolved(&self) -> &Named
         ensures { result.now ≡ self.now.named }
     {
-        &self.named
+        &self.resolved
     }
 
     /// What its declarations say of kinds, as it was found when it was checked.
@@ -99,7 +99,7 @@ impl CheckedSchema {
     pub fn name(&self) -> &str
         ensures { result.now ≡ self.now.named.schema.name.text }
     {
-        self.named.schema().name.text.as_str()
+        self.resolved.named().name.text.as_str()
     }
 
     /// The first bytes of the literals that are warned of, in the order of the schema's strings.
@@ -112,31 +112,31 @@ impl CheckedSchema {
     pub fn constants(&self) -> &[NamedConstant]
         ensures { result.now ≡ self.now.named.schema.constants }
     {
-        self.named.schema().constants.as_slice()
+        self.resolved.named().constants.as_slice()
     }
 
     pub fn types(&self) -> &[NamedType]
         ensures { result.now ≡ self.now.named.schema.types }
     {
-        self.named.schema().types.as_slice()
+        self.resolved.named().types.as_slice()
     }
 
     pub fn entities(&self) -> &[NamedEntity]
         ensures { result.now ≡ self.now.named.schema.entities }
     {
-        self.named.schema().entities.as_slice()
+        self.resolved.named().entities.as_slice()
     }
 
     pub fn functions(&self) -> &[NamedFunction]
         ensures { result.now ≡ self.now.named.schema.functions }
     {
-        self.named.schema().functions.as_slice()
+        self.resolved.named().functions.as_slice()
     }
 
     pub fn rules(&self) -> &[NamedRule]
         ensures { result.now ≡ self.now.named.schema.rules }
     {
-        self.named.schema().rules.as_slice()
+        self.resolved.named().rules.as_slice()
     }
 
     pub fn function_count(&self) -> usize
@@ -176,16 +176,16 @@ impl CheckedSchema {
     /// The entities above one, by their numbers in ascending order.
     pub fn ancestors(&self, alloc: Global, entity: usize) -> Result<Rows<usize>, AllocError>
         ensures ascending { IfOk result (λ found. IsStrictlyIncreasing found) }
-        ensures exact { IfOk result (λ found. (a : ℕ) → IsTrue (lineage.is_among found a) ↔ lineage.IsAncestor self.now.named.supertypes entity a) }
+        ensures exact { IfOk result (λ found. (a : ℕ) → IsTrue (is_among found a) ↔ graphs.IsAncestor self.now.named.supertypes entity a) }
     {
-        self.named.ancestors(alloc, entity)
+        self.resolved.ancestors(alloc, entity)
     }
 
     /// The entities above one and itself, in the order in which files write their values.
     pub fn line(&self, alloc: Global, entity: usize) -> Result<Rows<usize>, AllocError>
-        ensures { IfOk result (λ found. lineage.line self.now.named.supertypes entity ≡ Some found) }
+        ensures { IfOk result (λ found. graphs.line self.now.named.supertypes entity ≡ Some found) }
     {
-        self.named.line(alloc, entity)
+        self.resolved.line(alloc, entity)
     }
 
     /// The inherited and own explicit attributes of an entity, in the order in which files write their values.
@@ -196,24 +196,24 @@ impl CheckedSchema {
     ) -> Result<Rows<AttributePlace>, AllocError>
         ensures { IfOk result (λ found. schemas.attributes self.now.named entity ≡ Some found) }
     {
-        self.named.attributes(alloc, entity)
+        self.resolved.attributes(alloc, entity)
     }
 }
 
 /// The schema, where its expressions can't go wrong in ways that the profile leaves out. Else the fault of least offset.
 #[tactic(auto, unfolding(crate::specs::Checked::checked))]
-pub fn check(alloc: Global, named: Named) -> Result<CheckedSchema, Failure<TypeFault>>
-    ensures { Gives (λ schema. schema) result (spec.checked named) }
+pub fn check(alloc: Global, resolved: Named) -> Result<CheckedSchema, Failure<TypeFault>>
+    ensures { Gives (λ schema. schema) result (spec.checked resolved) }
 {
-    let known = known(alloc, named.schema())?;
-    if let Some(fault) = fault_of(alloc, &known, named.schema())? {
+    let known = known(alloc, resolved.named())?;
+    if let Some(fault) = fault_of(alloc, &known, resolved.named())? {
         return Err(Failure::Fault(fault));
     }
-    let warnings = warnings(alloc, named.schema())?;
-    let entity_order = entity_order(alloc, named.schema().entities.as_slice())?;
-    let type_order = type_order(alloc, named.schema().types.as_slice())?;
+    let warnings = warnings(alloc, resolved.named())?;
+    let entity_order = entity_order(alloc, resolved.named().entities.as_slice())?;
+    let type_order = type_order(alloc, resolved.named().types.as_slice())?;
     Ok(CheckedSchema {
-        named,
+        resolved,
         known,
         warnings,
         entity_order,

@@ -106,7 +106,7 @@ impl Known {
             }
         }
         for kept in &self.among {
-            if kept.is_of(name) {
+            if kept.name.as_str() == name {
                 lists.push(kept.found.kinds.copied()?)?;
             }
         }
@@ -148,7 +148,7 @@ impl Known {
             return Ok(None);
         }
         for kept in &self.among {
-            if kept.is_of(name) && kept.is_among(kinds) {
+            if kept.was_found_of(name, kinds) {
                 return Ok(Some(kept.found.copied()?));
             }
         }

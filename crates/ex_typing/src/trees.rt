@@ -161,8 +161,9 @@ fn qualifiers(
     Ok(found)
 }
 
+/// What is taken of a value of these kinds by `.a`, `\e`, `[i]` or `[i:j]`, and the fault that is told of it.
 #[cycle(trees)]
-fn qualifier(
+pub fn qualifier(
     alloc: Global,
     schema: &Known,
     scope: &TypingScope<'_>,

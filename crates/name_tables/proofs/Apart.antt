@@ -12,7 +12,7 @@ use Rattle.std.proofs.lemmas.Map.Keys.{IsDistinct-from_sorted, IsDistinct-IsPerm
 use Rattle.std.proofs.lemmas.Map.Text.{is_eq-slice_cmp}
 use Rattle.std.proofs.lemmas.Slice.Eq.{bytes_eq-Decides}
 use Rattle.name_tables.specs.Hashes.{hash_of}
-use Rattle.name_tables.specs.Names.{by_bytes}
+use Rattle.name_tables.specs.Names.{by_lent_bytes}
 
 less : (o : Ordering) → true ≡ is_lt o → o ≡ Less
 less Less is = refl
@@ -23,22 +23,22 @@ pub rising : (hashes : List ℕ) (told : Bool) → IsAllAdjacentAnswer (λ x y b
 rising hashes true answer told = sorted_from_all_adjacent nat_cmp_total hashes 0 (λ k within. less _ (answer k 0 within))
 rising hashes false answer told = cc
 
-apart : (x y : Bor (List ℕ)) → eq_by_cmp nat_cmp (hash_of x.now) (hash_of y.now) ≡ false → eq_by_cmp by_bytes x y ≡ false
+apart : (x y : Bor (List ℕ)) → eq_by_cmp nat_cmp (hash_of x.now) (hash_of y.now) ≡ false → eq_by_cmp by_lent_bytes x y ≡ false
 apart x y differ =
     let same = is_eq-slice_cmp x.now y.now in
     let tests = bytes_eq-Decides x.now y.now in
     grind (arith, nat_tests, same, tests.0, tests.1, differ)
 
-apart_from_all : (x : Bor (List ℕ)) (ys : List (Bor (List ℕ))) → AllByRecursion (λ h. eq_by_cmp nat_cmp (hash_of x.now) h ≡ false) (map (λ n. hash_of n.now) ys) → AllByRecursion (λ y. eq_by_cmp by_bytes x y ≡ false) ys
+apart_from_all : (x : Bor (List ℕ)) (ys : List (Bor (List ℕ))) → AllByRecursion (λ h. eq_by_cmp nat_cmp (hash_of x.now) h ≡ false) (map (λ n. hash_of n.now) ys) → AllByRecursion (λ y. eq_by_cmp by_lent_bytes x y ≡ false) ys
 apart_from_all x [] differ = tt
 apart_from_all x (y ∷ ys) differ = (apart x y differ.0, apart_from_all x ys differ.1)
 
-all_apart : (names : List (Bor (List ℕ))) → IsDistinct (eq_by_cmp nat_cmp) (map (λ n. hash_of n.now) names) → IsDistinct (eq_by_cmp by_bytes) names
+all_apart : (names : List (Bor (List ℕ))) → IsDistinct (eq_by_cmp nat_cmp) (map (λ n. hash_of n.now) names) → IsDistinct (eq_by_cmp by_lent_bytes) names
 unfolding IsDistinct
 all_apart [] distinct = tt
 all_apart (n ∷ names) distinct = (apart_from_all n names distinct.0, all_apart names distinct.1)
 
-pub names_differ : (names : List (Bor (List ℕ))) (hashes sorted : List ℕ) → hashes ≡ map (λ n. hash_of n.now) names → IsPermutation hashes sorted → IsStrictlySortedBy nat_cmp sorted → IsDistinct (eq_by_cmp by_bytes) names
+pub names_differ : (names : List (Bor (List ℕ))) (hashes sorted : List ℕ) → hashes ≡ map (λ n. hash_of n.now) names → IsPermutation hashes sorted → IsStrictlySortedBy nat_cmp sorted → IsDistinct (eq_by_cmp by_lent_bytes) names
 names_differ names hashes sorted are moved ordered =
     let distinct = IsDistinct-IsPermutation (eq_by_cmp nat_cmp) (eq_by_cmp_equiv nat_cmp_total).symm sorted hashes (IsPermutation-sym hashes sorted moved) (IsDistinct-from_sorted nat_cmp sorted ordered) in
     all_apart names (subst (λ hs. IsDistinct (eq_by_cmp nat_cmp) hs) are distinct)

@@ -26,8 +26,8 @@ abbrev pub HasFirstPlaces : BTreeMap (Bor (List ℕ)) ℕ → List (List ℕ) �
 HasFirstPlaces places names = (name : List ℕ) → get_by (λ n. slice_cmp nat_cmp name n.now) places ≡ place_of name names
 
 -- the order of names that are lent
-abbrev pub by_bytes : Bor (List ℕ) → Bor (List ℕ) → Ordering
-by_bytes x y = slice_cmp nat_cmp x.now y.now
+abbrev pub by_lent_bytes : Bor (List ℕ) → Bor (List ℕ) → Ordering
+by_lent_bytes x y = slice_cmp nat_cmp x.now y.now
 
 -- whether a name that is lent is these bytes
 abbrev pub is_name : List ℕ → Bor (List ℕ) → Bool
@@ -35,7 +35,7 @@ is_name name n = is_eq (slice_cmp nat_cmp name n.now)
 
 -- the list has, in the order of the names, the place of the first name that is the same
 pub record HasSortedPlaces (places : List (Bor (List ℕ) × ℕ)) (names : List (List ℕ)) : Type 0 where
-  pub ordered : IsStrictlySortedBy by_bytes (keys_of places)
+  pub ordered : IsStrictlySortedBy by_lent_bytes (keys_of places)
   pub first : (name : List ℕ) → lookup (is_name name) places ≡ place_of name names
 
 -- what stands beside a name, row after row

@@ -5,7 +5,7 @@ ghost use Rattle.std.specs.List.{IsDistinct};
 ghost use Rattle.std.specs.List.Sorted.{IsStrictlySortedBy};
 ghost use Rattle.std.specs.Ordering.{eq_by_cmp, is_lt, nat_cmp};
 ghost use Rattle.name_tables.specs.Hashes.{hash_of};
-ghost use Rattle.name_tables.specs.Names.{by_bytes};
+ghost use Rattle.name_tables.specs.Names.{by_lent_bytes};
 
 use crate::hashes::hash_of;
 use std::alloc::{AllocError, Global};
@@ -14,7 +14,7 @@ use std::cmp::Ordering;
 /// Whether the hashes of all names differ, and so the names do. It is seldom said of names that differ that their hashes
 /// don't.
 pub fn hashes_differ(alloc: Global, names: &[&[u8]]) -> Result<bool, AllocError>
-    ensures { IfOk result (λ told. IsTrue told → IsDistinct (eq_by_cmp by_bytes) names.now) }
+    ensures { IfOk result (λ told. IsTrue told → IsDistinct (eq_by_cmp by_lent_bytes) names.now) }
 {
     let mut hashes = hashes_of(alloc, names)?;
     hashes.sort_unstable();

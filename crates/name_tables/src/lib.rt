@@ -1,4 +1,4 @@
-//! Names in their order, where each stands first, and what stands beside it.
+//! Names in their order, where each stands first, and what stands beside it; and names in the order of their bytes.
 #![tactic(auto)]
 
 ghost use Rattle.std.specs.Prelude.{◌≡◌, ◌<◌, ◌^◌, [], ◌∷◌, ◌++◌, length, OnOk, OnErr};
@@ -11,11 +11,13 @@ use std::marker::Model;
 mod differing;
 mod firsts;
 mod hashes;
+mod order;
 mod rows;
 mod sorted;
 
 pub use differing::hashes_differ;
 pub use firsts::{First, FirstRows};
+pub use order::NameOrder;
 pub use rows::NameRows;
 pub use sorted::SortedNames;
 

@@ -5,7 +5,7 @@ ghost use Rattle.std.specs.Cmp.Lexicographic.{slice_cmp};
 ghost use Rattle.std.specs.Map.{lookup, keys_of};
 ghost use Rattle.std.specs.List.Sorted.{IsStrictlySortedBy};
 ghost use Rattle.std.specs.Ordering.{nat_cmp};
-ghost use Rattle.name_tables.specs.Names.{place_of, by_bytes, is_name};
+ghost use Rattle.name_tables.specs.Names.{place_of, by_lent_bytes, is_name};
 
 use crate::NameTable;
 use std::alloc::{AllocError, Global};
@@ -69,14 +69,14 @@ fn entries<'a>(
     map: BTreeMap<&'a [u8], usize>,
 ) -> Result<Vec<(&'a [u8], usize)>, AllocError>
     ensures entries { IfOk result (λ all. all.items ≡ map.entry.entries) }
-    ensures ordered { IfOk result (λ all. IsStrictlySortedBy by_bytes (keys_of all.items)) }
+    ensures ordered { IfOk result (λ all. IsStrictlySortedBy by_lent_bytes (keys_of all.items)) }
 {
     map.into_iter().collect(alloc)
 }
 
 /// What stands beside the name, among names in order.
 fn find(sorted: &[(&[u8], usize)], name: &[u8]) -> Option<usize>
-    requires { IsStrictlySortedBy by_bytes (keys_of sorted.now) }
+    requires { IsStrictlySortedBy by_lent_bytes (keys_of sorted.now) }
     ensures { result ≡ lookup (is_name name.now) sorted.now }
 {
     match sorted.binary_search_by(|entry| order(entry.0, name)) {

@@ -4,16 +4,18 @@ use Rattle.std.specs.Prelude.{if◌then◌else◌}
 use Rattle.std.specs.List.{AllByRecursion, zip}
 use Rattle.std.proofs.lemmas.Bool.{eq-eqb, or_from, or_left, or_parts, or_right}
 use Rattle.std.proofs.lemmas.Bool.Decides.{nat_tests}
-use Rattle.text_forms.specs.declared.Failure.{Failure}
-use Rattle.text_forms.specs.Gives.{Gives}
+use Rattle.plain_data.specs.Numbers.{is_among}
+use Rattle.plain_data.specs.declared.failure.Failure.{Failure}
+use Rattle.plain_data.specs.Gives.{Gives}
 use Rattle.ex_types.specs.Checked.{Checked}
 use Rattle.p21_instances.specs.Instances as spelled
-use Rattle.p21_instances.specs.Instances.{in_order, is_among}
+use Rattle.p21_instances.specs.Instances.{in_order}
 use Rattle.p21_instances.proofs.ByName.{below, AreOnce, once-in_order}
 use Rattle.p21_instances.proofs.SortedBy.{Rises, rises_in_order}
 use Rattle.ex_layouts.specs.Entities.{entity_spelled}
 use Rattle.p21_mappings.specs.Contents.{content}
-use Rattle.p21_mappings.specs.Instances.{Read, and_then, all_there, by_entities, by_entity, by_mapping, by_layout, by_several, counted, each, has_twice, instance, made, part, same_counts}
+use Rattle.p21_mappings.specs.Instances.{Mapped, and_then, by_entities, by_entity, by_mapping, by_layout, by_several, counted, each, has_twice, instance, made, part, same_counts}
+use Rattle.p21_values.specs.Taking.{all_there}
 use Rattle.p21_mappings.specs.Layouts.{external, internal}
 use Rattle.ex_layouts.specs.declared.layout.Layout.{Layout}
 use Rattle.p21_tree.specs.declared.fault.InstanceFault.{InstanceFault}
@@ -33,7 +35,7 @@ name_of i = i.name
 
 -- ---- one instance
 
-then_named : {A : Type 0} (name : ℕ) (fits : Bool) (o : Read A) (f : A → Instance) (i : Instance) → ((a : A) → (f a).name ≡ name) → counted fits (and_then o (λ a. Ok (f a))) ≡ Ok i → i.name ≡ name
+then_named : {A : Type 0} (name : ℕ) (fits : Bool) (o : Mapped A) (f : A → Instance) (i : Instance) → ((a : A) → (f a).name ≡ name) → counted fits (and_then o (λ a. Ok (f a))) ≡ Ok i → i.name ≡ name
 then_named name true (Ok a) f i named e = let same : f a ≡ i = cc in ap name_of (sym same) ∙ named a
 then_named name true (Err kind) f i named e = cc
 then_named name false o f i named e = cc
@@ -95,7 +97,7 @@ module _ (schema : Checked) (defined : ℕ → Bool) where
   pub begun : (stood : ℕ → Bool) (x : tree.Instance) (xs : List tree.Instance) (is : List Instance) → instances_after schema defined stood (x ∷ xs) ≡ Ok is → Begun stood x xs is
   begun stood x xs is e = by (instance schema defined (stood x.name) x) (instances_after schema defined (more stood x) xs) refl refl e
     where
-      by : (o : Read Instance) (others : Instances) → instance schema defined (stood x.name) x ≡ o → instances_after schema defined (more stood x) xs ≡ others → first_of (told x.name o) others ≡ Ok is → Begun stood x xs is
+      by : (o : Mapped Instance) (others : Instances) → instance schema defined (stood x.name) x ≡ o → instances_after schema defined (more stood x) xs ≡ others → first_of (told x.name o) others ≡ Ok is → Begun stood x xs is
       by (Ok i) (Ok later) reads follow f =
           let two = instance_named schema defined (stood x.name) x i reads in
           let same : i ∷ later ≡ is = cc in
@@ -134,16 +136,16 @@ abbrev pub defined_by : List ℕ → Raw → ℕ → Bool
 defined_by linked raw = is_among (spelled.names raw.instances ++ linked)
 
 -- what a file says is made of its instances in the order of the file
-pub record IsOfFile (schema : Checked) (linked : List ℕ) (raw : Raw) (c : Content) : Type 0 where
+pub record IsContentOf (schema : Checked) (linked : List ℕ) (raw : Raw) (c : Content) : Type 0 where
   pub found : List Instance
   pub reads : instances_after schema (defined_by linked raw) (λ n. false) raw.instances ≡ Ok found
   pub are : content raw.header found ≡ c
 
-pub of_file : (schema : Checked) (linked : List ℕ) (raw : Raw) (c : Content) → bound_file schema linked raw ≡ Ok c → IsOfFile schema linked raw c
+pub of_file : (schema : Checked) (linked : List ℕ) (raw : Raw) (c : Content) → bound_file schema linked raw ≡ Ok c → IsContentOf schema linked raw c
 unfolding bound_file instances
 of_file schema linked raw c e = by (instances_after schema (defined_by linked raw) (λ n. false) raw.instances) refl e
   where
-    by : (o : Instances) → instances_after schema (defined_by linked raw) (λ n. false) raw.instances ≡ o → bound_by raw.header o ≡ Ok c → IsOfFile schema linked raw c
+    by : (o : Instances) → instances_after schema (defined_by linked raw) (λ n. false) raw.instances ≡ o → bound_by raw.header o ≡ Ok c → IsContentOf schema linked raw c
     by (Ok found) reads f = let same : content raw.header found ≡ c = cc in record { found = found; reads = reads; are = same }
     by (Err fault) reads f = cc
 

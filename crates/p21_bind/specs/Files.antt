@@ -1,15 +1,16 @@
 -- What a file holds, by the schema that it is of, or the first fault of its instances (ISO 10303-21:2002, clauses 8 to 10).
 use Rattle.std.specs.Prelude.{ℕ, ◌<◌, Bool, false, ◌||◌, ◌==◌, List, [], ◌∷◌, ◌++◌, Result, Ok, Err}
 use Rattle.std.specs.List.{AllByRecursion}
+use Rattle.plain_data.specs.Numbers.{is_among}
 use Rattle.ex_types.specs.Checked.{Checked}
-use Rattle.p21_instances.specs.Instances.{names, is_among}
+use Rattle.p21_instances.specs.Instances.{names}
 use Rattle.p21_tree.specs.declared.fault.InstanceFault.{InstanceFault}
 use Rattle.p21_tree.specs.declared.header.Header as spelled_header
 use Rattle.p21_tree.specs.declared.instance.Instance as tree
 use Rattle.p21_tree.specs.declared.raw.Raw.{Raw}
 use Rattle.rp_content.specs.declared.content.Content.{Content}
 use Rattle.rp_content.specs.declared.instance.Instance.{Instance}
-use Rattle.p21_mappings.specs.Instances.{Read, instance}
+use Rattle.p21_mappings.specs.Instances.{Mapped, instance}
 use Rattle.p21_mappings.specs.Contents.{content}
 
 -- ---- the instances
@@ -18,7 +19,7 @@ abbrev pub Instances : Type 0
 Instances = Result (List Instance) InstanceFault
 
 -- a fault is told with the name of its instance
-abbrev pub told : ℕ → Read Instance → Result Instance InstanceFault
+abbrev pub told : ℕ → Mapped Instance → Result Instance InstanceFault
 told name (Ok x) = Ok x
 told name (Err kind) = Err (record { instance = name; kind = kind })
 

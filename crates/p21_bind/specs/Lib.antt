@@ -1,3 +1,4 @@
 pub mod Files
 pub mod Single
 pub mod OnePass
+pub mod Origins

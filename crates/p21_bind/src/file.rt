@@ -2,21 +2,20 @@
 
 ghost use Rattle.std.specs.Prelude.{◌≡◌, ◌++◌, ◌∷◌, ◌==◌, ◌&&◌, ◌||◌, ℕ, [], false, not, reverse, OnOk, IfOk};
 ghost use Rattle.std.specs.List.Sorted.{IsPermutation};
-ghost use Rattle.p21_instances.specs.Instances.{is_among};
+ghost use Rattle.plain_data.specs.Numbers.{is_among};
 ghost use Rattle.p21_instances.specs.Instances as order;
-ghost use Rattle.text_forms.specs.Gives.{Gives};
+ghost use Rattle.plain_data.specs.Gives.{Gives};
 ghost use Rattle.p21_bind.specs.Files as spec;
 ghost use Rattle.p21_mappings.specs.Instances as instances;
 
 use crate::mapped::instance;
 use ex_layouts::{Layouts, LoadedSchema};
 use p21_mappings::{Defined, DefinedNames, Names, header_of, in_name_order};
-use p21_tree::{Header, Instance as Spelled, InstanceFault, Raw};
-use plain_data::{Items, Rows};
+use p21_tree::{Header, Instance as SpelledInstance, InstanceFault, Raw};
+use plain_data::{Failure, Items, Rows};
 use rp_content::{Content, Instance};
 use std::alloc::{AllocError, Global};
 use std::collections::BTreeSet;
-use text_forms::Failure;
 
 /// One instance, whose name stood before or not, or the first that holds of what is wrong with it.
 pub fn one<N: DefinedNames>(
@@ -24,19 +23,18 @@ pub fn one<N: DefinedNames>(
     layouts: &mut Layouts<'_>,
     names: &N,
     stood: bool,
-    spelled: &Spelled<'_>,
+    spelled: &SpelledInstance<'_>,
 ) -> Result<Instance, Failure<InstanceFault>>
     ensures layouts { layouts.new ≡ layouts.old }
     ensures made { Gives (λ x. x) result (spec.told spelled.now.name (instances.instance layouts.old (N.is_defined names.now) stood spelled.now)) }
 {
-    match instance(alloc, layouts, names, stood, spelled) {
-        Ok(instance) => Ok(instance),
-        Err(Failure::NoMemory) => Err(Failure::NoMemory),
-        Err(Failure::Fault(kind)) => Err(Failure::Fault(InstanceFault {
-            instance: spelled.name,
+    let name = spelled.name;
+    instance(alloc, layouts, names, stood, spelled).map_err(|failure| {
+        failure.map(|kind| InstanceFault {
+            instance: name,
             kind,
-        })),
-    }
+        })
+    })
 }
 
 /// Whether a name stood before.
@@ -63,7 +61,7 @@ fn all_read(
     layouts: &mut Layouts<'_>,
     names: &Names,
     linked: &Names,
-    reversed: Vec<Spelled<'_>>,
+    reversed: Vec<SpelledInstance<'_>>,
 ) -> Result<Vec<Instance>, Failure<InstanceFault>>
     requires { IsPermutation (order.names (reverse reversed.items)) names.now }
     ensures { Gives (λ xs. xs.items) result (spec.instances_after layouts.old (is_among (names.now ++ linked.now)) (λ n. false) (reverse reversed.entry.items)) }
@@ -86,7 +84,7 @@ fn instances(
     alloc: Global,
     layouts: &mut Layouts<'_>,
     linked: &[u64],
-    spelled: Rows<Spelled<'_>>,
+    spelled: Rows<SpelledInstance<'_>>,
 ) -> Result<Vec<Instance>, Failure<InstanceFault>>
     ensures { Gives (λ xs. xs.items) result (spec.instances layouts.old linked.now spelled.entry) }
 {
@@ -98,7 +96,7 @@ fn instances(
 }
 
 /// The header of a file, and its instances.
-fn parts_of(raw: Raw<'_>) -> (Header<'_>, Rows<Spelled<'_>>)
+fn parts_of(raw: Raw<'_>) -> (Header<'_>, Rows<SpelledInstance<'_>>)
     ensures { result ≡ (raw.entry.header, raw.entry.instances) }
 {
     let Raw {
@@ -116,7 +114,7 @@ fn content(
     layouts: &mut Layouts<'_>,
     linked: &[u64],
     header: &Header<'_>,
-    spelled: Rows<Spelled<'_>>,
+    spelled: Rows<SpelledInstance<'_>>,
 ) -> Result<Content, Failure<InstanceFault>>
     ensures { Gives (λ content. content) result (spec.bound_by header.now (spec.instances layouts.old linked.now spelled.entry)) }
 {

@@ -8,10 +8,10 @@ use crate::file::one;
 use ex_layouts::{Layouts, LoadedSchema};
 use p21_mappings::{AnyName, put_references_of, whole};
 use p21_read::{Visitor, is_of_schema, read_visited};
-use p21_tree::{Header, Instance as Spelled};
+use p21_tree::{Header, Instance as SpelledInstance};
+use plain_data::Failure;
 use rp_content::{Content, Instance};
 use std::alloc::{AllocError, Global};
-use text_forms::Failure;
 
 /// What the instances of a file are that were read so far, as if each name that they refer to were defined.
 pub struct Loading<'s> {
@@ -40,7 +40,7 @@ impl<'s> Drop for Loading<'s> {
 impl<'s> Visitor for Loading<'s> {
     ghost becomes = { spec.Becomes };
 
-    fn visit(&mut self, alloc: Global, instance: &Spelled<'_>) -> Result<bool, AllocError> {
+    fn visit(&mut self, alloc: Global, instance: &SpelledInstance<'_>) -> Result<bool, AllocError> {
         match one(alloc, &mut self.layouts, &AnyName, false, instance) {
             Ok(found) => {
                 self.instances.push(found)?;
@@ -57,7 +57,8 @@ impl<'s> Visitor for Loading<'s> {
 impl<'s> Loading<'s> {
     ghost use Rattle.std.specs.Prelude.{◌≡◌, ◌++◌, ◌==◌, [], true, false, IfOk, IfSome};
     ghost use Rattle.std.specs.List.{list_all};
-    ghost use Rattle.p21_instances.specs.Instances.{has_twice, is_among};
+    ghost use Rattle.plain_data.specs.Numbers.{is_among};
+    ghost use Rattle.p21_instances.specs.Instances.{has_twice};
     ghost use Rattle.p21_mappings.specs.Contents as contents;
 
     /// Nothing yet. `bytes` is the length of the file: as most instances take 32 bytes and more, and a reference with what

@@ -3,16 +3,16 @@
 ghost use Rattle.std.specs.Prelude.{◌≡◌, ◌∷◌, []};
 ghost use Rattle.ex_layouts.specs.Entities.{entity_spelled};
 ghost use Rattle.ex_layouts.specs.Layouts.{of_leaf};
-ghost use Rattle.text_forms.specs.Gives.{Gives};
+ghost use Rattle.plain_data.specs.Gives.{Gives};
 ghost use Rattle.p21_mappings.specs.Instances as spec;
 ghost use Rattle.p21_mappings.specs.Layouts.{internal};
 
 use ex_layouts::{Layout, Layouts, LoadedSchema, legal_leaf};
-use p21_mappings::{DefinedNames, Reading, by_parts, entity_named, values_of_leaf};
-use p21_tree::{Instance as Spelled, InstanceFaultKind, Mapping, Record};
-use rp_content::{Instance, Types};
+use p21_mappings::{DefinedNames, Mapped, by_parts, entity_named, values_of_leaf};
+use p21_tree::{Instance as SpelledInstance, InstanceFaultKind, Mapping, Record};
+use plain_data::Failure;
+use rp_content::{Entities, Instance};
 use std::alloc::Global;
-use text_forms::Failure;
 
 /// The instance of this part, which is of an entity and all above it.
 #[tactic(auto, unfolding(p21_mappings::specs::Layouts::internal))]
@@ -24,7 +24,7 @@ fn by_leaf<N: DefinedNames>(
     part: &Record<'_>,
     entity: usize,
     layout: &Layout<'_>,
-) -> Reading<Instance>
+) -> Mapped<Instance>
     requires { layout.now ≡ of_leaf schema.now entity }
     ensures { Gives (λ x. x) result (spec.by_layout schema.now (N.is_defined names.now) name (part.now ∷ []) (internal schema.now entity)) }
 {
@@ -38,7 +38,7 @@ fn by_leaf<N: DefinedNames>(
     let values = values_of_leaf(alloc, schema, names, entity, slots, part)?;
     Ok(Instance {
         name,
-        types: Types::Leaf(entity),
+        entities: Entities::Leaf(entity),
         values,
     })
 }
@@ -53,11 +53,11 @@ fn by_new_leaf<N: DefinedNames>(
     name: u64,
     part: &Record<'_>,
     entity: usize,
-) -> Reading<Instance>
+) -> Mapped<Instance>
     ensures layouts { layouts.new ≡ layouts.old }
     ensures made { Gives (λ x. x) result (spec.by_layout layouts.old (N.is_defined names.now) name (part.now ∷ []) (internal layouts.old entity)) }
 {
-    let schema = layouts.schema();
+    let schema = layouts.loaded();
     let Some(layout) = legal_leaf(alloc, schema, entity)? else {
         return Err(Failure::Fault(InstanceFaultKind::IllegalCombination));
     };
@@ -72,7 +72,7 @@ fn by_entity<N: DefinedNames>(
     names: &N,
     name: u64,
     part: &Record<'_>,
-) -> Reading<Instance>
+) -> Mapped<Instance>
     ensures layouts { layouts.new ≡ layouts.old }
     ensures made { Gives (λ x. x) result (spec.by_entity layouts.old (N.is_defined names.now) name (part.now ∷ []) (entity_spelled layouts.old part.now.keyword)) }
 {
@@ -80,7 +80,7 @@ fn by_entity<N: DefinedNames>(
         return Err(Failure::Fault(InstanceFaultKind::UnknownEntity));
     };
     match layouts.leaf(entity) {
-        Some(layout) => by_leaf(alloc, layouts.schema(), names, name, part, entity, layout),
+        Some(layout) => by_leaf(alloc, layouts.loaded(), names, name, part, entity, layout),
         None => by_new_leaf(alloc, layouts, names, name, part, entity),
     }
 }
@@ -92,8 +92,8 @@ pub fn instance<N: DefinedNames>(
     layouts: &mut Layouts<'_>,
     names: &N,
     stood: bool,
-    spelled: &Spelled<'_>,
-) -> Reading<Instance>
+    spelled: &SpelledInstance<'_>,
+) -> Mapped<Instance>
     ensures layouts { layouts.new ≡ layouts.old }
     ensures made { Gives (λ x. x) result (spec.instance layouts.old (N.is_defined names.now) stood spelled.now) }
 {

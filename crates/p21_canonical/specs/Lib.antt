@@ -1,4 +1,4 @@
 pub mod Binaries
 pub mod Trees
-pub mod Types
+pub mod TypeNames
 pub mod Parts

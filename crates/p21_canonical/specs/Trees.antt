@@ -4,6 +4,7 @@
 use Rattle.std.specs.Prelude.{ℕ, Bool, false, if◌then◌else◌, List, [], ◌∷◌, length, map, take, drop, None, codes, slice_get, slice_index_or}
 use Rattle.std.specs.Fmt.{signed_decimal}
 use Rattle.std.specs.Option.{option_map_or}
+use Rattle.plain_data.specs.Numbers.{numbered}
 use Rattle.ex_named.specs.declared.declaration.NamedEntity.{NamedEntity}
 use Rattle.ex_named.specs.declared.declaration.NamedType.{NamedType}
 use Rattle.ex_named.specs.declared.declaration.NamedUnderlying.{NamedUnderlying}
@@ -13,7 +14,6 @@ use Rattle.ex_layouts.specs.Layouts.{leaf_slots, slots_in}
 use Rattle.ex_slots.specs.Slots.{Slot}
 use Rattle.ex_tree.specs.declared.expression.Name.{Name}
 use Rattle.ex_types.specs.Checked.{Checked}
-use Rattle.lineage.specs.Numbered.{numbered}
 use Rattle.p21_escapes.specs.Encoding.{encoded}
 use Rattle.p21_tree.specs.declared.header.Header as spelled_header
 use Rattle.p21_tree.specs.declared.header.HeaderValue.{HeaderValue}
@@ -30,8 +30,8 @@ use Rattle.p21_canonical.specs.Binaries.{binary}
 use Rattle.rp_content.specs.declared.content.Content.{Content}
 use Rattle.rp_content.specs.declared.header.Header.{Header}
 use Rattle.rp_content.specs.declared.instance.Instance.{Instance}
-use Rattle.rp_content.specs.declared.instance.Types.{Types}
-use Rattle.rp_content.specs.declared.instance.Types.TheVariants.{Leaf, Several}
+use Rattle.rp_content.specs.declared.instance.Entities.{Entities}
+use Rattle.rp_content.specs.declared.instance.Entities.TheVariants.{Leaf, Several}
 use Rattle.rp_numbers.specs.Written.{written}
 use Rattle.rp_numbers.specs.declared.Logical.{Logical}
 use Rattle.rp_numbers.specs.declared.Logical.TheVariants as l
@@ -142,12 +142,12 @@ module _ (schema : Checked) where
   records [] values = []
   records (p ∷ ps) values = record_of p (take (length p.marks) values) ∷ records ps (drop (length p.marks) values)
 
-  abbrev pub mapping : Types → List Value → Mapping
+  abbrev pub mapping : Entities → List Value → Mapping
   mapping (Leaf leaf) values = Internal (record_of (leaf_part leaf) values)
   mapping (Several all) values = External (records (own_parts all) values)
 
   abbrev pub instance_tree : Instance → spelled.Instance
-  instance_tree i = record { name = i.name; mapping = mapping i.types i.values }
+  instance_tree i = record { name = i.name; mapping = mapping i.entities i.values }
 
   -- ---- what a model holds
 

@@ -2,8 +2,8 @@
 
 ghost use Rattle.std.specs.Prelude.{◌≡◌, ◌++◌, ◌∷◌, [], OnOk, length, map, take, drop};
 ghost use Rattle.std.specs.List.{flat_map};
+ghost use Rattle.plain_data.specs.Numbers.{numbered};
 ghost use Rattle.ex_layouts.specs.Layouts as layouts_spec;
-ghost use Rattle.lineage.specs.Numbered.{numbered};
 ghost use Rattle.p21_spelling.specs.Instances as spelled;
 ghost use Rattle.p21_spelling.specs.Tokens.{enclosed};
 ghost use Rattle.p21_canonical.specs.Trees as spec;
@@ -15,7 +15,7 @@ use ex_layouts::{Layout, Layouts, LoadedSchema, layout_of};
 use ex_named::NamedEntity;
 use ex_slots::Slot;
 use ex_types::CheckedSchema;
-use rp_content::{Instance, Types};
+use rp_content::{Entities, Instance};
 use rp_value::Value;
 use std::alloc::{AllocError, Global};
 
@@ -96,16 +96,16 @@ fn write_several(
 fn write_laid_out(
     out: &mut Output,
     schema: &CheckedSchema,
-    types: &Types,
+    entities: &Entities,
     layout: &Layout<'_>,
     values: &[Value],
 ) -> Result<(), AllocError>
-    requires { layout.now ≡ layouts_spec.layout schema.now types.now }
-    ensures { OnOk result (out.new ≡ out.old ++ spelled.mapping_text (spec.mapping schema.now types.now values.now)) }
+    requires { layout.now ≡ layouts_spec.layout schema.now entities.now }
+    ensures { OnOk result (out.new ≡ out.old ++ spelled.mapping_text (spec.mapping schema.now entities.now values.now)) }
 {
-    match types {
-        Types::Leaf(leaf) => write_record(out, schema, *leaf, layout.slots_of(0), values),
-        Types::Several(all) => write_several(out, schema, all.as_slice(), layout, values),
+    match entities {
+        Entities::Leaf(leaf) => write_record(out, schema, *leaf, layout.slots_of(0), values),
+        Entities::Several(all) => write_several(out, schema, all.as_slice(), layout, values),
     }
 }
 
@@ -114,19 +114,19 @@ fn write_mapping(
     alloc: Global,
     out: &mut Output,
     layouts: &mut Layouts<'_>,
-    types: &Types,
+    entities: &Entities,
     values: &[Value],
 ) -> Result<(), AllocError>
     ensures layouts { layouts.new ≡ layouts.old }
-    ensures text { OnOk result (out.new ≡ out.old ++ spelled.mapping_text (spec.mapping layouts.old types.now values.now)) }
+    ensures text { OnOk result (out.new ≡ out.old ++ spelled.mapping_text (spec.mapping layouts.old entities.now values.now)) }
 {
-    let schema = layouts.schema();
-    if let Some(layout) = layouts.known(types) {
-        return write_laid_out(out, schema.checked(), types, layout, values);
+    let schema = layouts.loaded();
+    if let Some(layout) = layouts.known(entities) {
+        return write_laid_out(out, schema.checked(), entities, layout, values);
     }
-    let layout = layout_of(alloc, schema, types)?;
-    write_laid_out(out, schema.checked(), types, &layout, values)?;
-    layouts.keep(types, layout)
+    let layout = layout_of(alloc, schema, entities)?;
+    write_laid_out(out, schema.checked(), entities, &layout, values)?;
+    layouts.keep(entities, layout)
 }
 
 /// `#name=mapping;`
@@ -145,7 +145,7 @@ pub fn write_entity_instance(
         alloc,
         out,
         layouts,
-        &instance.types,
+        &instance.entities,
         instance.values.as_slice(),
     )?;
     out.push(b';')

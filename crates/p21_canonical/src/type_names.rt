@@ -3,14 +3,14 @@
 ghost use Rattle.std.specs.Prelude.{◌≡◌, IfOk, codes};
 ghost use Rattle.std.specs.List.{join_by};
 ghost use Rattle.p21_canonical.specs.Trees as tree;
-ghost use Rattle.p21_canonical.specs.Types as spec;
+ghost use Rattle.p21_canonical.specs.TypeNames as spec;
 
 use crate::instance::entity_name;
 use ex_layouts::LoadedSchema;
 use ex_named::NamedEntity;
 use itertools::Itertools;
 use plain_data::Text;
-use rp_content::Types;
+use rp_content::Entities;
 use std::alloc::{AllocError, Global};
 
 /// The names of these entities, joined by `+`.
@@ -25,13 +25,13 @@ fn joined(alloc: Global, entities: &[NamedEntity], all: &[usize]) -> Result<Text
 pub fn type_text(
     alloc: Global,
     schema: &LoadedSchema<'_>,
-    types: &Types,
+    entities: &Entities,
 ) -> Result<Text, AllocError>
-    ensures { IfOk result (λ text. text ≡ spec.type_text schema.now types.now) }
+    ensures { IfOk result (λ text. text ≡ spec.type_text schema.now entities.now) }
 {
-    let entities = schema.entities();
-    match types {
-        Types::Leaf(leaf) => Text::from_str(alloc, entity_name(entities, *leaf)),
-        Types::Several(all) => joined(alloc, entities, all.as_slice()),
+    let declared = schema.entities();
+    match entities {
+        Entities::Leaf(leaf) => Text::from_str(alloc, entity_name(declared, *leaf)),
+        Entities::Several(all) => joined(alloc, declared, all.as_slice()),
     }
 }

@@ -12,7 +12,7 @@ use Rattle.std.specs.Str.{encode_utf8_all, chars}
 use lib.Utf8.{scalar, scalars}
 use Rattle.p21_escapes.specs.Digits.{digit, is_digit, digit_value, four, eight, value_of_four, end}
 use Rattle.p21_escapes.specs.Encoding.{is_plain, Run, Plain, Others, with_other, runs, is_wide, plain_text, run_text, runs_text, encoded, is_paired}
-use Rattle.p21_escapes.specs.Decoding.{Spelled, appended, ◌>>=◌, character, is_high, unit, groups, short, long, short_groups, long_groups, enclosed, hexadecimal, escape, front, spelled_from, spelled, is_line_end, text_of, decoded}
+use Rattle.p21_escapes.specs.Decoding.{Decoding, appended, ◌>>=◌, character, is_high, unit, groups, short, long, short_groups, long_groups, enclosed, hexadecimal, escape, front, spelled_from, spelled, is_line_end, text_of, decoded}
 
 -- ---- digits
 
@@ -180,7 +180,7 @@ not_wide (c ∷ cs) e = by_test (is_wide c) refl e (not_wide cs)
 taken : (g rest : List ℕ) (n : ℕ) → length g ≡ n → take n (g ++ rest) ≡ g
 taken g rest n is = ap (λ k. take k (g ++ rest)) (sym is) ∙ take-append_seam g rest
 
-enclosed_all : (n : ℕ) (spell : List ℕ → Spelled (Unit {0})) (g rest text : List ℕ) → length g ≡ 4 * n → spell g ≡ Ok (tt, text) → enclosed n spell (g ++ rest) ≡ Ok (4 * n + 8, text)
+enclosed_all : (n : ℕ) (spell : List ℕ → Decoding (Unit {0})) (g rest text : List ℕ) → length g ≡ 4 * n → spell g ≡ Ok (tt, text) → enclosed n spell (g ++ rest) ≡ Ok (4 * n + 8, text)
 enclosed_all n spell g rest text size is = ap (λ l. spell l >>= λ _. Ok (4 * n + 8, [])) (taken g rest (4 * n) size) ∙ ap (λ p. p >>= λ _. Ok (4 * n + 8, [])) is ∙ ap (λ l. Ok (4 * n + 8, l)) (append-nil text)
 
 no_zero : (n : ℕ) → 0 < n → (n == 0) ≡ false

@@ -7,11 +7,12 @@ use Rattle.std.specs.List.{list_all, list_any}
 use Rattle.std.proofs.lemmas.Str.{encode_ascii}
 use Rattle.std.specs.Str.{IsAscii}
 use lib.Utf8.{scalar}
-use Rattle.text_forms.specs.declared.Failure.{Failure}
-use Rattle.text_forms.specs.declared.Failure.TheVariants.{NoMemory, Fault}
-use Rattle.text_forms.specs.Gives.{Fails, Reads}
+use Rattle.plain_data.specs.declared.failure.Failure.{Failure}
+use Rattle.plain_data.specs.declared.failure.Failure.TheVariants.{NoMemory, Fault}
+use Rattle.plain_data.specs.Gives.{Fails}
+use Rattle.text_forms.specs.Reads.{Reads}
 use Rattle.p21_escapes.specs.declared.fault.StringFault.{StringFault}
-use Rattle.p21_escapes.specs.Decoding.{Spelled, appended, ◌>>=◌, coded, front, is_bare, spelled_from, spelled, is_line_end, text_of, decoded, fault_of, fault}
+use Rattle.p21_escapes.specs.Decoding.{Decoding, appended, ◌>>=◌, coded, front, is_bare, spelled_from, spelled, is_line_end, text_of, decoded, fault_of, fault}
 use Rattle.p21_escapes.specs.Forms.{checked}
 use Rattle.p21_escapes.specs.LineEnds.{kept}
 use Rattle.p21_escapes.proofs.Runs.{first_holds, second_holds}
@@ -64,7 +65,7 @@ bare_front : (b : ℕ) (z : List ℕ) → is_bare b ≡ true → front (b ∷ z)
 unfolding front
 bare_front b z is = grind (arith, nat_tests)
 
-appended_none : {A : Type 0} (p : Spelled A) → appended [] p ≡ p
+appended_none : {A : Type 0} (p : Decoding A) → appended [] p ≡ p
 appended_none (Ok p) = refl
 appended_none (Err fault) = refl
 
@@ -109,7 +110,7 @@ pub no_fault : (bytes : List ℕ) → checked (spelled (kept bytes)) ≡ Ok tt �
 unfolding fault decoded kept
 no_fault bytes is = of_text (spelled (kept bytes)) is
   where
-    of_text : (p : Spelled (Unit {0})) → checked p ≡ Ok tt → fault_of (text_of p) ≡ None
+    of_text : (p : Decoding (Unit {0})) → checked p ≡ Ok tt → fault_of (text_of p) ≡ None
     of_text (Ok p) is = refl
     of_text (Err f) is = cc
 
@@ -117,7 +118,7 @@ pub one_fault : (bytes : List ℕ) (f : StringFault) → checked (spelled (kept 
 unfolding fault decoded kept
 one_fault bytes f is = of_text (spelled (kept bytes)) is
   where
-    of_text : (p : Spelled (Unit {0})) → checked p ≡ Err f → fault_of (text_of p) ≡ Some f
+    of_text : (p : Decoding (Unit {0})) → checked p ≡ Err f → fault_of (text_of p) ≡ Some f
     of_text (Ok p) is = cc
     of_text (Err e) is = cc
 

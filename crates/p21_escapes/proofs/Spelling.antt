@@ -1,31 +1,31 @@
 -- One spelled after the other, behind a text.
 use Rattle.std.proofs.Common.{◌≡◌, ℕ, List, [], ◌∷◌, ◌++◌, Ok, Err, refl, sym, ◌∙◌, ap, append_assoc, append-nil, Option, Some, None, true, false, zero, suc, ◌+◌, ◌*◌, ◌≤◌, Bool, ◌&&◌, length, take, drop, if◌then◌else◌, slice_index, arith}
 use Rattle.std.specs.Option.{option_map}
-use Rattle.text_forms.specs.declared.Failure.{Failure}
-use Rattle.text_forms.specs.declared.Failure.TheVariants.{NoMemory, Fault}
-use Rattle.text_forms.specs.Gives.{Fails}
+use Rattle.plain_data.specs.declared.failure.Failure.{Failure}
+use Rattle.plain_data.specs.declared.failure.Failure.TheVariants.{NoMemory, Fault}
+use Rattle.plain_data.specs.Gives.{Fails}
 use Rattle.p21_escapes.specs.declared.fault.StringFault.{StringFault}
 use Rattle.p21_escapes.specs.Digits.{are_four}
-use Rattle.p21_escapes.specs.Decoding.{Spelled, appended, ◌>>=◌, is_end, groups, unit, ended, nothing, character, short, long}
+use Rattle.p21_escapes.specs.Decoding.{Decoding, appended, ◌>>=◌, is_end, groups, unit, ended, nothing, character, short, long}
 use Rattle.p21_escapes.specs.Forms.{group, told_unit, told_character, checked}
 
-pub appended_twice : {A : Type 0} (out text : List ℕ) (p : Spelled A) → appended out (appended text p) ≡ appended (out ++ text) p
+pub appended_twice : {A : Type 0} (out text : List ℕ) (p : Decoding A) → appended out (appended text p) ≡ appended (out ++ text) p
 appended_twice out text (Ok p) = ap (λ l. Ok (p.0, l)) (sym (append_assoc out text p.1))
 appended_twice out text (Err fault) = refl
 
 -- what was read in front, and then the rest
-pub then_ok : {A B : Type 0} (out new : List ℕ) (p : Spelled A) (a : A) (next : A → Spelled B) → appended out p ≡ Ok (a, new) → appended out (p >>= next) ≡ appended new (next a)
+pub then_ok : {A B : Type 0} (out new : List ℕ) (p : Decoding A) (a : A) (next : A → Decoding B) → appended out p ≡ Ok (a, new) → appended out (p >>= next) ≡ appended new (next a)
 then_ok {A = A} out new (Ok p) a next is =
     let pair : (p.0, out ++ p.1) ≡ (a, new) = cc in
     appended_twice out p.1 (next p.0) ∙ ap (λ (q : A × List ℕ). appended q.1 (next q.0)) pair
 then_ok out new (Err fault) a next is = cc
 
-pub then_err : {A B : Type 0} (out : List ℕ) (p : Spelled A) (fault : StringFault) (next : A → Spelled B) → appended out p ≡ Err fault → appended out (p >>= next) ≡ Err fault
+pub then_err : {A B : Type 0} (out : List ℕ) (p : Decoding A) (fault : StringFault) (next : A → Decoding B) → appended out p ≡ Err fault → appended out (p >>= next) ≡ Err fault
 then_err out (Ok p) fault next is = cc
 then_err out (Err e) fault next is = cc
 
 -- no text after it
-pub then_told : {A B : Type 0} (out new : List ℕ) (p : Spelled A) (a : A) (b : B) → appended out p ≡ Ok (a, new) → appended out (p >>= λ _. Ok (b, [])) ≡ Ok (b, new)
+pub then_told : {A B : Type 0} (out new : List ℕ) (p : Decoding A) (a : A) (b : B) → appended out p ≡ Ok (a, new) → appended out (p >>= λ _. Ok (b, [])) ≡ Ok (b, new)
 then_told out new p a b is = then_ok out new p a (λ _. Ok (b, [])) is ∙ ap (λ l. Ok (b, l)) (append-nil new)
 
 pub ruleset writer_laws = (then_told, then_err)
@@ -122,17 +122,17 @@ groups_step n z whole goes digits held = counts n (groups (drop 4 z)) ∙ sym (a
 
 -- ---- without the text
 
-pub checked_appended : {A : Type 0} (text : List ℕ) (p : Spelled A) → checked (appended text p) ≡ checked p
+pub checked_appended : {A : Type 0} (text : List ℕ) (p : Decoding A) → checked (appended text p) ≡ checked p
 checked_appended text (Ok p) = refl
 checked_appended text (Err fault) = refl
 
-pub checked_ok : {A B : Type 0} (p : Spelled A) (a : A) (next : A → Spelled B) → checked p ≡ Ok a → checked (p >>= next) ≡ checked (next a)
+pub checked_ok : {A B : Type 0} (p : Decoding A) (a : A) (next : A → Decoding B) → checked p ≡ Ok a → checked (p >>= next) ≡ checked (next a)
 checked_ok (Ok p) a next is =
     let same : p.0 ≡ a = cc in
     checked_appended p.1 (next p.0) ∙ ap (λ b. checked (next b)) same
 checked_ok (Err fault) a next is = cc
 
-pub checked_err : {A B : Type 0} (p : Spelled A) (fault : StringFault) (next : A → Spelled B) → checked p ≡ Err fault → checked (p >>= next) ≡ Err fault
+pub checked_err : {A B : Type 0} (p : Decoding A) (fault : StringFault) (next : A → Decoding B) → checked p ≡ Err fault → checked (p >>= next) ≡ Err fault
 checked_err (Ok p) fault next is = cc
 checked_err (Err e) fault next is = cc
 

@@ -9,30 +9,30 @@ use Rattle.p21_escapes.specs.declared.fault.StringFault.TheVariants.{BadEscape, 
 use Rattle.p21_escapes.specs.Digits.{is_digit, digit_value, are_four, value_of_four}
 
 -- A number or the like, and the text that was spelled, in UTF-8; or the first fault.
-abbrev pub Spelled : Type 0 → Type 0
-Spelled A = Result (A × List ℕ) StringFault
+abbrev pub Decoding : Type 0 → Type 0
+Decoding A = Result (A × List ℕ) StringFault
 
-abbrev pub appended : {A : Type 0} → List ℕ → Spelled A → Spelled A
+abbrev pub appended : {A : Type 0} → List ℕ → Decoding A → Decoding A
 appended text (Ok p) = Ok (p.0, text ++ p.1)
 appended text (Err fault) = Err fault
 
 -- one after the other
 infixl 10 ◌>>=◌
-abbrev pub ◌>>=◌ : {A B : Type 0} → Spelled A → (A → Spelled B) → Spelled B
+abbrev pub ◌>>=◌ : {A B : Type 0} → Decoding A → (A → Decoding B) → Decoding B
 (Ok p) >>= next = appended p.1 (next p.0)
 (Err fault) >>= next = Err fault
 
-abbrev pub nothing : Spelled (Unit {0})
+abbrev pub nothing : Decoding (Unit {0})
 nothing = Ok (tt, [])
 
 -- What stands in front is told as the number of bytes that it takes, and what it spells.
 abbrev pub Front : Type 0
-Front = Spelled ℕ
+Front = Decoding ℕ
 
 abbrev pub bad_escape : Front
 bad_escape = Err BadEscape
 
-abbrev pub character : ℕ → Spelled (Unit {0})
+abbrev pub character : ℕ → Decoding (Unit {0})
 character code = if scalar code then Ok (tt, encode_utf8 code) else Err BadCode
 
 -- this character, which so many bytes spell
@@ -56,26 +56,26 @@ abbrev pub is_low : ℕ → Bool
 is_low u = nat_le 56320 u && nat_lt u 57344
 
 -- A group of four digits, after a high surrogate or after none. A high surrogate waits for the low one.
-abbrev pub unit : Option ℕ → ℕ → Spelled (Option ℕ)
+abbrev pub unit : Option ℕ → ℕ → Decoding (Option ℕ)
 unit None u = if is_high u then Ok (Some u, []) else (character u >>= λ _. Ok (None, []))
 unit (Some high) u = if is_low u then (character ((high - 55296) * 1024 + (u - 56320) + 65536) >>= λ _. Ok (None, [])) else Err BadCode
 
-abbrev pub ended : Option ℕ → Spelled (Unit {0})
+abbrev pub ended : Option ℕ → Decoding (Unit {0})
 ended None = nothing
 ended (Some high) = Err BadCode
 
 -- groups of four digits, as UTF-16
-abbrev pub short : Option ℕ → List ℕ → Spelled (Unit {0})
+abbrev pub short : Option ℕ → List ℕ → Decoding (Unit {0})
 short high (a ∷ b ∷ c ∷ d ∷ z) = unit high (value_of_four a b c d) >>= λ next. short next z
 short high _ = ended high
 
 -- groups of eight digits, each a character
-abbrev pub long : List ℕ → Spelled (Unit {0})
+abbrev pub long : List ℕ → Decoding (Unit {0})
 long (a ∷ b ∷ c ∷ d ∷ e ∷ f ∷ g ∷ h ∷ z) = character (value_of_four a b c d * 65536 + value_of_four e f g h) >>= λ _. long z
 long _ = nothing
 
 -- `\X2\` or `\X4\`, some groups and `\X0\`
-abbrev pub enclosed : ℕ → (List ℕ → Spelled (Unit {0})) → List ℕ → Front
+abbrev pub enclosed : ℕ → (List ℕ → Decoding (Unit {0})) → List ℕ → Front
 enclosed n spell z = spell (take (4 * n) z) >>= λ _. Ok (4 * n + 8, [])
 
 abbrev pub short_groups : Option ℕ → List ℕ → Front
@@ -151,18 +151,18 @@ abbrev pub is_bare : ℕ → Bool
 is_bare b = nat_lt b 128 && not (b == 39) && not (b == 92)
 
 -- The number counts the bytes left of what stands in front.
-abbrev pub spelled_from : ℕ → List ℕ → Spelled (Unit {0})
+abbrev pub spelled_from : ℕ → List ℕ → Decoding (Unit {0})
 spelled_from left [] = nothing
 spelled_from (suc left) (b ∷ z) = spelled_from left z
 spelled_from zero (b ∷ z) = front (b ∷ z) >>= λ n. spelled_from (n - 1) z
 
-unfoldable pub spelled : List ℕ → Spelled (Unit {0})
+unfoldable pub spelled : List ℕ → Decoding (Unit {0})
 spelled z = spelled_from 0 z
 
 abbrev pub is_line_end : ℕ → Bool
 is_line_end b = b == 10 || b == 13
 
-abbrev pub text_of : Spelled (Unit {0}) → Result (List ℕ) StringFault
+abbrev pub text_of : Decoding (Unit {0}) → Result (List ℕ) StringFault
 text_of (Ok p) = Ok (p.1)
 text_of (Err fault) = Err fault
 

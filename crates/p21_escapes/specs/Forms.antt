@@ -5,7 +5,7 @@ use Rattle.p21_escapes.specs.declared.escape.Form.{Form}
 use Rattle.p21_escapes.specs.declared.escape.Form.TheVariants.{Nothing, Coded, Raw, ShortGroups, LongGroups}
 use Rattle.p21_escapes.specs.declared.fault.StringFault.{StringFault}
 use Rattle.p21_escapes.specs.Digits.{value_of_four}
-use Rattle.p21_escapes.specs.Decoding.{Spelled, Front, coded, raw, enclosed, short, long}
+use Rattle.p21_escapes.specs.Decoding.{Decoding, Front, coded, raw, enclosed, short, long}
 
 -- the value of the group of four digits in front
 abbrev pub group : List ℕ → ℕ
@@ -31,16 +31,16 @@ Fits (Raw n) z = (1 ≤ n) × (n ≤ 4)
 Fits (ShortGroups n) z = (n < 2 ^ 61) × (4 * n ≤ length (drop 4 z))
 Fits (LongGroups n) z = (n < 2 ^ 61) × (4 * n ≤ length (drop 4 z))
 
-abbrev pub told_character : Result ℕ StringFault → Spelled (Unit {0})
+abbrev pub told_character : Result ℕ StringFault → Decoding (Unit {0})
 told_character (Ok c) = Ok (tt, encode_utf8 c)
 told_character (Err fault) = Err fault
 
-abbrev pub told_unit : Result (Option ℕ × Option ℕ) StringFault → Spelled (Option ℕ)
+abbrev pub told_unit : Result (Option ℕ × Option ℕ) StringFault → Decoding (Option ℕ)
 told_unit (Ok (Some c, next)) = Ok (next, encode_utf8 c)
 told_unit (Ok (None, next)) = Ok (next, [])
 told_unit (Err fault) = Err fault
 
 -- without the text
-abbrev pub checked : {A : Type 0} → Spelled A → Result A StringFault
+abbrev pub checked : {A : Type 0} → Decoding A → Result A StringFault
 checked (Ok p) = Ok p.0
 checked (Err fault) = Err fault

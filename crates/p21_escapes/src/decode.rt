@@ -2,7 +2,8 @@
 
 ghost use Rattle.std.specs.Prelude.{◌≡◌, ◌<◌, ◌≤◌, ◌*◌, length, take, None, IfOk, MatchResult};
 ghost use Rattle.std.specs.String.{string_bytes};
-ghost use Rattle.text_forms.specs.Gives.{Fails, Reads};
+ghost use Rattle.plain_data.specs.Gives.{Fails};
+ghost use Rattle.text_forms.specs.Reads.{Reads};
 ghost use Rattle.p21_escapes.specs.Decoding as spec;
 ghost use Rattle.p21_escapes.specs.Forms.{spelled_by, Fits};
 
@@ -10,7 +11,7 @@ use crate::code::{character, group, long_group, raw, unit};
 use crate::escape::{Form, front};
 use crate::fault::StringFault;
 use crate::kept_bytes::Kept;
-use text_forms::Failure;
+use plain_data::Failure;
 
 fn push_character(out: &mut String, code: u64) -> Result<(), Failure<StringFault>>
     ensures { Reads (spec.appended (string_bytes out.old) (spec.character code)) result (string_bytes out.new) }

@@ -3,15 +3,15 @@
 ghost use Rattle.std.specs.Prelude.{◌≡◌, [], IfOk, OnOk};
 ghost use Rattle.text_forms.specs.Forms as forms;
 ghost use Rattle.text_forms.specs.Forms.{turns};
-ghost use Rattle.text_forms.specs.Gives.{ReadsAs, Takes};
+ghost use Rattle.text_forms.specs.Reads.{ReadsAs, Takes};
 ghost use Rattle.p21_lexemes.specs.Tokens as spec;
 
 use p21_lexemes::{TokenKind, Tokens};
 use p21_tree::{FileFault, Instance, Record, Value};
-use plain_data::Items;
+use plain_data::{Failure, Items};
 use std::alloc::{AllocError, Global};
 use std::marker::Model;
-use text_forms::{Failure, TokenSource};
+use text_forms::TokenSource;
 
 /// What is left of a file's tokens. Lists are short and many: where instances aren't kept, each list is read into the room
 /// that another one left.

@@ -15,10 +15,9 @@ use crate::source::Source;
 use crate::whole::{file_end, mark, section};
 use p21_lexemes::{TokenKind, Tokens};
 use p21_tree::{Instance, Raw, Section};
-use plain_data::Rows;
+use plain_data::{Failure, Rows};
 use std::alloc::{AllocError, Global};
 use std::mem;
-use text_forms::Failure;
 
 /// What the instances of a file are shown to, in their order.
 pub trait Visitor {

@@ -1,16 +1,16 @@
 //! A whole exchange file.
 
 ghost use Rattle.std.specs.Prelude.{◌≡◌};
-ghost use Rattle.text_forms.specs.Gives.{Reads, Gives};
+ghost use Rattle.plain_data.specs.Gives.{Gives};
+ghost use Rattle.text_forms.specs.Reads.{Reads};
 ghost use Rattle.p21_grammar.specs.File as spec;
 
 use crate::grammar::{Read, instances, quoted};
 use crate::header::{Head, header_section, line, one_schema};
 use p21_lexemes::{TokenKind, Tokens};
 use p21_tree::{FileFault, Instance, Raw, Section};
-use plain_data::Rows;
+use plain_data::{Failure, Rows};
 use std::alloc::Global;
-use text_forms::Failure;
 
 /// A data section.
 #[derive(Drop)]

@@ -3,15 +3,12 @@ use Rattle.std.proofs.Common.{◌≡◌, ℕ, suc, Bool, true, false, ◌||◌, 
 use Rattle.std.specs.List.{AllByRecursion}
 use Rattle.std.proofs.lemmas.Bool.{cases_Bool, or_parts, or_from}
 use Rattle.std.proofs.lemmas.Bool.Decides.{nat_tests}
-use Rattle.p21_instances.specs.Instances.{placed, in_order, is_among}
+use Rattle.plain_data.specs.Numbers.{is_among}
+use Rattle.plain_data.proofs.Disjunctions.{or_turn}
+use Rattle.p21_instances.specs.Instances.{placed, in_order}
 
 other_way : (m n : ℕ) → (m == n) ≡ false → (n == m) ≡ false
 other_way m n apart = grind (arith, nat_tests)
-
-or_turn : (a b c : Bool) → (a || (b || c)) ≡ (b || (a || c))
-or_turn true true c = refl
-or_turn true false c = refl
-or_turn false b c = refl
 
 module _ {X : Type 0} (name : X → ℕ) where
   abbrev pub below : X → X → Bool

@@ -10,8 +10,10 @@ use Rattle.std.proofs.lemmas.Map.Keys.{IsDistinct-IsPermutation, sorted_from_str
 use Rattle.std.specs.List.{AllByRecursion, IsAllAdjacentAnswer, IsDistinct, list_any}
 use Rattle.std.specs.List.Sorted.{IsBinarySearchResult, IsPermutation, IsSorted, IsStrictlySortedBy}
 use Rattle.std.specs.Ordering.{is_lt, nat_cmp}
+use Rattle.plain_data.specs.Numbers.{is_among}
+use Rattle.plain_data.proofs.Numbers.{none_among, not_above, not_below}
 use Rattle.p21_tree.specs.declared.instance.Instance.{Instance}
-use Rattle.p21_instances.specs.Instances.{has_twice, is_among, names}
+use Rattle.p21_instances.specs.Instances.{has_twice, names}
 use Rattle.p21_instances.proofs.Sets.{map-take_more}
 use Rattle.p21_instances.proofs.Twice.{has_twice-append, has_twice-push}
 
@@ -20,16 +22,6 @@ abbrev pub is_one : ℕ → ℕ → Bool
 is_one m n = m == n
 
 -- ---- search
-
-none_among : (xs : List ℕ) (x : ℕ) → ((k : ℕ) → k < length xs → (get_or xs k 0 == x) ≡ false) → is_among xs x ≡ false
-none_among [] x h = refl
-none_among (y ∷ ys) x h = rw (h 0 (omega arith), none_among ys x (λ k within. h (suc k) (omega arith))) refl
-
-not_below : (a x : ℕ) → a < x → (a == x) ≡ false
-not_below a x h = grind (arith, nat_tests)
-
-not_above : (a x : ℕ) → x < a → (a == x) ≡ false
-not_above a x h = grind (arith, nat_tests)
 
 pub found_is : (xs : List ℕ) (x : ℕ) (r : Result ℕ ℕ) → IsSorted nat_cmp xs → IsBinarySearchResult (λ y. nat_cmp y x) xs r → is_ok r ≡ is_among xs x
 found_is xs x (Ok i) up h =

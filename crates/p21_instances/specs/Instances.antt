@@ -1,5 +1,5 @@
 -- The instances of a file: elements in order, their names, and what they refer to.
-use Rattle.std.specs.Prelude.{ℕ, Bool, false, ◌||◌, ◌==◌, if◌then◌else◌, List, [], ◌∷◌, map}
+use Rattle.std.specs.Prelude.{ℕ, Bool, false, ◌||◌, if◌then◌else◌, List, [], ◌∷◌, map}
 use Rattle.std.specs.List.{flat_map, list_any}
 use Rattle.p21_tree.specs.declared.instance.Instance.{Instance}
 use Rattle.p21_tree.specs.declared.value.Value.{Value}
@@ -23,9 +23,6 @@ module _ {X : Type 0} (is_below : X → X → Bool) where
 
 abbrev pub names : List Instance → List ℕ
 names = map (λ i. i.name)
-
-abbrev pub is_among : List ℕ → ℕ → Bool
-is_among names name = list_any (λ n. n == name) names
 
 -- whether two elements are the same
 abbrev pub has_twice : {X : Type 0} → (X → X → Bool) → List X → Bool

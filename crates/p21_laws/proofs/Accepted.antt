@@ -4,7 +4,7 @@ use Rattle.ex_named.specs.declared.declaration.NamedSchema.{NamedSchema}
 use Rattle.ex_resolve.specs.Proved.{DeclaresOnce, HasIdentifiers, count, held_types}
 use Rattle.ex_resolve.specs.Schemas.{Resolved}
 use Rattle.ex_types.specs.Checked.{entity_names, type_names}
-use Rattle.lineage.specs.Lineage.{IsAcyclic}
+use Rattle.graphs.specs.Graphs.{IsAcyclic}
 use Rattle.p21_laws.proofs.Names.{count_both, resolved_types}
 use Rattle.p21_laws.proofs.Words.{words}
 use Rattle.p21_laws.specs.Schemas.{IsAccepted}

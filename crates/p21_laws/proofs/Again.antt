@@ -4,13 +4,14 @@ use Rattle.std.proofs.lemmas.Bool.{eq-eqb}
 use Rattle.std.proofs.lemmas.List.Folds.{flat_map-map, list_all-map}
 use Rattle.std.specs.List.{list_all}
 use Rattle.std.specs.Str.{str_to_ascii_uppercase}
+use Rattle.plain_data.specs.Numbers.{is_among}
 use Rattle.ex_slots.specs.Slots.{Slot}
 use Rattle.ex_types.specs.Checked.{Checked}
-use Rattle.lineage.proofs.Certain.{each_passes}
-use Rattle.lineage.specs.Lineage.{is_among}
-use Rattle.p21_mappings.specs.Instances.{all_there, and_then, by_entities, by_entity, by_mapping, by_layout, by_several, counted, each, has_twice, in_places, instance, keywords, made, part, repeats, same_counts}
+use Rattle.graphs.proofs.Certain.{each_passes}
+use Rattle.p21_mappings.specs.Instances.{and_then, by_entities, by_entity, by_mapping, by_layout, by_several, counted, each, has_twice, in_places, instance, keywords, made, part, repeats, same_counts}
+use Rattle.p21_values.specs.Taking.{all_there}
 use Rattle.ex_layouts.specs.Entities.{entity_spelled}
-use Rattle.ex_layouts.specs.Layouts.{of_leaf, of_several, order_by, place_in, slots_in, types_by}
+use Rattle.ex_layouts.specs.Layouts.{of_leaf, of_several, order_by, place_in, slots_in, entities_by}
 use Rattle.p21_mappings.specs.Layouts.{external, internal}
 use Rattle.p21_instances.specs.Instances.{references}
 use Rattle.p21_spelling.proofs.Runs.{first_holds}
@@ -20,15 +21,15 @@ use Rattle.p21_tree.specs.declared.instance.Record.{Record}
 use Rattle.p21_tree.specs.declared.value.Value as tree
 use Rattle.p21_canonical.specs.Trees.{entity_name, instance_tree, leaf_part, mapping, own_parts, record_of, records}
 use Rattle.rp_content.specs.declared.instance.Instance.{Instance}
-use Rattle.rp_content.specs.declared.instance.Types.{Types}
-use Rattle.rp_content.specs.declared.instance.Types.TheVariants.{Leaf, Several}
+use Rattle.rp_content.specs.declared.instance.Entities.{Entities}
+use Rattle.rp_content.specs.declared.instance.Entities.TheVariants.{Leaf, Several}
 use Rattle.rp_value.specs.declared.value.Value.{Value}
 use Rattle.p21_laws.proofs.Attributes.{Kept, as_many_trees, joined, trees_of, values_again}
 use Rattle.p21_laws.proofs.Entities.{entities_apart, entities_of, entity_again, entity_upper}
 use Rattle.p21_laws.proofs.Keywords.{all_found, none_repeat}
 use Rattle.p21_laws.proofs.Pairs.{at_place, both_mapped, flat_same}
 use Rattle.p21_laws.proofs.Sets.{behind, here}
-use Rattle.p21_laws.proofs.Shapes.{OfLeaf, OfSeveral, OfTypes, leaf_record, made as made_record, record_by, several_records, slots_by, slots_with}
+use Rattle.p21_laws.proofs.Shapes.{OfLeaf, OfSeveral, OfEntities, leaf_record, made as made_record, record_by, several_records, slots_by, slots_with}
 use Rattle.p21_laws.specs.Instances.{parts}
 use Rattle.p21_laws.specs.Schemas.{IsAccepted}
 
@@ -78,15 +79,15 @@ module _ (schema : Checked) (accepted : IsAccepted schema.named) (is_defined : �
     lone_parts : each (part schema is_defined) ((slots_by schema entity, lone) ∷ []) ≡ Ok (ws ∷ [])
     lone_parts = joined (part schema is_defined (slots_by schema entity, lone)) (Ok []) ws [] (values_again schema is_defined (slots_by schema entity) ws is.values (sym (ap refers_all lone_is) ∙ all)) refl
 
-    lone_again : by_mapping schema is_defined name (Internal lone) ≡ Ok (record { name = name; types = Leaf entity; values = ws })
+    lone_again : by_mapping schema is_defined name (Internal lone) ≡ Ok (record { name = name; entities = Leaf entity; values = ws })
     unfolding internal
     lone_again =
         ap (by_entity schema is_defined name (lone ∷ [])) (entity_again schema accepted entity is.there)
         ∙ ap (λ t. by_layout schema is_defined name (lone ∷ []) (if t then Some (of_leaf schema entity) else None)) is.legal
         ∙ by_layout_again (lone ∷ []) (slots_by schema entity ∷ []) (made name (of_leaf schema entity)) (ws ∷ []) lone_counts lone_parts
-        ∙ ap (λ ws. Ok (record { name = name; types = Leaf entity; values = ws })) (append-nil ws)
+        ∙ ap (λ ws. Ok (record { name = name; entities = Leaf entity; values = ws })) (append-nil ws)
 
-    leaf_again : by_mapping schema is_defined name (mapping schema (Leaf entity) ws) ≡ Ok (record { name = name; types = Leaf entity; values = ws })
+    leaf_again : by_mapping schema is_defined name (mapping schema (Leaf entity) ws) ≡ Ok (record { name = name; entities = Leaf entity; values = ws })
     leaf_again = ap (λ r. by_mapping schema is_defined name (Internal r)) lone_is ∙ lone_again
 
   -- ---- several
@@ -127,16 +128,16 @@ module _ (schema : Checked) (accepted : IsAccepted schema.named) (is_defined : �
         ∙ flat_same (λ n. slice_index_or (map is.lists ns) (place_in ns n) []) is.lists ns in_place
         ∙ sym is.joined
 
-    made_is : made name (of_several schema ns) (map is.lists ns) ≡ record { name = name; types = Several ns; values = ws }
+    made_is : made name (of_several schema ns) (map is.lists ns) ≡ record { name = name; entities = Several ns; values = ws }
     made_is =
-        ap (λ o. record { name = name; types = types_by schema ns o; values = in_places (map (place_in ns) (order_by schema ns o)) (map is.lists ns) }) is.leafless
-        ∙ ap (λ (ms : List ℕ). record { name = name; types = Several ms; values = in_places (map (place_in ns) ms) (map is.lists ns) }) is.ordered
-        ∙ ap (λ ws. record { name = name; types = Several ns; values = ws }) in_all_places
+        ap (λ o. record { name = name; entities = entities_by schema ns o; values = in_places (map (place_in ns) (order_by schema ns o)) (map is.lists ns) }) is.leafless
+        ∙ ap (λ (ms : List ℕ). record { name = name; entities = Several ms; values = in_places (map (place_in ns) ms) (map is.lists ns) }) is.ordered
+        ∙ ap (λ ws. record { name = name; entities = Several ns; values = ws }) in_all_places
 
     found_again : all_there (map (λ r. entity_spelled schema r.keyword) (map each_made ns)) ≡ Some ns
     found_again = all_found schema each_made ns (λ n there. entity_again schema accepted n (is.there n there))
 
-    by_several_again : by_several schema is_defined name (map each_made ns) ≡ Ok (record { name = name; types = Several ns; values = ws })
+    by_several_again : by_several schema is_defined name (map each_made ns) ≡ Ok (record { name = name; entities = Several ns; values = ws })
     unfolding by_several external
     by_several_again =
         ap (by_entities schema is_defined name (map each_made ns)) found_again
@@ -161,18 +162,18 @@ module _ (schema : Checked) (accepted : IsAccepted schema.named) (is_defined : �
         ap (λ rs. repeats [] (keywords rs)) several_are ∙ ap (repeats []) (keywords_are ns)
         ∙ none_repeat key ns apart [] ns (λ n there. there) (λ n there. refl) is.once
 
-    several_again : by_mapping schema is_defined name (mapping schema (Several ns) ws) ≡ Ok (record { name = name; types = Several ns; values = ws })
+    several_again : by_mapping schema is_defined name (mapping schema (Several ns) ws) ≡ Ok (record { name = name; entities = Several ns; values = ws })
     several_again = ap (by_several schema is_defined name) several_are ∙ by_several_again
 
   -- ---- any
 
-  mapping_again : (name : ℕ) (types : Types) (ws : List Value) → OfTypes schema Keeps types ws → list_all refers_all (parts (mapping schema types ws)) ≡ true
-      → (has_twice (mapping schema types ws) ≡ false) × (by_mapping schema is_defined name (mapping schema types ws) ≡ Ok (record { name = name; types = types; values = ws }))
+  mapping_again : (name : ℕ) (entities : Entities) (ws : List Value) → OfEntities schema Keeps entities ws → list_all refers_all (parts (mapping schema entities ws)) ≡ true
+      → (has_twice (mapping schema entities ws) ≡ false) × (by_mapping schema is_defined name (mapping schema entities ws) ≡ Ok (record { name = name; entities = entities; values = ws }))
   mapping_again name (Leaf entity) ws is all = (refl, leaf_again name entity ws is (first_holds (refers_all (record_of schema (leaf_part schema entity) ws)) true all))
   mapping_again name (Several ns) ws is all = (never_twice name ns ws is all, several_again name ns ws is all)
 
-  pub read_again : (i : Instance) → OfTypes schema Keeps i.types i.values → list_all refers_all (parts (mapping schema i.types i.values)) ≡ true → instance schema is_defined false (instance_tree schema i) ≡ Ok i
+  pub read_again : (i : Instance) → OfEntities schema Keeps i.entities i.values → list_all refers_all (parts (mapping schema i.entities i.values)) ≡ true → instance schema is_defined false (instance_tree schema i) ≡ Ok i
   unfolding instance
   read_again i is all =
-      let again = mapping_again i.name i.types i.values is all in
-      ap (λ t. if t then Err Twice else by_mapping schema is_defined i.name (mapping schema i.types i.values)) again.0 ∙ again.1
+      let again = mapping_again i.name i.entities i.values is all in
+      ap (λ t. if t then Err Twice else by_mapping schema is_defined i.name (mapping schema i.entities i.values)) again.0 ∙ again.1

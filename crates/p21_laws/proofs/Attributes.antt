@@ -4,7 +4,7 @@ use Rattle.std.specs.List.{AllByRecursion, list_all}
 use Rattle.ex_named.specs.declared.declaration.NamedType.{NamedType}
 use Rattle.ex_slots.specs.Slots.{Slot}
 use Rattle.ex_types.specs.Checked.{Checked}
-use Rattle.p21_mappings.specs.Instances.{Read, and_then, defined, derived_value, each, has_star, is_left_out, is_open, misplaced, value}
+use Rattle.p21_mappings.specs.Instances.{Mapped, and_then, defined, derived_value, each, has_star, is_left_out, is_open, misplaced, value}
 use Rattle.p21_instances.specs.Instances.{references, referred}
 use Rattle.p21_spelling.proofs.Equations.{spelling-Derived}
 use Rattle.p21_spelling.proofs.Runs.{both_hold, first_holds, second_holds}
@@ -24,14 +24,14 @@ use Rattle.p21_laws.proofs.Taken.{bound_again, bound_levels, bound_spelled}
 use Rattle.p21_laws.specs.Types.{AreTypes}
 
 -- what the first gives, and what all others do
-pub split : {B : Type 0} (first : Read B) (others : Read (List B)) (ys : List B) → and_then first (λ y. and_then others (λ zs. Ok (y ∷ zs))) ≡ Ok ys
+pub split : {B : Type 0} (first : Mapped B) (others : Mapped (List B)) (ys : List B) → and_then first (λ y. and_then others (λ zs. Ok (y ∷ zs))) ≡ Ok ys
     → (y : B) × ((zs : List B) × ((first ≡ Ok y) × ((others ≡ Ok zs) × (y ∷ zs ≡ ys))))
 split (Ok y) (Ok zs) ys e = (y, (zs, (refl, (refl, cc))))
 split (Ok y) (Err kind) ys e = cc
 split (Err kind) others ys e = cc
 
 -- both are there
-pub joined : {B : Type 0} (first : Read B) (others : Read (List B)) (y : B) (zs : List B) → first ≡ Ok y → others ≡ Ok zs → and_then first (λ y. and_then others (λ zs. Ok (y ∷ zs))) ≡ Ok (y ∷ zs)
+pub joined : {B : Type 0} (first : Mapped B) (others : Mapped (List B)) (y : B) (zs : List B) → first ≡ Ok y → others ≡ Ok zs → and_then first (λ y. and_then others (λ zs. Ok (y ∷ zs))) ≡ Ok (y ∷ zs)
 joined first others y zs one all = ap (λ r. and_then r (λ y. and_then others (λ zs. Ok (y ∷ zs)))) one ∙ ap (λ r. and_then r (λ zs. Ok (y ∷ zs))) all
 
 module _ (types : List NamedType) where

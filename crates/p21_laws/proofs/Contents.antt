@@ -3,19 +3,20 @@ use Rattle.std.proofs.Common.{◌≡◌, ℕ, Bool, true, false, ◌||◌, ◌==
 use Rattle.std.proofs.lemmas.Bool.Decides.{nat_tests}
 use Rattle.std.proofs.lemmas.List.Folds.{list_all-append, list_any-append}
 use Rattle.std.specs.List.{AllByRecursion, flat_map, list_all, list_any}
+use Rattle.plain_data.specs.Numbers.{is_among}
 use Rattle.ex_slots.specs.Slots.{Slot}
 use Rattle.ex_types.specs.Checked.{Checked}
 use Rattle.p21_bind.specs.Files.{Instances, behind, bound_by, bound_file, first_of, instances, instances_after, told}
 use Rattle.p21_mappings.specs.Contents.{content, header}
-use Rattle.p21_mappings.specs.Instances.{Read, instance}
-use Rattle.p21_instances.specs.Instances.{in_order, is_among, names, references}
+use Rattle.p21_mappings.specs.Instances.{Mapped, instance}
+use Rattle.p21_instances.specs.Instances.{in_order, names, references}
 use Rattle.p21_spelling.proofs.Runs.{both_hold, first_holds, second_holds}
 use Rattle.p21_tree.specs.declared.header.Header as spelled_header
 use Rattle.p21_tree.specs.declared.instance.Instance as tree
 use Rattle.p21_tree.specs.declared.instance.Mapping.{Mapping}
 use Rattle.p21_tree.specs.declared.instance.Record.{Record}
 use Rattle.p21_tree.specs.declared.raw.Raw.{Raw}
-use Rattle.p21_tree.specs.declared.value.Value.{Value as Spelled}
+use Rattle.p21_tree.specs.declared.value.Value.{Value as SpelledValue}
 use Rattle.p21_canonical.specs.Trees.{content_tree, header_tree, instance_tree, mapping}
 use Rattle.rp_content.specs.declared.content.Content.{Content}
 use Rattle.rp_content.specs.declared.instance.Instance.{Instance}
@@ -26,7 +27,7 @@ use Rattle.p21_laws.proofs.Attributes.{Kept, shown_as, trees_pass, value_read}
 use Rattle.p21_laws.proofs.Headers.{header_again}
 use Rattle.p21_laws.proofs.Instances.{instance_read}
 use Rattle.p21_laws.proofs.Order.{OnceBy, all_in_order, any_in_order, neither, once_in_order, order_again}
-use Rattle.p21_laws.proofs.Shapes.{OfTypes, parts_pass}
+use Rattle.p21_laws.proofs.Shapes.{OfEntities, parts_pass}
 use Rattle.p21_laws.specs.Contents.{AreAmong}
 use Rattle.p21_laws.specs.Instances.{parts, references_of}
 use Rattle.p21_laws.specs.Kept.{IsSound}
@@ -74,14 +75,14 @@ module _ (schema : Checked) (accepted : IsAccepted schema.named) where
       list_all_flat_map is_defined (λ part. flat_map references part.values) (parts m)
       ∙ (λ i. list_all (λ part. list_all_flat_map is_defined references part.values i) (parts m))
 
-  abbrev NoMore : Spelled → Type 0
+  abbrev NoMore : SpelledValue → Type 0
   NoMore x = Unit {0}
 
   nothing_more : (rs : List Record) → AllByRecursion (λ r. AllByRecursion NoMore r.values) rs
   nothing_more rs = all_units (λ r. AllByRecursion NoMore r.values) (λ r. all_units NoMore (λ x. tt) r.values) rs
 
   module _ (is_defined : ℕ → Bool) (stood : Bool) (x : tree.Instance) (i : Instance) (e : instance schema is_defined stood x ≡ Ok i) where
-    kept : (stood ≡ false) × ((i.name ≡ x.name) × OfTypes schema (Kept schema.named.schema.types) i.types i.values)
+    kept : (stood ≡ false) × ((i.name ≡ x.name) × OfEntities schema (Kept schema.named.schema.types) i.entities i.values)
     kept =
         instance_read schema accepted is_defined (Kept schema.named.schema.types) NoMore (λ s x w e q. (value_read schema accepted.types is_defined s x w e).kept) stood x i e
         (nothing_more (parts x.mapping))
@@ -95,25 +96,25 @@ module _ (schema : Checked) (accepted : IsAccepted schema.named) where
     abbrev Refers : Slot → Value → Type 0
     Refers s w = list_all is_defined (references (shown_as schema.named.schema.types s w)) ≡ true
 
-    all_refer : list_all (refers_all schema accepted is_defined) (parts (mapping schema i.types i.values)) ≡ true
+    all_refer : list_all (refers_all schema accepted is_defined) (parts (mapping schema i.entities i.values)) ≡ true
     all_refer =
         let read =
         instance_read schema accepted is_defined Refers NoMore (λ s x w e q. (value_read schema accepted.types is_defined s x w e).refers) stood x i e
         (nothing_more (parts x.mapping)) in
         parts_pass schema Refers (refers_all schema accepted is_defined)
-        (λ n ss ws there both. trees_pass schema.named.schema.types Refers (refers schema accepted is_defined) (λ s w p. p) ss ws both) i.types i.values read.1.1
+        (λ n ss ws there both. trees_pass schema.named.schema.types Refers (refers schema accepted is_defined) (λ s w p. p) ss ws both) i.entities i.values read.1.1
 
     -- it refers to names that are defined
     pub instance_refers : list_all is_defined (references_of (instance_tree schema i).mapping) ≡ true
-    instance_refers = referred_in is_defined (mapping schema i.types i.values) ∙ all_refer
+    instance_refers = referred_in is_defined (mapping schema i.entities i.values) ∙ all_refer
 
     -- it is read again where those names are defined to which it refers
     pub instance_again : (defined : ℕ → Bool) → list_all defined (references_of (instance_tree schema i).mapping) ≡ true → instance schema defined false (instance_tree schema i) ≡ Ok i
-    instance_again defined all = read_again schema accepted defined i kept.1.1 (sym (referred_in defined (mapping schema i.types i.values)) ∙ all)
+    instance_again defined all = read_again schema accepted defined i kept.1.1 (sym (referred_in defined (mapping schema i.entities i.values)) ∙ all)
 
   -- ---- one after the other
 
-  split : (name : ℕ) (r : Read Instance) (others : Instances) (is : List Instance) → first_of (told name r) others ≡ Ok is
+  split : (name : ℕ) (r : Mapped Instance) (others : Instances) (is : List Instance) → first_of (told name r) others ≡ Ok is
       → (i : Instance) × ((js : List Instance) × ((r ≡ Ok i) × ((others ≡ Ok js) × (i ∷ js ≡ is))))
   split name (Ok i) (Ok js) is e = (i, (js, (refl, (refl, cc))))
   split name (Ok i) (Err fault) is e = cc

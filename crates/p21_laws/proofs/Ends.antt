@@ -10,8 +10,8 @@ use Rattle.ex_named.specs.declared.reference.TypeName.TheVariants as t
 use Rattle.ex_resolve.specs.Proved.{held_by, held_in, held_in_layer, held_types}
 use Rattle.ex_renamings.specs.Renamings.{end, renamed, renamed_by, renamed_by_data, renamed_times, lists_members, is_listed}
 use Rattle.ex_renamings.specs.Renamings as selects
-use Rattle.lineage.specs.Lineage.{IsAcyclic, line_within, joined, joined_at, supertypes}
-use Rattle.lineage.proofs.Lines.{line_is, line_of}
+use Rattle.graphs.specs.Graphs.{IsAcyclic, line_within, joined, joined_at, supertypes}
+use Rattle.graphs.proofs.Lines.{line_is, line_of}
 use Rattle.rp_value.specs.declared.value.AggregateKind.TheVariants as aggregate
 use Rattle.ex_selects.specs.Ends.{Base, Plain, Instance, Aggregate, Enumeration, Select, Nothing, Target, base_by, base_by_form, base_at, base_of, beneath, target, target_by, inside, inside_by}
 

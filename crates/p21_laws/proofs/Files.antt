@@ -6,36 +6,37 @@ use Rattle.std.proofs.lemmas.List.Folds.{list_any-append}
 use Rattle.std.proofs.lemmas.Str.{IsUtf8-from_ascii}
 use Rattle.std.specs.List.{AllByRecursion, list_all}
 use Rattle.std.specs.Str.{IsAscii}
+use Rattle.plain_data.specs.Numbers.{is_among}
 use Rattle.ex_slots.specs.Slots.{Slot}
 use Rattle.ex_types.specs.Checked.{Checked}
 use Rattle.p21_bind.specs.Files.{bound_file}
 use Rattle.p21_mappings.specs.Contents.{content, header}
 use Rattle.p21_mappings.specs.Instances.{instance}
-use Rattle.p21_instances.specs.Instances.{is_among}
 use Rattle.p21_grammar.specs.File.{file_of}
 use Rattle.p21_grammar.specs.Grammar.{max_nesting}
 use Rattle.p21_spelling.proofs.Files.{file_again}
 use Rattle.p21_spelling.proofs.Runs.{both_hold, first_holds, second_holds}
-use Rattle.p21_spelling.proofs.Spelled.{file_is}
+use Rattle.p21_spelling.proofs.WellSpelled.{file_is}
 use Rattle.p21_spelling.proofs.Written.{written_text}
 use Rattle.p21_spelling.specs.Files.{is_file, is_header, is_section}
 use Rattle.p21_spelling.specs.Instances.{are_values, is_instance, is_mapping, is_record}
 use Rattle.p21_spelling.specs.Tokens.{is_name, is_string, is_word}
 use Rattle.p21_spelling.specs.Values.{all_spelled, deepest, spelling}
 use Rattle.p21_escapes.specs.Encoding.{encoded}
-use Rattle.p21_lexemes.specs.Lexical.{is_letter, is_word_byte}
+use Rattle.text_forms.specs.Words.{is_word_byte}
+use Rattle.p21_lexemes.specs.Lexical.{is_letter}
 use Rattle.p21_tree.specs.declared.header.Header as spelled_header
 use Rattle.p21_tree.specs.declared.instance.Instance as tree
 use Rattle.p21_tree.specs.declared.instance.Mapping.{Mapping}
 use Rattle.p21_tree.specs.declared.instance.Mapping.TheVariants.{External, Internal}
 use Rattle.p21_tree.specs.declared.instance.Record.{Record}
 use Rattle.p21_tree.specs.declared.raw.Raw.{Raw}
-use Rattle.p21_tree.specs.declared.value.Value.{Value as Spelled}
+use Rattle.p21_tree.specs.declared.value.Value.{Value as SpelledValue}
 use Rattle.p21_canonical.specs.Trees.{canonical, content_tree, entity_name, header_tree, instance_tree, mapping, own_parts, records}
 use Rattle.rp_content.specs.declared.content.Content.{Content}
 use Rattle.rp_content.specs.declared.instance.Instance.{Instance}
-use Rattle.rp_content.specs.declared.instance.Types.{Types}
-use Rattle.rp_content.specs.declared.instance.Types.TheVariants.{Leaf, Several}
+use Rattle.rp_content.specs.declared.instance.Entities.{Entities}
+use Rattle.rp_content.specs.declared.instance.Entities.TheVariants.{Leaf, Several}
 use Rattle.rp_content.specs.declared.link.Link.{Link}
 use Rattle.rp_value.specs.declared.value.Value.{Value}
 use Rattle.p21_laws.proofs.Attributes.{shown_as, trees_of, value_read}
@@ -44,7 +45,7 @@ use Rattle.p21_laws.proofs.Entities.{IsEntity, entities_of, entity_word}
 use Rattle.p21_laws.proofs.Headers.{header_fit}
 use Rattle.p21_laws.proofs.Instances.{instance_read}
 use Rattle.p21_laws.proofs.Pairs.{AllBoth}
-use Rattle.p21_laws.proofs.Shapes.{OfTypes, leaf_passes, made, record_by, several_pass, several_records}
+use Rattle.p21_laws.proofs.Shapes.{OfEntities, leaf_passes, made, record_by, several_pass, several_records}
 use Rattle.p21_laws.specs.Contents.{AreAmong, IsRead}
 use Rattle.p21_laws.specs.Instances.{parts}
 use Rattle.p21_laws.specs.Schemas.{IsAccepted}
@@ -73,7 +74,7 @@ word_utf8 t e = IsUtf8-from_ascii t (word_ascii t e)
 -- ---- values
 
 -- a value that is well spelled and doesn't nest too deep
-abbrev Fits : Spelled → Type 0
+abbrev Fits : SpelledValue → Type 0
 Fits x = ((spelling x).is_spelled ≡ true) × ((spelling x).levels ≤ max_nesting)
 
 is_most : (a n : ℕ) → a ≤ n → nat_le a n ≡ true
@@ -82,14 +83,14 @@ is_most a n less = grind (arith, nat_tests)
 at_most : (a n : ℕ) → nat_le a n ≡ true → a ≤ n
 at_most a n e = grind (arith, nat_tests)
 
-all_fit : (xs : List Spelled) → all_spelled (map spelling xs) ≡ true → deepest (map spelling xs) ≤ max_nesting → AllByRecursion Fits xs
+all_fit : (xs : List SpelledValue) → all_spelled (map spelling xs) ≡ true → deepest (map spelling xs) ≤ max_nesting → AllByRecursion Fits xs
 all_fit [] spelled deep = tt
 all_fit (x ∷ xs) spelled deep = (
   (first_holds (spelling x).is_spelled (all_spelled (map spelling xs)) spelled, omega arith),
   all_fit xs (second_holds (spelling x).is_spelled (all_spelled (map spelling xs)) spelled) (omega arith),
 )
 
-values_fit : (xs : List Spelled) → are_values (map spelling xs) ≡ true → AllByRecursion Fits xs
+values_fit : (xs : List SpelledValue) → are_values (map spelling xs) ≡ true → AllByRecursion Fits xs
 values_fit xs e =
     let spelled : Bool = all_spelled (map spelling xs) in
     let low : Bool = nat_le (deepest (map spelling xs)) max_nesting in
@@ -138,7 +139,7 @@ module _ (schema : Checked) (accepted : IsAccepted schema.named) where
 
   record_fits : (n : ℕ) (ss : List Slot) (ws : List Value) → IsEntity schema n → AllBoth Shows ss ws → is_record (record_by schema n ss ws) ≡ true
   record_fits n ss ws there both =
-      let xs : List Spelled = trees_of schema.named.schema.types ss ws in
+      let xs : List SpelledValue = trees_of schema.named.schema.types ss ws in
       both_hold (is_word (entity_name (entities_of schema) n)) (are_values (map spelling xs)) (entity_word schema accepted n there)
       (both_hold (all_spelled (map spelling xs)) (nat_le (deepest (map spelling xs)) max_nesting) (trees_spelled ss ws both) (is_most (deepest (map spelling xs)) max_nesting (trees_low ss ws both)))
 
@@ -146,7 +147,7 @@ module _ (schema : Checked) (accepted : IsAccepted schema.named) where
   same_length f [] = refl
   same_length f (x ∷ xs) = ap suc (same_length f xs)
 
-  mapping_spelled : (types : Types) (ws : List Value) → OfTypes schema Shows types ws → is_mapping (mapping schema types ws) ≡ true
+  mapping_spelled : (entities : Entities) (ws : List Value) → OfEntities schema Shows entities ws → is_mapping (mapping schema entities ws) ≡ true
   mapping_spelled (Leaf entity) ws is = leaf_passes schema Shows is_record record_fits entity ws is
   mapping_spelled (Several all) ws is =
       both_hold (nat_lt 0 (length (records schema (own_parts schema all) ws))) (list_all is_record (records schema (own_parts schema all) ws))
@@ -155,7 +156,7 @@ module _ (schema : Checked) (accepted : IsAccepted schema.named) where
 
   -- ---- instances
 
-  shows : (is_defined : ℕ → Bool) (x : tree.Instance) (i : Instance) (stood : Bool) → instance schema is_defined stood x ≡ Ok i → is_instance x ≡ true → OfTypes schema Shows i.types i.values
+  shows : (is_defined : ℕ → Bool) (x : tree.Instance) (i : Instance) (stood : Bool) → instance schema is_defined stood x ≡ Ok i → is_instance x ≡ true → OfEntities schema Shows i.entities i.values
   shows is_defined x i stood e spelled =
       let read =
       instance_read schema accepted is_defined Shows Fits
@@ -167,9 +168,9 @@ module _ (schema : Checked) (accepted : IsAccepted schema.named) where
   instance_spelled i said =
       let from = said.1 in
       let x : tree.Instance = from.0 in
-      both_hold (is_name i.name) (is_mapping (mapping schema i.types i.values))
+      both_hold (is_name i.name) (is_mapping (mapping schema i.entities i.values))
       (ap is_name (same_name schema accepted said.0 from.1.0 x i from.1.1.0) ∙ first_holds (is_name x.name) (is_mapping x.mapping) from.1.1.1)
-      (mapping_spelled i.types i.values (shows said.0 x i from.1.0 from.1.1.0 from.1.1.1))
+      (mapping_spelled i.entities i.values (shows said.0 x i from.1.0 from.1.1.0 from.1.1.1))
 
   all_instances : (is : List Instance) → AllByRecursion (Said schema accepted IsSpelled) is → list_all is_instance (map (instance_tree schema) is) ≡ true
   all_instances [] all = refl

@@ -4,17 +4,18 @@ use Rattle.std.proofs.lemmas.Bool.{eqb-true}
 use Rattle.std.proofs.lemmas.Bool.Decides.{nat_tests}
 use Rattle.std.proofs.lemmas.List.Folds.{flat_map-map}
 use Rattle.std.specs.List.{AllByRecursion, flat_map}
+use Rattle.plain_data.specs.Numbers.{is_among}
 use Rattle.ex_named.specs.declared.declaration.NamedEntity.{NamedEntity}
 use Rattle.ex_slots.specs.Slots.{Slot, slots, slots_of}
 use Rattle.ex_subtypes.specs.Legal.{graph, is_closed, is_connected, refusal}
 use Rattle.ex_subtypes.specs.declared.legal.Illegal.{Illegal}
 use Rattle.ex_subtypes.specs.declared.legal.Illegal.TheVariants.{NotClosed, NotConnected}
 use Rattle.ex_types.specs.Checked.{Checked, entity_names}
-use Rattle.lineage.proofs.Sets.{either}
-use Rattle.lineage.specs.Lineage.{is_among}
-use Rattle.p21_mappings.specs.Instances.{Read, all_there, and_then, by_entities, by_entity, by_mapping, by_layout, by_several, counted, each, has_twice, in_places, instance, keywords, made, part, repeats, same_counts, value}
+use Rattle.graphs.proofs.Sets.{either}
+use Rattle.p21_mappings.specs.Instances.{Mapped, and_then, by_entities, by_entity, by_mapping, by_layout, by_several, counted, each, has_twice, in_places, instance, keywords, made, part, repeats, same_counts, value}
+use Rattle.p21_values.specs.Taking.{all_there}
 use Rattle.ex_layouts.specs.Entities.{ascending, entity_spelled, is_legal, line_of, name_rank}
-use Rattle.ex_layouts.specs.Layouts.{in_name_order, leaf, of_leaf, of_several, order_by, place_in, slots_in, types_by}
+use Rattle.ex_layouts.specs.Layouts.{in_name_order, leaf, of_leaf, of_several, order_by, place_in, slots_in, entities_by}
 use Rattle.p21_mappings.specs.Layouts.{external, internal}
 use Rattle.p21_spelling.proofs.Runs.{first_holds, second_holds}
 use Rattle.p21_tree.specs.declared.fault.InstanceFaultKind.TheVariants.{Twice}
@@ -32,7 +33,7 @@ use Rattle.p21_laws.proofs.Order.{OnceBy, any_in_order, once_in_order, order_aga
 use Rattle.p21_laws.proofs.Pairs.{AllBoth, as_many, at_place, both_flat}
 use Rattle.p21_laws.proofs.Layouts.{derived_same, leaf_is, legal_same, line_same, no_leaf_same}
 use Rattle.p21_laws.proofs.Sets.{AreSame}
-use Rattle.p21_laws.proofs.Shapes.{OfLeaf, OfTypes, slots_by, slots_with}
+use Rattle.p21_laws.proofs.Shapes.{OfLeaf, OfEntities, slots_by, slots_with}
 use Rattle.p21_laws.specs.Instances.{parts}
 use Rattle.p21_laws.specs.Schemas.{IsAccepted}
 
@@ -72,7 +73,7 @@ module _ (schema : Checked) (accepted : IsAccepted schema.named) (is_defined : �
     parts : each (part schema is_defined) (zip slots rs) ≡ Ok lists
     is : make lists ≡ i
 
-  laid_out_by : (rs : List Record) (slots : List (List Slot)) (make : List (List Value) → Instance) (i : Instance) (test : Bool) (r : Read (List (List Value))) → same_counts slots rs ≡ test
+  laid_out_by : (rs : List Record) (slots : List (List Slot)) (make : List (List Value) → Instance) (i : Instance) (test : Bool) (r : Mapped (List (List Value))) → same_counts slots rs ≡ test
       → each (part schema is_defined) (zip slots rs) ≡ r → counted test (and_then r (λ lists. Ok (make lists))) ≡ Ok i → LaidOut rs slots make i
   laid_out_by rs slots make i true (Ok lists) counts parts e = record { counts = counts; lists = lists; parts = parts; is = cc }
   laid_out_by rs slots make i true (Err kind) counts parts e = cc
@@ -96,7 +97,7 @@ module _ (schema : Checked) (accepted : IsAccepted schema.named) (is_defined : �
 
   -- an instance of this name
   abbrev pub Is : ℕ → Instance → Type 0
-  Is name i = (i.name ≡ name) × OfTypes schema P i.types i.values
+  Is name i = (i.name ≡ name) × OfEntities schema P i.entities i.values
 
   -- ---- of an internal mapping
 
@@ -135,7 +136,7 @@ module _ (schema : Checked) (accepted : IsAccepted schema.named) (is_defined : �
     joined_lists : (ms : List ℕ) → in_places (map (place_in ns) ms) lists ≡ flat_map list_of ms
     joined_lists ms = flat_map-map (λ place. slice_index_or lists place []) (place_in ns) ms
 
-    by_order : (o : Option ℕ) → leaf schema ns ≡ o → OfTypes schema P (types_by schema ns o) (in_places (map (place_in ns) (order_by schema ns o)) lists)
+    by_order : (o : Option ℕ) → leaf schema ns ≡ o → OfEntities schema P (entities_by schema ns o) (in_places (map (place_in ns) (order_by schema ns o)) lists)
     unfolding slots in_name_order
     by_order (Some entity) is =
         let same : AreSame ns (line_of schema entity) = line_same schema accepted ns entity legal is in

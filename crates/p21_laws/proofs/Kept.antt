@@ -3,17 +3,19 @@ use Rattle.std.proofs.Common.{◌≡◌, ◌≤◌, ◌<◌, ◌==◌, ◌⊎◌
 use Rattle.std.proofs.lemmas.Bool.Decides.{nat_tests}
 use Rattle.std.proofs.lemmas.List.Folds.{list_any-append}
 use Rattle.std.specs.List.{AllByRecursion, list_any}
+use Rattle.plain_data.specs.Numbers.{is_among}
 use Rattle.ex_types.specs.Checked.{Checked}
 use Rattle.p21_bind.specs.Files.{AreAscending, bound_file, told}
 use Rattle.p21_mappings.specs.Contents.{header}
-use Rattle.p21_mappings.specs.Instances.{Read, instance}
+use Rattle.p21_mappings.specs.Instances.{Mapped, instance}
+use Rattle.p21_bind.specs.Origins as origins
+use Rattle.p21_bind.specs.Origins.{IsHeaderOfFile, IsInstanceOfFile, IsInstanceOfText}
 use Rattle.p21_bind.specs.Single.{bound_instance}
-use Rattle.p21_instances.specs.Instances.{is_among}
 use Rattle.p21_grammar.specs.File.{file_of}
 use Rattle.p21_spelling.proofs.Files.{file_again}
 use Rattle.p21_spelling.proofs.Runs.{both_hold}
 use Rattle.p21_spelling.proofs.Single.{mapping_of_is}
-use Rattle.p21_spelling.proofs.Spelled.{file_is}
+use Rattle.p21_spelling.proofs.WellSpelled.{file_is}
 use Rattle.p21_spelling.specs.Files.{is_file, is_header}
 use Rattle.p21_spelling.specs.Instances.{is_mapping}
 use Rattle.p21_spelling.specs.Tokens.{is_name}
@@ -30,7 +32,7 @@ use Rattle.p21_laws.proofs.Defaults.{default_fits, default_header, header-defaul
 use Rattle.p21_laws.proofs.Files.{IsSpelled, among_first, among_second, content_spelled, file_said, one_content, parts_of}
 use Rattle.p21_laws.proofs.Order.{OnceBy, Rises, stays}
 use Rattle.p21_laws.specs.Contents.{AreAmong, IsRead, new_content}
-use Rattle.p21_laws.specs.Kept.{IsHeaderOfFile, IsKept, IsOfFile, IsOfText, IsSound}
+use Rattle.p21_laws.specs.Kept.{IsKept, IsSound}
 use Rattle.p21_laws.specs.Instances.{references_of}
 use Rattle.p21_laws.specs.Schemas.{IsAccepted}
 
@@ -68,36 +70,35 @@ WasRead h = (x : spelled_header.Header) × ((is_header x ≡ true) × (header x 
 module _ (schema : Checked) (accepted : IsAccepted schema.named) where
   header_read : (h : Header) → (h ≡ held.default_header) ⊎ IsHeaderOfFile h → WasRead h
   header_read h (inl is) = (default_header, (default_fits, header-default ∙ sym is))
-  header_read h (inr from) = (from.raw.header, ((parts_of schema accepted from.raw (file_is from.raw from.text from.reads)).head, sym from.is))
+  header_read h (inr from) = (from.raw.header, ((parts_of schema accepted from.raw (file_is from.raw from.file from.reads)).head, sym from.is))
 
   -- ---- instances
 
   name_fits : (n : ℕ) → n ≤ max_name → is_name n ≡ true
   name_fits n low = grind (arith, nat_tests)
 
-  of_file : (i : Instance) → IsOfFile schema i → Said schema accepted IsSpelled i
+  of_file : (i : Instance) → IsInstanceOfFile schema i → Said schema accepted IsSpelled i
   of_file i from =
-      let raw = from.read.0 in
-      let said = file_said schema accepted from.linked raw from.content (file_is raw from.text from.read.1.0) from.read.1.1 in
+      let said = file_said schema accepted from.linked from.raw from.content (file_is from.raw from.file from.reads) from.says in
       in_middle (Said schema accepted IsSpelled) from.before i from.behind
       (subst (AllByRecursion (Said schema accepted IsSpelled)) (ap (λ (c : Content). c.instances) said.1.1 ∙ from.stands) said.1.0)
 
-  not_told : (name : ℕ) (r : Read Instance) (i : Instance) → told name r ≡ Ok i → r ≡ Ok i
+  not_told : (name : ℕ) (r : Mapped Instance) (i : Instance) → told name r ≡ Ok i → r ≡ Ok i
   not_told name (Ok j) i e = cc
   not_told name (Err kind) i e = cc
 
-  of_text : (i : Instance) → i.name ≤ max_name → IsOfText schema i → Said schema accepted IsSpelled i
+  of_text : (i : Instance) → i.name ≤ max_name → IsInstanceOfText schema i → Said schema accepted IsSpelled i
   unfolding bound_instance
   of_text i low from =
       let x : tree.Instance = record { name = i.name; mapping = from.mapping } in
       let read = not_told i.name (instance schema from.defined false x) i from.says in
       (from.defined, (x, (false, (read, both_hold (is_name i.name) (is_mapping from.mapping) (name_fits i.name low) (mapping_of_is from.mapping from.text from.reads)))))
 
-  said_by : (i : Instance) → i.name ≤ max_name → IsOfFile schema i ⊎ IsOfText schema i → Said schema accepted IsSpelled i
+  said_by : (i : Instance) → i.name ≤ max_name → origins.IsSpelled schema i → Said schema accepted IsSpelled i
   said_by i low (inl from) = of_file i from
   said_by i low (inr from) = of_text i low from
 
-  all_said : (is : List Instance) → AllByRecursion (λ (i : Instance). i.name ≤ max_name) is → AllByRecursion (λ i. IsOfFile schema i ⊎ IsOfText schema i) is → AllByRecursion (Said schema accepted IsSpelled) is
+  all_said : (is : List Instance) → AllByRecursion (λ (i : Instance). i.name ≤ max_name) is → AllByRecursion (origins.IsSpelled schema) is → AllByRecursion (Said schema accepted IsSpelled) is
   all_said [] names read = tt
   all_said (i ∷ is) names read = (said_by i names.0 read.0, all_said is names.1 read.1)
 

@@ -5,11 +5,13 @@ use Rattle.std.proofs.lemmas.List.Folds.{list_any-append}
 use Rattle.std.proofs.lemmas.Slice.Eq.{bytes_eq-Decides}
 use Rattle.std.specs.List.{list_any}
 use Rattle.std.specs.Str.{bytes_eq}
+use Rattle.plain_data.specs.Numbers.{is_among}
 use Rattle.ex_types.specs.Checked.{Checked, entity_names}
-use Rattle.lineage.proofs.Sets.{either}
-use Rattle.lineage.specs.Lineage.{is_among}
+use Rattle.graphs.proofs.Sets.{either}
 use Rattle.name_tables.specs.Names.{place_of}
-use Rattle.p21_mappings.specs.Instances.{all_there, keywords, repeats, with_first}
+use Rattle.p21_mappings.specs.Instances.{keywords, repeats}
+use Rattle.p21_values.specs.Taking.{all_there, with_first}
+use Rattle.p21_laws.proofs.Firsts.{split}
 use Rattle.ex_layouts.specs.Entities.{entity_spelled}
 use Rattle.p21_tree.specs.declared.instance.Record.{Record}
 use Rattle.p21_laws.proofs.Names.{place_has}
@@ -100,12 +102,6 @@ module _ (names : List (List ℕ)) where
 
 -- ---- the entities of the parts of a mapping
 
-split : (first : Option ℕ) (others : Option (List ℕ)) (ns : List ℕ) → with_first first others ≡ Some ns
-    → (n : ℕ) × ((rest : List ℕ) × ((first ≡ Some n) × ((others ≡ Some rest) × (n ∷ rest ≡ ns))))
-split None others ns e = cc
-split (Some n) None ns e = cc
-split (Some n) (Some rest) ns e = (n, (rest, (refl, (refl, cc))))
-
 module _ (schema : Checked) where
   abbrev pub Names : ℕ → Record → Type 0
   Names n r = entity_spelled schema r.keyword ≡ Some n
@@ -114,7 +110,7 @@ module _ (schema : Checked) where
   numbers_found [] ns e = let same : [] ≡ ns = cc in subst (λ ns. AllBoth Names ns []) same tt
   numbers_found (r ∷ rs) ns e =
       let s = split (entity_spelled schema r.keyword) (all_there (map (λ r. entity_spelled schema r.keyword) rs)) ns e in
-      subst (λ ns. AllBoth Names ns (r ∷ rs)) s.1.1.1.1 (s.1.1.0, numbers_found rs s.1.0 s.1.1.1.0)
+      subst (λ ns. AllBoth Names ns (r ∷ rs)) s.is (s.is_head, numbers_found rs s.tail s.is_tail)
 
   pub keywords_stand : (ns : List ℕ) (rs : List Record) → AllBoth Names ns rs → AllBoth (Stands (entity_names schema.named.schema.entities)) ns (keywords rs)
   keywords_stand [] [] p = tt

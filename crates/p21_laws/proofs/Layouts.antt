@@ -2,15 +2,16 @@
 use Rattle.std.proofs.Common.{◌≡◌, ℕ, suc, Bool, true, false, not, if◌then◌else◌, List, [], length, find, Option, Some, None, is_some, unwrap_or, refl, sym, ◌∙◌, ap, subst}
 use Rattle.std.specs.List.{flat_map, list_all, list_any}
 use Rattle.std.specs.Option.{option_map}
+use Rattle.plain_data.specs.Numbers.{is_among}
 use Rattle.ex_named.specs.declared.declaration.NamedEntity.{NamedEntity}
 use Rattle.ex_slots.specs.Slots.{derived_by, is_derived, is_explicit_at}
 use Rattle.ex_subtypes.specs.Legal.{graph, is_closed, refusal}
 use Rattle.ex_subtypes.specs.declared.legal.Illegal.{Illegal}
 use Rattle.ex_subtypes.specs.declared.legal.Illegal.TheVariants.{NotClosed}
 use Rattle.ex_types.specs.Checked.{Checked}
-use Rattle.lineage.proofs.Certain.{each_passes}
-use Rattle.lineage.proofs.Rises.{Closed, line_within_closed}
-use Rattle.lineage.specs.Lineage.{each_once, is_among, line_within, supertypes}
+use Rattle.graphs.proofs.Certain.{each_passes}
+use Rattle.graphs.proofs.Rises.{Closed, line_within_closed}
+use Rattle.graphs.specs.Graphs.{each_once, line_within, supertypes}
 use Rattle.ex_layouts.specs.Entities.{ascending, is_legal, line_of}
 use Rattle.ex_layouts.specs.Layouts.{leaf}
 use Rattle.p21_laws.proofs.Sets.{AreSame, all_same, any_flat, any_same, found, in_once, in_selected, none_same, selected_same}

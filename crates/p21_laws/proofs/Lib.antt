@@ -1,4 +1,5 @@
 mod Names
+mod Firsts
 mod Ends
 mod Bits
 mod Numbers

@@ -8,7 +8,7 @@ use Rattle.ex_named.specs.declared.declaration.NamedType.{NamedType}
 use Rattle.ex_named.specs.declared.declaration.NamedSchema.{NamedSchema}
 use Rattle.ex_resolve.specs.Proved.{DeclaresOnce, count, held_types}
 use Rattle.ex_types.specs.Checked.{type_names}
-use Rattle.lineage.specs.Lineage.{IsAcyclic}
+use Rattle.graphs.specs.Graphs.{IsAcyclic}
 use Rattle.name_tables.specs.Names.{place_of}
 use Rattle.p21_spelling.proofs.Runs.{first_holds, second_holds}
 use Rattle.p21_spelling.specs.Tokens.{is_word}

@@ -1,5 +1,5 @@
 -- What is written of the number of an integer is read as this number.
-use Rattle.std.proofs.Common.{◌≡◌, ℕ, ℤ, pos, negsuc, zero, suc, ◌+◌, ◌-◌, ◌*◌, ◌^◌, ◌<◌, ◌≤◌, Bool, true, false, ◌&&◌, ◌==◌, nat_lt, nat_le, if◌then◌else◌, List, [], ◌∷◌, length, drop, Some, None, FitsSigned, refl, ◌∙◌, ap, subst, arith}
+use Rattle.std.proofs.Common.{◌≡◌, ℕ, ℤ, pos, negsuc, zero, suc, ◌-◌, ◌^◌, ◌<◌, ◌≤◌, Bool, true, false, ◌&&◌, ◌==◌, nat_lt, nat_le, if◌then◌else◌, List, [], ◌∷◌, length, drop, Some, None, FitsSigned, refl, ap, subst, arith}
 use mir.Syntax.{w64}
 use Rattle.std.proofs.lemmas.Bool.Decides.{nat_tests}
 use Rattle.std.proofs.lemmas.Int.{ints}
@@ -10,14 +10,9 @@ use Rattle.std.specs.Prelude.{decimal, neg_ℤ}
 use Rattle.p21_spelling.proofs.Names.{are_digits-decimal, value-decimal}
 use Rattle.p21_spelling.proofs.Runs.{at_most, both_hold, first_holds, is_within, second_holds}
 use Rattle.p21_spelling.specs.Tokens.{are_digits}
-use Rattle.p21_lexemes.specs.Lexical as lexical
 use Rattle.p21_values.specs.Tokens.{greatest, integer}
 use Rattle.rp_numbers.specs.Spelling.{is_negative, sign_len, signed}
-use Rattle.rp_numbers.specs.Whole.{value, value_after}
-
-same_after : (n : ℕ) (ds : List ℕ) → value_after n ds ≡ lexical.value_after n ds
-same_after n [] = refl
-same_after n (d ∷ ds) = same_after (10 * n + (d - 48)) ds
+use Rattle.rp_numbers.specs.Whole.{value}
 
 -- ---- what is read fits 64 bits
 
@@ -63,16 +58,13 @@ negative ds n e is small =
     given_all (nat_lt 0 (length ds) && list_all is_ascii_digit ds && nat_le (value ds) (2 ^ 63)) (neg_ℤ (pos (value ds))) (negsuc n)
     (both_hold (are_digits ds) (nat_le (value ds) (2 ^ 63)) e (at_most (value ds) (2 ^ 63) (omega (arith, is)))) (ap (λ n. neg_ℤ (pos n)) is)
 
-value_is : (n : ℕ) → n < 2 ^ 64 → value (decimal n) ≡ n
-value_is n small = same_after 0 (decimal n) ∙ value-decimal n small
-
 written_again : (z : ℤ) → FitsSigned w64 z → integer (signed_decimal z) ≡ Some z
 written_again (pos n) fits =
     let small : n < 2 ^ 63 = omega (arith, ints, fits) in
-    plain (decimal n) n (are_digits-decimal n (omega arith)) (value_is n (omega arith)) (omega arith)
+    plain (decimal n) n (are_digits-decimal n (omega arith)) (value-decimal n (omega arith)) (omega arith)
 written_again (negsuc n) fits =
     let small : suc n ≤ 2 ^ 63 = omega (arith, ints, fits) in
-    negative (decimal (suc n)) n (are_digits-decimal (suc n) (omega arith)) (value_is (suc n) (omega arith)) small
+    negative (decimal (suc n)) n (are_digits-decimal (suc n) (omega arith)) (value-decimal (suc n) (omega arith)) small
 
 pub integer_again : (token : List ℕ) (z : ℤ) → integer token ≡ Some z → integer (signed_decimal z) ≡ Some z
 integer_again token z e = written_again z (integer_fits token z e)

@@ -3,12 +3,8 @@ use Rattle.std.proofs.Common.{◌≡◌, ℕ, Bool, true, false, ◌||◌, ◌==
 use Rattle.std.proofs.lemmas.Bool.{cases_Bool}
 use Rattle.std.proofs.lemmas.Bool.Decides.{nat_tests}
 use Rattle.std.specs.List.{AllByRecursion, list_any}
+use Rattle.plain_data.proofs.Disjunctions.{or_turn}
 use Rattle.p21_instances.specs.Instances.{placed, in_order}
-
-or_turn : (a b c : Bool) → (a || (b || c)) ≡ (b || (a || c))
-or_turn true true c = refl
-or_turn true false c = refl
-or_turn false b c = refl
 
 pub neither : (a b : Bool) → (a || b) ≡ false → (a ≡ false) × (b ≡ false)
 neither true b e = cc

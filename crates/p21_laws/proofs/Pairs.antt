@@ -2,8 +2,7 @@
 use Rattle.std.proofs.Common.{◌≡◌, ◌==◌, ℕ, suc, true, false, List, [], ◌∷◌, ◌++◌, length, map, slice_index_or, ⊎_elim, refl, ap, subst, one-add}
 use Rattle.std.proofs.lemmas.Bool.{cases_Bool, eqb-true}
 use Rattle.std.specs.List.{flat_map, position_or_len}
-use Rattle.lineage.specs.Lineage.{is_among}
-use Rattle.lineage.specs.Numbered.{numbered_from}
+use Rattle.plain_data.specs.Numbers.{is_among, numbered_from}
 use Rattle.p21_laws.proofs.Sets.{behind, here}
 
 abbrev pub AllBoth : {A B : Type 0} → (A → B → Type 0) → List A → List B → Type 0

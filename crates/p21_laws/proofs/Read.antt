@@ -3,7 +3,7 @@ use Rattle.std.proofs.Common.{◌≡◌, ℕ, List, Some, Ok, le_trans}
 use Rattle.ex_named.specs.declared.declaration.NamedType.{NamedType}
 use Rattle.ex_named.specs.declared.expression.NamedDataType.{NamedDataType}
 use Rattle.p21_grammar.specs.Grammar.{value_at}
-use Rattle.p21_spelling.proofs.Spelled.{value_levels, value_spelled}
+use Rattle.p21_spelling.proofs.WellSpelled.{value_levels, value_spelled}
 use Rattle.p21_spelling.proofs.Values.{value_again}
 use Rattle.p21_spelling.specs.Again.{ReadsAgain}
 use Rattle.p21_spelling.specs.Values.{text_of}

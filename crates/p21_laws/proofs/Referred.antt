@@ -3,10 +3,10 @@ use Rattle.std.proofs.Common.{◌≡◌, ℕ, ℤ, Bool, true, false, if◌then�
 use Rattle.std.specs.Fmt.{signed_decimal}
 use Rattle.std.specs.List.{cons_option, filter_map, flat_map, list_any}
 use Rattle.std.specs.Str.{str_to_ascii_uppercase}
+use Rattle.plain_data.specs.Numbers.{is_among}
 use Rattle.ex_named.specs.declared.declaration.NamedType.{NamedType}
 use Rattle.ex_named.specs.declared.expression.NamedDataType.{NamedDataType}
 use Rattle.ex_tree.specs.declared.data_type.SimpleType.TheVariants as simple
-use Rattle.lineage.specs.Lineage.{is_among}
 use Rattle.name_tables.specs.Names.{place_of}
 use Rattle.p21_mappings.specs.Instances.{has_star, star_layer}
 use Rattle.p21_instances.specs.Instances.{references, referred}
@@ -19,7 +19,7 @@ use Rattle.p21_tree.specs.declared.value.Value.TheVariants as t
 use Rattle.p21_tree.specs.declared.value.Value.TheViews as views
 use Rattle.ex_selects.specs.Ends.{Base, Plain, Instance, Aggregate, Enumeration, Select, Nothing, Target, base_of, choices, chooses_instances, inside, target}
 use Rattle.p21_values.specs.Taking as taking
-use Rattle.p21_values.specs.Taking.{Meaning, all_there, bare, bare_at, bound, by_choice, chosen, is_that, meaning, named_by, none, of_binary, of_integer, of_item, of_list, of_real, of_text, only, place, reference_at, with_first}
+use Rattle.p21_values.specs.Taking.{Meaning, all_there, bare, bare_at, bound, by_choice, chosen, is_that, meaning, named_by, none, of_binary, of_integer, of_item, of_list, of_real, of_text, only, place, reference_at}
 use Rattle.ex_selects.specs.Items.{items, type_named}
 use Rattle.p21_values.specs.Tokens.{bits, boolean, integer, logical, ok}
 use Rattle.p21_canonical.specs.Binaries.{binary}
@@ -35,6 +35,7 @@ use Rattle.rp_value.specs.declared.value.Value.TheFolds.{fold-roll-Value, ind-Va
 use Rattle.rp_value.specs.declared.value.Value.TheOpen.{Value-F}
 use Rattle.rp_value.specs.declared.value.Value.TheVariants as v
 use Rattle.rp_value.specs.declared.value.Value.TheViews.{roll-Value}
+use Rattle.p21_laws.proofs.Firsts.{split}
 use Rattle.p21_laws.proofs.Forms.{meaning_roll}
 use Rattle.p21_laws.proofs.Names.{given}
 
@@ -225,12 +226,6 @@ module _ (types : List NamedType) where
 
   -- ---- lists
 
-  split : (first : Option Value) (others : Option (List Value)) (ws : List Value) → with_first first others ≡ Some ws
-      → (w : Value) × ((rest : List Value) × ((first ≡ Some w) × ((others ≡ Some rest) × (w ∷ rest ≡ ws))))
-  split None others ws e = cc
-  split (Some x) None ws e = cc
-  split (Some x) (Some xs) ws e = (x, (xs, (refl, (refl, cc))))
-
   abbrev IsReferred : tree.Value → Type 0
   IsReferred x = Refers (meaning types x) (references x)
 
@@ -245,11 +240,9 @@ module _ (types : List NamedType) where
   all_names [] y ws e = let same : [] ≡ ws = cc in ap (λ ws. flat_map (λ found. found) (map references (map (value_tree types) ws))) (sym same)
   all_names (p ∷ ps) y ws e =
       let s = split (place (meaning types p.0) y) (all_there (map (λ m. place m y) (map (meaning types) (trees_of ps)))) ws e in
-      let w : Value = s.0 in
-      let rest : List Value = s.1.0 in
-      ap (λ ws. flat_map (λ found. found) (map references (map (value_tree types) ws))) (sym s.1.1.1.1)
-      ∙ ap (λ names. names ++ flat_map (λ found. found) (map references (map (value_tree types) rest))) (placed (meaning types p.0) (references p.0) y w p.1 s.1.1.0)
-      ∙ ap (λ names. references p.0 ++ names) (all_names ps y rest s.1.1.1.0)
+      ap (λ ws. flat_map (λ found. found) (map references (map (value_tree types) ws))) (sym s.is)
+      ∙ ap (λ names. names ++ flat_map (λ found. found) (map references (map (value_tree types) s.tail))) (placed (meaning types p.0) (references p.0) y s.head p.1 s.is_head)
+      ∙ ap (λ names. references p.0 ++ names) (all_names ps y s.tail s.is_tail)
 
   in_list : (ps : List Referring) (base : Base) (w : Value) → of_list types (map (meaning types) (trees_of ps)) base ≡ Some w → names_of w ≡ flat_map (λ found. found) (map references (trees_of ps))
   in_list ps (Aggregate kind low element) w e =

@@ -1,14 +1,16 @@
 -- Lists of numbers that have the same members.
-use Rattle.std.proofs.Common.{◌≡◌, ◌≤◌, ℕ, zero, suc, max, Bool, true, false, not, ◌&&◌, ◌||◌, ◌==◌, nat_lt, List, [], ◌∷◌, filter, fold, Some, None, ⊎_elim, refl, sym, ◌∙◌, ap, subst, arith, le_refl, le_trans, le_antisymm}
-use Rattle.std.proofs.lemmas.Bool.{cases_Bool, eq-eqb, eqb-true}
+use Rattle.std.proofs.Common.{◌≡◌, ◌≤◌, ℕ, zero, suc, max, Bool, true, false, not, ◌&&◌, ◌||◌, ◌==◌, nat_lt, List, [], ◌∷◌, filter, fold, Some, None, ⊎_elim, refl, sym, ◌∙◌, ap, subst, arith, le_antisymm}
+use Rattle.std.proofs.lemmas.Bool.{cases_Bool, eq-eqb}
 use Rattle.std.proofs.lemmas.Bool.Decides.{nat_tests}
 use Rattle.std.proofs.lemmas.List.Folds.{list_any-append}
 use Rattle.std.specs.List.{find, flat_map, list_all, list_any}
-use Rattle.lineage.proofs.Bounded.{any_at, any_where}
-use Rattle.lineage.proofs.Certain.{each_passes}
-use Rattle.lineage.proofs.Families.{among_numbers, is_among-filter}
-use Rattle.lineage.proofs.Sets.{either, or_right}
-use Rattle.lineage.specs.Lineage.{each_once, is_among, numbers_from}
+use Rattle.plain_data.specs.Numbers.{is_among}
+use Rattle.plain_data.proofs.Numbers.{at_most_greatest}
+use Rattle.graphs.proofs.Bounded.{any_at, any_where}
+use Rattle.graphs.proofs.Certain.{each_passes}
+use Rattle.graphs.proofs.Families.{among_numbers, is_among-filter}
+use Rattle.graphs.proofs.Sets.{either, or_right}
+use Rattle.graphs.specs.Graphs.{each_once, numbers_from}
 
 abbrev pub AreSame : List ℕ → List ℕ → Type 0
 AreSame xs ys = (n : ℕ) → is_among xs n ≡ is_among ys n
@@ -75,17 +77,6 @@ none_same p xs ys same none = find_none p ys (sym (any_same p xs ys same) ∙ no
 
 -- ---- the greatest
 
-grown : (numbers : List ℕ) (most : ℕ) → most ≤ fold max most numbers
-grown [] most = le_refl most
-grown (x ∷ xs) most = let more : most ≤ max most x = omega arith in le_trans more (grown xs (max most x))
-
-at_most : (numbers : List ℕ) (most n : ℕ) → is_among numbers n ≡ true → n ≤ fold max most numbers
-at_most [] most n is = cc
-at_most (x ∷ xs) most n is = ⊎_elim
-    (λ (same : (x == n) ≡ true). let is_n : x ≡ n = eqb-true x n same in let more : n ≤ max most x = omega arith in le_trans more (grown xs (max most x)))
-    (λ (later : is_among xs n ≡ true). at_most xs (max most x) n later)
-    (either (x == n) (is_among xs n) is)
-
 within : (numbers : List ℕ) (most limit : ℕ) → most ≤ limit → ((n : ℕ) → is_among numbers n ≡ true → n ≤ limit) → fold max most numbers ≤ limit
 within [] most limit low all = low
 within (x ∷ xs) most limit low all =
@@ -94,8 +85,8 @@ within (x ∷ xs) most limit low all =
 
 same_greatest : (xs ys : List ℕ) → AreSame xs ys → fold max zero xs ≡ fold max zero ys
 same_greatest xs ys same = le_antisymm
-    (within xs zero (fold max zero ys) (omega arith) (λ n there. at_most ys zero n (sym (same n) ∙ there)))
-    (within ys zero (fold max zero xs) (omega arith) (λ n there. at_most xs zero n (same n ∙ there)))
+    (within xs zero (fold max zero ys) (omega arith) (λ n there. at_most_greatest ys zero n (sym (same n) ∙ there)))
+    (within ys zero (fold max zero xs) (omega arith) (λ n there. at_most_greatest xs zero n (same n ∙ there)))
 
 abbrev pub selected : List ℕ → List ℕ
 selected numbers = filter (is_among numbers) (numbers_from zero (suc (fold max zero numbers)))
@@ -112,7 +103,7 @@ in_selected xs n =
     ∙ by_test (is_among xs n) refl
   where
     by_test : (t : Bool) → is_among xs n ≡ t → (nat_lt n (suc (fold max zero xs)) && t) ≡ t
-    by_test true is = let low = at_most xs zero n is in grind (arith, nat_tests)
+    by_test true is = let low = at_most_greatest xs zero n is in grind (arith, nat_tests)
     by_test false is = never (nat_lt n (suc (fold max zero xs)))
       where
         never : (a : Bool) → (a && false) ≡ false

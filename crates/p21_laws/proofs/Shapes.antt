@@ -2,16 +2,15 @@
 use Rattle.std.proofs.Common.{◌≡◌, ℕ, zero, suc, Bool, true, false, ◌&&◌, nat_lt, List, [], ◌∷◌, ◌++◌, length, map, take, drop, None, refl, sym, ◌∙◌, ap, drop_at, take_at}
 use Rattle.std.proofs.lemmas.List.Folds.{list_all-map}
 use Rattle.std.specs.List.{flat_map, list_all}
+use Rattle.plain_data.specs.Numbers.{is_among, numbered}
 use Rattle.ex_slots.specs.Slots.{Slot, slots, slots_of}
 use Rattle.ex_types.specs.Checked.{Checked}
-use Rattle.lineage.specs.Lineage.{is_among}
-use Rattle.lineage.specs.Numbered.{numbered}
 use Rattle.ex_layouts.specs.Entities.{is_legal, line_of}
 use Rattle.ex_layouts.specs.Layouts.{in_name_order, leaf, slots_in}
 use Rattle.p21_tree.specs.declared.instance.Record.{Record}
 use Rattle.p21_canonical.specs.Trees.{attributes, entity_name, leaf_part, mapping, marks_of, own_part, own_parts, record_of, records}
-use Rattle.rp_content.specs.declared.instance.Types.{Types}
-use Rattle.rp_content.specs.declared.instance.Types.TheVariants.{Leaf, Several}
+use Rattle.rp_content.specs.declared.instance.Entities.{Entities}
+use Rattle.rp_content.specs.declared.instance.Entities.TheVariants.{Leaf, Several}
 use Rattle.rp_value.specs.declared.value.Value.{Value}
 use Rattle.p21_laws.proofs.Attributes.{attributes_are, trees_of}
 use Rattle.p21_laws.proofs.Entities.{IsEntity, entities_of}
@@ -50,9 +49,9 @@ module _ (schema : Checked) (P : Slot → Value → Type 0) where
     pub joined : ws ≡ flat_map lists all
     pub values : (n : ℕ) → is_among all n ≡ true → AllBoth P (slots_with schema all n) (lists n)
 
-  abbrev pub OfTypes : Types → List Value → Type 0
-  OfTypes (Leaf entity) ws = OfLeaf entity ws
-  OfTypes (Several all) ws = OfSeveral all ws
+  abbrev pub OfEntities : Entities → List Value → Type 0
+  OfEntities (Leaf entity) ws = OfLeaf entity ws
+  OfEntities (Several all) ws = OfSeveral all ws
 
 -- ---- the record of a leaf
 
@@ -110,6 +109,6 @@ module _ (schema : Checked) (P : Slot → Value → Type 0) where
     both_pass true e = refl
     both_pass false e = e
 
-    pub parts_pass : (types : Types) (ws : List Value) → OfTypes schema P types ws → list_all test (parts (mapping schema types ws)) ≡ true
+    pub parts_pass : (entities : Entities) (ws : List Value) → OfEntities schema P entities ws → list_all test (parts (mapping schema entities ws)) ≡ true
     parts_pass (Leaf entity) ws is = both_pass (test (record_of schema (leaf_part schema entity) ws)) (leaf_passes entity ws is)
     parts_pass (Several all) ws is = several_pass all ws is

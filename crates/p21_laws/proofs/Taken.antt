@@ -5,11 +5,12 @@ use Rattle.std.proofs.lemmas.Bool.Decides.{nat_tests}
 use Rattle.std.specs.Fmt.{signed_decimal}
 use Rattle.std.specs.List.{cons_option, filter_map}
 use Rattle.std.specs.Str.{str_to_ascii_uppercase}
+use Rattle.plain_data.specs.Numbers.{is_among}
 use Rattle.ex_named.specs.declared.declaration.NamedType.{NamedType}
 use Rattle.ex_named.specs.declared.expression.NamedDataType.{NamedDataType}
 use Rattle.ex_tree.specs.declared.data_type.SimpleType.TheVariants as simple
 use Rattle.ex_renamings.specs.Renamings as selects
-use Rattle.lineage.specs.Lineage.{family, is_among}
+use Rattle.graphs.specs.Graphs.{family}
 use Rattle.name_tables.specs.Names.{place_of}
 use Rattle.p21_spelling.proofs.Runs.{both_hold, first_holds, second_holds}
 use Rattle.p21_spelling.proofs.Values.{spelling_roll}
@@ -40,6 +41,7 @@ use Rattle.rp_value.specs.Elements.{Elements}
 use Rattle.rp_value.specs.declared.value.AggregateKind.{AggregateKind}
 use Rattle.rp_value.specs.declared.value.Value.{Value}
 use Rattle.rp_value.specs.declared.value.Value.TheVariants as v
+use Rattle.p21_laws.proofs.Firsts.{split}
 use Rattle.p21_laws.proofs.Bits.{bits_again, bits_spelled}
 use Rattle.p21_laws.proofs.Decimals.{parse_normal}
 use Rattle.p21_laws.proofs.Ends.{IsTarget, inside-base, inside_is, is_select, no_select, none_there, target_is}
@@ -338,18 +340,6 @@ module _ (types : List NamedType) (are : AreTypes types) where
   placed x y w good target e = placed_by x y w (meaning types x).is_unset good target e
 
   -- ---- lists
-
-  record Split (first : Option Value) (others : Option (List Value)) (ws : List Value) : Type 0 where
-    head : Value
-    tail : List Value
-    is_head : first ≡ Some head
-    is_tail : others ≡ Some tail
-    is : head ∷ tail ≡ ws
-
-  split : (first : Option Value) (others : Option (List Value)) (ws : List Value) → with_first first others ≡ Some ws → Split first others ws
-  split None others ws e = cc
-  split (Some x) None ws e = cc
-  split (Some x) (Some xs) ws e = let same : x ∷ xs ≡ ws = cc in record { head = x; tail = xs; is_head = refl; is_tail = refl; is = same }
 
   record AllPlaced (ss : List Spelling) (y : Target) (ws : List Value) : Type 0 where
     takes : all_there (map (λ m. place m y) (map (again types) ws)) ≡ Some ws

@@ -10,27 +10,27 @@ use lib.Utf8.{scalar}
 use Rattle.p21_spelling.proofs.Runs.{second_holds}
 use Rattle.p21_escapes.specs.declared.fault.StringFault.TheVariants as fault
 use Rattle.p21_escapes.specs.Decoding as spec
-use Rattle.p21_escapes.specs.Decoding.{Spelled, Front, ◌>>=◌, appended, character, coded, decoded, directive, enclosed, ended, escape, front, groups, hexadecimal, is_high, is_line_end, is_low, long, long_groups, page, raw, short, short_groups, spelled, spelled_from, text_of, unit, upper_half}
+use Rattle.p21_escapes.specs.Decoding.{Decoding, Front, ◌>>=◌, appended, character, coded, decoded, directive, enclosed, ended, escape, front, groups, hexadecimal, is_high, is_line_end, is_low, long, long_groups, page, raw, short, short_groups, spelled, spelled_from, text_of, unit, upper_half}
 use Rattle.p21_escapes.specs.Digits.{is_digit, digit_value, value_of_four}
 
-abbrev IsText : {A : Type 0} → Spelled A → Type 0
+abbrev IsText : {A : Type 0} → Decoding A → Type 0
 IsText (Ok p) = IsUtf8 p.1
 IsText (Err why) = Unit {0}
 
-text_if : {A : Type 0} (t : Bool) (p q : Spelled A) → IsText p → IsText q → IsText (if t then p else q)
+text_if : {A : Type 0} (t : Bool) (p q : Decoding A) → IsText p → IsText q → IsText (if t then p else q)
 text_if true p q one other = one
 text_if false p q one other = other
 
 -- where the test tells of the first
-text_when : {A : Type 0} (t : Bool) (p q : Spelled A) → (t ≡ true → IsText p) → IsText q → IsText (if t then p else q)
+text_when : {A : Type 0} (t : Bool) (p q : Decoding A) → (t ≡ true → IsText p) → IsText q → IsText (if t then p else q)
 text_when true p q one other = one refl
 text_when false p q one other = other
 
-appended_text : {A : Type 0} (text : List ℕ) (p : Spelled A) → IsUtf8 text → IsText p → IsText (appended text p)
+appended_text : {A : Type 0} (text : List ℕ) (p : Decoding A) → IsUtf8 text → IsText p → IsText (appended text p)
 appended_text text (Ok p) one other = IsUtf8-append text p.1 one other
 appended_text text (Err why) one other = tt
 
-then_text : {A B : Type 0} (p : Spelled A) (next : A → Spelled B) → IsText p → ((a : A) → IsText (next a)) → IsText (p >>= next)
+then_text : {A B : Type 0} (p : Decoding A) (next : A → Decoding B) → IsText p → ((a : A) → IsText (next a)) → IsText (p >>= next)
 then_text (Ok p) next one others = appended_text p.1 (next p.0) one (others p.0)
 then_text (Err why) next one others = tt
 
@@ -75,7 +75,7 @@ long_text (a ∷ b ∷ c ∷ d ∷ e ∷ []) = IsUtf8-nil
 long_text (a ∷ b ∷ c ∷ d ∷ e ∷ f ∷ []) = IsUtf8-nil
 long_text (a ∷ b ∷ c ∷ d ∷ e ∷ f ∷ g ∷ []) = IsUtf8-nil
 
-enclosed_text : (n : ℕ) (spell : List ℕ → Spelled (Unit {0})) (z : List ℕ) → ((z : List ℕ) → IsText (spell z)) → IsText (enclosed n spell z)
+enclosed_text : (n : ℕ) (spell : List ℕ → Decoding (Unit {0})) (z : List ℕ) → ((z : List ℕ) → IsText (spell z)) → IsText (enclosed n spell z)
 enclosed_text n spell z all = then_text (spell (take (4 * n) z)) (λ _. Ok (4 * n + 8, [])) (all (take (4 * n) z)) (λ _. IsUtf8-nil)
 
 short_groups_text : (o : Option ℕ) (z : List ℕ) → IsText (short_groups o z)
@@ -166,7 +166,7 @@ from_text (suc left) [] = IsUtf8-nil
 from_text (suc left) (b ∷ z) = from_text left z
 from_text zero (b ∷ z) = then_text (front (b ∷ z)) (λ n. spelled_from (n - 1) z) (front_text (b ∷ z)) (λ n. from_text (n - 1) z)
 
-told_text : (p : Spelled (Unit {0})) (text : List ℕ) → IsText p → text_of p ≡ Ok text → IsUtf8 text
+told_text : (p : Decoding (Unit {0})) (text : List ℕ) → IsText p → text_of p ≡ Ok text → IsUtf8 text
 told_text (Ok p) text is e = let same : p.1 ≡ text = cc in subst IsUtf8 same is
 told_text (Err why) text is e = cc
 

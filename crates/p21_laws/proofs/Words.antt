@@ -16,7 +16,8 @@ use Rattle.ex_tree.specs.declared.expression.Name.{Name}
 use Rattle.ex_types.specs.Checked.{entity_names, type_names}
 use Rattle.p21_spelling.proofs.Runs.{first_holds, second_holds}
 use Rattle.p21_spelling.specs.Tokens.{is_word}
-use Rattle.p21_lexemes.specs.Lexical.{is_letter, is_word_byte}
+use Rattle.text_forms.specs.Words.{is_word_byte}
+use Rattle.p21_lexemes.specs.Lexical.{is_letter}
 use Rattle.ex_selects.specs.Items.{items_by}
 use Rattle.p21_laws.specs.Schemas.{HasWords}
 use Rattle.p21_laws.specs.Types.{is_upper_word}

@@ -1,8 +1,8 @@
 -- What is read of a text, where some names are linked.
 use Rattle.std.specs.Prelude.{◌≡◌, ℕ, true, List, [], Ok}
+use Rattle.plain_data.specs.Numbers.{is_among}
 use Rattle.ex_types.specs.Checked.{Checked}
 use Rattle.p21_bind.specs.Files.{bound_file}
-use Rattle.p21_instances.specs.Instances.{is_among}
 use Rattle.p21_grammar.specs.File.{file_of}
 use Rattle.p21_tree.specs.declared.raw.Raw.{Raw}
 use Rattle.rp_content.specs.Headers.{default_header}

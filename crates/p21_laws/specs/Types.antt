@@ -6,7 +6,7 @@ use Rattle.std.specs.Str.{bytes_eq, str_to_ascii_uppercase}
 use Rattle.ex_named.specs.declared.declaration.NamedType.{NamedType}
 use Rattle.ex_resolve.specs.Proved.{count, held_types}
 use Rattle.ex_types.specs.Checked.{type_names}
-use Rattle.lineage.specs.Lineage.{IsAcyclic}
+use Rattle.graphs.specs.Graphs.{IsAcyclic}
 use Rattle.p21_spelling.specs.Tokens.{is_word}
 use Rattle.ex_selects.specs.Items.{items_by}
 

@@ -5,7 +5,7 @@ ghost use Rattle.ex_named.specs.declared.declaration.NamedSchema.{NamedSchema};
 ghost use Rattle.ex_named.specs.declared.declaration.NamedType.{NamedType};
 ghost use Rattle.ex_named.specs.declared.expression.NamedDataType.{NamedDataType};
 ghost use Rattle.ex_resolve.specs.Proved.{DeclaresOnce, HasIdentifiers, held_types};
-ghost use Rattle.lineage.specs.Lineage.{IsAcyclic};
+ghost use Rattle.graphs.specs.Graphs.{IsAcyclic};
 ghost use Rattle.p21_laws.specs.Types.{AreTypes};
 ghost use Rattle.p21_grammar.specs.Grammar.{value_at};
 ghost use Rattle.p21_spelling.specs.Again.{ReadsAgain};

@@ -5,7 +5,7 @@ ghost use Rattle.std.specs.List.{list_all, AllByRecursion};
 ghost use Rattle.ex_resolve.specs.Proved.{DeclaresOnce, HasIdentifiers, held_types};
 ghost use Rattle.ex_resolve.specs.Schemas.{Resolved};
 ghost use Rattle.ex_types.specs.Checked.{Checked};
-ghost use Rattle.lineage.specs.Lineage.{IsAcyclic};
+ghost use Rattle.graphs.specs.Graphs.{IsAcyclic};
 ghost use Rattle.p21_bind.specs.Files.{bound_file};
 ghost use Rattle.p21_mappings.specs.Instances as binding;
 ghost use Rattle.p21_laws.specs.Instances.{references_of};
@@ -31,7 +31,7 @@ fn accepted(schema: &LoadedSchema<'_>)
     ensures { IsAccepted schema.now.named }
 {
     accepted_schema();
-    schema.checked().named().proved();
+    schema.checked().resolved().proved();
 }
 
 /// And so are all of these.

@@ -1,31 +1,10 @@
--- Digits and their value.
-use Rattle.std.proofs.Common.{◌≡◌, ℕ, zero, suc, ◌+◌, ◌-◌, ◌*◌, ◌≤◌, ◌&&◌, Bool, true, false, cond, List, [], ◌∷◌, take, length, refl, le_refl, le_trans, arith}
-use Rattle.std.specs.List.{list_all, prefix_len}
+-- What few digits write.
+use Rattle.std.proofs.Common.{◌≡◌, ℕ, zero, suc, ◌+◌, ◌-◌, ◌*◌, ◌≤◌, ◌&&◌, Bool, true, false, List, [], ◌∷◌, length, refl, le_refl, le_trans, arith}
+use Rattle.std.specs.List.{list_all}
 use Rattle.std.specs.Char.{is_ascii_digit}
 use Rattle.std.proofs.lemmas.Bool.Decides.{nat_tests}
-use Rattle.p21_lexemes.specs.Lexical.{digits_len, value_after, value, max_name}
-
--- more digits only make the value larger
-pub le-value_after : (n : ℕ) (z : List ℕ) → n ≤ value_after n z
-le-value_after n [] = le_refl n
-le-value_after n (b ∷ z) = let step : n ≤ 10 * n + (b - 48) = omega arith in le_trans step (le-value_after (10 * n + (b - 48)) z)
-
-take_more : (p : ℕ → Bool) (b n : ℕ) (z : List ℕ) → p b ≡ true → list_all p (take n z) ≡ true → list_all p (take (1 + n) (b ∷ z)) ≡ true
-take_more p b n z passes more =
-    let same : 1 + n ≡ suc n = omega arith in
-    rw (same, passes) more
-
-in_front : (p : ℕ → Bool) (b : ℕ) (z : List ℕ) (t : Bool) → p b ≡ t → list_all p (take (prefix_len p z) z) ≡ true → list_all p (take (cond t (1 + prefix_len p z) 0) (b ∷ z)) ≡ true
-in_front p b z true passes more = take_more p b (prefix_len p z) z passes more
-in_front p b z false fails more = refl
-
-all_of_prefix : (p : ℕ → Bool) (z : List ℕ) → list_all p (take (prefix_len p z) z) ≡ true
-all_of_prefix p [] = refl
-all_of_prefix p (b ∷ z) = in_front p b z (p b) refl (all_of_prefix p z)
-
--- the digits in front are digits
-pub all_in_front : (n : ℕ) (z : List ℕ) → n ≡ digits_len z → list_all is_ascii_digit (take n z) ≡ true
-all_in_front n z e = rw e (all_of_prefix is_ascii_digit z)
+use Rattle.rp_numbers.specs.Whole.{value_after, value}
+use Rattle.p21_lexemes.specs.Lexical.{max_name}
 
 -- the greatest number of k digits more
 abbrev pub most_after : ℕ → ℕ → ℕ

@@ -7,7 +7,8 @@ use Rattle.std.specs.List.{prefix_len, list_any}
 use Rattle.std.specs.Str.{str_eq_ignore_ascii_case, str_to_ascii_lowercase}
 use Rattle.p21_lexemes.specs.declared.token.TokenKind.TheVariants.{Word}
 use Rattle.p21_lexemes.specs.declared.front.Start.TheVariants.{Token}
-use Rattle.p21_lexemes.specs.Lexical.{is_word_byte, is_mark_byte, word}
+use Rattle.text_forms.specs.Words.{is_word_byte}
+use Rattle.p21_lexemes.specs.Lexical.{is_mark_byte, word}
 
 abbrev is_dash : ℕ → Bool
 is_dash b = b == 45

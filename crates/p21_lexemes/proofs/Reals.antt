@@ -1,5 +1,5 @@
 -- A real of few digits and with no exponent, or one that is near to 0, is within the limits.
-use Rattle.std.proofs.Common.{◌≡◌, ◌∙◌, ℕ, pos, zero, suc, ◌+◌, ◌-◌, ◌*◌, ◌^◌, ◌<◌, ◌≤◌, ◌+ℤ◌, ◌-ℤ◌, ◌==◌, ◌&&◌, ◌||◌, nat_lt, nat_le, Bool, true, false, cond, if◌then◌else◌, List, [], ◌∷◌, take, drop, length, slice_index, get_or, Some, Result, Ok, Err, refl, sym, ap, subst, le_refl, length-append, arith}
+use Rattle.std.proofs.Common.{◌≡◌, ◌∙◌, ℕ, pos, zero, suc, ◌+◌, ◌-◌, ◌^◌, ◌<◌, ◌≤◌, ◌+ℤ◌, ◌-ℤ◌, ◌==◌, ◌&&◌, ◌||◌, nat_lt, nat_le, Bool, true, false, cond, if◌then◌else◌, List, [], ◌∷◌, take, drop, length, slice_index, get_or, Some, Result, Ok, Err, refl, sym, ap, subst, le_refl, length-append, arith}
 use Rattle.std.specs.Prelude.{is_ok}
 use Rattle.std.specs.List.{list_all, prefix_len}
 use Rattle.std.specs.Char.{is_ascii_digit}
@@ -11,16 +11,16 @@ use Rattle.std.proofs.lemmas.List.Sums.{prefix_len-le-length, suffix_len-le-leng
 use Rattle.rp_numbers.specs.declared.decimal.DecimalFault.{DecimalFault}
 use Rattle.rp_numbers.specs.declared.decimal.DecimalFault.TheVariants.{TooManyDigits, TooWide}
 use Rattle.rp_numbers.specs.Decimals.{Decimal, zero_decimal}
-use Rattle.rp_numbers.specs.Whole as whole
+use Rattle.rp_numbers.specs.Whole.{value}
 use Rattle.rp_numbers.specs.Spelling as spelling
-use Rattle.rp_numbers.specs.Spelling.{Real, digits, zeros, is_zero, coefficient, exponent, fits, decimal, decimal_of, real, parse}
+use Rattle.rp_numbers.specs.Spelling.{Real, digits, zeros, is_zero, coefficient, exponent, fits, decimal, decimal_of, real, parse, digits_len, sign_len}
 use Rattle.p21_tree.specs.declared.fault.FaultKind.TheVariants as fault
 use Rattle.p21_lexemes.specs.declared.token.TokenKind.TheVariants as token
 use Rattle.p21_lexemes.specs.declared.front.Start.TheVariants.{Token, Fault}
 use Rattle.p21_lexemes.specs.Lexical as spec
-use Rattle.p21_lexemes.specs.Lexical.{digits_len, sign_len}
 use Rattle.p21_lexemes.specs.Usual.{IsNear}
-use Rattle.p21_lexemes.proofs.Digits.{all_in_front, value_after-below}
+use Rattle.rp_numbers.proofs.Digits.{digits_in_front}
+use Rattle.p21_lexemes.proofs.Digits.{value_after-below}
 
 -- ---- few digits are a decimal
 
@@ -33,14 +33,9 @@ all_take p zero z all = refl
 all_take p (suc k) [] all = refl
 all_take p (suc k) (b ∷ z) all = taken p k b z (p b) refl all (all_take p k z)
 
-same_value : (n : ℕ) (z : List ℕ) → whole.value_after n z ≡ spec.value_after n z
-same_value n [] = refl
-same_value n (b ∷ z) = same_value (10 * n + (b - 48)) z
-
-few : (z : List ℕ) → list_all is_ascii_digit z ≡ true → length z ≤ 36 → whole.value z < 10 ^ 36
+few : (z : List ℕ) → list_all is_ascii_digit z ≡ true → length z ≤ 36 → value z < 10 ^ 36
 few z all short =
-    let below : spec.value z ≤ 10 ^ 36 - 1 = value_after-below 36 0 0 z all short (le_refl 0) in
-    let same = same_value 0 z in
+    let below : value z ≤ 10 ^ 36 - 1 = value_after-below 36 0 0 z all short (le_refl 0) in
     omega arith
 
 near : (negative : Bool) (n f ended : ℕ) → n ≤ 99 → f ≤ 36 → ended ≤ 36 → fits (spelling.signed negative n -ℤ pos f +ℤ pos ended) ≡ true
@@ -59,7 +54,7 @@ plain negative before behind p = record { is_negative = negative; whole = before
 
 -- what the digits of an exponent write
 abbrev magnitude : List ℕ → ℕ
-magnitude p = whole.value (drop (spelling.sign_len p) p)
+magnitude p = value (drop (sign_len p) p)
 
 few_digits : (negative : Bool) (before behind p : List ℕ) → list_all is_ascii_digit before ≡ true → list_all is_ascii_digit behind ≡ true → length before + length behind ≤ 36 → magnitude p ≤ 99
     → is_ok (decimal (plain negative before behind p)) ≡ true
@@ -87,23 +82,23 @@ len_take p (suc n) [] within = refl
 len_take p zero (b ∷ z) within = omega arith
 len_take p (suc n) (b ∷ z) within = longer p n b z (p b) refl within (len_take p n z)
 
-shaped : (t u b e p : List ℕ) (w f : ℕ) → drop (spelling.sign_len t) t ≡ u → digits_len u ≡ w → 0 < w → slice_index u w ≡ 46 → drop (w + 1) u ≡ b → digits_len b ≡ f → drop f b ≡ e → spelling.power e ≡ Some p
+shaped : (t u b e p : List ℕ) (w f : ℕ) → drop (sign_len t) t ≡ u → digits_len u ≡ w → 0 < w → slice_index u w ≡ 46 → drop (w + 1) u ≡ b → digits_len b ≡ f → drop f b ≡ e → spelling.power e ≡ Some p
     → real t ≡ Some (plain (spelling.is_negative t) (take w u) (take f b) p)
 unfolding real
 shaped t u b e p w f unsigned whole some point behind fraction ends power =
     let more : nat_lt 0 w ≡ true = grind (arith, nat_tests) in
     rw (unsigned, whole, more, point, behind, fraction, ends, power) refl
 
-shape_is_ok : (t u b e p : List ℕ) (w f : ℕ) → drop (spelling.sign_len t) t ≡ u → digits_len u ≡ w → 0 < w → slice_index u w ≡ 46 → drop (w + 1) u ≡ b → digits_len b ≡ f → drop f b ≡ e → spelling.power e ≡ Some p → w + f ≤ 36 → magnitude p ≤ 99
+shape_is_ok : (t u b e p : List ℕ) (w f : ℕ) → drop (sign_len t) t ≡ u → digits_len u ≡ w → 0 < w → slice_index u w ≡ 46 → drop (w + 1) u ≡ b → digits_len b ≡ f → drop f b ≡ e → spelling.power e ≡ Some p → w + f ≤ 36 → magnitude p ≤ 99
     → is_ok (parse t) ≡ true
 unfolding parse
 shape_is_ok t u b e p w f unsigned whole some point behind fraction ends power short near =
     let cut_whole = length-take w u in
     let cut_fraction = length-take f b in
     ap (λ r. is_ok (decimal_of r)) (shaped t u b e p w f unsigned whole some point behind fraction ends power)
-    ∙ few_digits (spelling.is_negative t) (take w u) (take f b) p (all_in_front w u (sym whole)) (all_in_front f b (sym fraction)) (omega arith) near
+    ∙ few_digits (spelling.is_negative t) (take w u) (take f b) p (digits_in_front w u (sym whole)) (digits_in_front f b (sym fraction)) (omega arith) near
 
-same_sign : (n : ℕ) (z : List ℕ) → 0 < n → spelling.sign_len (take n z) ≡ sign_len z
+same_sign : (n : ℕ) (z : List ℕ) → 0 < n → sign_len (take n z) ≡ sign_len z
 same_sign n z some = ap (λ b. if spec.is_sign b then 1 else 0) (get_or-take n z 0 0 some)
 
 cut_is_ok : (z p : List ℕ) (s w f k : ℕ) → s ≡ sign_len z → w ≡ digits_len (drop s z) → 0 < w → slice_index z (s + w) ≡ 46 → f ≡ digits_len (drop (w + 1) (drop s z)) → w + f ≤ 36
@@ -113,7 +108,7 @@ cut_is_ok z p s w f k signed whole some point fraction short power near =
     let t = take (s + n) z in
     let u = drop s z in
     let b = drop (w + 1) u in
-    let unsigned : drop (spelling.sign_len t) t ≡ take n u =
+    let unsigned : drop (sign_len t) t ≡ take n u =
     ap (λ n. drop n t) (same_sign (s + n) z (omega arith) ∙ sym signed) ∙ drop-take s n z in
     let fits_whole : digits_len u ≤ n = omega arith in
     let fits_fraction : digits_len b ≤ f + k = omega arith in
@@ -145,21 +140,20 @@ Powers x k = (p : List ℕ) × (spelling.power (take k x) ≡ Some p) × (magnit
 no_power : (x : List ℕ) (k : ℕ) → k ≡ 0 → Powers x k
 no_power x k none = rw none ([], refl, omega arith)
 
-some_power : (b : ℕ) (y : List ℕ) (s d k : ℕ) → k ≡ 1 + s + d → s ≡ sign_len y → d ≡ digits_len (drop s y) → 0 < d → (b == 69 || b == 101) ≡ true → spec.value (take d (drop s y)) ≤ 99 → Powers (b ∷ y) k
+some_power : (b : ℕ) (y : List ℕ) (s d k : ℕ) → k ≡ 1 + s + d → s ≡ sign_len y → d ≡ digits_len (drop s y) → 0 < d → (b == 69 || b == 101) ≡ true → value (take d (drop s y)) ≤ 99 → Powers (b ∷ y) k
 some_power b y s d k long signed digits some letter near =
     let z = take (s + d) y in
     let more : k ≡ suc (s + d) = omega arith in
-    let sign : spelling.sign_len z ≡ s = same_sign (s + d) y (omega arith) ∙ sym signed in
-    let all : drop (spelling.sign_len z) z ≡ take d (drop s y) = ap (λ n. drop n z) sign ∙ drop-take s d y in
+    let sign : sign_len z ≡ s = same_sign (s + d) y (omega arith) ∙ sym signed in
+    let all : drop (sign_len z) z ≡ take d (drop s y) = ap (λ n. drop n z) sign ∙ drop-take s d y in
     let fits : d ≤ length (drop s y) = omega (arith, prefix_len-le-length is_ascii_digit (drop s y)) in
     let count : length (take d (drop s y)) ≡ d = omega (arith, length-take d (drop s y)) in
-    let are : list_all is_ascii_digit (take d (drop s y)) ≡ true = all_in_front d (drop s y) digits in
+    let are : list_all is_ascii_digit (take d (drop s y)) ≡ true = digits_in_front d (drop s y) digits in
     let least : nat_lt 0 d ≡ true = grind (arith, nat_tests) in
-    let same = same_value 0 (take d (drop s y)) in
-    rw more (z, rw (letter, all, count, least, are) refl, rw all (omega arith))
+    rw more (z, rw (letter, all, count, least, are) refl, rw all near)
 
 power_by : (b : ℕ) (y : List ℕ) (k : ℕ) (letter some : Bool) → (b == 69 || b == 101) ≡ letter → nat_lt 0 (digits_len (drop (sign_len y) y)) ≡ some
-    → k ≡ (if letter && some then 1 + sign_len y + digits_len (drop (sign_len y) y) else 0) → (0 < k → spec.value (take (digits_len (drop (sign_len y) y)) (drop (sign_len y) y)) ≤ 99) → Powers (b ∷ y) k
+    → k ≡ (if letter && some then 1 + sign_len y + digits_len (drop (sign_len y) y) else 0) → (0 < k → value (take (digits_len (drop (sign_len y) y)) (drop (sign_len y) y)) ≤ 99) → Powers (b ∷ y) k
 power_by b y k true true letter some same near =
     let s = sign_len y in
     let d = digits_len (drop s y) in
@@ -177,13 +171,13 @@ powers (b ∷ y) k power =
     let rest = behind_letter b (sign_len y) y in
     power_by b y k (b == 69 || b == 101) (nat_lt 0 (digits_len (drop (sign_len y) y))) refl refl
     (power.same ∙ ap (λ u. if (b == 69 || b == 101) && nat_lt 0 (digits_len u) then 1 + sign_len y + digits_len u else 0) rest)
-    (λ some. subst (λ u. spec.value (take (digits_len u) u) ≤ 99) rest (power.near some))
+    (λ some. subst (λ u. value (take (digits_len u) u) ≤ 99) rest (power.near some))
 
 -- a real with its point at `end`, and an exponent or none
-pub real_len : (z : List ℕ) (end fraction power : ℕ) → fraction ≡ digits_len (drop (end + 1) z) → power ≡ spec.exponent_len (drop (end + 1 + fraction) z)
-    → spec.real (end + 1 + fraction + power) z ≡ spec.real (end + 1 + digits_len (drop (end + 1) z) + spec.exponent_len (drop (end + 1 + digits_len (drop (end + 1) z)) z)) z
+pub real_len : (z : List ℕ) (end fraction power : ℕ) → fraction ≡ digits_len (drop (end + 1) z) → power ≡ spelling.exponent_len (drop (end + 1 + fraction) z)
+    → spec.real (end + 1 + fraction + power) z ≡ spec.real (end + 1 + digits_len (drop (end + 1) z) + spelling.exponent_len (drop (end + 1 + digits_len (drop (end + 1) z)) z)) z
 real_len z end fraction power f e =
-    subst (λ n. spec.real (end + 1 + fraction + power) z ≡ spec.real (end + 1 + n + spec.exponent_len (drop (end + 1 + n) z)) z) f
+    subst (λ n. spec.real (end + 1 + fraction + power) z ≡ spec.real (end + 1 + n + spelling.exponent_len (drop (end + 1 + n) z)) z) f
     (ap (λ n. spec.real (end + 1 + fraction + n) z) e)
 
 -- the same with few digits and an exponent that is near

@@ -1,16 +1,19 @@
 -- What stands at the front of a text: a blank, a token or a lexical fault.
 use Rattle.std.specs.Prelude.{◌≤◌, ℕ, ◌+◌, ◌-◌, ◌*◌, ◌^◌, Bool, true, false, not, ◌&&◌, ◌||◌, ◌==◌, nat_lt, nat_le, if◌then◌else◌, List, [], ◌∷◌, length, take, drop, slice_index, codes, Option, Some, None, option_map, is_ok}
 use Rattle.std.specs.List.{prefix_len, list_any, list_all}
-use Rattle.std.specs.Char.{is_ascii_digit, is_ascii_hexdigit, is_ascii_alphabetic, is_ascii_alphanumeric}
+use Rattle.std.specs.Char.{is_ascii_digit, is_ascii_hexdigit, is_ascii_alphabetic}
 use Rattle.std.specs.Str.{str_eq_ignore_ascii_case}
 use Rattle.memchr.specs.Find.{matches, first_of}
-use Rattle.rp_numbers.specs.Spelling.{parse}
+use Rattle.text_forms.specs.Words.{is_word_byte}
+use Rattle.rp_numbers.specs.Spelling.{sign_len, digits_len, exponent_len, parse}
+use Rattle.rp_numbers.specs.Whole.{value}
 use Rattle.p21_escapes.specs.declared.fault.StringFault.{StringFault}
 use Rattle.p21_escapes.specs.declared.fault.StringFault.TheVariants.{BadEscape, PageUnsupported, BadCode, NotUtf8}
 use Rattle.p21_escapes.specs.Decoding as strings
 use Rattle.p21_lexemes.specs.declared.token.TokenKind.TheVariants.{Word, FileStart, FileEnd, Integer, Real, Text, Name, Item, Binary, Open, Close, Comma, Equals, Semicolon, Dollar, Star}
 use Rattle.p21_tree.specs.declared.fault.FaultKind.{FaultKind}
 use Rattle.p21_tree.specs.declared.fault.FaultKind.TheVariants as fault
+pub use Rattle.p21_tree.specs.Names.{max_name}
 use Rattle.p21_lexemes.specs.declared.front.Start.{Start}
 use Rattle.p21_lexemes.specs.declared.front.Start.TheVariants.{Blank, Token, Fault}
 
@@ -24,9 +27,6 @@ Fits (Fault kind) len = Unit {0}
 
 abbrev pub is_letter : ℕ → Bool
 is_letter b = is_ascii_alphabetic b || b == 95
-
-abbrev pub is_word_byte : ℕ → Bool
-is_word_byte b = is_ascii_alphanumeric b || b == 95
 
 abbrev pub is_mark_byte : ℕ → Bool
 is_mark_byte b = is_word_byte b || b == 45
@@ -44,27 +44,6 @@ word z =
 
 abbrev pub is_sign : ℕ → Bool
 is_sign b = b == 43 || b == 45
-
-abbrev pub sign_len : List ℕ → ℕ
-sign_len z = if is_sign (slice_index z 0) then 1 else 0
-
-abbrev pub digits_len : List ℕ → ℕ
-digits_len z = prefix_len is_ascii_digit z
-
--- `E`, a sign and digits, or nothing where no digits are there
-abbrev pub exponent_len : List ℕ → ℕ
-exponent_len z =
-    let sign = sign_len (drop 1 z) in
-    let digits = digits_len (drop (1 + sign) z) in
-    if (slice_index z 0 == 69 || slice_index z 0 == 101) && nat_lt 0 digits then 1 + sign + digits else 0
-
--- the number that the digits write
-abbrev pub value_after : ℕ → List ℕ → ℕ
-value_after n [] = n
-value_after n (b ∷ z) = value_after (10 * n + (b - 48)) z
-
-abbrev pub value : List ℕ → ℕ
-value digits = value_after 0 digits
 
 -- the greatest magnitude of 64 bits under this sign
 abbrev pub greatest : ℕ → ℕ
@@ -85,9 +64,6 @@ number z =
     real (point + exponent_len (drop point z)) z)
     else if nat_le (value (take whole (drop sign z))) (greatest (slice_index z 0)) then Token Integer end
     else Fault fault.Number
-
-abbrev pub max_name : ℕ
-max_name = 999999999999999999
 
 -- `#` and digits
 unfoldable pub name : List ℕ → Start

@@ -1,6 +1,7 @@
 -- Exponents that are near to 0.
 use Rattle.std.specs.Prelude.{ℕ, ◌+◌, ◌<◌, ◌≤◌, List, take, drop, length, ◌≡◌}
-use Rattle.p21_lexemes.specs.Lexical.{sign_len, digits_len, exponent_len, value}
+use Rattle.rp_numbers.specs.Spelling.{sign_len, digits_len, exponent_len}
+use Rattle.rp_numbers.specs.Whole.{value}
 
 -- the digits of the exponent in front
 abbrev pub power_digits : List ℕ → List ℕ

@@ -1,15 +1,19 @@
 //! What stands at the front of a text.
 
-ghost use Rattle.std.specs.Prelude.{◌≡◌, ◌≢◌, ◌<◌, ◌≤◌, ◌+◌, ◌-◌, ◌^◌, ◌==◌, not, length, take, drop, slice_index, false, true, nat_le, IfSome, ℕ};
+ghost use Rattle.std.specs.Prelude.{◌≡◌, ◌<◌, ◌≤◌, ◌+◌, ◌-◌, ◌^◌, ◌==◌, not, length, take, drop, slice_index, false, true, nat_le, IfSome, ℕ};
 ghost use Rattle.std.specs.List.{prefix_len, list_all};
 ghost use Rattle.std.specs.Char.{is_ascii_digit, is_ascii_hexdigit};
+ghost use Rattle.text_forms.specs.Words.{is_word_byte};
+ghost use Rattle.rp_numbers.specs.Spelling as spelling;
+ghost use Rattle.rp_numbers.specs.Whole.{value};
 ghost use Rattle.p21_lexemes.specs.Lexical as spec;
 
 use crate::token::TokenKind;
 use memchr::memmem;
 use p21_escapes::{StringFault, string_fault};
-use p21_tree::FaultKind;
-use rp_numbers::Decimal;
+use p21_tree::{FaultKind, MAX_NAME};
+use rp_numbers::{Decimal, digits_len, exponent_len, number_after, sign_len};
+use text_forms::{byte, is_word_byte};
 
 /// What stands at the front of a text.
 #[derive(Clone, Copy)]
@@ -21,34 +25,10 @@ pub enum Start {
     Fault(FaultKind),
 }
 
-pub(crate) fn byte(z: &[u8], at: usize) -> u8
-    ensures value { result ≡ slice_index z.now at }
-    ensures within { result ≢ 0 → at < length z.now }
-{
-    if at < z.len() { z[at] } else { 0 }
-}
-
 pub(crate) fn is_letter(b: u8) -> bool
     ensures { result ≡ spec.is_letter b }
 {
     b.is_ascii_alphabetic() || b == b'_'
-}
-
-// Each byte of a word stands at its own place, and a point at every other.
-static WORD_BYTES: [u8; 256] = *b"\
-    ................................\
-    ................0123456789......\
-    .ABCDEFGHIJKLMNOPQRSTUVWXYZ...._\
-    .abcdefghijklmnopqrstuvwxyz.....\
-    ................................\
-    ................................\
-    ................................\
-    ................................";
-
-fn is_word_byte(b: u8) -> bool
-    ensures { result ≡ spec.is_word_byte b }
-{
-    WORD_BYTES[usize::from(b)] != b'.'
 }
 
 fn mark_len(z: &[u8]) -> usize
@@ -62,7 +42,7 @@ fn mark_len(z: &[u8]) -> usize
 }
 
 pub(crate) fn word_len(z: &[u8]) -> usize
-    ensures value { result ≡ prefix_len spec.is_word_byte z.now }
+    ensures value { result ≡ prefix_len is_word_byte z.now }
     ensures some { spec.is_letter (slice_index z.now 0) ≡ true → 0 < result }
     ensures within { result ≤ length z.now }
 {
@@ -109,52 +89,13 @@ pub(crate) fn is_sign(b: u8) -> bool
     b == b'+' || b == b'-'
 }
 
-pub(crate) fn sign_len(z: &[u8]) -> usize
-    ensures value { result ≡ spec.sign_len z.now }
-    ensures within { result ≤ length z.now }
-{
-    if is_sign(byte(z, 0)) { 1 } else { 0 }
-}
-
-fn count_digits(z: &[u8]) -> usize
-    ensures value { result ≡ spec.digits_len z.now }
-    ensures within { result ≤ length z.now }
-{
-    z.iter().take_while(|b| b.is_ascii_digit()).count()
-}
-
-#[tactic(auto, using(crate::proofs::Digits::all_in_front))]
-pub(crate) fn digits_len(z: &[u8]) -> usize
-    ensures value { result ≡ spec.digits_len z.now }
-    ensures digits { list_all is_ascii_digit (take result z.now) ≡ true }
-    ensures within { result ≤ length z.now }
-{
-    count_digits(z)
-}
-
-fn exponent_len(z: &[u8]) -> usize
-    ensures value { result ≡ spec.exponent_len z.now }
-    ensures within { result ≤ length z.now }
-{
-    let e = byte(z, 0);
-    if e != b'E' && e != b'e' {
-        return 0;
-    }
-    let sign = sign_len(&z[1..]);
-    let digits = digits_len(&z[1 + sign..]);
-    if digits > 0 { 1 + sign + digits } else { 0 }
-}
-
-/// The greatest number of 18 digits.
-pub(crate) const MAX_NAME: u64 = 999_999_999_999_999_999;
-
 /// Whether there are so few digits that the number that they write is no greater than `most`, whatever they are.
 #[tactic(auto, using(crate::proofs::Digits::value_below))]
 #[inline(always)]
 pub(crate) fn are_few(most: u64, digits: &[u8]) -> bool
     requires all { list_all is_ascii_digit digits.now ≡ true }
     requires most { MAX_NAME ≤ most }
-    ensures { result ≡ true → nat_le (spec.value digits.now) most ≡ true }
+    ensures { result ≡ true → nat_le (value digits.now) most ≡ true }
 {
     digits.len() <= 18
 }
@@ -163,20 +104,9 @@ pub(crate) fn are_few(most: u64, digits: &[u8]) -> bool
 fn is_up_to(most: u64, digits: &[u8]) -> bool
     requires all { list_all is_ascii_digit digits.now ≡ true }
     requires most { MAX_NAME ≤ most }
-    ensures { result ≡ nat_le (spec.value digits.now) most }
+    ensures { result ≡ nat_le (value digits.now) most }
 {
-    if are_few(most, digits) {
-        return true;
-    }
-    let mut value = 0u64;
-    'digits: for digit in digits {
-        let next = 10 * u128::from(value) + u128::from(digit.saturating_sub(b'0'));
-        if next > u128::from(most) {
-            return false;
-        }
-        value = next as u64;
-    }
-    true
+    are_few(most, digits) || number_after(0, digits, u128::from(most)).is_some()
 }
 
 pub(crate) fn greatest(sign: u8) -> u64
@@ -200,11 +130,11 @@ fn real(len: usize, z: &[u8]) -> Start
 
 /// A real whose point is at the place `end`, where its whole digits end.
 fn real_with(end: usize, z: &[u8]) -> Start
-    requires some { 0 < spec.digits_len (drop (spec.sign_len z.now) z.now) }
-    requires end { end ≡ spec.sign_len z.now + spec.digits_len (drop (spec.sign_len z.now) z.now) }
+    requires some { 0 < spelling.digits_len (drop (spelling.sign_len z.now) z.now) }
+    requires end { end ≡ spelling.sign_len z.now + spelling.digits_len (drop (spelling.sign_len z.now) z.now) }
     requires point { slice_index z.now end ≡ 46 }
     requires within { end < length z.now }
-    ensures value { result ≡ spec.real (end + 1 + spec.digits_len (drop (end + 1) z.now) + spec.exponent_len (drop (end + 1 + spec.digits_len (drop (end + 1) z.now)) z.now)) z.now }
+    ensures value { result ≡ spec.real (end + 1 + spelling.digits_len (drop (end + 1) z.now) + spelling.exponent_len (drop (end + 1 + spelling.digits_len (drop (end + 1) z.now)) z.now)) z.now }
     ensures within { spec.Fits result (length z.now) }
 {
     let len = end + 1 + digits_len(&z[end + 1..]);

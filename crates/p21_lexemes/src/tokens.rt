@@ -5,7 +5,7 @@ ghost use Rattle.std.specs.List.{prefix_len};
 ghost use Rattle.std.specs.Option.{option_map};
 ghost use Rattle.text_forms.specs.Forms.{first, rest, turns};
 ghost use Rattle.text_forms.specs.Forms as forms;
-ghost use Rattle.text_forms.specs.Gives.{Reads, ReadsAs, Takes};
+ghost use Rattle.text_forms.specs.Reads.{Reads, ReadsAs, Takes};
 ghost use Rattle.p21_lexemes.specs.Lexical as lexical;
 ghost use Rattle.p21_lexemes.specs.Tokens as spec;
 ghost use Rattle.p21_lexemes.specs.declared.front.Start.TheVariants as start;
@@ -15,8 +15,9 @@ use crate::kinds::same_kind;
 use crate::token::{Token, TokenKind};
 use crate::usual::{usual, usual_number, usual_or_word};
 use p21_tree::{FaultKind, FileFault};
+use plain_data::Failure;
 use std::marker::Model;
-use text_forms::{Failure, TokenSource};
+use text_forms::TokenSource;
 
 /// How many blanks stand in front of a text.
 fn blanks_len(z: &[u8]) -> usize

@@ -6,12 +6,17 @@ ghost use Rattle.std.specs.Char.{is_ascii_digit};
 ghost use Rattle.std.specs.Option.{option_map};
 ghost use Rattle.p21_lexemes.specs.declared.token.TokenKind.TheVariants as k;
 ghost use Rattle.p21_lexemes.specs.declared.front.Start.TheVariants.{Token};
+ghost use Rattle.rp_numbers.specs.Spelling as spelling;
+ghost use Rattle.rp_numbers.specs.Whole.{value};
 ghost use Rattle.p21_lexemes.specs.Lexical as spec;
 ghost use Rattle.p21_lexemes.specs.Usual.{IsNear};
 
-use crate::front::{MAX_NAME, are_few, byte, digits_len, greatest, is_letter, sign_len, word_len};
+use crate::front::{are_few, greatest, is_letter, word_len};
 use crate::kinds::{same_kind, single_kind};
 use crate::token::TokenKind;
+use p21_tree::MAX_NAME;
+use rp_numbers::{digits_len, sign_len};
+use text_forms::byte;
 
 /// The length of `#` and a few digits.
 #[tactic(auto, unfolding(crate::specs::Lexical::name))]
@@ -76,7 +81,7 @@ fn empty_string_len(z: &[u8]) -> Option<usize>
 #[inline(always)]
 fn is_near(digits: &[u8]) -> bool
     requires { list_all is_ascii_digit digits.now ≡ true }
-    ensures { result ≡ true → spec.value digits.now ≤ 99 }
+    ensures { result ≡ true → value digits.now ≤ 99 }
 {
     match digits {
         [b'0', rest @ ..] => rest.len() <= 2,
@@ -108,11 +113,11 @@ const MAX_PLAIN: usize = 37;
 /// The length of a real of few digits, whose point is at the place `end`, where its whole digits end.
 #[inline(always)]
 fn real_len(end: usize, z: &[u8]) -> Option<usize>
-    requires some { 0 < spec.digits_len (drop (spec.sign_len z.now) z.now) }
-    requires end { end ≡ spec.sign_len z.now + spec.digits_len (drop (spec.sign_len z.now) z.now) }
+    requires some { 0 < spelling.digits_len (drop (spelling.sign_len z.now) z.now) }
+    requires end { end ≡ spelling.sign_len z.now + spelling.digits_len (drop (spelling.sign_len z.now) z.now) }
     requires point { slice_index z.now end ≡ 46 }
     requires within { end < length z.now }
-    ensures value { IfSome result (λ len. spec.real (end + 1 + spec.digits_len (drop (end + 1) z.now) + spec.exponent_len (drop (end + 1 + spec.digits_len (drop (end + 1) z.now)) z.now)) z.now ≡ Token k.Real len) }
+    ensures value { IfSome result (λ len. spec.real (end + 1 + spelling.digits_len (drop (end + 1) z.now) + spelling.exponent_len (drop (end + 1 + spelling.digits_len (drop (end + 1) z.now)) z.now)) z.now ≡ Token k.Real len) }
     ensures within { IfSome result (λ len. spec.Fits (Token k.Real len) (length z.now)) }
 {
     let len = end + 1 + digits_len(&z[end + 1..]);

@@ -9,11 +9,11 @@ use Rattle.p21_tree.specs.declared.instance.Instance as tree
 use Rattle.p21_tree.specs.declared.instance.Mapping.{Mapping}
 use Rattle.p21_tree.specs.declared.instance.Mapping.TheVariants.{Internal, External}
 use Rattle.p21_tree.specs.declared.instance.Record.{Record}
-use Rattle.p21_tree.specs.declared.value.Value.{Value as Spelled}
-use Rattle.p21_mappings.specs.Instances.{Read, each, value, part, by_layout, by_entity, by_entities, by_several, by_mapping, instance}
+use Rattle.p21_tree.specs.declared.value.Value.{Value as SpelledValue}
+use Rattle.p21_mappings.specs.Instances.{Mapped, each, value, part, by_layout, by_entity, by_entities, by_several, by_mapping, instance}
 use Rattle.p21_mappings.specs.Referred.{part_references, mapping_references}
 
-each_same : {A B : Type 0} (f g : A → Read B) (xs : List A) → AllByRecursion (λ x. f x ≡ g x) xs → each f xs ≡ each g xs
+each_same : {A B : Type 0} (f g : A → Mapped B) (xs : List A) → AllByRecursion (λ x. f x ≡ g x) xs → each f xs ≡ each g xs
 each_same f g [] same = refl
 each_same f g (x ∷ xs) same = rw (same.0, each_same f g xs same.1) refl
 
@@ -34,10 +34,10 @@ module _ (schema : Checked) (p q : ℕ → Bool) where
   all_same [] all = refl
   all_same (n ∷ ns) all = rw (all.0, all_same ns all.1) refl
 
-  value_same : (slot : Slot) (x : Spelled) → Agree (references x) → value schema p (slot, x) ≡ value schema q (slot, x)
+  value_same : (slot : Slot) (x : SpelledValue) → Agree (references x) → value schema p (slot, x) ≡ value schema q (slot, x)
   value_same slot x all = rw (all_same (references x) all) refl
 
-  values_same : (slots : List Slot) (xs : List Spelled) → Agree (flat_map references xs) → each (value schema p) (zip slots xs) ≡ each (value schema q) (zip slots xs)
+  values_same : (slots : List Slot) (xs : List SpelledValue) → Agree (flat_map references xs) → each (value schema p) (zip slots xs) ≡ each (value schema q) (zip slots xs)
   values_same [] xs all = refl
   values_same (s ∷ ss) [] all = refl
   values_same (s ∷ ss) (x ∷ xs) all =

@@ -3,7 +3,7 @@ use Rattle.std.proofs.Common.{◌≡◌, ℕ, Bool, ◌||◌, ◌==◌, List, �
 use Rattle.std.proofs.lemmas.List.Folds.{list_any-append}
 use Rattle.std.proofs.lemmas.List.Sorted.{list_any-IsPermutation}
 use Rattle.std.specs.List.Sorted.{IsPermutation}
-use Rattle.p21_instances.specs.Instances.{is_among}
+use Rattle.plain_data.specs.Numbers.{is_among}
 
 -- in any order they are the same
 pub same_names : (xs ys ls ms : List ℕ) → IsPermutation xs ys → IsPermutation ls ms → (n : ℕ) → is_among (xs ++ ls) n ≡ is_among (ys ++ ms) n

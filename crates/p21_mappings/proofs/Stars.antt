@@ -2,10 +2,10 @@
 use Rattle.std.proofs.Common.{◌≡◌, ℕ, Bool, true, false, if◌then◌else◌, List, [], ◌∷◌, map, Option, Some, None, Ok, Err, option_map, ⊎_elim, refl, sym, ◌∙◌, ap, subst}
 use Rattle.std.proofs.lemmas.Bool.{cases_Bool}
 use Rattle.std.specs.List.{filter_map, list_all, list_any}
+use Rattle.plain_data.specs.Numbers.{is_among}
 use Rattle.ex_named.specs.declared.declaration.NamedType.{NamedType}
 use Rattle.ex_layouts.specs.declared.read_slot.ReadSlot.{ReadSlot}
 use Rattle.ex_types.specs.Checked.{Checked}
-use Rattle.lineage.specs.Lineage.{is_among}
 use Rattle.p21_instances.specs.Instances.{references}
 use Rattle.p21_tree.specs.declared.fault.InstanceFaultKind.TheVariants.{Undefined}
 use Rattle.p21_tree.specs.declared.value.Value as tree
@@ -122,7 +122,7 @@ module _ (types : List NamedType) where
       (λ (none : has_star x ≡ false). none)
       (cases_Bool (has_star x))
 
--- the value of a slot that no type of the instance derives, where its type takes what is spelled
+-- the value of a slot that no entity of the instance derives, where its type takes what is spelled
 pub by_type : (schema : Checked) (is_defined : ℕ → Bool) (slot : ReadSlot) (x : tree.Value) (w : Value) → slot.is_derived ≡ false → place (meaning schema.named.schema.types x) slot.expected ≡ Some w
     → slot_value schema is_defined (slot, x) ≡ (if list_all is_defined (references x) then Ok w else Err Undefined)
 by_type schema is_defined slot x w own taken = rw (own, no_star schema.named.schema.types slot.expected x w taken, taken) refl

@@ -2,7 +2,8 @@
 
 ghost use Rattle.std.specs.Prelude.{◌≡◌, ◌++◌, ◌==◌, ◌&&◌, true, false, not, nat_lt, IfOk, IfSome};
 ghost use Rattle.std.specs.List.{list_all};
-ghost use Rattle.p21_instances.specs.Instances.{has_twice, in_order, is_among};
+ghost use Rattle.plain_data.specs.Numbers.{is_among};
+ghost use Rattle.p21_instances.specs.Instances.{has_twice, in_order};
 ghost use Rattle.p21_mappings.specs.Contents as spec;
 
 use crate::header::header_of;

@@ -6,12 +6,11 @@ ghost use Rattle.p21_values.specs.Tokens.{ok};
 ghost use Rattle.p21_mappings.specs.Contents as spec;
 
 use p21_strings::decode_string;
-use p21_tree::{Header as Spelled, HeaderValue};
-use plain_data::Items;
+use p21_tree::{Header as SpelledHeader, HeaderValue};
+use plain_data::{Failure, Items};
 use rp_content::Header;
 use rp_value::{AggregateKind, Value};
 use std::alloc::{AllocError, Global};
-use text_forms::Failure;
 
 /// The characters that the bytes between apostrophes spell.
 fn text(alloc: Global, token: &[u8]) -> Result<Value, AllocError>
@@ -51,7 +50,7 @@ fn header_values(alloc: Global, values: &[HeaderValue<'_>]) -> Result<Items<Valu
 }
 
 /// What the header says, but for the schema.
-pub fn header_of(alloc: Global, header: &Spelled<'_>) -> Result<Header, AllocError>
+pub fn header_of(alloc: Global, header: &SpelledHeader<'_>) -> Result<Header, AllocError>
     ensures { IfOk result (λ h. h ≡ spec.header header.now) }
 {
     let description = header_values(alloc, header.description.as_slice())?;

@@ -15,4 +15,4 @@ pub use header::header_of;
 pub use names::{AnyName, Defined, DefinedNames, Names};
 pub use parts::{by_parts, entity_named, values_of_leaf};
 pub use referred::put_references_of;
-pub use value::Reading;
+pub use value::Mapped;

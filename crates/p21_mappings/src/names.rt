@@ -3,6 +3,7 @@
 ghost use Rattle.std.specs.Prelude.{◌≡◌, ◌++◌, ℕ, Bool, true, IfOk, IsTrue};
 ghost use Rattle.std.specs.List.Sorted.{IsPermutation, IsSorted};
 ghost use Rattle.std.specs.Ordering.{nat_cmp};
+ghost use Rattle.plain_data.specs.Numbers.{is_among};
 ghost use Rattle.p21_instances.specs.Instances as spec;
 
 use p21_tree::Instance;
@@ -84,7 +85,7 @@ fn place_of(numbers: &[u64], step: u64, name: u64) -> usize {
 
 /// Whether the name stands in this place.
 fn stands_at(numbers: &[u64], place: usize, name: u64) -> bool
-    ensures { IsTrue result → IsTrue (spec.is_among numbers.now name) }
+    ensures { IsTrue result → IsTrue (is_among numbers.now name) }
 {
     match numbers.get(place) {
         Some(number) => *number == name,
@@ -95,7 +96,7 @@ fn stands_at(numbers: &[u64], place: usize, name: u64) -> bool
 /// Whether the name is one of the numbers, which are in order.
 fn stands(numbers: &[u64], name: u64) -> bool
     requires { IsSorted nat_cmp numbers.now }
-    ensures { result ≡ spec.is_among numbers.now name }
+    ensures { result ≡ is_among numbers.now name }
 {
     numbers.binary_search(&name).is_ok()
 }
@@ -139,7 +140,7 @@ impl Names {
 }
 
 impl DefinedNames for Names {
-    ghost is_defined = { spec.is_among };
+    ghost is_defined = { is_among };
 
     fn has(&self, name: u64) -> bool {
         // Names mostly follow each other at one distance.
@@ -172,7 +173,7 @@ impl<'a> Defined<'a> {
 }
 
 impl<'a> DefinedNames for Defined<'a> {
-    ghost is_defined = { spec.is_among };
+    ghost is_defined = { is_among };
 
     fn has(&self, name: u64) -> bool {
         self.file.has(name) || self.linked.has(name)

@@ -3,27 +3,27 @@
 ghost use Rattle.std.specs.Prelude.{◌≡◌, ◌&&◌, ◌++◌, ◌∷◌, [], true, if◌then◌else◌, length, map, slice_index_or, Some, Err, IfOk, OnOk};
 ghost use Rattle.std.specs.List.{flat_map, zip};
 ghost use Rattle.std.specs.Str.{str_to_ascii_uppercase};
+ghost use Rattle.plain_data.specs.Numbers.{is_among};
 ghost use Rattle.ex_layouts.specs.Entities.{entity_spelled};
 ghost use Rattle.ex_layouts.specs.Layouts.{legal, leaf_slots, read_slot, AreRead};
 ghost use Rattle.name_tables.specs.Names.{place_of};
-ghost use Rattle.p21_instances.specs.Instances.{is_among};
 ghost use Rattle.p21_tree.specs.declared.fault.InstanceFaultKind.TheVariants.{Twice};
-ghost use Rattle.text_forms.specs.Gives.{Gives};
+ghost use Rattle.plain_data.specs.Gives.{Gives};
+ghost use Rattle.p21_values.specs.Taking.{all_there};
 ghost use Rattle.p21_mappings.specs.Layouts.{external};
 ghost use Rattle.p21_mappings.specs.Instances as spec;
 ghost use Rattle.p21_mappings.specs.ReadSlots as read_spec;
 
 use crate::names::DefinedNames;
-use crate::value::{Reading, part_values};
+use crate::value::{Mapped, part_values};
 use ex_layouts::{Layout, Layouts, LoadedSchema, ReadSlot, legal_several};
 use ex_slots::Slot;
 use name_tables::NameTable;
 use p21_tree::{InstanceFaultKind, Keyword, Record};
-use plain_data::{Items, Rows, Text};
+use plain_data::{Failure, Items, Rows, Text};
 use rp_content::Instance;
 use rp_value::Value;
 use std::alloc::{AllocError, Global};
-use text_forms::Failure;
 
 /// A keyword in upper case.
 fn in_upper_case(alloc: Global, keyword: &Keyword<'_>) -> Result<Text, AllocError>
@@ -59,7 +59,7 @@ fn repeats(alloc: Global, keywords: &[Text]) -> Result<bool, AllocError>
     Ok(false)
 }
 
-/// Whether a type stands twice among the parts of an external mapping.
+/// Whether an entity stands twice among the parts of an external mapping.
 fn has_twice(alloc: Global, parts: &[Record<'_>]) -> Result<bool, AllocError>
     ensures { IfOk result (λ found. found ≡ spec.repeats [] (spec.keywords parts.now)) }
 {
@@ -90,7 +90,7 @@ fn entities_of(
     parts: &[Record<'_>],
 ) -> Result<Option<Vec<usize>>, AllocError>
     ensures same { layouts.new ≡ layouts.old }
-    ensures found { IfOk result (λ found. spec.numbers_in found ≡ spec.all_there (map (λ r. entity_spelled layouts.old r.keyword) parts.now)) }
+    ensures found { IfOk result (λ found. spec.numbers_in found ≡ all_there (map (λ r. entity_spelled layouts.old r.keyword) parts.now)) }
 {
     let mut entities = Vec::with_capacity(alloc, parts.len())?;
     for part in parts {
@@ -126,7 +126,7 @@ fn all_values<N: DefinedNames>(
     names: &N,
     mut slots: &[Rows<ReadSlot<'_>>],
     mut parts: &[Record<'_>],
-) -> Reading<Rows<Items<Value>>>
+) -> Mapped<Rows<Items<Value>>>
     ensures { Gives (λ lists. lists) result (spec.each (read_spec.record_values schema.now (N.is_defined names.now)) (zip slots.entry.now parts.entry.now)) }
 {
     let mut lists = Rows::new(alloc);
@@ -149,7 +149,7 @@ fn values_by<N: DefinedNames>(
     names: &N,
     layout: &Layout<'_>,
     parts: &[Record<'_>],
-) -> Reading<Rows<Items<Value>>>
+) -> Mapped<Rows<Items<Value>>>
     requires { AreRead schema.now layout.now }
     ensures { Gives (λ lists. lists) result (spec.each (spec.part schema.now (N.is_defined names.now)) (zip layout.now.slots parts.now)) }
 {
@@ -198,11 +198,11 @@ fn made(
 ) -> Result<Instance, AllocError>
     ensures { IfOk result (λ instance. instance ≡ spec.made name layout.now lists.now) }
 {
-    let types = layout.types.copy(alloc)?;
+    let entities = layout.instance_entities.copy(alloc)?;
     let values = in_places(alloc, layout.places.as_slice(), lists)?;
     Ok(Instance {
         name,
-        types,
+        entities,
         values,
     })
 }
@@ -215,7 +215,7 @@ fn by_layout<N: DefinedNames>(
     name: u64,
     parts: &[Record<'_>],
     layout: &Layout<'_>,
-) -> Reading<Instance>
+) -> Mapped<Instance>
     requires { AreRead schema.now layout.now }
     ensures { Gives (λ x. x) result (spec.by_layout schema.now (N.is_defined names.now) name parts.now (legal layout.now)) }
 {
@@ -238,11 +238,11 @@ fn by_new_layout<N: DefinedNames>(
     name: u64,
     parts: &[Record<'_>],
     entities: &[usize],
-) -> Reading<Instance>
+) -> Mapped<Instance>
     ensures same { layouts.new ≡ layouts.old }
     ensures made { Gives (λ x. x) result (spec.by_layout layouts.old (N.is_defined names.now) name parts.now (external layouts.old entities.now)) }
 {
-    let schema = layouts.schema();
+    let schema = layouts.loaded();
     let Some(layout) = legal_several(alloc, schema, entities)? else {
         return Err(Failure::Fault(InstanceFaultKind::IllegalCombination));
     };
@@ -258,7 +258,7 @@ fn by_entities<N: DefinedNames>(
     names: &N,
     name: u64,
     parts: &[Record<'_>],
-) -> Reading<Instance>
+) -> Mapped<Instance>
     ensures same { layouts.new ≡ layouts.old }
     ensures made { Gives (λ x. x) result (spec.by_several layouts.old (N.is_defined names.now) name parts.now) }
 {
@@ -266,7 +266,7 @@ fn by_entities<N: DefinedNames>(
         return Err(Failure::Fault(InstanceFaultKind::UnknownEntity));
     };
     match layouts.several(&entities) {
-        Some(layout) => by_layout(alloc, layouts.schema(), names, name, parts, layout),
+        Some(layout) => by_layout(alloc, layouts.loaded(), names, name, parts, layout),
         None => by_new_layout(alloc, layouts, names, name, parts, &entities),
     }
 }
@@ -278,7 +278,7 @@ pub fn by_parts<N: DefinedNames>(
     names: &N,
     name: u64,
     parts: &[Record<'_>],
-) -> Reading<Instance>
+) -> Mapped<Instance>
     ensures same { layouts.new ≡ layouts.old }
     ensures made { Gives (λ x. x) result (if spec.repeats [] (spec.keywords parts.now) then Err Twice else spec.by_several layouts.old (N.is_defined names.now) name parts.now) }
 {
@@ -297,7 +297,7 @@ pub fn values_of_leaf<N: DefinedNames>(
     entity: usize,
     slots: &[ReadSlot<'_>],
     part: &Record<'_>,
-) -> Reading<Items<Value>>
+) -> Mapped<Items<Value>>
     requires { slots.now ≡ map (read_slot schema.now) (leaf_slots schema.now entity) }
     ensures { Gives (λ xs. xs) result (spec.part schema.now (N.is_defined names.now) (leaf_slots schema.now entity, part.now)) }
 {

@@ -2,40 +2,40 @@
 
 ghost use Rattle.std.specs.Prelude.{◌≡◌, ◌++◌, ℕ, length, map, IfOk, OnOk};
 ghost use Rattle.std.specs.List.{flat_map, list_all, list_any, zip};
+ghost use Rattle.plain_data.specs.Numbers.{is_among};
 ghost use Rattle.ex_types.specs.Checked.{Checked};
-ghost use Rattle.p21_instances.specs.Instances.{is_among, references};
-ghost use Rattle.text_forms.specs.Gives.{Gives};
+ghost use Rattle.p21_instances.specs.Instances.{references};
+ghost use Rattle.plain_data.specs.Gives.{Gives};
 ghost use Rattle.p21_mappings.specs.Instances as spec;
 ghost use Rattle.p21_mappings.specs.ReadSlots as read_spec;
 
 use crate::names::DefinedNames;
 use ex_layouts::{LoadedSchema, ReadSlot};
-use p21_tree::{InstanceFaultKind, Value as Spelled};
+use p21_tree::{InstanceFaultKind, Value as SpelledValue};
 use p21_values::bound_by;
-use plain_data::Items;
+use plain_data::{Failure, Items};
 use rp_value::Value;
 use std::alloc::{AllocError, Global};
-use text_forms::Failure;
 
-/// What is read, or what is wrong with it.
-pub type Reading<T> = Result<T, Failure<InstanceFaultKind>>;
+/// What is mapped of an instance, or what is wrong with it.
+pub type Mapped<T> = Result<T, Failure<InstanceFaultKind>>;
 
 /// Whether the value has a `*`, at any depth.
 #[cycle(stars)]
-fn has_star(value: &Spelled<'_>) -> bool
+fn has_star(value: &SpelledValue<'_>) -> bool
     ensures { result ≡ spec.has_star value.now }
 {
     match value {
-        Spelled::Derived => true,
-        Spelled::List(values) => have_star(values.as_slice()),
-        Spelled::Typed(_, value) => has_star(value.get()),
+        SpelledValue::Derived => true,
+        SpelledValue::List(values) => have_star(values.as_slice()),
+        SpelledValue::Typed(_, value) => has_star(value.get()),
         _ => false,
     }
 }
 
 /// Whether one of the values has a `*`, at any depth.
 #[cycle(stars)]
-fn have_star(values: &[Spelled<'_>]) -> bool
+fn have_star(values: &[SpelledValue<'_>]) -> bool
     ensures { result ≡ list_any spec.has_star values.now }
 {
     for value in values {
@@ -47,11 +47,11 @@ fn have_star(values: &[Spelled<'_>]) -> bool
 }
 
 /// Whether it is `*` or `$`.
-fn is_left_out(value: &Spelled<'_>) -> bool
+fn is_left_out(value: &SpelledValue<'_>) -> bool
     ensures { result ≡ spec.is_left_out value.now }
 {
     match value {
-        Spelled::Unset | Spelled::Derived => true,
+        SpelledValue::Unset | SpelledValue::Derived => true,
         _ => false,
     }
 }
@@ -59,20 +59,20 @@ fn is_left_out(value: &Spelled<'_>) -> bool
 /// Whether each name that the value refers to is defined. What holds no other value is told without a further call.
 #[cycle(references)]
 #[inline(always)]
-fn is_defined<N: DefinedNames>(names: &N, value: &Spelled<'_>) -> bool
+fn is_defined<N: DefinedNames>(names: &N, value: &SpelledValue<'_>) -> bool
     ensures { result ≡ list_all (N.is_defined names.now) (references value.now) }
 {
     match value {
-        Spelled::Reference(name) => names.has(*name),
-        Spelled::List(values) => are_defined(names, values.as_slice()),
-        Spelled::Typed(_, value) => is_defined_inside(names, value.get()),
+        SpelledValue::Reference(name) => names.has(*name),
+        SpelledValue::List(values) => are_defined(names, values.as_slice()),
+        SpelledValue::Typed(_, value) => is_defined_inside(names, value.get()),
         _ => true,
     }
 }
 
 /// The same of the value behind a keyword.
 #[cycle(references)]
-fn is_defined_inside<N: DefinedNames>(names: &N, value: &Spelled<'_>) -> bool
+fn is_defined_inside<N: DefinedNames>(names: &N, value: &SpelledValue<'_>) -> bool
     ensures { result ≡ list_all (N.is_defined names.now) (references value.now) }
 {
     is_defined(names, value)
@@ -80,7 +80,7 @@ fn is_defined_inside<N: DefinedNames>(names: &N, value: &Spelled<'_>) -> bool
 
 /// Whether each name that the values refer to is defined.
 #[cycle(references)]
-fn are_defined<N: DefinedNames>(names: &N, values: &[Spelled<'_>]) -> bool
+fn are_defined<N: DefinedNames>(names: &N, values: &[SpelledValue<'_>]) -> bool
     ensures { result ≡ list_all (N.is_defined names.now) (flat_map references values.now) }
 {
     for value in values {
@@ -92,7 +92,7 @@ fn are_defined<N: DefinedNames>(names: &N, values: &[Spelled<'_>]) -> bool
 }
 
 /// The fault of a value that no attribute takes.
-fn misplaced(value: &Spelled<'_>) -> InstanceFaultKind
+fn misplaced(value: &SpelledValue<'_>) -> InstanceFaultKind
     ensures { result ≡ spec.misplaced value.now }
 {
     if has_star(value) {
@@ -102,8 +102,8 @@ fn misplaced(value: &Spelled<'_>) -> InstanceFaultKind
     }
 }
 
-/// What an attribute has that a type of the instance derives.
-fn derived_value(value: &Spelled<'_>) -> Reading<Value>
+/// What an attribute has that an entity of the instance derives.
+fn derived_value(value: &SpelledValue<'_>) -> Mapped<Value>
     ensures { Gives (λ x. x) result (spec.derived_value value.now) }
 {
     if is_left_out(value) {
@@ -119,8 +119,8 @@ fn slot_value<N: DefinedNames>(
     schema: &LoadedSchema<'_>,
     names: &N,
     slot: &ReadSlot<'_>,
-    value: &Spelled<'_>,
-) -> Reading<Value>
+    value: &SpelledValue<'_>,
+) -> Mapped<Value>
     ensures { Gives (λ x. x) result (read_spec.slot_value schema.now (N.is_defined names.now) (slot.now, value.now)) }
 {
     if slot.is_derived {
@@ -143,8 +143,8 @@ pub fn part_values<N: DefinedNames>(
     schema: &LoadedSchema<'_>,
     names: &N,
     mut slots: &[ReadSlot<'_>],
-    mut values: &[Spelled<'_>],
-) -> Reading<Items<Value>>
+    mut values: &[SpelledValue<'_>],
+) -> Mapped<Items<Value>>
     ensures { Gives (λ xs. xs) result (spec.each (read_spec.slot_value schema.now (N.is_defined names.now)) (zip slots.entry.now values.entry.now)) }
 {
     let mut found = Vec::with_capacity(alloc, slots.len())?;

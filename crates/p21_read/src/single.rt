@@ -1,14 +1,15 @@
 //! One instance by itself, as a request brings it: its keyword and values, without its name.
 
 ghost use Rattle.std.specs.Prelude.{◌≡◌};
-ghost use Rattle.text_forms.specs.Gives.{Reads, Gives};
+ghost use Rattle.plain_data.specs.Gives.{Gives};
+ghost use Rattle.text_forms.specs.Reads.{Reads};
 ghost use Rattle.p21_read.specs.Single as spec;
 
 use p21_grammar::{Read, Source, mapping};
 use p21_lexemes::Tokens;
 use p21_tree::{FileFault, Mapping};
+use plain_data::Failure;
 use std::alloc::Global;
-use text_forms::Failure;
 
 /// A mapping, and nothing behind it.
 #[tactic(auto, unfolding(crate::specs::Single::single))]

@@ -15,11 +15,13 @@ use Rattle.p21_lexemes.specs.declared.token.TokenKind.{TokenKind}
 use Rattle.p21_lexemes.specs.declared.token.TokenKind.TheVariants as k
 use Rattle.p21_lexemes.specs.declared.front.Start.{Start}
 use Rattle.p21_lexemes.specs.declared.front.Start.TheVariants.{Blank, Token, Fault}
-use Rattle.p21_lexemes.specs.Lexical.{front, word, number, real, name, item, string, closed, quoted, binary, is_binary, slash, comment_len, commented, directive, single, punctuation, string_end, is_letter, is_word_byte, is_mark_byte, is_sign, sign_len, digits_len, exponent_len, value, greatest, max_name}
+use Rattle.rp_numbers.specs.Whole.{value}
+use Rattle.text_forms.specs.Words.{is_word_byte}
+use Rattle.p21_lexemes.specs.Lexical.{front, word, number, real, name, item, string, closed, quoted, binary, is_binary, slash, comment_len, commented, directive, single, punctuation, string_end, is_letter, is_mark_byte, is_sign, greatest, max_name}
 use Rattle.p21_lexemes.specs.Tokens.{Lexeme, Lexemes, lexemes, lexemes_from, with_front}
 use Rattle.p21_tree.specs.declared.fault.FaultKind.TheVariants as fault
 use Rattle.p21_grammar.specs.Grammar.{inner}
-use Rattle.rp_numbers.specs.Spelling.{parse}
+use Rattle.rp_numbers.specs.Spelling.{parse, sign_len, digits_len, exponent_len}
 use Rattle.rp_numbers.proofs.Digits.{all_in_front}
 use Rattle.p21_spelling.specs.Tokens.{are_digits, is_integer, is_real, is_bits, is_word, is_string}
 use Rattle.p21_spelling.proofs.Runs.{first_holds, second_holds, both_hold}

@@ -16,7 +16,10 @@ use Rattle.p21_escapes.specs.Encoding.{is_paired}
 use Rattle.p21_lexemes.specs.declared.token.TokenKind.{TokenKind}
 use Rattle.p21_lexemes.specs.declared.token.TokenKind.TheVariants as k
 use Rattle.p21_lexemes.specs.declared.front.Start.TheVariants.{Token}
-use Rattle.p21_lexemes.specs.Lexical.{front, word, number, name, item, string, quoted, binary, is_binary, punctuation, string_end, is_letter, is_word_byte, is_mark_byte, is_sign, sign_len, digits_len, exponent_len, value, greatest, max_name}
+use Rattle.rp_numbers.specs.Spelling.{sign_len, digits_len, exponent_len}
+use Rattle.rp_numbers.specs.Whole.{value}
+use Rattle.text_forms.specs.Words.{is_word_byte}
+use Rattle.p21_lexemes.specs.Lexical.{front, word, number, name, item, string, quoted, binary, is_binary, punctuation, string_end, is_letter, is_mark_byte, is_sign, greatest, max_name}
 use Rattle.rp_numbers.specs.Spelling as numbers
 use Rattle.p21_spelling.specs.Tokens.{are_digits, is_integer, is_real, is_bits, is_word, is_string, is_cut}
 use Rattle.p21_spelling.proofs.Runs.{first_holds, second_holds, both_hold, cut_fails, run_ends, test_at, run_of_all, prefix_all, all_more, none_of}

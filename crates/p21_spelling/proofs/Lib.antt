@@ -11,5 +11,5 @@ pub mod Written
 pub mod Equations
 pub mod Gives
 pub mod Found
-pub mod Spelled
+pub mod WellSpelled
 pub mod Single

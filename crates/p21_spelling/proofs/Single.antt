@@ -13,7 +13,7 @@ use Rattle.p21_spelling.proofs.Lines.{mapping_again}
 use Rattle.p21_spelling.proofs.Files.{nothing_left}
 use Rattle.p21_spelling.proofs.Found.{are_tokens}
 use Rattle.p21_spelling.proofs.Gives.{Gives, gives_then, gives_after, gives_pure, gives_finish}
-use Rattle.p21_spelling.proofs.Spelled.{IsMapping, mapping_gives, of_tree}
+use Rattle.p21_spelling.proofs.WellSpelled.{IsMapping, mapping_gives, of_tree}
 
 single_again : (m : Mapping) → is_mapping m ≡ true → Again single (mapping_text m) m 0 []
 unfolding single

@@ -11,7 +11,8 @@ use Rattle.std.specs.Prelude.{IsUtf8, decimal, is_ok}
 use Rattle.p21_escapes.specs.Decoding.{fault, fault_of}
 use Rattle.p21_escapes.specs.Encoding.{encoded, is_paired}
 use Rattle.p21_escapes.proofs.Escapes.{decoded-encoded, encoded-paired}
-use Rattle.p21_lexemes.specs.Lexical.{is_sign, value}
+use Rattle.rp_numbers.specs.Whole.{value}
+use Rattle.p21_lexemes.specs.Lexical.{is_sign}
 use Rattle.rp_numbers.specs.Decimals.{Decimal, IsNormal}
 use Rattle.rp_numbers.specs.Written.{written}
 use Rattle.rp_numbers.proofs.Rereading.{read_again}

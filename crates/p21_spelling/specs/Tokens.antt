@@ -5,8 +5,10 @@ use Rattle.std.specs.List.{list_all}
 use Rattle.std.specs.Option.{is_none}
 use Rattle.p21_escapes.specs.Decoding as strings
 use Rattle.p21_escapes.specs.Encoding.{is_paired}
-use Rattle.p21_lexemes.specs.Lexical.{is_letter, is_word_byte, is_binary, sign_len, value, greatest, max_name}
-use Rattle.rp_numbers.specs.Spelling.{parse}
+use Rattle.rp_numbers.specs.Whole.{value}
+use Rattle.text_forms.specs.Words.{is_word_byte}
+use Rattle.p21_lexemes.specs.Lexical.{is_letter, is_binary, greatest, max_name}
+use Rattle.rp_numbers.specs.Spelling.{parse, sign_len}
 
 -- one digit or more
 abbrev pub are_digits : List ℕ → Bool

@@ -61,7 +61,7 @@ pub fn tokens_are_spelled()
 
 /// What is read of a text is well spelled. So a tree is well spelled exactly where some text is read
 /// as it.
-#[tactic(auto, using(crate::proofs::Spelled::spelled))]
+#[tactic(auto, using(crate::proofs::WellSpelled::spelled))]
 pub fn only_these_are_read()
     ensures spelled { (v : Value) (n at : ℕ) (text : List ℕ) (after : Lexemes) → value_at n (lexemes at text) ≡ Ok (v, after) → (spelling v).is_spelled ≡ true }
     ensures levels { (v : Value) (n at : ℕ) (text : List ℕ) (after : Lexemes) → value_at n (lexemes at text) ≡ Ok (v, after) → (spelling v).levels ≤ n }

@@ -1,12 +1,11 @@
 //! What the bytes of a string spell.
 
-ghost use Rattle.text_forms.specs.Gives.{Gives};
+ghost use Rattle.plain_data.specs.Gives.{Gives};
 ghost use Rattle.p21_escapes.specs.Decoding as spec;
 
 use p21_escapes::{Kept, StringFault, push_spelled};
-use plain_data::Text;
+use plain_data::{Failure, Text};
 use std::alloc::Global;
-use text_forms::Failure;
 
 /// The characters that the bytes between the apostrophes of a string spell. A lone apostrophe,
 /// which can't stand there, is a bad escape.

@@ -1,13 +1,13 @@
 //! All tokens of a text at once.
 
 ghost use Rattle.std.specs.Prelude.{map};
-ghost use Rattle.text_forms.specs.Gives.{Gives};
+ghost use Rattle.plain_data.specs.Gives.{Gives};
 ghost use Rattle.p21_lexemes.specs.Tokens as spec;
 
 use p21_lexemes::{Token, Tokens};
 use p21_tree::{FaultKind, FileFault};
+use plain_data::Failure;
 use std::alloc::Global;
-use text_forms::Failure;
 
 /// The tokens of a text.
 ///

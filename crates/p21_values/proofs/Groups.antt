@@ -16,7 +16,7 @@ use Rattle.ex_selects.specs.Ends.{Target, Base, Plain, Instance, Aggregate, Enum
 use Rattle.ex_selects.specs.Seen.{seen, seen_target}
 use Rattle.p21_values.specs.Taking.{Meaning, meaning, only, of_list, by_choice, bare_at, all_there, with_first}
 use Rattle.ex_selects.specs.Kept.{single}
-use Rattle.ex_selects.specs.Levels.{Asked, IsGroup, element, asked_choice, asked, AreGroups}
+use Rattle.ex_selects.specs.Levels.{PossibleAggregate, IsGroup, element, chosen_aggregate, aggregates, AreGroups}
 use Rattle.p21_values.specs.Deciding.{takes_each, at, only_candidate, StartsWith, rows_by, row, rows_of_list, rows}
 use Rattle.p21_values.proofs.Several.{among_rest}
 use Rattle.p21_values.proofs.Decided.{mapped, list_decided, at_found, picked}
@@ -34,20 +34,20 @@ module _ (types : List NamedType) (base : Base) where
   base_in None = base
   base_in (Some k) = base_of types k
 
-  abbrev pub HaveElements : List Asked → Type 0
+  abbrev pub HaveElements : List PossibleAggregate → Type 0
   HaveElements [] = ⊤
   HaveElements (a ∷ qs) = (element types (base_in a.number) ≡ Some a.target) × HaveElements qs
 
-have_choices : (types : List NamedType) (base : Base) (ks : List ℕ) → HaveElements types base (filter_map (asked_choice types) ks)
+have_choices : (types : List NamedType) (base : Base) (ks : List ℕ) → HaveElements types base (filter_map (chosen_aggregate types) ks)
 have_choices types base [] = tt
 have_choices types base (k ∷ ks) = at_choice (element types (base_of types k)) refl (have_choices types base ks)
   where
-    at_choice : (o : Option Target) → element types (base_of types k) ≡ o → HaveElements types base (filter_map (asked_choice types) ks)
-        → HaveElements types base (cons_option (option_map (λ t. record { number = Some k; target = t }) o) (filter_map (asked_choice types) ks))
+    at_choice : (o : Option Target) → element types (base_of types k) ≡ o → HaveElements types base (filter_map (chosen_aggregate types) ks)
+        → HaveElements types base (cons_option (option_map (λ t. record { number = Some k; target = t }) o) (filter_map (chosen_aggregate types) ks))
     at_choice None e more = more
     at_choice (Some t) e more = (e, more)
 
-have_elements : (types : List NamedType) (base : Base) → HaveElements types base (asked types base)
+have_elements : (types : List NamedType) (base : Base) → HaveElements types base (aggregates types base)
 have_elements types (Select number) = have_choices types (Select number) (choices types number)
 have_elements types (Aggregate kind low inner) = (refl, tt)
 have_elements types (Plain simple) = tt
@@ -73,14 +73,14 @@ module _ (types : List NamedType) (ms : List Meaning) (base : Base) where
   nothing None e = refl
   nothing (Some x) e = cc
 
-  chosen_values : (ks : List ℕ) → filter_map (by_choice types (of_list types ms)) ks ≡ filter_map (λ a. value_at a.number) (filter_map (asked_choice types) ks)
+  chosen_values : (ks : List ℕ) → filter_map (by_choice types (of_list types ms)) ks ≡ filter_map (λ a. value_at a.number) (filter_map (chosen_aggregate types) ks)
   chosen_values [] = refl
   chosen_values (k ∷ ks) = at_choice (element types (base_of types k)) refl (chosen_values ks)
     where
       at_choice : (o : Option Target) → element types (base_of types k) ≡ o
-          → filter_map (by_choice types (of_list types ms)) ks ≡ filter_map (λ a. value_at a.number) (filter_map (asked_choice types) ks)
+          → filter_map (by_choice types (of_list types ms)) ks ≡ filter_map (λ a. value_at a.number) (filter_map (chosen_aggregate types) ks)
           → cons_option (by_choice types (of_list types ms) k) (filter_map (by_choice types (of_list types ms)) ks)
-          ≡ filter_map (λ a. value_at a.number) (cons_option (option_map (λ t. record { number = Some k; target = t }) o) (filter_map (asked_choice types) ks))
+          ≡ filter_map (λ a. value_at a.number) (cons_option (option_map (λ t. record { number = Some k; target = t }) o) (filter_map (chosen_aggregate types) ks))
       at_choice None e more =
           let none : by_choice types (of_list types ms) k ≡ None = nothing (by_choice types (of_list types ms) k)
           (mapped (v.Named k) (of_list types ms (base_of types k)) ∙ list_decided types ms (base_of types k) ∙ ap (λ o. option_map_or (takes_each ms) o false) e) in
@@ -91,14 +91,14 @@ lone : (o : Option Value) → o ≡ only (cons_option o [])
 lone None = refl
 lone (Some x) = refl
 
-bare_asked : (types : List NamedType) (ms : List Meaning) (base : Base)
-    → bare_at types (of_list types ms) base ≡ only (filter_map (λ a. value_at types ms base a.number) (asked types base))
-bare_asked types ms (Select number) = ap only (chosen_values types ms (Select number) (choices types number))
-bare_asked types ms (Aggregate kind low inner) = lone (of_list types ms (Aggregate kind low inner))
-bare_asked types ms (Plain simple) = refl
-bare_asked types ms Instance = refl
-bare_asked types ms (Enumeration number) = refl
-bare_asked types ms Nothing = refl
+bare_aggregates : (types : List NamedType) (ms : List Meaning) (base : Base)
+    → bare_at types (of_list types ms) base ≡ only (filter_map (λ a. value_at types ms base a.number) (aggregates types base))
+bare_aggregates types ms (Select number) = ap only (chosen_values types ms (Select number) (choices types number))
+bare_aggregates types ms (Aggregate kind low inner) = lone (of_list types ms (Aggregate kind low inner))
+bare_aggregates types ms (Plain simple) = refl
+bare_aggregates types ms Instance = refl
+bare_aggregates types ms (Enumeration number) = refl
+bare_aggregates types ms Nothing = refl
 
 -- one of them alone, of which it holds
 single_holds : {A : Type 0} (p : A → Bool) (R : A → Type 0) (x y : A) (b : Bool) (ys : List A) → single (cond b (x ∷ ys) ys) ≡ Some y → R x
@@ -124,7 +124,7 @@ module _ (types : List NamedType) (ms : List Meaning) (base : Base) (ds : List c
   abbrev pub told : List Bool
   told = map (λ t. takes_each ms (seen_target t)) ds
 
-  filtered : (g : List Candidate) (qs : List Asked) → IsGroup ds g qs → HaveElements types base qs
+  filtered : (g : List Candidate) (qs : List PossibleAggregate) → IsGroup ds g qs → HaveElements types base qs
       → filter (λ c. at told c.place) g ≡ filter (λ c. is_some (value_at types ms base c.number)) g
   filtered [] qs is have = refl
   filtered (c ∷ g) [] is have = absurd is
@@ -134,27 +134,27 @@ module _ (types : List NamedType) (ms : List Meaning) (base : Base) (ds : List c
       ∙ ap (λ n. is_some (value_at types ms base n)) (sym is.0) in
       cc (here, filtered g qs is.1.1 have.1)
 
-  numbered_same : (g : List Candidate) (qs : List Asked) → IsGroup ds g qs
+  numbered_same : (g : List Candidate) (qs : List PossibleAggregate) → IsGroup ds g qs
       → filter_map (λ c. value_at types ms base c.number) g ≡ filter_map (λ a. value_at types ms base a.number) qs
   numbered_same [] [] is = refl
   numbered_same [] (a ∷ qs) is = absurd is
   numbered_same (c ∷ g) [] is = absurd is
   numbered_same (c ∷ g) (a ∷ qs) is = cc (is.0, numbered_same g qs is.1.1)
 
-  pub list_value : (g : List Candidate) → IsGroup ds g (asked types base)
+  pub list_value : (g : List Candidate) → IsGroup ds g (aggregates types base)
       → bare_at types (of_list types ms) base ≡ option_and_then (λ c. value_at types ms base c.number) (only_candidate g told)
   list_value g is =
-      bare_asked types ms base ∙ ap only (sym (numbered_same g (asked types base) is)) ∙ picked (λ c. value_at types ms base c.number) g
-      ∙ ap (λ cs. option_and_then (λ c. value_at types ms base c.number) (single cs)) (sym (filtered g (asked types base) is (have_elements types base)))
+      bare_aggregates types ms base ∙ ap only (sym (numbered_same g (aggregates types base) is)) ∙ picked (λ c. value_at types ms base c.number) g
+      ∙ ap (λ cs. option_and_then (λ c. value_at types ms base c.number) (single cs)) (sym (filtered g (aggregates types base) is (have_elements types base)))
 
-  pub list_verdict : (g : List Candidate) → IsGroup ds g (asked types base) → is_some (only_candidate g told) ≡ is_some (bare_at types (of_list types ms) base)
+  pub list_verdict : (g : List Candidate) → IsGroup ds g (aggregates types base) → is_some (only_candidate g told) ≡ is_some (bare_at types (of_list types ms) base)
   list_verdict g is =
-      ap (λ cs. is_some (single cs)) (filtered g (asked types base) is (have_elements types base))
+      ap (λ cs. is_some (single cs)) (filtered g (aggregates types base) is (have_elements types base))
       ∙ sym (some_single (λ c. value_at types ms base c.number) g)
-      ∙ ap (λ cs. is_some (option_and_then (λ c. value_at types ms base c.number) (single cs))) (sym (filtered g (asked types base) is (have_elements types base)))
+      ∙ ap (λ cs. is_some (option_and_then (λ c. value_at types ms base c.number) (single cs))) (sym (filtered g (aggregates types base) is (have_elements types base)))
       ∙ ap is_some (sym (list_value g is))
 
-  element_of : (taken : List Bool) (g : List Candidate) (qs : List Asked) (d : Candidate) → IsGroup ds g qs → HaveElements types base qs → only_candidate g taken ≡ Some d
+  element_of : (taken : List Bool) (g : List Candidate) (qs : List PossibleAggregate) (d : Candidate) → IsGroup ds g qs → HaveElements types base qs → only_candidate g taken ≡ Some d
       → element types (base_in types base d.number) ≡ slice_get (map seen_target ds) d.place
   element_of taken [] qs d is have e = cc
   element_of taken (c ∷ g) [] d is have e = absurd is
@@ -163,9 +163,9 @@ module _ (types : List NamedType) (ms : List Meaning) (base : Base) (ds : List c
       (filter (λ c. at taken c.place) g) e (ap (λ n. element types (base_in types base n)) is.0 ∙ have.0 ∙ sym is.1.0)
       (λ later. element_of taken g qs d is.1.1 have.1 later)
 
-  pub candidate_element : (taken : List Bool) (g : List Candidate) (d : Candidate) → IsGroup ds g (asked types base) → only_candidate g taken ≡ Some d
+  pub candidate_element : (taken : List Bool) (g : List Candidate) (d : Candidate) → IsGroup ds g (aggregates types base) → only_candidate g taken ≡ Some d
       → element types (base_in types base d.number) ≡ slice_get (map seen_target ds) d.place
-  candidate_element taken g d is e = element_of taken g (asked types base) d is (have_elements types base) e
+  candidate_element taken g d is e = element_of taken g (aggregates types base) d is (have_elements types base) e
 
 pub list_answers : (types : List NamedType) (ms : List Meaning) (ds ts : List code.Target) (gs : List (List Candidate)) → AreGroups types ds ts gs
     → map (λ g. is_some (only_candidate g (map (λ t. takes_each ms (seen_target t)) ds))) gs
@@ -225,7 +225,7 @@ module _ (types : List NamedType) (level : Level) (below : List Level) (values :
   unfolding rows_of_list
   rest_ends = ap (λ n. drop (length inner) (drop n rest)) (sym many) ∙ behind_both (row types level values) inner rest
 
-  pub list_at_level : (base : Base) (g : List Candidate) (taken : List Bool) → IsGroup level.targets.items g (asked types base) → taken ≡ take (length level.targets.items) rest
+  pub list_at_level : (base : Base) (g : List Candidate) (taken : List Bool) → IsGroup level.targets.items g (aggregates types base) → taken ≡ take (length level.targets.items) rest
       → bare_at types (of_list types (map (meaning types) values)) base
       ≡ option_and_then (λ c. value_at types (map (meaning types) values) base c.number) (only_candidate g taken)
   list_at_level base g taken is are =

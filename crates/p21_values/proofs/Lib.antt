@@ -1,4 +1,3 @@
-pub mod Digits
 pub mod Several
 pub mod Decided
 pub mod Groups

@@ -3,10 +3,10 @@ use Rattle.std.specs.Prelude.{ℕ, Bool, true, false, ◌==◌, if◌then◌else
 use Rattle.std.specs.List.{filter_map}
 use Rattle.std.specs.Option.{option_map}
 use Rattle.std.specs.Str.{str_to_ascii_uppercase}
+use Rattle.plain_data.specs.Numbers.{is_among}
 use Rattle.ex_tree.specs.declared.data_type.SimpleType.TheVariants as s
 use Rattle.ex_named.specs.declared.declaration.NamedType.{NamedType}
 use Rattle.ex_named.specs.declared.expression.NamedDataType.{NamedDataType}
-use Rattle.lineage.specs.Lineage.{is_among}
 use Rattle.name_tables.specs.Names.{place_of}
 use Rattle.p21_escapes.specs.Decoding.{decoded}
 use Rattle.p21_tree.specs.declared.value.Value as tree
@@ -59,12 +59,12 @@ abbrev pub only : List Value → Option Value
 only (x ∷ []) = Some x
 only _ = None
 
-abbrev pub with_first : Option Value → Option (List Value) → Option (List Value)
+abbrev pub with_first : {A : Type 0} → Option A → Option (List A) → Option (List A)
 with_first None xs = None
 with_first (Some x) xs = option_map (λ xs. x ∷ xs) xs
 
--- the values, where each is there
-abbrev pub all_there : List (Option Value) → Option (List Value)
+-- all of them, where each is there
+abbrev pub all_there : {A : Type 0} → List (Option A) → Option (List A)
 all_there [] = Some []
 all_there (x ∷ xs) = with_first x (all_there xs)
 

@@ -19,11 +19,10 @@ use ex_selects::{Base, Class, DefinedTypes, Takers, base_of, taker_at};
 use ex_tree::SimpleType;
 use name_tables::First;
 use p21_strings::decode_string;
-use p21_tree::Value as Spelled;
-use plain_data::Text;
+use p21_tree::Value as SpelledValue;
+use plain_data::{Failure, Text};
 use rp_value::{Decimal, Value};
 use std::alloc::{AllocError, Global};
-use text_forms::Failure;
 
 /// A value that a type takes; nothing where it takes none.
 pub type Taken = Result<Option<Value>, AllocError>;
@@ -178,17 +177,22 @@ pub fn under_name(alloc: Global, number: usize, taken: Option<Value>) -> Taken
 /// What a type that is no SELECT takes of a token. Each kind has a function of its own, that saves what it changes alone.
 #[inline(always)]
 #[tactic(auto, unfolding(crate::specs::Taking::meaning))]
-fn token(alloc: Global, types: &DefinedTypes<'_>, value: &Spelled<'_>, base: &Base<'_>) -> Taken
+fn token(
+    alloc: Global,
+    types: &DefinedTypes<'_>,
+    value: &SpelledValue<'_>,
+    base: &Base<'_>,
+) -> Taken
     ensures { IfOk result (λ taken. taken ≡ deciding.alone types.now value.now (seen base.now)) }
 {
     match value {
-        Spelled::Integer(token) => of_integer(alloc, token.as_slice(), base),
-        Spelled::Real(token) => of_real(alloc, token.as_slice(), base),
-        Spelled::Text(token) => of_text(alloc, token.as_slice(), base),
-        Spelled::Binary(token) => of_binary(alloc, token.as_slice(), base),
-        Spelled::Item(token) => item_in_either_case(alloc, types, token.as_slice(), base),
-        Spelled::Unset | Spelled::Derived => Ok(None),
-        Spelled::Reference(_) | Spelled::List(_) | Spelled::Typed(_, _) => Ok(None),
+        SpelledValue::Integer(token) => of_integer(alloc, token.as_slice(), base),
+        SpelledValue::Real(token) => of_real(alloc, token.as_slice(), base),
+        SpelledValue::Text(token) => of_text(alloc, token.as_slice(), base),
+        SpelledValue::Binary(token) => of_binary(alloc, token.as_slice(), base),
+        SpelledValue::Item(token) => item_in_either_case(alloc, types, token.as_slice(), base),
+        SpelledValue::Unset | SpelledValue::Derived => Ok(None),
+        SpelledValue::Reference(_) | SpelledValue::List(_) | SpelledValue::Typed(_, _) => Ok(None),
     }
 }
 
@@ -196,7 +200,7 @@ fn token(alloc: Global, types: &DefinedTypes<'_>, value: &Spelled<'_>, base: &Ba
 fn only_token(
     alloc: Global,
     types: &DefinedTypes<'_>,
-    value: &Spelled<'_>,
+    value: &SpelledValue<'_>,
     numbers: &[usize],
 ) -> Taken
     ensures { IfOk result (λ taken. taken ≡ spec.only (filter_map (spec.by_choice types.now (deciding.alone types.now value.now)) numbers.now)) }
@@ -216,11 +220,11 @@ fn only_token(
 }
 
 /// The class of the types that may take a token.
-fn class_of(value: &Spelled<'_>) -> Class
+fn class_of(value: &SpelledValue<'_>) -> Class
     ensures { result ≡ deciding.class_of value.now }
 {
     match value {
-        Spelled::Item(_) => Class::Items,
+        SpelledValue::Item(_) => Class::Items,
         _ => Class::Plain,
     }
 }
@@ -229,7 +233,7 @@ fn class_of(value: &Spelled<'_>) -> Class
 fn first_token(
     alloc: Global,
     types: &DefinedTypes<'_>,
-    value: &Spelled<'_>,
+    value: &SpelledValue<'_>,
     first: Option<First<usize>>,
 ) -> Taken
     ensures { IfOk result (λ taken. taken ≡ option_and_then (spec.by_choice types.now (deciding.alone types.now value.now)) (takers.lone first)) }
@@ -253,7 +257,7 @@ fn first_token(
 fn known_item(
     alloc: Global,
     types: &DefinedTypes<'_>,
-    value: &Spelled<'_>,
+    value: &SpelledValue<'_>,
     item: &[u8],
     by_name: &Takers<'_>,
 ) -> Taken
@@ -265,7 +269,12 @@ fn known_item(
 
 /// What a SELECT takes of a token without a keyword, asking each type that it chooses from.
 #[tactic(auto, using(crate::proofs::Chosen::tokens_kept))]
-fn asked_token(alloc: Global, types: &DefinedTypes<'_>, value: &Spelled<'_>, number: usize) -> Taken
+fn asked_token(
+    alloc: Global,
+    types: &DefinedTypes<'_>,
+    value: &SpelledValue<'_>,
+    number: usize,
+) -> Taken
     ensures { IfOk result (λ taken. taken ≡ spec.only (filter_map (spec.by_choice types.now (deciding.alone types.now value.now)) (ends.choices types.now number))) }
 {
     match types.kept(class_of(value), number) {
@@ -283,13 +292,13 @@ fn asked_token(alloc: Global, types: &DefinedTypes<'_>, value: &Spelled<'_>, num
 fn select_token(
     alloc: Global,
     types: &DefinedTypes<'_>,
-    value: &Spelled<'_>,
+    value: &SpelledValue<'_>,
     number: usize,
 ) -> Taken
     ensures { IfOk result (λ taken. taken ≡ spec.only (filter_map (spec.by_choice types.now (deciding.alone types.now value.now)) (ends.choices types.now number))) }
 {
     match value {
-        Spelled::Item(item) => match types.takers(number) {
+        SpelledValue::Item(item) => match types.takers(number) {
             Some(by_name) => known_item(alloc, types, value, item.as_slice(), by_name),
             None => asked_token(alloc, types, value, number),
         },
@@ -302,7 +311,7 @@ fn select_token(
 pub fn bare_token(
     alloc: Global,
     types: &DefinedTypes<'_>,
-    value: &Spelled<'_>,
+    value: &SpelledValue<'_>,
     base: &Base<'_>,
 ) -> Taken
     ensures { IfOk result (λ taken. taken ≡ spec.bare_at types.now (deciding.alone types.now value.now) (seen base.now)) }

@@ -15,7 +15,7 @@ ghost use Rattle.p21_values.specs.Deciding as spec;
 use crate::alone::{bare_token, reference};
 use crate::candidates::{at, only_candidate};
 use ex_selects::{Base, Candidate, DefinedTypes, Level, Target, inside, level_of, levels_of};
-use p21_tree::Value as Spelled;
+use p21_tree::Value as SpelledValue;
 use plain_data::Rows;
 use std::alloc::{AllocError, Global};
 use std::slice;
@@ -54,15 +54,15 @@ fn both(alloc: Global, first: &[bool], second: &[bool]) -> Result<Vec<bool>, All
 fn takes_alone<'s>(
     alloc: Global,
     types: &DefinedTypes<'s>,
-    value: &Spelled<'_>,
+    value: &SpelledValue<'_>,
     target: &Target<'s>,
 ) -> Result<bool, AllocError>
     ensures { IfOk result (λ takes. takes ≡ spec.takes_alone types.now value.now (seen_target target.now)) }
 {
     match value {
-        Spelled::Unset => Ok(true),
-        Spelled::Derived | Spelled::List(_) | Spelled::Typed(_, _) => Ok(false),
-        Spelled::Reference(name) => Ok(reference(types, *name, &target.base).is_some()),
+        SpelledValue::Unset => Ok(true),
+        SpelledValue::Derived | SpelledValue::List(_) | SpelledValue::Typed(_, _) => Ok(false),
+        SpelledValue::Reference(name) => Ok(reference(types, *name, &target.base).is_some()),
         _ => Ok(bare_token(alloc, types, value, &target.base)?.is_some()),
     }
 }
@@ -70,7 +70,7 @@ fn takes_alone<'s>(
 fn each_alone<'s>(
     alloc: Global,
     types: &DefinedTypes<'s>,
-    value: &Spelled<'_>,
+    value: &SpelledValue<'_>,
     targets: &[Target<'s>],
 ) -> Result<Vec<bool>, AllocError>
     ensures { IfOk result (λ taken. taken.items ≡ map (λ t. spec.takes_alone types.now value.now (seen_target t)) targets.now) }
@@ -120,16 +120,16 @@ fn each_named<'s>(
 
 /// How deep lists stand in a value. It only says how many levels are found beforehand, so no clause tells it.
 #[cycle(depth)]
-fn depth(value: &Spelled<'_>) -> usize {
+fn depth(value: &SpelledValue<'_>) -> usize {
     match value {
-        Spelled::List(values) => depth_of(values.as_slice()).saturating_add(1),
+        SpelledValue::List(values) => depth_of(values.as_slice()).saturating_add(1),
         _ => 0,
     }
 }
 
 /// How deep lists stand in the values of a list.
 #[cycle(depth)]
-pub fn depth_of(values: &[Spelled<'_>]) -> usize {
+pub fn depth_of(values: &[SpelledValue<'_>]) -> usize {
     let mut deepest = 0;
     'values: for value in values {
         deepest = depth(value).max(deepest);
@@ -138,7 +138,7 @@ pub fn depth_of(values: &[Spelled<'_>]) -> usize {
 }
 
 /// The SELECT that a type is, where a list stands among the values. That only says what is found beforehand, so no clause tells it.
-pub fn select_of_lists(values: &[Spelled<'_>], target: &Target<'_>) -> Option<usize>
+pub fn select_of_lists(values: &[SpelledValue<'_>], target: &Target<'_>) -> Option<usize>
     ensures { IfSome result (λ number. seen target.now.base ≡ ends.Select number) }
 {
     match target.base {
@@ -160,7 +160,7 @@ fn takes_named<'s>(
     alloc: Global,
     types: &DefinedTypes<'s>,
     number: Option<usize>,
-    value: &Spelled<'_>,
+    value: &SpelledValue<'_>,
     targets: &[Target<'s>],
 ) -> Result<Vec<bool>, AllocError>
     ensures { IfOk result (λ taken. taken.items ≡ map (λ t. is_some (taking.named_by types.now (taking.meaning types.now value.now) number (seen_target t))) targets.now) }
@@ -177,13 +177,13 @@ fn takes_named<'s>(
 fn fits<'s>(
     alloc: Global,
     types: &DefinedTypes<'s>,
-    value: &Spelled<'_>,
+    value: &SpelledValue<'_>,
     target: &Target<'s>,
 ) -> Result<bool, AllocError>
     ensures { IfOk result (λ fits. fits ≡ is_some ((taking.meaning types.now value.now).fit (seen_target target.now))) }
 {
     match value {
-        Spelled::Unset => Ok(false),
+        SpelledValue::Unset => Ok(false),
         _ => {
             let targets = slice::from_ref(target);
             let levels = levels_of(alloc, types, targets, depth(value))?;
@@ -198,7 +198,7 @@ fn fits<'s>(
 fn takes<'s>(
     alloc: Global,
     types: &DefinedTypes<'s>,
-    value: &Spelled<'_>,
+    value: &SpelledValue<'_>,
     targets: &[Target<'s>],
     levels: &[Level<'s>],
     rows: &mut Vec<bool>,
@@ -208,8 +208,15 @@ fn takes<'s>(
     ensures rows { OnOk result (rows.new.items ≡ rows.old.items ++ spec.rows types.now levels.now value.now) }
 {
     match value {
-        Spelled::List(values) => takes_list(alloc, types, values.as_slice(), targets, levels, rows),
-        Spelled::Typed(keyword, value) => {
+        SpelledValue::List(values) => takes_list(
+            alloc,
+            types,
+            values.as_slice(),
+            targets,
+            levels,
+            rows,
+        ),
+        SpelledValue::Typed(keyword, value) => {
             let number = types.number(alloc, keyword.as_bytes())?;
             takes_named(alloc, types, number, value.get(), targets)
         }
@@ -222,7 +229,7 @@ fn takes<'s>(
 fn takes_list<'s>(
     alloc: Global,
     types: &DefinedTypes<'s>,
-    values: &[Spelled<'_>],
+    values: &[SpelledValue<'_>],
     targets: &[Target<'s>],
     levels: &[Level<'s>],
     rows: &mut Vec<bool>,
@@ -245,7 +252,7 @@ fn takes_list<'s>(
 fn takes_at<'s>(
     alloc: Global,
     types: &DefinedTypes<'s>,
-    values: &[Spelled<'_>],
+    values: &[SpelledValue<'_>],
     level: &Level<'s>,
     below: &[Level<'s>],
     rows: &mut Vec<bool>,
@@ -267,7 +274,7 @@ fn takes_at<'s>(
 fn take_all<'s>(
     alloc: Global,
     types: &DefinedTypes<'s>,
-    values: &[Spelled<'_>],
+    values: &[SpelledValue<'_>],
     targets: &[Target<'s>],
     below: &[Level<'s>],
     rows: &mut Vec<bool>,
@@ -288,7 +295,7 @@ fn take_all<'s>(
 pub fn rows_of<'s>(
     alloc: Global,
     types: &DefinedTypes<'s>,
-    values: &[Spelled<'_>],
+    values: &[SpelledValue<'_>],
     level: &Level<'s>,
     below: &[Level<'s>],
 ) -> Result<Vec<bool>, AllocError>

@@ -6,7 +6,7 @@ ghost use Rattle.p21_values.specs.Taking as spec;
 use crate::alone::Taken;
 use crate::taking::placed;
 use ex_selects::{DefinedTypes, Expected};
-use p21_tree::Value as Spelled;
+use p21_tree::Value as SpelledValue;
 use std::alloc::Global;
 
 /// The value of an attribute of the type that is expected, where the type takes what is spelled.
@@ -15,7 +15,7 @@ pub fn bound_by(
     alloc: Global,
     types: &DefinedTypes<'_>,
     expected: &Expected<'_>,
-    value: &Spelled<'_>,
+    value: &SpelledValue<'_>,
 ) -> Taken
     ensures { IfOk result (λ taken. taken ≡ spec.place (spec.meaning types.now value.now) expected.now) }
 {

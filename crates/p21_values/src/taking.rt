@@ -6,7 +6,7 @@ ghost use Rattle.std.specs.Option.{option_map};
 ghost use Rattle.rp_value.specs.declared.value.Value.TheVariants as v;
 ghost use Rattle.ex_selects.specs.declared.ends.Base.TheVariants as code;
 ghost use Rattle.ex_selects.specs.Ends as ends;
-ghost use Rattle.ex_selects.specs.Levels.{AreLevels, IsGroup, asked, element};
+ghost use Rattle.ex_selects.specs.Levels.{AreLevels, IsGroup, aggregates, element};
 ghost use Rattle.ex_selects.specs.Seen.{seen, seen_target};
 ghost use Rattle.p21_values.specs.Deciding as deciding;
 ghost use Rattle.p21_values.specs.Taking as spec;
@@ -19,7 +19,7 @@ use ex_selects::{
     Base, Candidate, DefinedTypes, Level, Levels, Target, base_of, inside, level_of, levels_of,
     target_of,
 };
-use p21_tree::Value as Spelled;
+use p21_tree::Value as SpelledValue;
 use plain_data::Items;
 use rp_value::{AggregateKind, Value};
 use std::alloc::{AllocError, Global};
@@ -38,7 +38,7 @@ fn aggregate(alloc: Global, kind: AggregateKind, low: i64, items: Option<Items<V
 fn levels_at<'s>(
     alloc: Global,
     types: &DefinedTypes<'s>,
-    values: &[Spelled<'_>],
+    values: &[SpelledValue<'_>],
     number: usize,
 ) -> Result<Levels<'s>, AllocError>
     ensures { IfOk result (λ levels. AreLevels types.now (record { name = None; base = code.Select number } ∷ []) (levels.first ∷ levels.below.items)) }
@@ -57,7 +57,7 @@ fn levels_at<'s>(
 fn elements(
     alloc: Global,
     types: &DefinedTypes<'_>,
-    values: &[Spelled<'_>],
+    values: &[SpelledValue<'_>],
     target: &Target<'_>,
 ) -> Result<Option<Items<Value>>, AllocError>
     ensures { IfOk result (λ taken. taken ≡ spec.all_there (map (λ m. spec.place m (seen_target target.now)) (map (spec.meaning types.now) values.now))) }
@@ -73,7 +73,7 @@ fn elements(
 fn select_elements(
     alloc: Global,
     types: &DefinedTypes<'_>,
-    values: &[Spelled<'_>],
+    values: &[SpelledValue<'_>],
     target: &Target<'_>,
     number: usize,
 ) -> Result<Option<Items<Value>>, AllocError>
@@ -96,7 +96,7 @@ fn select_elements(
 fn select_element<'s>(
     alloc: Global,
     types: &DefinedTypes<'s>,
-    value: &Spelled<'_>,
+    value: &SpelledValue<'_>,
     target: &Target<'_>,
     number: usize,
     levels: &Levels<'s>,
@@ -106,7 +106,7 @@ fn select_element<'s>(
     ensures { IfOk result (λ taken. taken ≡ spec.place (spec.meaning types.now value.now) (seen_target target.now)) }
 {
     match value {
-        Spelled::List(values) => list_by(alloc, types, values.as_slice(), number, levels),
+        SpelledValue::List(values) => list_by(alloc, types, values.as_slice(), number, levels),
         _ => placed(alloc, types, value, target),
     }
 }
@@ -116,7 +116,7 @@ fn select_element<'s>(
 fn each_element(
     alloc: Global,
     types: &DefinedTypes<'_>,
-    values: &[Spelled<'_>],
+    values: &[SpelledValue<'_>],
     target: &Target<'_>,
 ) -> Result<Option<Items<Value>>, AllocError>
     ensures { IfOk result (λ taken. taken ≡ spec.all_there (map (λ m. spec.place m (seen_target target.now)) (map (spec.meaning types.now) values.now))) }
@@ -138,15 +138,15 @@ fn each_element(
 pub fn placed(
     alloc: Global,
     types: &DefinedTypes<'_>,
-    value: &Spelled<'_>,
+    value: &SpelledValue<'_>,
     target: &Target<'_>,
 ) -> Taken
     ensures { IfOk result (λ taken. taken ≡ spec.place (spec.meaning types.now value.now) (seen_target target.now)) }
 {
     match value {
-        Spelled::Unset => Ok(Some(Value::Indet)),
-        Spelled::Reference(name) => Ok(reference(types, *name, &target.base)),
-        Spelled::Derived | Spelled::Typed(_, _) | Spelled::List(_) => {
+        SpelledValue::Unset => Ok(Some(Value::Indet)),
+        SpelledValue::Reference(name) => Ok(reference(types, *name, &target.base)),
+        SpelledValue::Derived | SpelledValue::Typed(_, _) | SpelledValue::List(_) => {
             fitting(alloc, types, value, target)
         }
         _ => bare_token(alloc, types, value, &target.base),
@@ -158,19 +158,19 @@ pub fn placed(
 fn fitting(
     alloc: Global,
     types: &DefinedTypes<'_>,
-    value: &Spelled<'_>,
+    value: &SpelledValue<'_>,
     target: &Target<'_>,
 ) -> Taken
     ensures { IfOk result (λ taken. taken ≡ (spec.meaning types.now value.now).fit (seen_target target.now)) }
 {
     match value {
-        Spelled::Unset | Spelled::Derived => Ok(None),
-        Spelled::Reference(name) => Ok(reference(types, *name, &target.base)),
-        Spelled::Typed(keyword, inner) => {
+        SpelledValue::Unset | SpelledValue::Derived => Ok(None),
+        SpelledValue::Reference(name) => Ok(reference(types, *name, &target.base)),
+        SpelledValue::Typed(keyword, inner) => {
             let number = types.number(alloc, keyword.as_bytes())?;
             named(alloc, types, number, inner.get(), target)
         }
-        Spelled::List(values) => bare_list(alloc, types, values.as_slice(), &target.base),
+        SpelledValue::List(values) => bare_list(alloc, types, values.as_slice(), &target.base),
         _ => bare_token(alloc, types, value, &target.base),
     }
 }
@@ -180,7 +180,7 @@ fn fitting(
 fn bare_list(
     alloc: Global,
     types: &DefinedTypes<'_>,
-    values: &[Spelled<'_>],
+    values: &[SpelledValue<'_>],
     base: &Base<'_>,
 ) -> Taken
     ensures { IfOk result (λ taken. taken ≡ spec.bare_at types.now (spec.of_list types.now (map (spec.meaning types.now) values.now)) (seen base.now)) }
@@ -201,7 +201,7 @@ fn bare_list(
 fn select_list(
     alloc: Global,
     types: &DefinedTypes<'_>,
-    values: &[Spelled<'_>],
+    values: &[SpelledValue<'_>],
     number: usize,
 ) -> Taken
     ensures { IfOk result (λ taken. taken ≡ spec.bare_at types.now (spec.of_list types.now (map (spec.meaning types.now) values.now)) (ends.Select number)) }
@@ -215,7 +215,7 @@ fn select_list(
 fn list_by<'s>(
     alloc: Global,
     types: &DefinedTypes<'s>,
-    values: &[Spelled<'_>],
+    values: &[SpelledValue<'_>],
     number: usize,
     levels: &Levels<'s>,
 ) -> Taken
@@ -247,14 +247,14 @@ fn list_by<'s>(
 fn list_at<'s>(
     alloc: Global,
     types: &DefinedTypes<'s>,
-    values: &[Spelled<'_>],
+    values: &[SpelledValue<'_>],
     base: &Base<'s>,
     group: &[Candidate],
     level: &Level<'s>,
     below: &[Level<'s>],
     rest: &mut Rest<'_>,
 ) -> Taken
-    requires group { IsGroup level.now.targets.items group.now (asked types.now (seen base.now)) }
+    requires group { IsGroup level.now.targets.items group.now (aggregates types.now (seen base.now)) }
     requires below { AreLevels types.now level.now.targets.items below.now }
     requires rows { deciding.StartsWith (deciding.rows_of_list types.now (level.now ∷ below.now) values.now) rest.old }
     ensures taken { IfOk result (λ taken. taken ≡ spec.bare_at types.now (spec.of_list types.now (map (spec.meaning types.now) values.now)) (seen base.now)) }
@@ -297,7 +297,7 @@ fn list_at<'s>(
 fn list_of<'s>(
     alloc: Global,
     types: &DefinedTypes<'s>,
-    values: &[Spelled<'_>],
+    values: &[SpelledValue<'_>],
     base: &Base<'s>,
     place: usize,
     level: &Level<'s>,
@@ -325,7 +325,7 @@ fn list_of<'s>(
 fn items_at<'s>(
     alloc: Global,
     types: &DefinedTypes<'s>,
-    values: &[Spelled<'_>],
+    values: &[SpelledValue<'_>],
     target: &Target<'s>,
     place: usize,
     level: &Level<'s>,
@@ -363,14 +363,14 @@ fn items_at<'s>(
 fn elements_at<'s>(
     alloc: Global,
     types: &DefinedTypes<'s>,
-    values: &[Spelled<'_>],
+    values: &[SpelledValue<'_>],
     target: &Target<'s>,
     group: &[Candidate],
     level: &Level<'s>,
     below: &[Level<'s>],
     rest: &mut Rest<'_>,
 ) -> Result<Option<Items<Value>>, AllocError>
-    requires group { IsGroup level.now.targets.items group.now (asked types.now (seen target.now.base)) }
+    requires group { IsGroup level.now.targets.items group.now (aggregates types.now (seen target.now.base)) }
     requires below { AreLevels types.now level.now.targets.items below.now }
     requires rows { deciding.StartsWith (flat_map (deciding.rows types.now (level.now ∷ below.now)) values.now) rest.old }
     ensures taken { IfOk result (λ taken. taken ≡ spec.all_there (map (λ m. spec.place m (seen_target target.now)) (map (spec.meaning types.now) values.now))) }
@@ -391,21 +391,21 @@ fn elements_at<'s>(
 fn element_at<'s>(
     alloc: Global,
     types: &DefinedTypes<'s>,
-    value: &Spelled<'_>,
+    value: &SpelledValue<'_>,
     target: &Target<'s>,
     group: &[Candidate],
     level: &Level<'s>,
     below: &[Level<'s>],
     rest: &mut Rest<'_>,
 ) -> Taken
-    requires group { IsGroup level.now.targets.items group.now (asked types.now (seen target.now.base)) }
+    requires group { IsGroup level.now.targets.items group.now (aggregates types.now (seen target.now.base)) }
     requires below { AreLevels types.now level.now.targets.items below.now }
     requires rows { deciding.StartsWith (deciding.rows types.now (level.now ∷ below.now) value.now) rest.old }
     ensures taken { IfOk result (λ taken. taken ≡ spec.place (spec.meaning types.now value.now) (seen_target target.now)) }
     ensures rest { IfOk result (λ taken. IfSome taken (λ v. rest.new ≡ drop (length (deciding.rows types.now (level.now ∷ below.now) value.now)) rest.old)) }
 {
     match value {
-        Spelled::List(values) => list_at(
+        SpelledValue::List(values) => list_at(
             alloc,
             types,
             values.as_slice(),
@@ -425,7 +425,7 @@ fn named(
     alloc: Global,
     types: &DefinedTypes<'_>,
     number: Option<usize>,
-    value: &Spelled<'_>,
+    value: &SpelledValue<'_>,
     target: &Target<'_>,
 ) -> Taken
     ensures { IfOk result (λ taken. taken ≡ spec.named_by types.now (spec.meaning types.now value.now) number (seen_target target.now)) }

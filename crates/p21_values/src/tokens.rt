@@ -1,58 +1,16 @@
 //! The values of tokens.
 
 ghost use Rattle.std.specs.Prelude.{◌≡◌, ◌≤◌, ◌<◌, ◌-◌, ◌+◌, ◌^◌, ◌++◌, drop, nat_le, if◌then◌else◌, Some, None, true, IfOk, OnOk};
-ghost use Rattle.std.specs.List.{flat_map, list_all};
-ghost use Rattle.std.specs.Char.{is_ascii_digit};
+ghost use Rattle.std.specs.List.{flat_map};
 ghost use Rattle.std.specs.Str.{str_to_ascii_uppercase};
 ghost use Rattle.p21_escapes.specs.Digits.{digit_value};
-ghost use Rattle.rp_numbers.specs.Spelling as spelling;
-ghost use Rattle.rp_numbers.specs.Whole.{value, value_after};
+ghost use Rattle.rp_numbers.specs.Whole.{value};
 ghost use Rattle.p21_values.specs.Tokens as spec;
 
 use plain_data::Items;
+use rp_numbers::{after_sign, are_digits, is_negative, number_after};
 use rp_value::Logical;
 use std::alloc::{AllocError, Global};
-
-/// The number that digits write after those that write `start`, where it is at most `most`.
-fn number_after(start: u128, digits: &[u8], most: u128) -> Option<u128>
-    ensures { result ≡ (if nat_le (value_after start digits.now) most then Some (value_after start digits.now) else None) }
-{
-    let mut value = start;
-    'digits: for digit in digits {
-        let Some(tens) = value.checked_mul(10) else {
-            return None;
-        };
-        let Some(next) = tens.checked_add(u128::from(digit.saturating_sub(b'0'))) else {
-            return None;
-        };
-        value = next;
-    }
-    if value <= most { Some(value) } else { None }
-}
-
-fn are_digits(token: &[u8]) -> bool
-    ensures { result ≡ list_all is_ascii_digit token.now }
-{
-    token.iter().all(|byte| byte.is_ascii_digit())
-}
-
-fn is_negative(token: &[u8]) -> bool
-    ensures { result ≡ spelling.is_negative token.now }
-{
-    match token {
-        [b'-', ..] => true,
-        _ => false,
-    }
-}
-
-fn after_sign(token: &[u8]) -> &[u8]
-    ensures { result.now ≡ drop (spelling.sign_len token.now) token.now }
-{
-    match token {
-        [b'+' | b'-', rest @ ..] => rest,
-        _ => token,
-    }
-}
 
 /// The greatest magnitude of a value of INTEGER with this sign.
 fn greatest(is_negative: bool) -> u128

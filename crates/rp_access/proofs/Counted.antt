@@ -11,7 +11,8 @@ use Rattle.std.proofs.lemmas.Map.Text.{is_eq-slice_cmp}
 use Rattle.std.proofs.lemmas.Slice.Eq.{bytes_eq-Decides}
 use Rattle.sorted_tables.specs.Table.{IsAscending}
 use Rattle.sorted_tables.proofs.Ascending.{is_gt-true, follows_all, none_there}
-use Rattle.rp_rows.specs.Rows.{Text, text_cmp, Key, key_cmp, same_key, row_key, is_row, Model, GroupRow}
+use Rattle.rp_rows.specs.declared.rows.Key.{Key}
+use Rattle.rp_rows.specs.Rows.{Text, text_cmp, key_cmp, same_key, row_key, is_row, Model, GroupRow}
 use Rattle.rp_rows.specs.Sight.{counts, lists, may_group}
 use Rattle.rp_rows.proofs.Keys.{key_total}
 use Rattle.rp_rows.specs.Listings.{itself}
@@ -19,9 +20,9 @@ use Rattle.rp_access.specs.Listed.{counted_at}
 
 same_at : (k : Key) (m : Model) → same_key k (row_key m) ≡ is_row k m
 same_at k m =
-    let owner = sym (is_eq-slice_cmp m.owner k.0) in
-    let name = sym (is_eq-slice_cmp m.name k.1) in
-    (λ i. owner i && name i) ∙ tied_then (text_cmp m.owner k.0) (text_cmp m.name k.1)
+    let owner = sym (is_eq-slice_cmp m.owner k.owner) in
+    let name = sym (is_eq-slice_cmp m.name k.name) in
+    (λ i. owner i && name i) ∙ tied_then (text_cmp m.owner k.owner) (text_cmp m.name k.name)
 
 -- ---- a walk over the members
 
@@ -41,8 +42,8 @@ has_key ks m = list_any (λ k. is_row k m) ks
 has_listed : (ks : List Key) (m : Model) → list_any (same_key (row_key m)) ks ≡ has_key ks m
 has_listed [] m = refl
 has_listed (k ∷ ks) m =
-    let owner = bytes_swap k.0 m.owner in
-    let name = bytes_swap k.1 m.name in
+    let owner = bytes_swap k.owner m.owner in
+    let name = bytes_swap k.name m.name in
     let here : same_key (row_key m) k ≡ is_row k m = (λ i. owner i && name i) ∙ same_at k m in
     λ i. here i || has_listed ks m i
 

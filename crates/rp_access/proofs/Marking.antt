@@ -11,7 +11,8 @@ use Rattle.sorted_tables.proofs.Ascending.{follows_all, none_before, none_there}
 use Rattle.sorted_tables.proofs.Searching.{at_place, chosen}
 use Rattle.std.proofs.lemmas.Option.{slice_get-get_or}
 use Rattle.rp_tables.specs.Stored.{IsRowThere}
-use Rattle.rp_rows.specs.Rows.{Key, key_cmp, row_key, is_row, Model, GroupRow}
+use Rattle.rp_rows.specs.declared.rows.Key.{Key}
+use Rattle.rp_rows.specs.Rows.{key_cmp, row_key, is_row, Model, GroupRow}
 use Rattle.rp_rows.specs.Sight.{counts}
 use Rattle.rp_rows.proofs.Keys.{key_total}
 use Rattle.rp_rows.specs.Rows.{Text}

@@ -17,7 +17,8 @@ use Rattle.sorted_tables.proofs.Altered.{any-with_row}
 use Rattle.rp_rows.specs.declared.rows.Grant.{Grant}
 use Rattle.rp_rows.specs.declared.rows.Level.{Level}
 use Rattle.rp_rows.specs.declared.rows.Listing.{Listing}
-use Rattle.rp_rows.specs.Rows.{Text, text_cmp, grant_key, Key, key_cmp, same_key, Row, row_key, is_row, GroupRow}
+use Rattle.rp_rows.specs.declared.rows.Key.{Key}
+use Rattle.rp_rows.specs.Rows.{Text, text_cmp, grant_key, key_cmp, same_key, Row, row_key, is_row, GroupRow, key_of}
 use Rattle.rp_rows.specs.Sight.{is_grant_to}
 use Rattle.rp_rows.specs.Alterations.{Holds, altered, grants_of, grant_for}
 use Rattle.rp_rows.proofs.Keys.{key_total, key_at, found_at}
@@ -87,7 +88,7 @@ relisted_there n (Some l) names = has_append n (without_name n names) (n ∷ [])
 -- whether two keys are one
 key_is : (j k : Key) (t : Bool) → is_eq (key_cmp j k) ≡ t → t ≡ true → j ≡ k
 key_is j k t e h =
-    let row : Row Listing = record { owner = j.0; name = j.1; holds = record { schema = []; members = [] }; grants = [] } in
+    let row : Row Listing = record { owner = j.owner; name = j.name; holds = record { schema = []; members = [] }; grants = [] } in
     key_at k row (e ∙ h)
 
 keyed_option : (j : Key) (f : List Text → List Text) (es : List Names) (x : Names) → option_map (revalued f) (find (is_entry j) es) ≡ Some x → entry_key x ≡ j
@@ -112,70 +113,70 @@ abbrev pub dropped_at : Key → Text → List Names → List Names
 dropped_at j n es = with_row key_cmp entry_key j (option_map (revalued (without_name n)) (find (is_entry j) es)) es
 
 -- the names of another group stay
-pub drop_keeps : (q : Text) (key k : Key) (p : Text) (es : List Names) → same_key key k ≡ false → has_name k.1 (names_at (p, k.0) (dropped_at (q, key.0) key.1 es)) ≡ has_name k.1 (names_at (p, k.0) es)
-drop_keeps q key k p es other = by (is_eq (key_cmp (p, k.0) (q, key.0))) refl
+pub drop_keeps : (q : Text) (key k : Key) (p : Text) (es : List Names) → same_key key k ≡ false → has_name k.name (names_at (key_of p k.owner) (dropped_at (key_of q key.owner) key.name es)) ≡ has_name k.name (names_at (key_of p k.owner) es)
+drop_keeps q key k p es other = by (is_eq (key_cmp (key_of p k.owner) (key_of q key.owner))) refl
   where
     j : Key
-    j = (q, key.0)
+    j = key_of q key.owner
 
-    keyed : (x : Names) → option_map (revalued (without_name key.1)) (find (is_entry j) es) ≡ Some x → entry_key x ≡ j
-    keyed x is = keyed_option j (without_name key.1) es x is
+    keyed : (x : Names) → option_map (revalued (without_name key.name)) (find (is_entry j) es) ≡ Some x → entry_key x ≡ j
+    keyed x is = keyed_option j (without_name key.name) es x is
 
-    by : (t : Bool) → is_eq (key_cmp (p, k.0) (q, key.0)) ≡ t → has_name k.1 (names_at (p, k.0) (dropped_at (q, key.0) key.1 es)) ≡ has_name k.1 (names_at (p, k.0) es)
-    by false e = ap (λ o. has_name k.1 (value_of o)) (find_other key_cmp entry_key key_total (p, k.0) j (option_map (revalued (without_name key.1)) (find (is_entry j) es)) es keyed e)
+    by : (t : Bool) → is_eq (key_cmp (key_of p k.owner) (key_of q key.owner)) ≡ t → has_name k.name (names_at (key_of p k.owner) (dropped_at (key_of q key.owner) key.name es)) ≡ has_name k.name (names_at (key_of p k.owner) es)
+    by false e = ap (λ o. has_name k.name (value_of o)) (find_other key_cmp entry_key key_total (key_of p k.owner) j (option_map (revalued (without_name key.name)) (find (is_entry j) es)) es keyed e)
     by true e =
-        let at : (p, k.0) ≡ j = key_is (p, k.0) j true e refl in
-        let owner : k.0 ≡ key.0 = ap (λ (i : Key). i.1) at in
-        let name : bytes_eq key.1 k.1 ≡ false = other_name owner (bytes_eq key.1 k.1) refl in
-        ap (λ (i : Key). has_name k.1 (names_at i (dropped_at j key.1 es))) at
-        ∙ ap (λ o. has_name k.1 (value_of o)) (find_same key_cmp entry_key key_total j (option_map (revalued (without_name key.1)) (find (is_entry j) es)) es keyed)
-        ∙ ap (has_name k.1) (value_mapped (without_name key.1) refl (find (is_entry j) es))
-        ∙ has_without k.1 key.1 (names_at j es) name
-        ∙ ap (λ (i : Key). has_name k.1 (names_at i es)) (sym at)
+        let at : (key_of p k.owner) ≡ j = key_is (key_of p k.owner) j true e refl in
+        let owner : k.owner ≡ key.owner = ap (λ (i : Key). i.name) at in
+        let name : bytes_eq key.name k.name ≡ false = other_name owner (bytes_eq key.name k.name) refl in
+        ap (λ (i : Key). has_name k.name (names_at i (dropped_at j key.name es))) at
+        ∙ ap (λ o. has_name k.name (value_of o)) (find_same key_cmp entry_key key_total j (option_map (revalued (without_name key.name)) (find (is_entry j) es)) es keyed)
+        ∙ ap (has_name k.name) (value_mapped (without_name key.name) refl (find (is_entry j) es))
+        ∙ has_without k.name key.name (names_at j es) name
+        ∙ ap (λ (i : Key). has_name k.name (names_at i es)) (sym at)
       where
-        other_name : k.0 ≡ key.0 → (t : Bool) → bytes_eq key.1 k.1 ≡ t → t ≡ false
+        other_name : k.owner ≡ key.owner → (t : Bool) → bytes_eq key.name k.name ≡ t → t ≡ false
         other_name owner false f = refl
         other_name owner true f =
-            let names : key.1 ≡ k.1 = (bytes_eq-Decides key.1 k.1).0 f in
-            let one : same_key key k ≡ true = (λ i. bytes_eq (owner i) key.0 && bytes_eq (sym names i) key.1) ∙ (λ i. itself key.0 i && itself key.1 i) in
+            let names : key.name ≡ k.name = (bytes_eq-Decides key.name k.name).0 f in
+            let one : same_key key k ≡ true = (λ i. bytes_eq (owner i) key.owner && bytes_eq (sym names i) key.name) ∙ (λ i. itself key.owner i && itself key.name i) in
             absurd (false≢true (sym other ∙ one))
 
 -- the name of the group itself is gone under the partner
-drop_gone : (q : Text) (key : Key) (es : List Names) → has_name key.1 (names_at (q, key.0) (dropped_at (q, key.0) key.1 es)) ≡ false
+drop_gone : (q : Text) (key : Key) (es : List Names) → has_name key.name (names_at (key_of q key.owner) (dropped_at (key_of q key.owner) key.name es)) ≡ false
 drop_gone q key es =
-    let j : Key = (q, key.0) in
-    ap (λ o. has_name key.1 (value_of o)) (find_same key_cmp entry_key key_total j (option_map (revalued (without_name key.1)) (find (is_entry j) es)) es (keyed_option j (without_name key.1) es))
-    ∙ ap (has_name key.1) (value_mapped (without_name key.1) refl (find (is_entry j) es))
-    ∙ gone_without key.1 (names_at j es)
+    let j : Key = (key_of q key.owner) in
+    ap (λ o. has_name key.name (value_of o)) (find_same key_cmp entry_key key_total j (option_map (revalued (without_name key.name)) (find (is_entry j) es)) es (keyed_option j (without_name key.name) es))
+    ∙ ap (has_name key.name) (value_mapped (without_name key.name) refl (find (is_entry j) es))
+    ∙ gone_without key.name (names_at j es)
 
 -- and under nobody is it new
-pub drop_fewer : (q : Text) (key : Key) (p : Text) (es : List Names) → has_name key.1 (names_at (p, key.0) es) ≡ false → has_name key.1 (names_at (p, key.0) (dropped_at (q, key.0) key.1 es)) ≡ false
-drop_fewer q key p es none = by (is_eq (key_cmp (p, key.0) (q, key.0))) refl
+pub drop_fewer : (q : Text) (key : Key) (p : Text) (es : List Names) → has_name key.name (names_at (key_of p key.owner) es) ≡ false → has_name key.name (names_at (key_of p key.owner) (dropped_at (key_of q key.owner) key.name es)) ≡ false
+drop_fewer q key p es none = by (is_eq (key_cmp (key_of p key.owner) (key_of q key.owner))) refl
   where
     j : Key
-    j = (q, key.0)
+    j = key_of q key.owner
 
-    by : (t : Bool) → is_eq (key_cmp (p, key.0) (q, key.0)) ≡ t → has_name key.1 (names_at (p, key.0) (dropped_at j key.1 es)) ≡ false
-    by true e = ap (λ (i : Key). has_name key.1 (names_at i (dropped_at j key.1 es))) (key_is (p, key.0) j true e refl) ∙ drop_gone q key es
+    by : (t : Bool) → is_eq (key_cmp (key_of p key.owner) (key_of q key.owner)) ≡ t → has_name key.name (names_at (key_of p key.owner) (dropped_at j key.name es)) ≡ false
+    by true e = ap (λ (i : Key). has_name key.name (names_at i (dropped_at j key.name es))) (key_is (key_of p key.owner) j true e refl) ∙ drop_gone q key es
     by false e =
-        ap (λ o. has_name key.1 (value_of o)) (find_other key_cmp entry_key key_total (p, key.0) j (option_map (revalued (without_name key.1)) (find (is_entry j) es)) es (keyed_option j (without_name key.1) es) e)
+        ap (λ o. has_name key.name (value_of o)) (find_other key_cmp entry_key key_total (key_of p key.owner) j (option_map (revalued (without_name key.name)) (find (is_entry j) es)) es (keyed_option j (without_name key.name) es) e)
         ∙ none
 
-pub drop_of : (q : Text) (key : Key) (p : Text) (es : List Names) → bytes_eq q p ≡ true → has_name key.1 (names_at (p, key.0) (dropped_at (q, key.0) key.1 es)) ≡ false
+pub drop_of : (q : Text) (key : Key) (p : Text) (es : List Names) → bytes_eq q p ≡ true → has_name key.name (names_at (key_of p key.owner) (dropped_at (key_of q key.owner) key.name es)) ≡ false
 drop_of q key p es same =
     let who : q ≡ p = (bytes_eq-Decides q p).0 same in
-    ap (λ r. has_name key.1 (names_at (r, key.0) (dropped_at (q, key.0) key.1 es))) (sym who) ∙ drop_gone q key es
+    ap (λ r. has_name key.name (names_at (key_of r key.owner) (dropped_at (key_of q key.owner) key.name es))) (sym who) ∙ drop_gone q key es
 
 -- ---- the rows of groups
 
 same_as : (j k : Key) → same_key k j ≡ is_eq (key_cmp j k)
 same_as j k =
-    let owner = sym (is_eq-slice_cmp j.0 k.0) in
-    let name = sym (is_eq-slice_cmp j.1 k.1) in
-    (λ i. owner i && name i) ∙ tied_then (text_cmp j.0 k.0) (text_cmp j.1 k.1)
+    let owner = sym (is_eq-slice_cmp j.owner k.owner) in
+    let name = sym (is_eq-slice_cmp j.name k.name) in
+    (λ i. owner i && name i) ∙ tied_then (text_cmp j.owner k.owner) (text_cmp j.name k.name)
 
-held_key : (k : Key) (a : Listing) (gs : List Grant) (x : GroupRow) → Some (record { owner = k.0; name = k.1; holds = a; grants = gs }) ≡ Some x → row_key x ≡ k
-held_key k a gs x is = let g : GroupRow = record { owner = k.0; name = k.1; holds = a; grants = gs } in let same : g ≡ x = cc in ap row_key (sym same)
+held_key : (k : Key) (a : Listing) (gs : List Grant) (x : GroupRow) → Some (record { owner = k.owner; name = k.name; holds = a; grants = gs }) ≡ Some x → row_key x ≡ k
+held_key k a gs x is = let g : GroupRow = record { owner = k.owner; name = k.name; holds = a; grants = gs } in let same : g ≡ x = cc in ap row_key (sym same)
 
 no_row : (k : Key) (x : GroupRow) → None ≡ Some x → row_key x ≡ k
 no_row k x is = cc
@@ -190,7 +191,7 @@ pub put_keeps : (k : Key) (a : Listing) (es : List Names) (gs : List GroupRow) �
 put_keeps k a es gs kept p j = kept p j ∙ by (is_eq (key_cmp j k)) refl
   where
     row : GroupRow
-    row = record { owner = k.0; name = k.1; holds = a; grants = grants_of (find (is_row k) gs) }
+    row = record { owner = k.owner; name = k.name; holds = a; grants = grants_of (find (is_row k) gs) }
 
     held : (x : GroupRow) → Some row ≡ Some x → row_key x ≡ k
     held = held_key k a (grants_of (find (is_row k) gs))
@@ -206,27 +207,27 @@ put_keeps k a es gs kept p j = kept p j ∙ by (is_eq (key_cmp j k)) refl
 
 -- of a group that is gone the name is with nobody, where it is gone from those who were granted it, and new with none
 module _ (k : Key) (es fs : List Names) (gs : List GroupRow) (kept : KeepsGranted es gs)
-    (others : (p : Text) (j : Key) → same_key k j ≡ false → has_name j.1 (names_at (p, j.0) fs) ≡ has_name j.1 (names_at (p, j.0) es))
-    (fewer : (p : Text) → has_name k.1 (names_at (p, k.0) es) ≡ false → has_name k.1 (names_at (p, k.0) fs) ≡ false)
-    (gone : (p : Text) → list_any (is_grant_to p) (grants_of (find (is_row k) gs)) ≡ true → has_name k.1 (names_at (p, k.0) fs) ≡ false) where
-  with_nobody : (p : Text) → has_name k.1 (names_at (p, k.0) fs) ≡ false
+    (others : (p : Text) (j : Key) → same_key k j ≡ false → has_name j.name (names_at (key_of p j.owner) fs) ≡ has_name j.name (names_at (key_of p j.owner) es))
+    (fewer : (p : Text) → has_name k.name (names_at (key_of p k.owner) es) ≡ false → has_name k.name (names_at (key_of p k.owner) fs) ≡ false)
+    (gone : (p : Text) → list_any (is_grant_to p) (grants_of (find (is_row k) gs)) ≡ true → has_name k.name (names_at (key_of p k.owner) fs) ≡ false) where
+  with_nobody : (p : Text) → has_name k.name (names_at (key_of p k.owner) fs) ≡ false
   with_nobody p = by (list_any (is_grant_to p) (grants_of (find (is_row k) gs))) refl
     where
-      by : (t : Bool) → list_any (is_grant_to p) (grants_of (find (is_row k) gs)) ≡ t → has_name k.1 (names_at (p, k.0) fs) ≡ false
+      by : (t : Bool) → list_any (is_grant_to p) (grants_of (find (is_row k) gs)) ≡ t → has_name k.name (names_at (key_of p k.owner) fs) ≡ false
       by true e = gone p e
       by false e = fewer p (kept p k ∙ sym (granted_of_row p (find (is_row k) gs)) ∙ e)
 
   pub remove_keeps : KeepsGranted fs (altered k (Holds None) gs)
   remove_keeps p j = by (is_eq (key_cmp j k)) refl
     where
-      by : (t : Bool) → is_eq (key_cmp j k) ≡ t → has_name j.1 (names_at (p, j.0) fs) ≡ is_granted_at p (find (is_row j) (altered k (Holds None) gs))
+      by : (t : Bool) → is_eq (key_cmp j k) ≡ t → has_name j.name (names_at (key_of p j.owner) fs) ≡ is_granted_at p (find (is_row j) (altered k (Holds None) gs))
       by false e =
           others p j (same_as j k ∙ e)
           ∙ kept p j
           ∙ ap (is_granted_at p) (sym (find_other key_cmp row_key key_total j k None gs (no_row k) e))
       by true e =
           let at : j ≡ k = key_is j k true e refl in
-          ap (λ (i : Key). has_name i.1 (names_at (p, i.0) fs)) at
+          ap (λ (i : Key). has_name i.name (names_at (key_of p i.owner) fs)) at
           ∙ with_nobody p
           ∙ ap (is_granted_at p) (sym (find_same key_cmp row_key key_total k None gs (no_row k)))
           ∙ ap (λ i. is_granted_at p (find (is_row i) (altered k (Holds None) gs))) (sym at)
@@ -331,9 +332,9 @@ none_regranted k gs es rows none kept p j = kept p j ∙ by (is_eq (key_cmp j k)
 
 -- one partner's grant on the group of a key, and the names under him and its owner
 module _ (k : Key) (to : Text) (l : Option Level) (gs : List Grant) (names : List Text) (es : List Names) (rows : List GroupRow) (x : GroupRow) (there : find (is_row k) rows ≡ Some x)
-    (grants : gs ≡ with_row text_cmp grant_key to (grant_for to l) x.grants) (listed : names ≡ relisted k.1 l (names_at (to, k.0) es)) (kept : KeepsGranted es rows) where
+    (grants : gs ≡ with_row text_cmp grant_key to (grant_for to l) x.grants) (listed : names ≡ relisted k.name l (names_at (key_of to k.owner) es)) (kept : KeepsGranted es rows) where
   abbrev under : Key
-  under = (to, k.0)
+  under = key_of to k.owner
 
   abbrev fs : List Names
   fs = with_row key_cmp entry_key under (Some (record { key = under; value = names })) es
@@ -345,60 +346,60 @@ module _ (k : Key) (to : Text) (l : Option Level) (gs : List Grant) (names : Lis
   elsewhere i e = ap value_of (find_other key_cmp entry_key key_total i under (Some (record { key = under; value = names })) es (keyed_row under names) e)
 
   -- the name of another group stays as it was
-  stays : (p : Text) (j : Key) → is_eq (key_cmp j k) ≡ false → has_name j.1 (names_at (p, j.0) fs) ≡ has_name j.1 (names_at (p, j.0) es)
-  stays p j other = by (is_eq (key_cmp (p, j.0) under)) refl
+  stays : (p : Text) (j : Key) → is_eq (key_cmp j k) ≡ false → has_name j.name (names_at (key_of p j.owner) fs) ≡ has_name j.name (names_at (key_of p j.owner) es)
+  stays p j other = by (is_eq (key_cmp (key_of p j.owner) under)) refl
     where
-      by : (t : Bool) → is_eq (key_cmp (p, j.0) under) ≡ t → has_name j.1 (names_at (p, j.0) fs) ≡ has_name j.1 (names_at (p, j.0) es)
-      by false e = ap (has_name j.1) (elsewhere (p, j.0) e)
+      by : (t : Bool) → is_eq (key_cmp (key_of p j.owner) under) ≡ t → has_name j.name (names_at (key_of p j.owner) fs) ≡ has_name j.name (names_at (key_of p j.owner) es)
+      by false e = ap (has_name j.name) (elsewhere (key_of p j.owner) e)
       by true e =
-          let at : (p, j.0) ≡ under = key_is (p, j.0) under true e refl in
-          let owner : j.0 ≡ k.0 = ap (λ (i : Key). i.1) at in
-          ap (λ (i : Key). has_name j.1 (names_at i fs)) at
-          ∙ ap (has_name j.1) (under_is ∙ listed)
-          ∙ relisted_others j.1 k.1 l (names_at under es) (apart owner (bytes_eq k.1 j.1) refl)
-          ∙ ap (λ (i : Key). has_name j.1 (names_at i es)) (sym at)
+          let at : (key_of p j.owner) ≡ under = key_is (key_of p j.owner) under true e refl in
+          let owner : j.owner ≡ k.owner = ap (λ (i : Key). i.name) at in
+          ap (λ (i : Key). has_name j.name (names_at i fs)) at
+          ∙ ap (has_name j.name) (under_is ∙ listed)
+          ∙ relisted_others j.name k.name l (names_at under es) (apart owner (bytes_eq k.name j.name) refl)
+          ∙ ap (λ (i : Key). has_name j.name (names_at i es)) (sym at)
         where
-          apart : j.0 ≡ k.0 → (t : Bool) → bytes_eq k.1 j.1 ≡ t → t ≡ false
+          apart : j.owner ≡ k.owner → (t : Bool) → bytes_eq k.name j.name ≡ t → t ≡ false
           apart owner false f = refl
           apart owner true f =
-              let name : k.1 ≡ j.1 = (bytes_eq-Decides k.1 j.1).0 f in
-              let one : same_key k j ≡ true = (λ i. bytes_eq (owner i) k.0 && bytes_eq (sym name i) k.1) ∙ (λ i. itself k.0 i && itself k.1 i) in
+              let name : k.name ≡ j.name = (bytes_eq-Decides k.name j.name).0 f in
+              let one : same_key k j ≡ true = (λ i. bytes_eq (owner i) k.owner && bytes_eq (sym name i) k.name) ∙ (λ i. itself k.owner i && itself k.name i) in
               absurd (false≢true (sym (same_as j k ∙ other) ∙ one))
 
   -- the name of this one stands with those who are granted it from now on
-  stands : (p : Text) → has_name k.1 (names_at (p, k.0) fs) ≡ list_any (is_grant_to p) gs
+  stands : (p : Text) → has_name k.name (names_at (key_of p k.owner) fs) ≡ list_any (is_grant_to p) gs
   stands p = by (bytes_eq to p) refl
     where
-      by : (t : Bool) → bytes_eq to p ≡ t → has_name k.1 (names_at (p, k.0) fs) ≡ list_any (is_grant_to p) gs
+      by : (t : Bool) → bytes_eq to p ≡ t → has_name k.name (names_at (key_of p k.owner) fs) ≡ list_any (is_grant_to p) gs
       by true e =
           let same : to ≡ p = (bytes_eq-Decides to p).0 e in
-          ap (λ q. has_name k.1 (names_at (q, k.0) fs)) (sym same)
-          ∙ ap (has_name k.1) (under_is ∙ listed)
-          ∙ relisted_there k.1 l (names_at under es)
+          ap (λ q. has_name k.name (names_at (key_of q k.owner) fs)) (sym same)
+          ∙ ap (has_name k.name) (under_is ∙ listed)
+          ∙ relisted_there k.name l (names_at under es)
           ∙ sym (regranted_self to l x.grants)
           ∙ ap (list_any (is_grant_to to)) (sym grants)
           ∙ ap (λ q. list_any (is_grant_to q) gs) same
       by false e =
-          ap (has_name k.1) (elsewhere (p, k.0) (apart (is_eq (key_cmp (p, k.0) under)) refl))
+          ap (has_name k.name) (elsewhere (key_of p k.owner) (apart (is_eq (key_cmp (key_of p k.owner) under)) refl))
           ∙ kept p k
           ∙ ap (is_granted_at p) there
           ∙ sym (any-with_row text_cmp grant_key nat_list_cmp_total (is_grant_to p) to (other_partner p to e) (grant_for to l) x.grants (new_other p to l e))
           ∙ ap (list_any (is_grant_to p)) (sym grants)
         where
-          apart : (t : Bool) → is_eq (key_cmp (p, k.0) under) ≡ t → t ≡ false
+          apart : (t : Bool) → is_eq (key_cmp (key_of p k.owner) under) ≡ t → t ≡ false
           apart false f = refl
           apart true f =
-              let who : p ≡ to = ap (λ (i : Key). i.0) (key_is (p, k.0) under true f refl) in
+              let who : p ≡ to = ap (λ (i : Key). i.owner) (key_is (key_of p k.owner) under true f refl) in
               absurd (false≢true (sym e ∙ (bytes_eq-Decides to p).1 (sym who)))
 
   pub regrant_keeps : KeepsGranted fs (regranted_rows k gs rows)
   regrant_keeps p j = by (is_eq (key_cmp j k)) refl
     where
-      by : (t : Bool) → is_eq (key_cmp j k) ≡ t → has_name j.1 (names_at (p, j.0) fs) ≡ is_granted_at p (find (is_row j) (regranted_rows k gs rows))
+      by : (t : Bool) → is_eq (key_cmp j k) ≡ t → has_name j.name (names_at (key_of p j.owner) fs) ≡ is_granted_at p (find (is_row j) (regranted_rows k gs rows))
       by false e = stays p j e ∙ kept p j ∙ ap (is_granted_at p) (sym (row_elsewhere k gs rows j e))
       by true e =
           let at : j ≡ k = key_is j k true e refl in
-          ap (λ (i : Key). has_name i.1 (names_at (p, i.0) fs)) at
+          ap (λ (i : Key). has_name i.name (names_at (key_of p i.owner) fs)) at
           ∙ stands p
           ∙ ap (is_granted_at p) (ap (option_map (λ (y : GroupRow). record y { grants = gs })) (sym there) ∙ sym (row_there k gs rows))
           ∙ ap (λ i. is_granted_at p (find (is_row i) (regranted_rows k gs rows))) (sym at)
@@ -414,19 +415,19 @@ any_found {X = X} q r (y ∷ ys) x found holds = by (q y) refl found (any_found 
     by false e f rest = ap (λ t. r y || t) (rest f holds) ∙ or_true (r y)
 
 pub tells_whole : (p : Text) (es : List Names) (gs : List GroupRow) → KeepsGranted es gs → TellsGranted p (granted_of p es) gs
-tells_whole p es gs kept k g found granted = by (find (is_entry (p, k.0)) es) refl
+tells_whole p es gs kept k g found granted = by (find (is_entry (key_of p k.owner)) es) refl
   where
-    has : has_name k.1 (names_at (p, k.0) es) ≡ true
+    has : has_name k.name (names_at (key_of p k.owner) es) ≡ true
     has = kept p k ∙ ap (is_granted_at p) found ∙ granted
 
-    his : (x : Names) → is_entry (p, k.0) x ≡ true → bytes_eq x.key.0 p ≡ true
-    his x at = ap (λ (i : Key). bytes_eq i.0 p) (entry_at (p, k.0) x at) ∙ itself p
+    his : (x : Names) → is_entry (key_of p k.owner) x ≡ true → bytes_eq x.key.owner p ≡ true
+    his x at = ap (λ (i : Key). bytes_eq i.owner p) (entry_at (key_of p k.owner) x at) ∙ itself p
 
-    by : (o : Option Names) → find (is_entry (p, k.0)) es ≡ o → list_any (tells k) (granted_of p es) ≡ true
-    by None e = let none : false ≡ true = sym (ap (λ o. has_name k.1 (value_of o)) e) ∙ has in absurd (false≢true none)
+    by : (o : Option Names) → find (is_entry (key_of p k.owner)) es ≡ o → list_any (tells k) (granted_of p es) ≡ true
+    by None e = let none : false ≡ true = sym (ap (λ o. has_name k.name (value_of o)) e) ∙ has in absurd (false≢true none)
     by (Some x) e =
-        let there = find-kept (is_entry (p, k.0)) (λ y. bytes_eq y.key.0 p) his es ∙ e in
-        let at : entry_key x ≡ (p, k.0) = entry_at (p, k.0) x (found_at (is_entry (p, k.0)) es x e) in
-        let owner : bytes_eq x.key.1 k.0 ≡ true = ap (λ (i : Key). bytes_eq i.1 k.0) at ∙ itself k.0 in
-        let name : has_name k.1 x.value ≡ true = ap (λ o. has_name k.1 (value_of o)) (sym e) ∙ has in
-        any_found (is_entry (p, k.0)) (tells k) (granted_of p es) x there (λ i. owner i && name i)
+        let there = find-kept (is_entry (key_of p k.owner)) (λ y. bytes_eq y.key.owner p) his es ∙ e in
+        let at : entry_key x ≡ (key_of p k.owner) = entry_at (key_of p k.owner) x (found_at (is_entry (key_of p k.owner)) es x e) in
+        let owner : bytes_eq x.key.name k.owner ≡ true = ap (λ (i : Key). bytes_eq i.name k.owner) at ∙ itself k.owner in
+        let name : has_name k.name x.value ≡ true = ap (λ o. has_name k.name (value_of o)) (sym e) ∙ has in
+        any_found (is_entry (key_of p k.owner)) (tells k) (granted_of p es) x there (λ i. owner i && name i)

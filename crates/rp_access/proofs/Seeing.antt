@@ -15,7 +15,8 @@ use Rattle.sorted_tables.specs.Table.{IsAscending}
 use Rattle.rp_rows.specs.declared.rows.Grant.{Grant}
 use Rattle.rp_rows.specs.declared.rows.Right.{Right}
 use Rattle.rp_rows.specs.declared.rows.Right.TheVariants.{Reads, Owns}
-use Rattle.rp_rows.specs.Rows.{Text, Key, key_cmp, row_key, is_row, Model, GroupRow}
+use Rattle.rp_rows.specs.declared.rows.Key.{Key}
+use Rattle.rp_rows.specs.Rows.{Text, key_cmp, row_key, is_row, Model, GroupRow, key_of}
 use Rattle.rp_rows.specs.Sight.{is_grant_to, is_group_grant, is_granted, owns, may_group, sees_group, lists, counts, is_counted, granted_right, level, at_least, sees}
 use Rattle.rp_rows.proofs.Keys.{key_total}
 use Rattle.rp_access.specs.Changes.{level_by, seen_model}
@@ -113,10 +114,10 @@ module _ (c : Text) (m : Model) (own : owns c m ≡ false) (none : find (is_gran
 
   named : (gs : List GroupRow) (g : GroupRow) (e : Names) → find (is_row (row_key g)) gs ≡ Some g → (is_granted c g && counts m g) ≡ true → tells (row_key g) e ≡ true → counts_under c gs e m ≡ true
   named gs g e found h told =
-      let parts = and_parts (bytes_eq e.key.1 g.owner) (has_name g.name e.value) told in
-      let owner : e.key.1 ≡ g.owner = (bytes_eq-Decides e.key.1 g.owner).0 parts.0 in
-      any_weaker (λ n. bytes_eq n g.name) (λ n. shows c m (find (is_row (e.key.1, n)) gs))
-      (λ n is. ap (λ (k : Key). shows c m (find (is_row k) gs)) (λ i. (owner i, (bytes_eq-Decides n g.name).0 is i)) ∙ ap (shows c m) found ∙ h)
+      let parts = and_parts (bytes_eq e.key.name g.owner) (has_name g.name e.value) told in
+      let owner : e.key.name ≡ g.owner = (bytes_eq-Decides e.key.name g.owner).0 parts.0 in
+      any_weaker (λ n. bytes_eq n g.name) (λ n. shows c m (find (is_row (key_of e.key.name n)) gs))
+      (λ n is. ap (λ (k : Key). shows c m (find (is_row k) gs)) (λ i. key_of (owner i) ((bytes_eq-Decides n g.name).0 is i)) ∙ ap (shows c m) found ∙ h)
       e.value parts.1
 
   -- told by the groups that c is granted
@@ -129,7 +130,7 @@ module _ (c : Text) (m : Model) (own : owns c m ≡ false) (none : find (is_gran
       both false false f g = refl
 
       forth : counts_in_any c gs es m ≡ true → is_counted gs c m ≡ true
-      forth = any_to (λ e. counts_under c gs e m) (is_counted gs c m) (λ e. any_to (λ n. shows c m (find (is_row (e.key.1, n)) gs)) (is_counted gs c m) (λ n. shown gs (find (is_row (e.key.1, n)) gs) (e.key.1, n) refl) e.value) es
+      forth = any_to (λ e. counts_under c gs e m) (is_counted gs c m) (λ e. any_to (λ n. shows c m (find (is_row (key_of e.key.name n)) gs)) (is_counted gs c m) (λ n. shown gs (find (is_row (key_of e.key.name n)) gs) (key_of e.key.name n) refl) e.value) es
 
       back : is_counted gs c m ≡ true → counts_in_any c gs es m ≡ true
       back = any_row (λ g. sees_group c g && counts m g) (counts_in_any c gs es m) gs order

@@ -7,8 +7,9 @@ use Rattle.rp_rows.specs.declared.rows.Level.TheVariants.{Read}
 use Rattle.rp_rows.specs.declared.rows.Listing.{Listing}
 use Rattle.rp_rows.specs.declared.rows.Right.{Right}
 use Rattle.rp_rows.specs.declared.rows.Right.TheVariants.{Unseen, Owns}
-use Rattle.rp_rows.specs.Rows.{Text, Key, Row, is_row, Model, GroupRow}
-use Rattle.rp_rows.specs.Listings.{max_models, max_groups, max_members, is_among, with_member, without_member}
+use Rattle.rp_rows.specs.declared.rows.Key.{Key}
+use Rattle.rp_rows.specs.Rows.{Text, Row, is_row, Model, GroupRow}
+use Rattle.rp_rows.specs.Listings.{max_models, max_groups, max_members, lists_key, with_member, without_member}
 use Rattle.rp_rows.specs.Sight.{owns, is_grant_to, granted_right, level, group_right}
 use Rattle.rp_rows.specs.Alterations.{Holds, Grants, altered}
 use Rattle.rp_access.specs.declared.changes.Change.{Change}
@@ -20,7 +21,7 @@ use Rattle.rp_access.specs.declared.changes.AccessFault.TheVariants.{Exists, Abs
 
 -- a grant to the owner changes nothing
 abbrev pub granted : {A : Type 0} → Key → Text → Option Level → List (Row A) → List (Row A)
-granted k to l rows = if bytes_eq to k.0 then rows else altered k (Grants to l) rows
+granted k to l rows = if bytes_eq to k.owner then rows else altered k (Grants to l) rows
 
 abbrev pub relisted_at : Key → (Listing → Listing) → Option GroupRow → List GroupRow → List GroupRow
 relisted_at k change None gs = gs
@@ -46,18 +47,18 @@ groups_after _ gs = gs
 
 -- of one owner there may be `most`
 abbrev pub is_new : {A : Type 0} → ℕ → Key → List (Row A) → Option AccessFault
-is_new most k rows = if is_some (find (is_row k) rows) then Some Exists else (if nat_le most (length (filter (owns k.0) rows)) then Some TooMany else None)
+is_new most k rows = if is_some (find (is_row k) rows) then Some Exists else (if nat_le most (length (filter (owns k.owner) rows)) then Some TooMany else None)
 
 abbrev pub is_there : {A : Type 0} → Key → List (Row A) → Option AccessFault
 is_there k rows = if is_some (find (is_row k) rows) then None else Some Absent
 
 abbrev pub is_listable : Key → Option GroupRow → Option AccessFault
 is_listable m None = Some Absent
-is_listable m (Some g) = if is_among m g.holds.members then Some Membership else (if nat_le max_members (length g.holds.members) then Some TooMany else None)
+is_listable m (Some g) = if lists_key m g.holds.members then Some Membership else (if nat_le max_members (length g.holds.members) then Some TooMany else None)
 
 abbrev pub is_unlistable : Key → Option GroupRow → Option AccessFault
 is_unlistable m None = Some Absent
-is_unlistable m (Some g) = if is_among m g.holds.members then None else Some Membership
+is_unlistable m (Some g) = if lists_key m g.holds.members then None else Some Membership
 
 -- a model that is included is there; one that is excluded isn't looked at
 abbrev pub fault : List Model → List GroupRow → Change → Option AccessFault

@@ -3,7 +3,8 @@ use Rattle.std.specs.Prelude.{◌≡◌, Bool, true, false, ◌&&◌, ◌++◌, 
 use Rattle.std.specs.List.{find, list_any}
 use Rattle.std.specs.Str.{bytes_eq}
 use Rattle.rp_rows.specs.declared.rows.Level.{Level}
-use Rattle.rp_rows.specs.Rows.{Text, Key, is_row, Model, GroupRow}
+use Rattle.rp_rows.specs.declared.rows.Key.{Key}
+use Rattle.rp_rows.specs.Rows.{Text, is_row, Model, GroupRow, key_of}
 use Rattle.rp_rows.specs.Sight.{is_granted, counts}
 use Rattle.rp_tables.specs.declared.keyed.Entry.{Entry}
 use Rattle.rp_tables.specs.Entries.{is_entry, without_name}
@@ -34,16 +35,16 @@ is_granted_at p (Some g) = is_granted p g
 
 -- the names under a partner and an owner are those of the owner's groups that the partner is granted, and no others
 abbrev pub KeepsGranted : List Names → List GroupRow → Type 0
-KeepsGranted es gs = (p : Text) (k : Key) → has_name k.1 (names_at (p, k.0) es) ≡ is_granted_at p (find (is_row k) gs)
+KeepsGranted es gs = (p : Text) (k : Key) → has_name k.name (names_at (key_of p k.owner) es) ≡ is_granted_at p (find (is_row k) gs)
 
 -- ---- one partner's part
 
 abbrev pub granted_of : Text → List Names → List Names
-granted_of c es = filter (λ e. bytes_eq e.key.0 c) es
+granted_of c es = filter (λ e. bytes_eq e.key.owner c) es
 
 -- the key stands among the names under its owner
 abbrev pub tells : Key → Names → Bool
-tells k e = bytes_eq e.key.1 k.0 && has_name k.1 e.value
+tells k e = bytes_eq e.key.name k.owner && has_name k.name e.value
 
 -- each group that c is granted stands among these
 abbrev pub TellsGranted : Text → List Names → List GroupRow → Type 0
@@ -56,7 +57,7 @@ shows c m (Some g) = is_granted c g && counts m g
 
 -- the model counts in a group of one of these names that c is granted
 abbrev pub counts_under : Text → List GroupRow → Names → Model → Bool
-counts_under c gs e m = list_any (λ n. shows c m (find (is_row (e.key.1, n)) gs)) e.value
+counts_under c gs e m = list_any (λ n. shows c m (find (is_row (key_of e.key.name n)) gs)) e.value
 
 abbrev pub counts_in_any : Text → List GroupRow → List Names → Model → Bool
 counts_in_any c gs es m = list_any (λ e. counts_under c gs e m) es

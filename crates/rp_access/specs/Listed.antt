@@ -1,7 +1,8 @@
 -- The models that count in a group, found by a walk over its members.
 use Rattle.std.specs.Prelude.{Bool, false, List, [], ◌∷◌, map, Option, Some, None, if◌then◌else◌}
 use Rattle.std.specs.List.{find}
-use Rattle.rp_rows.specs.Rows.{Key, is_row, Model, GroupRow}
+use Rattle.rp_rows.specs.declared.rows.Key.{Key}
+use Rattle.rp_rows.specs.Rows.{is_row, Model, GroupRow}
 use Rattle.rp_rows.specs.Sight.{counts}
 use Rattle.rp_access.specs.declared.members.Member.{Member}
 

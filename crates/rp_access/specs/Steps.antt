@@ -3,7 +3,8 @@ use Rattle.std.specs.Prelude.{◌≡◌, ◌<◌, List, Some, None}
 use Rattle.std.specs.List.{find}
 use Rattle.sorted_tables.specs.Table.{with_row}
 use Rattle.rp_rows.specs.declared.rows.Grant.{Grant}
-use Rattle.rp_rows.specs.Rows.{text_cmp, grant_key, Key, Row, is_row, Model, GroupRow}
+use Rattle.rp_rows.specs.declared.rows.Key.{Key}
+use Rattle.rp_rows.specs.Rows.{text_cmp, grant_key, Row, is_row, Model, GroupRow}
 use Rattle.rp_rows.specs.Alterations.{Alteration, Holds, Grants as GrantAltered, altered, grant_for, grants_of}
 use Rattle.rp_tables.specs.Stored.{Stored, rewritten, HasRoom}
 use Rattle.rp_access.specs.declared.steps.Altered.{Altered}
@@ -42,7 +43,7 @@ group_stepped k (group.Regrant r) gs = regranted k r.grants gs
 
 -- the grants on the group with one partner's as it is to be, and the names under him and the owner
 abbrev pub RegrantFits : Key → Regrant → KeptGroups → Type 0
-RegrantFits k r gs = (r.grants ≡ with_row text_cmp grant_key r.under.0 (grant_for r.under.0 r.level) (grants_of (find (is_row k) gs.rows))) × (r.under.1 ≡ k.0) × (r.names ≡ relisted k.1 r.level (names_at r.under gs.names)) × (0 < gs.name_room)
+RegrantFits k r gs = (r.grants ≡ with_row text_cmp grant_key r.under.owner (grant_for r.under.owner r.level) (grants_of (find (is_row k) gs.rows))) × (r.under.name ≡ k.owner) × (r.names ≡ relisted k.name r.level (names_at r.under gs.names)) × (0 < gs.name_room)
 
 abbrev pub ModelFits : Key → ModelStep → Stored ModelContent → Type 0
 ModelFits k (model.Put again a) table = (again ≡ k) × HasRoom table

@@ -259,7 +259,7 @@ impl Access {
         ensures model_rows { IfOk result (λ prepared. prepared_models prepared self.old.models.rows ≡ granted key to level self.old.models.rows) }
         ensures group_rows { IfOk result (λ prepared. prepared_groups prepared self.old.groups.rows ≡ self.old.groups.rows) }
     {
-        if to.is(&key.0) {
+        if to.is(&key.owner) {
             return Ok(Prepared::Nothing);
         }
         let step = self.model_step(alloc, &key, Altered::Grants(to, level))?;
@@ -280,7 +280,7 @@ impl Access {
         ensures model_rows { IfOk result (λ prepared. prepared_models prepared self.old.models.rows ≡ self.old.models.rows) }
         ensures group_rows { IfOk result (λ prepared. prepared_groups prepared self.old.groups.rows ≡ granted key to level self.old.groups.rows) }
     {
-        if to.is(&key.0) {
+        if to.is(&key.owner) {
             return Ok(Prepared::Nothing);
         }
         let step = self.group_step(alloc, &key, Altered::Grants(to, level))?;

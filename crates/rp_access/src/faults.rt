@@ -19,7 +19,7 @@ pub fn is_new<A>(most: usize, key: &Key, table: &Table<A>) -> Option<AccessFault
     if table.find(key).is_some() {
         return Some(AccessFault::Exists);
     }
-    if table.count_of(&key.0) >= most {
+    if table.count_of(&key.owner) >= most {
         return Some(AccessFault::TooMany);
     }
     None

@@ -2,7 +2,8 @@
 
 ghost use Rattle.std.specs.Prelude.{◌≡◌, true, false, ◌<◌, [], Some, None, OnOk};
 ghost use Rattle.std.specs.List.{find, list_any};
-ghost use Rattle.rp_rows.specs.Rows.{Text as Bytes, Key as RowKey, is_row, same_key};
+ghost use Rattle.rp_rows.specs.declared.rows.Key.{Key as RowKey};
+ghost use Rattle.rp_rows.specs.Rows.{Text as Bytes, is_row, same_key, key_of};
 ghost use Rattle.rp_rows.specs.Alterations.{Holds, altered, grant_for};
 ghost use Rattle.rp_rows.specs.Sight.{is_grant_to};
 ghost use Rattle.rp_tables.specs.Stored.{rewritten};
@@ -44,12 +45,12 @@ impl Model for Groups {
 
 /// The name of the group is forgotten under all partners who have these grants.
 fn forget(alloc: Global, granted: &mut Keyed<Rows<Text>>, grants: &[Grant], key: &Key)
-    ensures others { (p : Bytes) (k : RowKey) → same_key key.now k ≡ false → has_name k.1 (names_at (p, k.0) granted.new.entries) ≡ has_name k.1 (names_at (p, k.0) granted.old.entries) }
-    ensures fewer { (p : Bytes) → has_name key.now.1 (names_at (p, key.now.0) granted.old.entries) ≡ false → has_name key.now.1 (names_at (p, key.now.0) granted.new.entries) ≡ false }
-    ensures gone { (p : Bytes) → list_any (is_grant_to p) grants.now ≡ true → has_name key.now.1 (names_at (p, key.now.0) granted.new.entries) ≡ false }
+    ensures others { (p : Bytes) (k : RowKey) → same_key key.now k ≡ false → has_name k.name (names_at (key_of p k.owner) granted.new.entries) ≡ has_name k.name (names_at (key_of p k.owner) granted.old.entries) }
+    ensures fewer { (p : Bytes) → has_name key.now.name (names_at (key_of p key.now.owner) granted.old.entries) ≡ false → has_name key.now.name (names_at (key_of p key.now.owner) granted.new.entries) ≡ false }
+    ensures gone { (p : Bytes) → list_any (is_grant_to p) grants.now ≡ true → has_name key.now.name (names_at (key_of p key.now.owner) granted.new.entries) ≡ false }
 {
     for grant in grants {
-        granted.drop_name(alloc, &grant.partner, &key.0, &key.1);
+        granted.drop_name(alloc, &grant.partner, &key.owner, &key.name);
     }
 }
 
@@ -81,7 +82,7 @@ impl Groups {
 
     /// The names of this owner's groups that the partner is granted.
     pub fn names_for(&self, partner: &Text, owner: &Text) -> &[Text]
-        ensures { result.now ≡ names_at (partner.now, owner.now) self.now.names }
+        ensures { result.now ≡ names_at (key_of partner.now owner.now) self.now.names }
     {
         match self.granted.find_for(partner, owner) {
             Some(entry) => entry.value.as_slice(),

@@ -4,7 +4,7 @@
 ghost use Rattle.std.specs.Prelude.{◌≡◌, false, None, if◌then◌else◌};
 ghost use Rattle.std.specs.List.{find, list_any};
 ghost use Rattle.sorted_tables.specs.Table.{IsAscending};
-ghost use Rattle.rp_rows.specs.Rows.{key_cmp, row_key, is_row};
+ghost use Rattle.rp_rows.specs.Rows.{key_cmp, row_key, is_row, key_of};
 ghost use Rattle.rp_rows.specs.Sight as sight;
 ghost use Rattle.rp_tables.specs.Stored.{row_of};
 ghost use Rattle.rp_access.specs.Changes.{level_by};
@@ -24,7 +24,7 @@ fn counts_at(
     owner: &Text,
     name: &Text,
 ) -> bool
-    ensures { result ≡ shows caller.now (row_of model.now) (find (is_row (owner.now, name.now)) groups.now.rows) }
+    ensures { result ≡ shows caller.now (row_of model.now) (find (is_row (key_of owner.now name.now)) groups.now.rows) }
 {
     match groups.find_for(owner, name) {
         Some(group) => is_granted(caller, group.grants) && counts(model, &group),
@@ -40,7 +40,13 @@ fn counts_among(
 ) -> bool
     ensures { result ≡ counts_under caller.now groups.now.rows names.now (row_of model.now) }
 {
-    names.value.as_slice().iter().any(|name| counts_at(groups, caller, model, &names.key.1, name))
+    names.value.as_slice().iter().any(|name| counts_at(
+        groups,
+        caller,
+        model,
+        &names.key.name,
+        name,
+    ))
 }
 
 /// Whether the model counts in a group that the partner is granted.

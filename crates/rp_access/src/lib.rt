@@ -25,6 +25,6 @@ pub use groups::Groups;
 pub use levels::level;
 pub use members::{Member, counted_models, members_of};
 pub use relisting::{excluding, including};
-pub use sight::{at_least, counts, group_right, has_key, is_same_key, sees_group};
-pub use steps::{Altered, GroupStep, ModelStep, copy_key};
+pub use sight::{at_least, counts, group_right, has_key, sees_group};
+pub use steps::{Altered, GroupStep, ModelStep};
 pub use visible::{Seen, visible_groups, visible_models};

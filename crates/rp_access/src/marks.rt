@@ -3,7 +3,7 @@
 ghost use Rattle.std.specs.Prelude.{◌≡◌, ◌<◌, ◌&&◌, false, true, length, map, replicate, slice_index_or, slice_set, OnOk, IfOk};
 ghost use Rattle.std.specs.List.{find};
 ghost use Rattle.sorted_tables.specs.Table.{IsAscending};
-ghost use Rattle.rp_rows.specs.Rows.{key_cmp, row_key, is_row};
+ghost use Rattle.rp_rows.specs.Rows.{key_cmp, row_key, is_row, key_of};
 ghost use Rattle.rp_rows.specs.Sight as sight;
 ghost use Rattle.rp_tables.specs.Stored.{row_of};
 ghost use Rattle.rp_access.specs.Granted.{granted_of, TellsGranted, shows, counts_under, counts_in_any};
@@ -28,7 +28,7 @@ pub struct Marks {
 
 impl Model for Marks {
     ghost use Rattle.std.specs.Prelude.{Bool, List};
-    ghost use Rattle.lineage.specs.Lineage.{is_among};
+    ghost use Rattle.plain_data.specs.Numbers.{is_among};
     ghost use Rattle.rp_access.specs.Kept.{marks_from};
 
     ghost Value = { List Bool };
@@ -112,7 +112,7 @@ fn mark_at(
     marks: &mut Marks,
 ) -> Result<(), AllocError>
     requires { length marks.old ≡ length models.now.rows }
-    ensures { OnOk result (marks.new ≡ marked (λ m. shows caller.now m (find (is_row (owner.now, name.now)) groups.now.rows)) marks.old models.now.rows) }
+    ensures { OnOk result (marks.new ≡ marked (λ m. shows caller.now m (find (is_row (key_of owner.now name.now)) groups.now.rows)) marks.old models.now.rows) }
 {
     let Some(group) = groups.find_for(owner, name) else {
         return Ok(());
@@ -135,7 +135,7 @@ fn mark_names(
     ensures { OnOk result (marks.new ≡ marked (counts_under caller.now groups.now.rows names.now) marks.old models.now.rows) }
 {
     for name in names.value.as_slice() {
-        mark_at(models, groups, caller, &names.key.1, name, marks)?;
+        mark_at(models, groups, caller, &names.key.name, name, marks)?;
     }
     Ok(())
 }

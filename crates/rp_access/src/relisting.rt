@@ -5,8 +5,6 @@ ghost use Rattle.sorted_tables.specs.Table.{is_before, is_after};
 ghost use Rattle.rp_rows.specs.Rows.{key_cmp};
 ghost use Rattle.rp_rows.specs.Listings.{itself, with_member, without_member};
 
-use crate::sight::key_order;
-use crate::steps::copy_key;
 use plain_data::Rows;
 use rp_rows::rows::{Key, Listing};
 use std::alloc::{AllocError, Global};
@@ -21,8 +19,8 @@ fn push_before(
     ensures { OnOk result (out.new.items ≡ out.old.items ++ filter (is_before key_cmp itself model.now) members.now) }
 {
     for member in members {
-        if key_order(member, model).is_lt() {
-            out.push(copy_key(alloc, member)?)?;
+        if member.order(model).is_lt() {
+            out.push(member.copy(alloc)?)?;
         }
     }
     Ok(())
@@ -38,8 +36,8 @@ fn push_after(
     ensures { OnOk result (out.new.items ≡ out.old.items ++ filter (is_after key_cmp itself model.now) members.now) }
 {
     for member in members {
-        if key_order(member, model).is_gt() {
-            out.push(copy_key(alloc, member)?)?;
+        if member.order(model).is_gt() {
+            out.push(member.copy(alloc)?)?;
         }
     }
     Ok(())

@@ -3,18 +3,17 @@
 ghost use Rattle.std.specs.Prelude.{◌≡◌, option_copied};
 ghost use Rattle.std.specs.List.{list_any, find};
 ghost use Rattle.rp_rows.specs.Sight as sight;
-ghost use Rattle.rp_rows.specs.Rows.{key_cmp, same_key};
+ghost use Rattle.rp_rows.specs.Listings.{lists_key};
 ghost use Rattle.rp_tables.specs.Stored.{row_of};
 
 use plain_data::Text;
 use rp_rows::rows::{Grant, Key, Level, Listing, ModelContent, Right};
 use rp_tables::RowRef;
-use std::cmp::Ordering;
 
 pub fn owns<A>(caller: &Text, row: &RowRef<'_, A>) -> bool
     ensures { result ≡ sight.owns caller.now (row_of row.now) }
 {
-    row.key.0.is(caller)
+    row.key.owner.is(caller)
 }
 
 pub fn grant_to<'a>(caller: &Text, grants: &'a [Grant]) -> Option<&'a Grant>
@@ -47,22 +46,10 @@ pub fn group_right(caller: &Text, group: &RowRef<'_, Listing>) -> Right
     }
 }
 
-pub fn key_order(key: &Key, other: &Key) -> Ordering
-    ensures { result ≡ key_cmp key.now other.now }
-{
-    key.0.order(&other.0).then(key.1.order(&other.1))
-}
-
-pub fn is_same_key(key: &Key, other: &Key) -> bool
-    ensures { result ≡ same_key key.now other.now }
-{
-    other.0.is(&key.0) && other.1.is(&key.1)
-}
-
 pub fn has_key(key: &Key, keys: &[Key]) -> bool
-    ensures { result ≡ list_any (same_key key.now) keys.now }
+    ensures { result ≡ lists_key key.now keys.now }
 {
-    keys.iter().any(|other| is_same_key(key, other))
+    keys.iter().any(|other| key.is(other))
 }
 
 fn is_group_level(level: Level) -> bool
@@ -92,7 +79,7 @@ pub fn counts(model: &RowRef<'_, ModelContent>, group: &RowRef<'_, Listing>) -> 
 {
     has_key(model.key, group.holds.members.as_slice())
         && model.holds.schema.is(&group.holds.schema)
-        && may_group(&group.key.0, model)
+        && may_group(&group.key.owner, model)
 }
 
 pub fn right_of(level: Level) -> Right

@@ -1,6 +1,7 @@
 //! Changes of models and groups, and what is still to be done of one, with all the memory that it takes.
 
 ghost use Rattle.std.specs.Prelude.{◌≡◌, IfOk};
+ghost use Rattle.rp_rows.specs.Rows.{key_of};
 ghost use Rattle.rp_rows.specs.Alterations.{altered};
 ghost use Rattle.rp_access.specs.Steps.{alteration_of, model_stepped, group_stepped, RegrantFits, ModelFits, GroupFits};
 
@@ -51,15 +52,6 @@ pub enum GroupStep {
     Regrant(Regrant),
 }
 
-/// The same key.
-pub fn copy_key(alloc: Global, key: &Key) -> Result<Key, AllocError>
-    ensures { IfOk result (λ copy. copy ≡ key.now) }
-{
-    let owner = key.0.copy(alloc)?;
-    let name = key.1.copy(alloc)?;
-    Ok((owner, name))
-}
-
 /// One partner's grant on a group, with room for it.
 fn regrant_for(
     alloc: Global,
@@ -70,18 +62,21 @@ fn regrant_for(
 ) -> Result<Regrant, AllocError>
     ensures rows { groups.new.rows ≡ groups.old.rows }
     ensures fits { IfOk result (λ r. RegrantFits key.now r groups.new) }
-    ensures under { IfOk result (λ r. r.under ≡ (to, key.now.0)) }
+    ensures under { IfOk result (λ r. r.under ≡ key_of to key.now.owner) }
     ensures level { IfOk result (λ r. r.level ≡ level) }
 {
-    let owner = key.0.copy(alloc)?;
-    let names = relisted(alloc, &key.1, level, groups.names_for(&to, &owner))?;
+    let owner = key.owner.copy(alloc)?;
+    let names = relisted(alloc, &key.name, level, groups.names_for(&to, &owner))?;
     let again = to.copy(alloc)?;
     let grants = regranted_for(alloc, to, level, groups.table().grants_at(key))?;
     groups.reserve_names()?;
     Ok(Regrant {
         level,
         grants,
-        under: (again, owner),
+        under: Key {
+            owner: again,
+            name: owner,
+        },
         names,
     })
 }
@@ -99,7 +94,7 @@ pub fn group_step(
 {
     match change {
         Altered::Hold(listing) => {
-            let again = copy_key(alloc, key)?;
+            let again = key.copy(alloc)?;
             groups.reserve()?;
             Ok(GroupStep::Put(again, listing))
         }
@@ -124,7 +119,7 @@ pub fn model_step(
 {
     match change {
         Altered::Hold(content) => {
-            let again = copy_key(alloc, key)?;
+            let again = key.copy(alloc)?;
             models.reserve()?;
             Ok(ModelStep::Put(again, content))
         }

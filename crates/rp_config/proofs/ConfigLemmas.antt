@@ -1,24 +1,11 @@
--- The members of an object, and the items of a list, one after another.
-use Rattle.std.proofs.Common.{◌≡◌, ◌<◌, ◌≤◌, ◌+◌, ℕ, List, [], ◌∷◌, ◌++◌, map, drop, get_or, length, Bool, Option, Some, None, option_map, string_bytes, Bor, bytes_eq, refl, sym, ap, ◌∙◌, append_assoc, append-nil, add-one}
+-- The items of a list, one after another.
+use Rattle.std.proofs.Common.{◌≡◌, ◌<◌, ◌≤◌, ◌+◌, ℕ, List, [], ◌∷◌, ◌++◌, drop, get_or, length, Option, Some, None, option_map, refl, sym, ap, ◌∙◌, append_assoc, append-nil, add-one}
 use Rattle.std.proofs.Math.Seq.{drop-cons}
 use Rattle.std.proofs.lemmas.List.{drop_all}
-use Rattle.std.specs.List.{list_all, list_any}
-use Rattle.std.specs.Map.{keys_of}
 use Rattle.serde_json.specs.Data.{Data}
-use Rattle.serde_json.specs.View.{view, items_view, members_view}
+use Rattle.serde_json.specs.View.{view, items_view}
 use Rattle.serde_json.specs.declared.value.Value.{Value}
-use Rattle.serde_json.proofs.Views.{Entry}
-use Rattle.rp_config.specs.Configuration.{each, has_only}
-
-list_any-map : {X Y : Type 0} (p : X → Bool) (h : Y → X) (ys : List Y) → list_any p (map h ys) ≡ list_any (λ y. p (h y)) ys
-list_any-map p h [] = refl
-list_any-map p h (y ∷ ys) = rw (list_any-map p h ys)
-
-pub has_only-members_view : (keys : List (Bor (List ℕ))) (es : List Entry)
-    → list_all (λ k. list_any (λ key. bytes_eq key.now (string_bytes k)) keys) (keys_of es) ≡ has_only (map (λ key. key.now) keys) (members_view es)
-has_only-members_view keys [] = refl
-has_only-members_view keys (e ∷ es) =
-    rw (list_any-map (λ key. bytes_eq key (string_bytes e.0)) (λ (key : Bor (List ℕ)). key.now) keys, has_only-members_view keys es)
+use Rattle.rp_config.specs.Configuration.{each}
 
 drop_one : (vs : List Value) (i : ℕ) (v : Value) → i < length vs → v ≡ get_or vs i v → drop i vs ≡ v ∷ drop (i + 1) vs
 drop_one vs i v within is = drop-cons vs i v within ∙ rw (add-one, ← is) refl

@@ -8,9 +8,9 @@ use Rattle.rp_config.specs.declared.fault.LoadFault.{LoadFault}
 use Rattle.rp_config.specs.declared.fault.LoadFault.TheVariants.{TooLarge}
 use Rattle.rp_config.specs.Loading.{Held, NeverFails, and_then, opened_of, front_of, whole_of, schema_at, schemas_at}
 use Rattle.rp_io.specs.declared.device.DeviceFault.{DeviceFault}
-use Rattle.text_forms.specs.declared.Failure.{Failure}
-use Rattle.text_forms.specs.declared.Failure.TheVariants.{NoMemory, Fault}
-use Rattle.text_forms.specs.Gives.{Gives}
+use Rattle.plain_data.specs.declared.failure.Failure.{Failure}
+use Rattle.plain_data.specs.declared.failure.Failure.TheVariants.{NoMemory, Fault}
+use Rattle.plain_data.specs.Gives.{Gives}
 
 -- what holds where it is known what the paths hold
 pub on_known : (known : Option Held) (P Q : Held → Type 0) → ((held : Held) → P held → Q held) → IfSome known P → IfSome known Q

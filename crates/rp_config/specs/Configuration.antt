@@ -1,16 +1,11 @@
 -- Which bytes are which configurations.
-use Rattle.std.specs.Prelude.{ℕ, ◌&&◌, List, [], ◌∷◌, Bool, true, codes, if◌then◌else◌, Option, Some, None, option_map, option_and_then}
-use Rattle.std.specs.List.{list_any}
-use Rattle.std.specs.Str.{bytes_eq, is_utf8}
-use Rattle.serde_json.specs.Data.{Data, Items, no_items, item, Members, no_members, member}
+use Rattle.std.specs.Prelude.{ℕ, List, [], ◌∷◌, codes, if◌then◌else◌, Option, Some, None, option_map, option_and_then}
+use Rattle.std.specs.Str.{is_utf8}
+use Rattle.serde_json.specs.Data.{Data, Items, no_items, item, Members}
 use Rattle.serde_json.specs.Find.{get_member, as_str, as_array, as_object}
 use Rattle.serde_json.specs.Read.{read}
+use Rattle.shallow_json.specs.Keys.{has_only}
 use Rattle.rp_config.specs.declared.config.Config.{Config}
-
--- each key is one of these
-abbrev pub has_only : List (List ℕ) → Members → Bool
-has_only keys no_members = true
-has_only keys (member k d ms) = list_any (λ key. bytes_eq key k) keys && has_only keys ms
 
 -- the string at this key
 abbrev pub text_in : List ℕ → Members → Option (List ℕ)

@@ -1,5 +1,6 @@
 -- What the files of a folder mean.
 use Rattle.std.specs.Prelude.{◌≡◌, ℕ, List, [], ◌∷◌, length, take, nat_le, if◌then◌else◌, Option, Some, None, ok_or, option_map, Result, Ok, Err}
+use Rattle.rp_io.specs.Limits.{file_limit}
 use Rattle.rp_io.specs.declared.device.DeviceFault.{DeviceFault}
 use Rattle.ex_check.specs.declared.fault.SchemaFault.{SchemaFault}
 use Rattle.ex_check.specs.Check as check
@@ -13,10 +14,6 @@ use Rattle.rp_config.specs.Configuration.{config_of}
 -- what each path holds: the bytes of a file, or nothing where none can be opened
 abbrev pub Held : Type 0
 Held = List ℕ → Option (List ℕ)
-
--- the most bytes of a file
-abbrev pub file_limit : ℕ
-file_limit = 8388608
 
 abbrev pub and_then : {A B F : Type 0} → Result A F → (A → Result B F) → Result B F
 and_then (Ok x) next = next x

@@ -1,14 +1,12 @@
 //! The configuration: `{"partners":[{"name":"ann","token":"ta"}],"schemas":["t.exp"]}`.
-ghost use Rattle.std.specs.Prelude.{◌≡◌, map, string_bytes, Some, None, IfOk, IsErrOf, option_map, option_and_then};
-ghost use Rattle.std.specs.List.{list_all, list_any};
-ghost use Rattle.std.specs.Str.{bytes_eq};
-ghost use Rattle.std.specs.BTreeMap.{keys as map_keys};
+ghost use Rattle.std.specs.Prelude.{◌≡◌, Some, None, IfOk, IsErrOf, option_map, option_and_then};
 ghost use Rattle.serde_json.specs.Find.{as_str, as_object};
-ghost use Rattle.serde_json.specs.View.{view, items_view, members_view};
+ghost use Rattle.serde_json.specs.View.{view, items_view};
 ghost use Rattle.rp_config.specs.Configuration as spec;
 
 use plain_data::{Rows, Text};
-use serde_json::{Map, Value};
+use serde_json::Value;
+use shallow_json::has_only_keys;
 use std::alloc::{AllocError, AllocFailed, Global};
 
 /// What a configuration says.
@@ -123,22 +121,4 @@ fn paths_in(alloc: Global, schemas: &[Value]) -> Result<Rows<Text>, ConfigFault>
         paths.push(Text::from_str(alloc, path)?)?;
     }
     Ok(paths)
-}
-
-fn has_only_keys(members: &Map<String, Value>, keys: &[&str]) -> bool
-    ensures { result ≡ spec.has_only (map (λ key. key.now) keys.now) (members_view members.now.entries) }
-{
-    each_is_among(members, keys)
-}
-
-fn each_is_among(members: &Map<String, Value>, keys: &[&str]) -> bool
-    ensures { result ≡ list_all (λ k. list_any (λ key. bytes_eq key.now (string_bytes k)) keys.now) (map_keys members.now) }
-{
-    members.keys().all(|name| is_among(name.as_str(), keys))
-}
-
-fn is_among(name: &str, keys: &[&str]) -> bool
-    ensures { result ≡ list_any (λ key. bytes_eq key.now name.now) keys.now }
-{
-    keys.iter().any(|key| *key == name)
 }

@@ -6,7 +6,7 @@ use plain_data::Text;
 pub enum LoadFault {
     /// The file of this path can't be opened, or a read of it failed.
     Unreadable(Text),
-    /// The file of this path has more than [`FILE_LIMIT`](crate::FILE_LIMIT) bytes.
+    /// The file of this path has more than [`FILE_LIMIT`](rp_io::FILE_LIMIT) bytes.
     TooLarge(Text),
     /// The file of this path is no configuration.
     Config(Text),

@@ -1,19 +1,15 @@
 //! Files that are read whole, up to a size.
 ghost use Rattle.std.specs.Prelude.{◌≡◌, ◌≢◌, ◌≤◌, List, ℕ, length, take, Option, None, IfErr, IfOk, IfSome, OnOk};
-ghost use Rattle.text_forms.specs.Gives.{Gives};
+ghost use Rattle.plain_data.specs.Gives.{Gives};
 ghost use Rattle.rp_config.specs.Loading.{NeverFails};
 ghost use Rattle.rp_config.specs.Loading as spec;
 
 use crate::fault::LoadFault;
-use plain_data::Text;
-use rp_io::{DeviceFault, FromReader, Source};
+use plain_data::{Failure, Text};
+use rp_io::{DeviceFault, FILE_LIMIT, FromReader, Source};
 use std::alloc::Global;
 use std::fs::{File, Files};
 use std::io::ErrorKind;
-use text_forms::Failure;
-
-/// The most bytes of a configuration or of a schema's file: 8 MiB.
-pub const FILE_LIMIT: usize = 8_388_608;
 
 /// Files that are opened by their paths.
 ///

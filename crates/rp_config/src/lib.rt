@@ -8,6 +8,6 @@ mod loading;
 mod wrong;
 
 pub use fault::LoadFault;
-pub use files::{FILE_LIMIT, Folder, FromFiles, file_bytes};
+pub use files::{Folder, FromFiles, file_bytes};
 pub use loading::{Loaded, load_all};
 pub use wrong::wrong_place;

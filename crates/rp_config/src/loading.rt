@@ -1,6 +1,6 @@
 //! The configuration, and the schemas that it names.
 ghost use Rattle.std.specs.Prelude.{◌≡◌, IfOk, IfSome};
-ghost use Rattle.text_forms.specs.Gives.{Gives};
+ghost use Rattle.plain_data.specs.Gives.{Gives};
 ghost use Rattle.ex_check.specs.Check as check;
 ghost use Rattle.rp_config.specs.Loading as spec;
 
@@ -9,9 +9,8 @@ use crate::fault::LoadFault;
 use crate::files::{Folder, file_bytes};
 use ex_check::{SchemaFault, compile_schema, words_of_fault};
 use ex_compiled::Compiled;
-use plain_data::{Rows, Text};
+use plain_data::{Failure, Rows, Text};
 use std::alloc::{AllocError, Global};
-use text_forms::Failure;
 
 /// What a configuration names.
 #[derive(Drop)]

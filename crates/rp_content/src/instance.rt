@@ -7,7 +7,7 @@ use rp_value::Value;
 use std::alloc::{AllocError, Global};
 
 /// The entities of an instance, by their numbers in the schema.
-pub enum Types {
+pub enum Entities {
     /// An entity with all above it (internal mapping).
     Leaf(usize),
     /// All entities that it has (external mapping).
@@ -18,32 +18,32 @@ pub enum Types {
 #[derive(Drop)]
 pub struct Instance {
     pub name: u64,
-    pub types: Types,
+    pub entities: Entities,
     /// Of its attributes, in the order in which canonical text writes them. One that is derived has `Indet`.
     pub values: Items<Value>,
 }
 
-impl Drop for Types {
+impl Drop for Entities {
     fn drop(self) {
         match self {
-            Types::Leaf(_) => {}
-            Types::Several(entities) => drop(entities),
+            Entities::Leaf(_) => {}
+            Entities::Several(entities) => drop(entities),
         }
     }
 }
 
-impl Types {
+impl Entities {
     ghost use Rattle.std.specs.Prelude.{◌≡◌, IfOk};
 
     /// The same entities.
-    pub fn copy(&self, alloc: Global) -> Result<Types, AllocError>
-        ensures { IfOk result (λ types. types ≡ self.now) }
+    pub fn copy(&self, alloc: Global) -> Result<Entities, AllocError>
+        ensures { IfOk result (λ entities. entities ≡ self.now) }
     {
         match self {
-            Types::Leaf(entity) => Ok(Types::Leaf(*entity)),
-            Types::Several(entities) => {
+            Entities::Leaf(entity) => Ok(Entities::Leaf(*entity)),
+            Entities::Several(entities) => {
                 let entities = Items::from_slice(alloc, entities.as_slice())?;
-                Ok(Types::Several(entities))
+                Ok(Entities::Several(entities))
             }
         }
     }
@@ -67,11 +67,11 @@ impl Instance {
     pub fn copy(&self, alloc: Global) -> Result<Instance, AllocError>
         ensures { IfOk result (λ instance. instance ≡ self.now) }
     {
-        let types = self.types.copy(alloc)?;
+        let entities = self.entities.copy(alloc)?;
         let values = copy_values(alloc, self.values.as_slice())?;
         Ok(Instance {
             name: self.name,
-            types,
+            entities,
             values,
         })
     }

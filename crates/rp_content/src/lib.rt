@@ -8,5 +8,5 @@ mod link;
 
 pub use content::Content;
 pub use header::Header;
-pub use instance::{Instance, Types};
+pub use instance::{Entities, Instance};
 pub use link::Link;

@@ -6,7 +6,8 @@ use Rattle.sorted_tables.specs.Table.{with_row, IsAscending}
 use Rattle.sorted_tables.proofs.Searching.{chosen}
 use Rattle.rp_content.specs.declared.instance.Instance.{Instance}
 use Rattle.rp_rows.specs.declared.rows.ModelContent.{ModelContent}
-use Rattle.rp_rows.specs.Rows.{Text, Key, key_cmp, row_key, is_row, Model}
+use Rattle.rp_rows.specs.declared.rows.Key.{Key}
+use Rattle.rp_rows.specs.Rows.{Text, key_cmp, row_key, is_row, Model}
 use Rattle.rp_rows.specs.Instances.{with_instance, without_instance}
 use Rattle.rp_rows.specs.Sight.{sees}
 use Rattle.rp_rows.specs.Alterations.{Holds, altered, grants_of}
@@ -40,10 +41,10 @@ module _ (r : Plain) (c : Text) (k : Key) (order : IsAscending key_cmp row_key r
   reheld_altered f m seen =
       let there = stands m seen in
       let key : row_key m ≡ k = key_at k m (found_at (is_row k) r.models m there) in
-      let now : Key → Option Model = λ j. Some (record { owner = j.0; name = j.1; holds = f m.holds; grants = m.grants }) in
+      let now : Key → Option Model = λ j. Some (record { owner = j.owner; name = j.name; holds = f m.holds; grants = m.grants }) in
       ap (λ o. with_row key_cmp row_key k (option_map (reheld f) o) r.models) there
       ∙ ap (λ j. with_row key_cmp row_key k (now j) r.models) key
-      ∙ ap (λ o. with_row key_cmp row_key k (Some (record { owner = k.0; name = k.1; holds = f m.holds; grants = grants_of o })) r.models) (sym there)
+      ∙ ap (λ o. with_row key_cmp row_key k (Some (record { owner = k.owner; name = k.name; holds = f m.holds; grants = grants_of o })) r.models) (sym there)
 
   abbrev with_models : List Model → Plain
   with_models ms = record r { models = ms }

@@ -18,7 +18,7 @@ use Rattle.rp_plain.specs.declared.messages.Reply.TheVariants.{Refused}
 use Rattle.rp_plain.specs.Plain.{Plain}
 use Rattle.rp_plain.specs.Edits.{changed}
 use Rattle.rp_plain.specs.Readers.{Readers, asked}
-use Rattle.rp_plain.specs.Files.{Reading, read_content, stored, text_by, links_of, exported}
+use Rattle.rp_plain.specs.Files.{BoundFile, read_content, stored, text_by, links_of, exported}
 use Rattle.rp_plain.specs.Meaning.{schema_of as of_schema}
 use Rattle.rp_plain.specs.Checks as checks
 use Rattle.rp_plain.specs.Step.{meaning, outcome}
@@ -32,7 +32,7 @@ use Rattle.rp_plans.specs.Plans.{IsAnswer, IsRefusal}
 use Rattle.rp_core.specs.Held.{made_models, made_groups, models_by, groups_by, IsPrepared}
 use Rattle.rp_core.proofs.Making.{made_changed}
 
-stored_told : (read : Reading) → is_no_memory (stored read) ≡ false
+stored_told : (read : BoundFile) → is_no_memory (stored read) ≡ false
 stored_told (Ok content) = refl
 stored_told (Err refusal) = refl
 

@@ -2,10 +2,11 @@
 use Rattle.std.proofs.Common.{◌≡◌, ◌≤◌, ◌<◌, ℕ, Bool, ◌||◌, ◌==◌, true, false, List, [], ◌∷◌, Some, refl, sym, subst, arith}
 use Rattle.std.specs.List.{AllByRecursion, slice_get}
 use Rattle.std.proofs.lemmas.Bool.Decides.{nat_tests}
-use Rattle.p21_instances.specs.Instances.{is_among}
+use Rattle.plain_data.specs.Numbers.{is_among}
 use Rattle.p21_instances.proofs.SortedBy.{Rises, rises_in_order}
 use Rattle.rp_content.specs.declared.link.Link.{Link}
-use Rattle.rp_rows.specs.Rows.{Text, Key}
+use Rattle.rp_rows.specs.declared.rows.Key.{Key}
+use Rattle.rp_rows.specs.Rows.{Text}
 use Rattle.rp_rows.specs.Contents.{link_name, link_names}
 use Rattle.rp_plain.specs.Readers.{Readers}
 use Rattle.rp_plain.specs.Links.{links_in_order, first_fault}

@@ -5,7 +5,8 @@ use Rattle.p21_grammar.specs.File.{file_of}
 use Rattle.rp_content.specs.declared.content.Content.{Content}
 use Rattle.rp_content.specs.declared.link.Link.{Link}
 use Rattle.rp_rows.specs.declared.rows.ModelContent.{ModelContent}
-use Rattle.rp_rows.specs.Rows.{Text, Key}
+use Rattle.rp_rows.specs.declared.rows.Key.{Key}
+use Rattle.rp_rows.specs.Rows.{Text}
 use Rattle.rp_rows.specs.Contents.{link_names}
 use Rattle.rp_plain.specs.declared.messages.Refusal.{Refusal}
 use Rattle.rp_plain.specs.declared.messages.Request.{Request}
@@ -15,7 +16,7 @@ use Rattle.rp_plain.specs.declared.messages.Request.TheVariants.{Put}
 use Rattle.rp_plain.specs.Readers.{Readers}
 use Rattle.rp_plain.specs.Meaning.{first_some}
 use Rattle.rp_plain.specs.Links.{linking, no_request}
-use Rattle.rp_plain.specs.Files.{Reading, read_for, read_content, refused, stored, ill_linked, too_many, refilled, filled}
+use Rattle.rp_plain.specs.Files.{BoundFile, read_for, read_content, refused, stored, ill_linked, too_many, refilled, filled}
 use Rattle.rp_plain.specs.Step.{meaning}
 use Rattle.rp_access.specs.declared.steps.Altered.TheVariants.{Hold}
 use Rattle.rp_plans.specs.declared.edits.Edits.TheVariants.{OfModel}
@@ -34,12 +35,12 @@ module _ (a : Readers) (c : Text) (k : Key) (file : Text) (links : List Link) wh
   abbrev early : List (Option Refusal)
   early = no_request links ∷ cheap_tests a k file
 
-  abbrev reading : Option ModelContent → Reading
-  reading o = read_content a.schemas o (link_names links) (file_of file)
+  abbrev bound : Option ModelContent → BoundFile
+  bound o = read_content a.schemas o (link_names links) (file_of file)
 
   -- the tests behind them
   abbrev behind : Option ModelContent → List (Option Refusal)
-  behind o = refused (reading o) ∷ ill_linked a k o links (reading o) ∷ too_many links (reading o) ∷ []
+  behind o = refused (bound o) ∷ ill_linked a k o links (bound o) ∷ too_many links (bound o) ∷ []
 
   pub unread : (refusal : Refusal) → first_some early ≡ Some refusal → first_some (meaning a c (Put k file links)).tests ≡ Some refusal
   unread refusal found = first_front early (behind (a.content k)) refusal found
@@ -52,7 +53,7 @@ module _ (a : Readers) (c : Text) (k : Key) (file : Text) (links : List Link) wh
     absent seen = passed ∙ ap (λ o. first_some (behind o)) (sym seen)
 
     module _ (h : ModelContent) (seen : Some h ≡ a.content k) where
-      abbrev read : Reading
+      abbrev read : BoundFile
       read = read_for a.schemas h (link_names links) (file_of file)
 
       found : first_some (meaning a c (Put k file links)).tests ≡ first_some (read_tests a k h links read)
@@ -62,11 +63,11 @@ module _ (a : Readers) (c : Text) (k : Key) (file : Text) (links : List Link) wh
       not_refilled refusal tested = found ∙ tested
 
       module _ (content : Content) (says : read ≡ Ok content) where
-        replies : (o : Option ModelContent) → Some h ≡ o → Stored (length content.instances) ≡ stored (reading o)
-        replies o same = subst (λ p. Stored (length content.instances) ≡ stored (reading p)) same (sym (ap stored says))
+        replies : (o : Option ModelContent) → Some h ≡ o → Stored (length content.instances) ≡ stored (bound o)
+        replies o same = subst (λ p. Stored (length content.instances) ≡ stored (bound p)) same (sym (ap stored says))
 
-        edits : (o : Option ModelContent) → Some h ≡ o → filled k (Some h) links (Ok content) ≡ filled k o links (reading o)
-        edits o same = subst (λ p. filled k (Some h) links (Ok content) ≡ filled k p links (reading p)) same (sym (ap (filled k (Some h) links) says))
+        edits : (o : Option ModelContent) → Some h ≡ o → filled k (Some h) links (Ok content) ≡ filled k o links (bound o)
+        edits o same = subst (λ p. filled k (Some h) links (Ok content) ≡ filled k p links (bound p)) same (sym (ap (filled k (Some h) links) says))
 
         answered : first_some (link_tests a k h.schema links content) ≡ None
             → IsAnswer a c (Put k file links) (record { reply = Stored (length content.instances); edits = OfModel k (Hold (refilled h (linking links content))) })

@@ -9,12 +9,11 @@ ghost use Rattle.rp_plans.specs.Plans.{Plans};
 
 use ex_check::compile_schema;
 use ex_compiled::Compiled;
-use plain_data::{Rows, Text};
+use plain_data::{Failure, Rows, Text};
 use rp_plain::messages::{Refusal, Reply, Request};
 use rp_plans::{Edits, Plan, too_large};
 use rp_readers::Readers;
 use std::alloc::{AllocError, Global};
-use text_forms::Failure;
 
 /// What there is to tell of a text: its schema's name and the places of its warnings, or its first fault.
 fn told_of_text(alloc: Global, text: &Text) -> Result<Reply, AllocError>

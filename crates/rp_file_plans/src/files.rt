@@ -16,7 +16,7 @@ use ex_layouts::LoadedSchema;
 use p21_bind::{bind, load};
 use p21_read::{is_of_schema, read_raw};
 use p21_tree::Raw;
-use plain_data::{Items, Rows, Text};
+use plain_data::{Failure, Items, Rows, Text};
 use rp_access::Altered;
 use rp_content::{Content, Instance, Link};
 use rp_plain::messages::{Refusal, Reply, Request};
@@ -26,7 +26,6 @@ use rp_readers::contents::{copies, links_of, text_of};
 use rp_rows::limits::{MAX_INSTANCES, MAX_LINKS};
 use rp_rows::rows::{Key, ModelContent, Right};
 use std::alloc::{AllocError, Global};
-use text_forms::Failure;
 
 /// Why a request that puts a text into a model is refused without a look into the text.
 pub fn cheap_fault(asked: &Readers<'_, '_>, key: &Key, file: &Text) -> Option<Refusal>
@@ -35,7 +34,7 @@ pub fn cheap_fault(asked: &Readers<'_, '_>, key: &Key, file: &Text) -> Option<Re
     first(&[
         too_large(file),
         key_fault(key),
-        is_no_partner(asked, &key.0),
+        is_no_partner(asked, &key.owner),
         lacks(Right::Writes, asked.model_right(key)),
     ])
 }
@@ -287,7 +286,7 @@ pub fn plan_export(
 {
     let tests = [
         key_fault(key),
-        is_no_partner(asked, &key.0),
+        is_no_partner(asked, &key.owner),
         unseen(asked.model_right(key)),
         has_links(linked, asked, key),
     ];

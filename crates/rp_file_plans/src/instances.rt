@@ -37,7 +37,7 @@ pub fn plan_get(
     let found = instance_in(asked, key, name);
     let tests = [
         key_fault(key),
-        is_no_partner(asked, &key.0),
+        is_no_partner(asked, &key.owner),
         unseen(asked.model_right(key)),
         is_absent(found),
     ];

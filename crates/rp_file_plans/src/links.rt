@@ -2,7 +2,7 @@
 
 ghost use Rattle.std.specs.Prelude.{◌≡◌, ℕ, ◌∷◌, IfOk};
 ghost use Rattle.std.specs.List.{list_all};
-ghost use Rattle.p21_instances.specs.Instances.{is_among};
+ghost use Rattle.plain_data.specs.Numbers.{is_among};
 ghost use Rattle.rp_rows.specs.Rows.{same_key};
 ghost use Rattle.rp_rows.specs.Contents as contents;
 ghost use Rattle.rp_rows.specs.Contents.{link_names};
@@ -78,7 +78,7 @@ fn stands_again(link: &Link, others: &[Link]) -> bool
 fn leads_to(link: &Link, key: &Key) -> bool
     ensures { result ≡ same_key key.now (of_links.target_model link.now) }
 {
-    link.owner.is(&key.0) && link.model.is(&key.1)
+    link.owner.is(&key.owner) && link.model.is(&key.name)
 }
 
 /// What is wrong with the instance that is linked to, where its model is to be of this schema.

@@ -11,7 +11,7 @@ ghost use Rattle.rp_plans.specs.Plans.{Plans};
 use crate::files::cheap_fault;
 use crate::instances::is_absent;
 use p21_read::read_instance;
-use plain_data::Text;
+use plain_data::{Failure, Text};
 use rp_content::Instance;
 use rp_plain::messages::{Refusal, Reply, Request};
 use rp_plans::{Edits, Plan, first, is_no_partner, key_fault, lacks, when};
@@ -21,7 +21,6 @@ use rp_rows::limits::{MAX_INSTANCES, MAX_NAME};
 use rp_rows::rows::{Key, ModelContent, Right};
 use rp_store::is_used;
 use std::alloc::{AllocError, Global};
-use text_forms::Failure;
 
 /// The instance of this name that the text is by the model's schema, or why it is refused.
 fn said_by(
@@ -134,7 +133,7 @@ pub fn plan_drop(asked: &Readers<'_, '_>, key: Key, name: u64) -> Result<Plan, R
 {
     let tests = [
         key_fault(&key),
-        is_no_partner(asked, &key.0),
+        is_no_partner(asked, &key.owner),
         lacks(Right::Writes, asked.model_right(&key)),
         is_absent(instance_in(asked, &key, name)),
     ];

@@ -16,7 +16,7 @@ pub fn plan_names(alloc: Global, asked: &Readers<'_, '_>, key: &Key) -> Result<P
 {
     let tests = [
         key_fault(key),
-        is_no_partner(asked, &key.0),
+        is_no_partner(asked, &key.owner),
         unseen(asked.model_right(key)),
     ];
     if let Some(refusal) = first(&tests) {

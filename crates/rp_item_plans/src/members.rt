@@ -23,7 +23,7 @@ use std::alloc::Global;
 fn member_fault(group: &Text, model: &Key) -> Option<Refusal>
     ensures { result ≡ of_groups.member_fault group.now model.now }
 {
-    let valid = is_valid_name(group) && is_valid_name(&model.0) && is_valid_name(&model.1);
+    let valid = is_valid_name(group) && is_valid_name(&model.owner) && is_valid_name(&model.name);
     when(!valid, Refusal::BadName)
 }
 
@@ -60,7 +60,7 @@ fn include_fault(asked: &Readers<'_, '_>, group: &Text, model: &Key) -> Option<R
     let listing = asked.own_listing(group);
     first(&[
         member_fault(group, model),
-        is_no_partner(asked, &model.0),
+        is_no_partner(asked, &model.owner),
         unseen(asked.own_group_right(group)),
         lacks(Right::Groups, asked.model_right(model)),
         is_of_other(asked.content(model), listing),
@@ -108,7 +108,7 @@ pub fn plan_exclude(
     let listing = asked.own_listing(&group);
     let tests = [
         member_fault(&group, model),
-        is_no_partner(asked, &model.0),
+        is_no_partner(asked, &model.owner),
         unseen(asked.own_group_right(&group)),
         when(!is_member(model, listing), Refusal::Membership),
     ];
@@ -134,7 +134,7 @@ pub fn plan_members(alloc: Global, asked: &Readers<'_, '_>, group: &Key) -> Resu
 {
     let tests = [
         key_fault(group),
-        is_no_partner(asked, &group.0),
+        is_no_partner(asked, &group.owner),
         unseen(asked.group_right(group)),
     ];
     if let Some(refusal) = first(&tests) {

@@ -1,6 +1,7 @@
 //! Models that are created and deleted.
 
 ghost use Rattle.std.specs.Prelude.{◌≡◌, [], IfOk};
+ghost use Rattle.rp_rows.specs.Rows.{key_of};
 ghost use Rattle.rp_content.specs.Headers.{default_header};
 ghost use Rattle.rp_readers.specs.Told.{told};
 ghost use Rattle.rp_plans.specs.Plans.{Plans};
@@ -17,10 +18,10 @@ use std::alloc::{AllocError, Global};
 
 /// The key of the caller's own item of this name.
 pub fn own(alloc: Global, asked: &Readers<'_, '_>, name: Text) -> Result<Key, AllocError>
-    ensures { IfOk result (λ key. key ≡ (asked.now.caller.now, name)) }
+    ensures { IfOk result (λ key. key ≡ key_of asked.now.caller.now name) }
 {
     let owner = asked.caller.copy(alloc)?;
-    Ok((owner, name))
+    Ok(Key { owner, name })
 }
 
 /// What a model holds as it is created. The schema is in upper case.

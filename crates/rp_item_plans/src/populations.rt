@@ -25,7 +25,7 @@ pub fn plan_extent(
 {
     let tests = [
         key_fault(group),
-        is_no_partner(asked, &group.0),
+        is_no_partner(asked, &group.owner),
         unseen(asked.group_right(group)),
     ];
     if let Some(refusal) = first(&tests) {
@@ -52,7 +52,7 @@ pub fn plan_users(
 {
     let tests = [
         key_fault(group),
-        is_no_partner(asked, &group.0),
+        is_no_partner(asked, &group.owner),
         unseen(asked.group_right(group)),
         when(!has_place(asked, group, place), Refusal::NoSuchInstance),
     ];

@@ -4,7 +4,8 @@ use Rattle.std.specs.Prelude.{if◌then◌else◌, map, slice_index_or}
 use Rattle.std.specs.List.{AllByRecursion, list_all, zip}
 use Rattle.ex_slots.specs.Slots.{Slot}
 use Rattle.ex_types.specs.Checked.{Checked}
-use Rattle.p21_mappings.specs.Instances.{Read, and_then, each, has_star, is_left_out, has_twice, same_counts, in_places, made, counted, misplaced, derived_value, all_there, defined, value, part, by_layout, by_entity, by_entities, by_several, by_mapping, instance}
+use Rattle.p21_mappings.specs.Instances.{Mapped, and_then, each, has_star, is_left_out, has_twice, same_counts, in_places, made, counted, misplaced, derived_value, defined, value, part, by_layout, by_entity, by_entities, by_several, by_mapping, instance}
+use Rattle.p21_values.specs.Taking.{all_there}
 use Rattle.ex_layouts.specs.Entities.{entity_spelled}
 use Rattle.p21_mappings.specs.Layouts.{internal, external}
 use Rattle.ex_layouts.specs.declared.layout.Layout.{Layout}
@@ -14,7 +15,7 @@ use Rattle.p21_tree.specs.declared.instance.Instance as tree
 use Rattle.p21_tree.specs.declared.instance.Mapping.{Mapping}
 use Rattle.p21_tree.specs.declared.instance.Mapping.TheVariants.{Internal, External}
 use Rattle.p21_tree.specs.declared.instance.Record.{Record}
-use Rattle.p21_tree.specs.declared.value.Value.{Value as Spelled}
+use Rattle.p21_tree.specs.declared.value.Value.{Value as SpelledValue}
 use Rattle.p21_values.specs.Taking.{bound}
 use Rattle.rp_content.specs.declared.instance.Instance.{Instance}
 use Rattle.rp_value.specs.declared.value.Value.{Value}
@@ -24,14 +25,14 @@ use Rattle.rp_laws.proofs.BoundValues.{Passes, indet_passes, values_pass, bound_
 
 -- ---- one after another
 
-one_then : {B : Type 0} (P : B → Type 0) (o : Read B) (others : Read (List B)) (ys : List B) → ((y : B) → o ≡ Ok y → P y) → ((zs : List B) → others ≡ Ok zs → AllByRecursion P zs)
+one_then : {B : Type 0} (P : B → Type 0) (o : Mapped B) (others : Mapped (List B)) (ys : List B) → ((y : B) → o ≡ Ok y → P y) → ((zs : List B) → others ≡ Ok zs → AllByRecursion P zs)
     → and_then o (λ y. and_then others (λ zs. Ok (y ∷ zs))) ≡ Ok ys → AllByRecursion P ys
 one_then P (Ok y) (Ok zs) ys here later e = let same : y ∷ zs ≡ ys = cc in subst (AllByRecursion P) same (here y refl, later zs refl)
 one_then P (Ok y) (Err kind) ys here later e = cc
 one_then P (Err kind) others ys here later e = cc
 
 -- what holds of what one of them gives holds of what each gives
-each_gives : {A B : Type 0} (read : A → Read B) (P : B → Type 0) → ((a : A) (b : B) → read a ≡ Ok b → P b) → (xs : List A) (ys : List B) → each read xs ≡ Ok ys → AllByRecursion P ys
+each_gives : {A B : Type 0} (read : A → Mapped B) (P : B → Type 0) → ((a : A) (b : B) → read a ≡ Ok b → P b) → (xs : List A) (ys : List B) → each read xs ≡ Ok ys → AllByRecursion P ys
 each_gives read P all [] ys e = let same : [] ≡ ys = cc in subst (AllByRecursion P) same tt
 each_gives read P all (x ∷ xs) ys e = one_then P (read x) (each read xs) ys (λ y f. all x y f) (λ zs f. each_gives read P all xs zs f) e
 
@@ -45,7 +46,7 @@ module _ (schema : Checked) (is_defined : ℕ → Bool) where
 
   -- ---- values
 
-  left_out_passes : (x : Spelled) (left_out : Bool) (w : Value) → (if left_out then Ok v.Indet else Err (misplaced x)) ≡ Ok w → Passes is_defined w
+  left_out_passes : (x : SpelledValue) (left_out : Bool) (w : Value) → (if left_out then Ok v.Indet else Err (misplaced x)) ≡ Ok w → Passes is_defined w
   left_out_passes x true w e = let same : v.Indet ≡ w = cc in subst (Passes is_defined) same (indet_passes is_defined)
   left_out_passes x false w e = cc
 
@@ -54,7 +55,7 @@ module _ (schema : Checked) (is_defined : ℕ → Bool) where
   defined_passes (Some u) true w passes e = let same : u ≡ w = cc in subst (Passes is_defined) same (passes u refl refl)
   defined_passes (Some u) false w passes e = cc
 
-  value_by : (s : Slot × Spelled) (w : Value) (is_derived star : Bool)
+  value_by : (s : Slot × SpelledValue) (w : Value) (is_derived star : Bool)
       → (if is_derived then derived_value s.1 else if star then Err NotDerived else defined schema is_defined (bound schema.named.schema.types s.0.data_type s.1) (list_all is_defined (spelled.references s.1))) ≡ Ok w
       → Passes is_defined w
   value_by s w true star e = left_out_passes s.1 (is_left_out s.1) w e
@@ -63,7 +64,7 @@ module _ (schema : Checked) (is_defined : ℕ → Bool) where
       let types = schema.named.schema.types in
       defined_passes (bound types s.0.data_type s.1) (list_all is_defined (spelled.references s.1)) w (λ u f all. bound_passes types is_defined s.0.data_type s.1 u f all) e
 
-  value_passes : (s : Slot × Spelled) (w : Value) → value schema is_defined s ≡ Ok w → Passes is_defined w
+  value_passes : (s : Slot × SpelledValue) (w : Value) → value schema is_defined s ≡ Ok w → Passes is_defined w
   value_passes s w e = value_by s w s.0.is_derived (has_star s.1) e
 
   part_passes : (q : List Slot × Record) (ws : List Value) → part schema is_defined q ≡ Ok ws → AllPass ws
@@ -87,7 +88,7 @@ module _ (schema : Checked) (is_defined : ℕ → Bool) where
     pub name_is : i.name ≡ name
     pub references : list_all is_defined (references_of i) ≡ true
 
-  made_bound : (name : ℕ) (layout : Layout) (fits : Bool) (o : Read (List (List Value))) (i : Instance) → ((lists : List (List Value)) → o ≡ Ok lists → AllByRecursion AllPass lists)
+  made_bound : (name : ℕ) (layout : Layout) (fits : Bool) (o : Mapped (List (List Value))) (i : Instance) → ((lists : List (List Value)) → o ≡ Ok lists → AllByRecursion AllPass lists)
       → counted fits (and_then o (λ lists. Ok (made name layout lists))) ≡ Ok i → IsBound name i
   made_bound name layout true (Ok lists) i all e =
       let same : made name layout lists ≡ i = cc in

@@ -4,10 +4,10 @@ use Rattle.std.specs.List.{AllByRecursion, cons_option, filter_map, flat_map, li
 use Rattle.std.specs.Str.{str_to_ascii_uppercase}
 use Rattle.std.proofs.lemmas.Bool.{and_parts}
 use Rattle.std.proofs.lemmas.List.Folds.{flat_map-map, list_all-append}
+use Rattle.plain_data.specs.Numbers.{is_among}
 use Rattle.ex_tree.specs.declared.data_type.SimpleType.TheVariants as simple
 use Rattle.ex_named.specs.declared.declaration.NamedType.{NamedType}
 use Rattle.ex_named.specs.declared.expression.NamedDataType.{NamedDataType}
-use Rattle.lineage.specs.Lineage.{is_among}
 use Rattle.name_tables.specs.Names.{place_of}
 use Rattle.p21_instances.specs.Instances as spelled
 use Rattle.p21_escapes.specs.Decoding.{decoded}

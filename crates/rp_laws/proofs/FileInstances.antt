@@ -2,12 +2,13 @@
 use Rattle.std.proofs.Common.{◌≡◌, ◌≤◌, ℕ, Bool, true, ◌||◌, ◌==◌, List, [], ◌∷◌, ◌++◌, append_assoc, Ok, refl, sym, ◌∙◌, ap, subst}
 use Rattle.std.specs.List.{list_all, AllByRecursion}
 use Rattle.std.proofs.lemmas.List.Folds.{list_any-append}
+use Rattle.plain_data.specs.Numbers.{is_among}
 use Rattle.ex_types.specs.Checked.{Checked}
 use Rattle.p21_tree.specs.declared.instance.Instance as tree
 use Rattle.p21_tree.specs.declared.raw.Raw.{Raw}
 use Rattle.p21_grammar.specs.File.{file_of}
 use Rattle.p21_instances.specs.Instances as spelled
-use Rattle.p21_instances.specs.Instances.{in_order, is_among}
+use Rattle.p21_instances.specs.Instances.{in_order}
 use Rattle.p21_instances.proofs.ByName.{below, all-in_order, among_in_order}
 use Rattle.p21_instances.proofs.Sets.{list_all-same}
 use Rattle.p21_mappings.specs.Contents.{content}
@@ -19,7 +20,8 @@ use Rattle.rp_content.specs.declared.link.Link.{Link}
 use Rattle.rp_rows.specs.Contents.{instance_name, names, greatest_name, link_name, link_names, references_of}
 use Rattle.rp_plain.specs.Instances.{is_defined}
 use Rattle.rp_plain.specs.Links.{linking}
-use Rattle.rp_plain.specs.Valid.{IsInstanceOfFile, IsSound}
+use Rattle.p21_bind.specs.Origins.{IsInstanceOfFile}
+use Rattle.rp_plain.specs.Valid.{IsSound}
 use Rattle.rp_laws.proofs.ByName.{AreWithin, within}
 
 -- ---- each is of the file

@@ -1,7 +1,8 @@
 -- The names of a file's instances are numbers of 18 digits.
-use Rattle.std.proofs.Common.{◌≡◌, ◌≤◌, ℕ, suc, zero, ◌+◌, ◌-◌, ◌*◌, Bool, true, false, nat_lt, List, [], ◌∷◌, ◌++◌, Ok, Err, refl, ap, subst, arith}
-use Rattle.std.specs.Prelude.{min, fold, drop, codes, if◌then◌else◌}
+use Rattle.std.proofs.Common.{◌≡◌, ◌≤◌, ℕ, suc, zero, ◌+◌, ◌-◌, Bool, true, false, nat_lt, List, [], ◌∷◌, ◌++◌, Ok, Err, refl, ap, subst, arith}
+use Rattle.std.specs.Prelude.{min, drop, codes, if◌then◌else◌}
 use Rattle.std.specs.List.{AllByRecursion}
+use Rattle.rp_numbers.specs.Whole.{value}
 use Rattle.text_forms.specs.Forms.{Outcome, and_then, ◌>>=◌, pure, turns, repeat_from}
 use Rattle.p21_tree.specs.declared.fault.FileFault.{FileFault}
 use Rattle.p21_tree.specs.declared.instance.Instance.{Instance}
@@ -71,13 +72,12 @@ module _ {A : Type 0} (P : A → Type 0) (begins : Lexemes → Bool) (item : Par
 abbrev IsNamed : Instance → Type 0
 IsNamed i = i.name ≤ max_name
 
-number_most : (most n : ℕ) (digits : List ℕ) → n ≤ most → fold (λ m b. min (10 * m + (b - 48)) most) n digits ≤ most
-number_most most n [] low = low
-number_most most n (b ∷ bs) low = number_most most (min (10 * n + (b - 48)) most) bs (omega arith)
+min_most : (m most : ℕ) → min m most ≤ most
+min_most m most = omega arith
 
 name_most : Gives name (λ n. n ≤ max_name)
 unfolding name
-name_most = gives_any (expect k.Name) _ (λ n. n ≤ max_name) (λ token. gives_pure (λ n. n ≤ max_name) (name_of token) (number_most max_name 0 (drop 1 token) (omega arith)))
+name_most = gives_any (expect k.Name) _ (λ n. n ≤ max_name) (λ token. gives_pure (λ n. n ≤ max_name) (name_of token) (min_most (value (drop 1 token)) max_name))
 
 instance_named : Gives instance IsNamed
 unfolding instance

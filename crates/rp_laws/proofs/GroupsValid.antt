@@ -9,7 +9,8 @@ use Rattle.sorted_tables.specs.Table.{with_row}
 use Rattle.sorted_tables.proofs.Ascending.{with_row_ascends, with_none_ascends}
 use Rattle.rp_rows.specs.declared.rows.Listing.{Listing}
 use Rattle.rp_rows.specs.Names.{is_name}
-use Rattle.rp_rows.specs.Rows.{Text, Key, key_cmp, row_key, is_row, GroupRow}
+use Rattle.rp_rows.specs.declared.rows.Key.{Key}
+use Rattle.rp_rows.specs.Rows.{Text, key_cmp, row_key, is_row, GroupRow, key_of}
 use Rattle.rp_rows.specs.Sight.{owns, sees_group}
 use Rattle.rp_rows.proofs.Keys.{key_total, key_at, found_at}
 use Rattle.rp_plain.specs.declared.messages.Request.TheVariants.{CreateGroup, Include, Exclude}
@@ -61,7 +62,7 @@ excluded_valid schemas partners k g valid = record {
 -- ---- creation
 
 pub group_created : (r : Plain) (c name schema : Text) → has_text r.partners c ≡ true → first_some (meaning (asked r c) c (CreateGroup name schema)).tests ≡ None
-    → MayHold r.partners (ListingAt r.schemas r.partners) IsRead max_groups r.groups (c, name) (new_listing schema)
+    → MayHold r.partners (ListingAt r.schemas r.partners) IsRead max_groups r.groups (key_of c name) (new_listing schema)
 group_created r c name schema partner passes =
     let each = all_pass (meaning (asked r c) c (CreateGroup name schema)).tests passes in
     let few : nat_le max_groups (length (filter (owns c) r.groups)) ≡ false = passed (nat_le max_groups (length (filter (owns c) r.groups))) refusal.TooMany each.1.1.1.0 in
@@ -92,34 +93,34 @@ listed_there : (r : Plain) (c : Text) (k : Key) (h : Listing) (g : GroupRow) →
 listed_there r c k h g seen listing valid =
     let old = seen_valid r c k g seen valid in
     record {
-      owner = subst (λ (j : Key). has_text r.partners j.0 ≡ true) old.1 old.0.row.owner;
-      name = subst (λ (j : Key). is_name j.1 ≡ true) old.1 old.0.row.name;
+      owner = subst (λ (j : Key). has_text r.partners j.owner ≡ true) old.1 old.0.row.owner;
+      name = subst (λ (j : Key). is_name j.name ≡ true) old.1 old.0.row.name;
       valid = listing (record { schema = old.0.schema; members = old.0.members; order = old.0.order; few = old.0.few });
       room = λ none. absurd (found_there (is_row k) (sees_group c) r.groups g seen none);
     }
 
-is_member : (r : Plain) (c group : Text) (k : Key) → member_fault group k ≡ None → is_no_partner (asked r c) k.0 ≡ None → IsValidMember r.partners k
+is_member : (r : Plain) (c group : Text) (k : Key) → member_fault group k ≡ None → is_no_partner (asked r c) k.owner ≡ None → IsValidMember r.partners k
 is_member r c group k named known = record {
-  owner = is_so (has_text r.partners k.0) refusal.UnknownPartner known;
-  name = (and_parts (is_name group && is_name k.0) (is_name k.1) (is_so (is_name group && is_name k.0 && is_name k.1) refusal.BadName named)).1;
+  owner = is_so (has_text r.partners k.owner) refusal.UnknownPartner known;
+  name = (and_parts (is_name group && is_name k.owner) (is_name k.name) (is_so (is_name group && is_name k.owner && is_name k.name) refusal.BadName named)).1;
 }
 
-included_fit : (r : Plain) (c group : Text) (k : Key) (o : Option GroupRow) → group_at r c (c, group) ≡ o → IsValidMember r.partners k → when (nat_le max_members (length (members_of (held o)))) refusal.TooMany ≡ None → IsValid r
-    → AreFit r (relisted (c, group) (with_member k) (held o))
+included_fit : (r : Plain) (c group : Text) (k : Key) (o : Option GroupRow) → group_at r c (key_of c group) ≡ o → IsValidMember r.partners k → when (nat_le max_members (length (members_of (held o)))) refusal.TooMany ≡ None → IsValid r
+    → AreFit r (relisted (key_of c group) (with_member k) (held o))
 included_fit r c group k None seen new few valid = tt
 included_fit r c group k (Some g) seen new few valid =
     let less : nat_le max_members (length g.holds.members) ≡ false = passed (nat_le max_members (length g.holds.members)) refusal.TooMany few in
     let room : length g.holds.members < max_members = grind (arith, nat_tests) in
-    (listed_there r c (c, group) (with_member k g.holds) g seen (included_valid r.schemas r.partners k g.holds new room) valid, tt)
+    (listed_there r c (key_of c group) (with_member k g.holds) g seen (included_valid r.schemas r.partners k g.holds new room) valid, tt)
 
-excluded_fit : (r : Plain) (c group : Text) (k : Key) (o : Option GroupRow) → group_at r c (c, group) ≡ o → IsValid r → AreFit r (relisted (c, group) (without_member k) (held o))
+excluded_fit : (r : Plain) (c group : Text) (k : Key) (o : Option GroupRow) → group_at r c (key_of c group) ≡ o → IsValid r → AreFit r (relisted (key_of c group) (without_member k) (held o))
 excluded_fit r c group k None seen valid = tt
-excluded_fit r c group k (Some g) seen valid = (listed_there r c (c, group) (without_member k g.holds) g seen (excluded_valid r.schemas r.partners k g.holds) valid, tt)
+excluded_fit r c group k (Some g) seen valid = (listed_there r c (key_of c group) (without_member k g.holds) g seen (excluded_valid r.schemas r.partners k g.holds) valid, tt)
 
 pub include_fit : (r : Plain) (c group : Text) (k : Key) → first_some (meaning (asked r c) c (Include group k)).tests ≡ None → IsValid r → AreFit r (meaning (asked r c) c (Include group k)).edits
 include_fit r c group k passes valid =
     let each = all_pass (meaning (asked r c) c (Include group k)).tests passes in
-    included_fit r c group k (group_at r c (c, group)) refl (is_member r c group k each.0 each.1.0) each.1.1.1.1.1.1.0 valid
+    included_fit r c group k (group_at r c (key_of c group)) refl (is_member r c group k each.0 each.1.0) each.1.1.1.1.1.1.0 valid
 
 pub exclude_fit : (r : Plain) (c group : Text) (k : Key) → IsValid r → AreFit r (meaning (asked r c) c (Exclude group k)).edits
-exclude_fit r c group k = excluded_fit r c group k (group_at r c (c, group)) refl
+exclude_fit r c group k = excluded_fit r c group k (group_at r c (key_of c group)) refl

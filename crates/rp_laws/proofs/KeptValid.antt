@@ -23,7 +23,8 @@ use Rattle.sorted_tables.specs.Table.{is_after, IsAscending}
 use Rattle.rp_rows.specs.declared.rows.Level.TheVariants.{Read}
 use Rattle.rp_rows.specs.declared.rows.ModelContent.{ModelContent}
 use Rattle.rp_rows.specs.Names.{is_name}
-use Rattle.rp_rows.specs.Rows.{Text, Key, is_row, Model}
+use Rattle.rp_rows.specs.declared.rows.Key.{Key}
+use Rattle.rp_rows.specs.Rows.{Text, is_row, Model, key_of}
 use Rattle.rp_rows.specs.Contents.{instance_name, names, greatest_name, link_name, link_names}
 use Rattle.rp_rows.specs.Instances.{max_instances, max_name, with_instance, without_instance}
 use Rattle.rp_rows.specs.Sight.{owns, sees}
@@ -39,12 +40,13 @@ use Rattle.rp_plain.specs.Meaning.{first_some, has_text, schema_name, has_schema
 use Rattle.rp_rows.specs.Listings.{max_models}
 use Rattle.rp_plain.specs.Models.{new_content}
 use Rattle.rp_plain.specs.Links.{max_links, links_in_order, linking, no_request}
-use Rattle.rp_plain.specs.Files.{Reading, told, bound_by, read_for, read_content, ill_linked, too_many, refilled, filled}
+use Rattle.rp_plain.specs.Files.{BoundFile, told, bound_by, read_for, read_content, ill_linked, too_many, refilled, filled}
 use Rattle.rp_plain.specs.Grants.{unless_own}
 use Rattle.rp_plain.specs.Instances.{Saying, said, is_absent, instance_in, next_in, is_full, is_needed, placing, dropping}
 use Rattle.rp_plain.specs.Step.{meaning, outcome, answer, next}
 use Rattle.rp_plain.specs.Opening.{new_fault, opened}
-use Rattle.rp_plain.specs.Valid.{IsInstanceOfFile, IsSpelled, IsValidContent, IsValid}
+use Rattle.p21_bind.specs.Origins.{IsInstanceOfFile, IsSpelled}
+use Rattle.rp_plain.specs.Valid.{IsValidContent, IsValid}
 use Rattle.rp_laws.proofs.ByName.{within, greatest_from}
 use Rattle.rp_laws.proofs.BoundFiles.{bound_refer}
 use Rattle.rp_laws.proofs.FileNames.{file_named}
@@ -67,7 +69,7 @@ found_by {X = X} test (x ∷ xs) e = by (test x) (found_by test xs) e
     by false rest e = rest e
 
 created : (r : Plain) (c name schema : Text) → has_text r.partners c ≡ true → first_some (meaning (asked r c) c (CreateModel name schema)).tests ≡ None
-    → MayHold r.partners (IsValidContent r.schemas r.partners) Anything max_models r.models (c, name) (new_content schema)
+    → MayHold r.partners (IsValidContent r.schemas r.partners) Anything max_models r.models (key_of c name) (new_content schema)
 created r c name schema partner passes =
     let each = all_pass (meaning (asked r c) c (CreateModel name schema)).tests passes in
     let few : nat_le max_models (length (filter (owns c) r.models)) ≡ false = passed (nat_le max_models (length (filter (owns c) r.models))) refusal.TooMany each.1.1.1.0 in
@@ -101,8 +103,8 @@ held_there : (r : Plain) (c : Text) (k : Key) (h : ModelContent) (m : Model) →
 held_there r c k h m seen content valid =
     let old = seen_valid r c k m seen valid in
     record {
-      owner = subst (λ (j : Key). has_text r.partners j.0 ≡ true) old.1 old.0.row.owner;
-      name = subst (λ (j : Key). is_name j.1 ≡ true) old.1 old.0.row.name;
+      owner = subst (λ (j : Key). has_text r.partners j.owner ≡ true) old.1 old.0.row.owner;
+      name = subst (λ (j : Key). is_name j.name ≡ true) old.1 old.0.row.name;
       valid = content (subst (λ (j : Key). IsValidContent r.schemas r.partners j m.holds) old.1 old.0.content);
       room = λ none. absurd (found_there (is_row k) (sees r.groups c) r.models m seen none);
     }
@@ -172,7 +174,7 @@ refilled_valid schemas partners k h file links c t beside few valid =
       few_links = beside.few;
     }) t.says beside few
 
-filled_fit : (r : Plain) (c : Text) (k : Key) (file : Text) (links : List Link) (o : Option Model) (read : Reading) → model_at r c k ≡ o → read_content r.schemas (held o) (link_names links) (file_of file) ≡ read → no_request links ≡ None
+filled_fit : (r : Plain) (c : Text) (k : Key) (file : Text) (links : List Link) (o : Option Model) (read : BoundFile) → model_at r c k ≡ o → read_content r.schemas (held o) (link_names links) (file_of file) ≡ read → no_request links ≡ None
     → ill_linked (asked r c) k (held o) links read ≡ None → too_many links read ≡ None → IsValid r → AreFit r (filled k (held o) links read)
 filled_fit r c k file links None (Ok said) seen reads request fault few valid = tt
 filled_fit r c k file links None (Err refusal) seen reads request fault few valid = tt
@@ -241,14 +243,14 @@ edits_fit r c (DropInstance k name) partner passes valid =
 edits_fit r c (GrantModel name to l) partner passes valid =
     let each = all_pass (meaning (asked r c) c (GrantModel name to l)).tests passes in
     let known = is_so (has_text r.partners to) refusal.UnknownPartner each.1.0 in
-    granted_fit r c to (EditModel (c, name) (Grants to (Some l))) (λ other. record { valid = record { partner = known; other = other }; level = tt })
+    granted_fit r c to (EditModel (key_of c name) (Grants to (Some l))) (λ other. record { valid = record { partner = known; other = other }; level = tt })
 edits_fit r c (RevokeModel name to) partner passes valid = (tt, tt)
 edits_fit r c (CreateGroup name schema) partner passes valid = (group_created r c name schema partner passes, tt)
 edits_fit r c (DeleteGroup name) partner passes valid = (tt, tt)
 edits_fit r c (GrantGroup name to) partner passes valid =
     let each = all_pass (meaning (asked r c) c (GrantGroup name to)).tests passes in
     let known = is_so (has_text r.partners to) refusal.UnknownPartner each.1.0 in
-    granted_fit r c to (EditGroup (c, name) (Grants to (Some Read))) (λ other. record { valid = record { partner = known; other = other }; level = refl })
+    granted_fit r c to (EditGroup (key_of c name) (Grants to (Some Read))) (λ other. record { valid = record { partner = known; other = other }; level = refl })
 edits_fit r c (RevokeGroup name to) partner passes valid = (tt, tt)
 edits_fit r c (Include group k) partner passes valid = include_fit r c group k passes valid
 edits_fit r c (Exclude group k) partner passes valid = exclude_fit r c group k valid

@@ -5,13 +5,14 @@ use Rattle.std.specs.List.{list_all, AllByRecursion}
 use Rattle.std.specs.Ordering.{nat_cmp}
 use Rattle.std.proofs.lemmas.Bool.{and_parts}
 use Rattle.std.proofs.lemmas.Bool.Decides.{nat_tests}
-use Rattle.p21_instances.specs.Instances.{is_among}
+use Rattle.plain_data.specs.Numbers.{is_among}
 use Rattle.rp_content.specs.declared.content.Content.{Content}
 use Rattle.rp_content.specs.declared.link.Link.{Link}
 use Rattle.sorted_tables.specs.Table.{IsAscending}
 use Rattle.rp_rows.specs.declared.rows.ModelContent.{ModelContent}
 use Rattle.rp_rows.specs.Names.{is_name}
-use Rattle.rp_rows.specs.Rows.{Text, Key, same_key, row_key, is_row, Model}
+use Rattle.rp_rows.specs.declared.rows.Key.{Key}
+use Rattle.rp_rows.specs.Rows.{Text, same_key, row_key, is_row, Model}
 use Rattle.rp_rows.specs.Contents.{names, link_name, link_names}
 use Rattle.rp_rows.specs.Instances.{max_name}
 use Rattle.rp_rows.specs.Sight.{sees}
@@ -93,14 +94,14 @@ seen_valid r c k m seen valid = (
 )
 
 -- its key is a partner's name and a name
-key_valid : (r : Plain) (c : Text) (k : Key) → is_some (held (model_at r c k)) ≡ true → IsValid r → (has_text r.partners k.0 ≡ true) × (is_name k.1 ≡ true)
+key_valid : (r : Plain) (c : Text) (k : Key) → is_some (held (model_at r c k)) ≡ true → IsValid r → (has_text r.partners k.owner ≡ true) × (is_name k.name ≡ true)
 key_valid r c k there valid = by (model_at r c k) refl there
   where
-    by : (o : Option Model) → model_at r c k ≡ o → is_some (held o) ≡ true → (has_text r.partners k.0 ≡ true) × (is_name k.1 ≡ true)
+    by : (o : Option Model) → model_at r c k ≡ o → is_some (held o) ≡ true → (has_text r.partners k.owner ≡ true) × (is_name k.name ≡ true)
     by None seen e = cc
     by (Some m) seen e =
         let old = seen_valid r c k m seen valid in
-        (subst (λ (j : Key). has_text r.partners j.0 ≡ true) old.1 old.0.row.owner, subst (λ (j : Key). is_name j.1 ≡ true) old.1 old.0.row.name)
+        (subst (λ (j : Key). has_text r.partners j.owner ≡ true) old.1 old.0.row.owner, subst (λ (j : Key). is_name j.name ≡ true) old.1 old.0.row.name)
 
 -- ---- the links of a put
 

@@ -7,7 +7,8 @@ use Rattle.sorted_tables.specs.Table.{is_before, is_after, IsAscending}
 use Rattle.sorted_tables.proofs.Ascending.{passing-split}
 use Rattle.std.proofs.lemmas.Cmp.{tied_itself}
 use Rattle.std.specs.Ordering.{is_eq}
-use Rattle.rp_rows.specs.Rows.{Key, key_cmp, Row, row_key, is_row, Model, GroupRow}
+use Rattle.rp_rows.specs.declared.rows.Key.{Key}
+use Rattle.rp_rows.specs.Rows.{key_cmp, Row, row_key, is_row, Model, GroupRow}
 use Rattle.rp_rows.specs.Alterations.{Alteration, alter, altered}
 use Rattle.rp_plain.specs.Plain.{Plain, Kind}
 use Rattle.rp_plain.specs.Edits.{Edit, EditModel, EditGroup, edited_by, changed, names_of}

@@ -16,7 +16,8 @@ use Rattle.rp_rows.specs.declared.rows.Grant.{Grant}
 use Rattle.rp_rows.specs.declared.rows.Listing.{Listing}
 use Rattle.rp_rows.specs.declared.rows.ModelContent.{ModelContent}
 use Rattle.rp_plain.specs.declared.messages.Request.{Request}
-use Rattle.rp_rows.specs.Rows.{Text, text_cmp, Key, key_cmp, grant_key, Row, row_key, is_row, Model, GroupRow}
+use Rattle.rp_rows.specs.declared.rows.Key.{Key}
+use Rattle.rp_rows.specs.Rows.{Text, text_cmp, key_cmp, grant_key, Row, row_key, is_row, Model, GroupRow}
 use Rattle.rp_rows.specs.Sight.{at_least, right_of, owns, is_grant_to, is_granted, granted_right, is_counted, lists, sees_group, sees, shown, shown_group, seen_models, seen_groups, is_listed}
 use Rattle.rp_rows.specs.Alterations.{Alteration, Holds, Grants, alter, altered, granting, grant_for, grants_of, gives_to}
 use Rattle.rp_plain.specs.Plain.{Plain, Kind, OfModel, OfGroup, part, model_at, group_at, reaches}
@@ -48,7 +49,7 @@ new_grants {A = A} c k (Grants to l) (Some x) not_to none =
 -- a row that an alteration makes has the key
 pub new_owner : {A : Type 0} (k : Key) (a : Alteration A) (o : Option (Row A)) (at : (x : Row A) → o ≡ Some x → is_row k x ≡ true) (y : Row A) → alter k a o ≡ Some y → row_key y ≡ k
 new_owner k (Holds None) o at y e = cc
-new_owner k (Holds (Some h)) o at y e = let same : record { owner = k.0; name = k.1; holds = h; grants = grants_of o } ≡ y = cc in ap row_key (sym same)
+new_owner k (Holds (Some h)) o at y e = let same : record { owner = k.owner; name = k.name; holds = h; grants = grants_of o } ≡ y = cc in ap row_key (sym same)
 new_owner k (Grants to l) None at y e = cc
 new_owner k (Grants to l) (Some x) at y e = let same : granting to l x ≡ y = cc in ap row_key (sym same) ∙ key_at k x (at x refl)
 
@@ -99,13 +100,13 @@ old_group_grants c k gs order none = by (find (is_row k) gs) (sym (seen_there ke
     by (Some g) h = (or_parts (owns c g) (is_granted c g) (or_parts (sees_group c g) false h).0).1
 
 -- an altered row is not c's own and has no grant to him
-new_row : {A : Type 0} (c : Text) (k : Key) (a : Alteration A) (xs : List (Row A)) → bytes_eq k.0 c ≡ false → gives_to c a ≡ false → list_any (is_grant_to c) (grants_of (find (is_row k) xs)) ≡ false → (y : Row A) → alter k a (find (is_row k) xs) ≡ Some y → (row_key y ≡ k) × (owns c y ≡ false) × (is_granted c y ≡ false)
+new_row : {A : Type 0} (c : Text) (k : Key) (a : Alteration A) (xs : List (Row A)) → bytes_eq k.owner c ≡ false → gives_to c a ≡ false → list_any (is_grant_to c) (grants_of (find (is_row k) xs)) ≡ false → (y : Row A) → alter k a (find (is_row k) xs) ≡ Some y → (row_key y ≡ k) × (owns c y ≡ false) × (is_granted c y ≡ false)
 new_row c k a xs other not_to none y e =
     let there = new_owner k a (find (is_row k) xs) (λ x f. found_at (is_row k) xs x f) y e in
-    (there, ap (λ (j : Key). bytes_eq j.0 c) there ∙ other, ap (λ o. list_any (is_grant_to c) (grants_of o)) (sym e) ∙ new_grants c k a (find (is_row k) xs) not_to none)
+    (there, ap (λ (j : Key). bytes_eq j.owner c) there ∙ other, ap (λ o. list_any (is_grant_to c) (grants_of o)) (sym e) ∙ new_grants c k a (find (is_row k) xs) not_to none)
 
 hidden_models : (gs : List GroupRow) (c : Text) (k : Key) (a : Alteration ModelContent) (ms : List Model) → IsAscending key_cmp row_key ms
-    → bytes_eq k.0 c ≡ false → is_some (find (λ m. is_row k m && sees gs c m) ms) ≡ false → is_listed gs c k ≡ false → gives_to c a ≡ false → seen_models gs c (altered k a ms) ≡ seen_models gs c ms
+    → bytes_eq k.owner c ≡ false → is_some (find (λ m. is_row k m && sees gs c m) ms) ≡ false → is_listed gs c k ≡ false → gives_to c a ≡ false → seen_models gs c (altered k a ms) ≡ seen_models gs c ms
 hidden_models gs c k a ms order other none away not_to =
     hidden_rows key_cmp row_key key_total (sees gs c) (shown gs c) k (alter k a (find (is_row k) ms)) ms order none
     (unseen_row (sees gs c) (alter k a (find (is_row k) ms)) (λ y e.
@@ -113,7 +114,7 @@ hidden_models gs c k a ms order other none away not_to =
     unseen_model gs c y row.1 row.2 (ap (is_listed gs c) row.0 ∙ away)))
 
 hidden_groups : (c : Text) (k : Key) (a : Alteration Listing) (gs : List GroupRow) → IsAscending key_cmp row_key gs
-    → bytes_eq k.0 c ≡ false → is_some (find (λ g. is_row k g && sees_group c g) gs) ≡ false → gives_to c a ≡ false → seen_groups c (altered k a gs) ≡ seen_groups c gs
+    → bytes_eq k.owner c ≡ false → is_some (find (λ g. is_row k g && sees_group c g) gs) ≡ false → gives_to c a ≡ false → seen_groups c (altered k a gs) ≡ seen_groups c gs
 hidden_groups c k a gs order other none not_to =
     hidden_rows key_cmp row_key key_total (sees_group c) (shown_group c) k (alter k a (find (is_row k) gs)) gs order none
     (unseen_row (sees_group c) (alter k a (find (is_row k) gs)) (λ y e.
@@ -122,11 +123,11 @@ hidden_groups c k a gs order other none not_to =
 
 pub hidden_edit : (e : Edit) (r : Plain) (c : Text) → IsOrdered r → reaches r c (name_of e).0 (name_of e).1 ≡ false → is_grant_for c e ≡ false → part (edited_by e r) c ≡ part r c
 hidden_edit (EditModel k a) r c ordered away not_to =
-    let first = or_parts (bytes_eq k.0 c) (is_some (model_at r c k) || is_listed r.groups c k) away in
+    let first = or_parts (bytes_eq k.owner c) (is_some (model_at r c k) || is_listed r.groups c k) away in
     let second = or_parts (is_some (model_at r c k)) (is_listed r.groups c k) first.1 in
     ap (λ ms. record r { models = ms; groups = seen_groups c r.groups }) (hidden_models r.groups c k a r.models ordered.models first.0 second.0 second.1 not_to)
 hidden_edit (EditGroup k a) r c ordered away not_to =
-    let first = or_parts (bytes_eq k.0 c) (is_some (group_at r c k)) away in
+    let first = or_parts (bytes_eq k.owner c) (is_some (group_at r c k)) away in
     let groups = hidden_groups c k a r.groups ordered.groups first.0 first.1 not_to in
     let models = seen_alike c (altered k a r.groups) r.groups (alike_same c (altered k a r.groups) r.groups groups) r.models in
     λ i. record r { models = models i; groups = groups i }
@@ -141,8 +142,8 @@ pub reaches-part : (r : Plain) (c : Text) (kind : Kind) (k : Key) → reaches (p
 reaches-part r c OfModel k =
     let seen = ap is_some (model_at-part r c k) ∙ is_some_map (shown r.groups c) (model_at r c k) in
     let listed = any_seen_group c (lists k) (λ g. refl) r.groups in
-    λ i. bytes_eq k.0 c || (seen i || listed i)
-reaches-part r c OfGroup k = ap (λ t. bytes_eq k.0 c || t) (ap is_some (group_at-part r c k) ∙ is_some_map (shown_group c) (group_at r c k))
+    λ i. bytes_eq k.owner c || (seen i || listed i)
+reaches-part r c OfGroup k = ap (λ t. bytes_eq k.owner c || t) (ap is_some (group_at-part r c k) ∙ is_some_map (shown_group c) (group_at r c k))
 
 pub reaches_alike : (r s : Plain) (c : Text) → part r c ≡ part s c → (kind : Kind) (k : Key) → reaches r c kind k ≡ reaches s c kind k
 reaches_alike r s c same kind k = sym (reaches-part r c kind k) ∙ ap (λ p. reaches p c kind k) same ∙ reaches-part s c kind k

@@ -8,7 +8,8 @@ use Rattle.sorted_tables.proofs.Altered.{same_rows, same_at, whole_at, seen_ther
 use Rattle.rp_rows.specs.declared.rows.Grant.{Grant}
 use Rattle.rp_rows.specs.declared.rows.Listing.{Listing}
 use Rattle.rp_rows.specs.declared.rows.ModelContent.{ModelContent}
-use Rattle.rp_rows.specs.Rows.{Text, Key, key_cmp, Row, row_key, is_row, Model, GroupRow}
+use Rattle.rp_rows.specs.declared.rows.Key.{Key}
+use Rattle.rp_rows.specs.Rows.{Text, key_cmp, Row, row_key, is_row, Model, GroupRow}
 use Rattle.rp_rows.specs.Sight.{owns, is_grant_to, sees_group, sees, is_shown, shown_grant, shown_grants, shown, shown_group, seen_models, seen_groups}
 use Rattle.rp_rows.specs.Alterations.{Alteration, Holds, Grants, alter, altered, granting, grants_of}
 use Rattle.rp_plain.specs.Plain.{Plain, part, model_at}
@@ -26,8 +27,8 @@ MayAlter (Holds (Some h)) = Unit {0}
 MayAlter (Grants to l) = ⊥
 
 abbrev pub MayEdit : Plain → Text → Edit → Type 0
-MayEdit r c (EditModel k a) = (bytes_eq k.0 c ≡ true) ⊎ (MayAlter a × (is_some (model_at r c k) ≡ true))
-MayEdit r c (EditGroup k a) = bytes_eq k.0 c ≡ true
+MayEdit r c (EditModel k a) = (bytes_eq k.owner c ≡ true) ⊎ (MayAlter a × (is_some (model_at r c k) ≡ true))
+MayEdit r c (EditGroup k a) = bytes_eq k.owner c ≡ true
 
 abbrev pub MayAll : Plain → Text → List Edit → Type 0
 MayAll r c [] = Unit {0}
@@ -35,7 +36,7 @@ MayAll r c (e ∷ es) = MayEdit r c e × MayAll (edited_by e r) c es
 
 -- ---- one's own rows are seen whole
 
-own_at : {A : Type 0} (c : Text) (k : Key) → bytes_eq k.0 c ≡ true → (x : Row A) → is_row k x ≡ true → owns c x ≡ true
+own_at : {A : Type 0} (c : Text) (k : Key) → bytes_eq k.owner c ≡ true → (x : Row A) → is_row k x ≡ true → owns c x ≡ true
 own_at c k own x at = subst (λ o. bytes_eq o c ≡ true) (sym (owner_at k x at)) own
 
 own_shown : (gs : List GroupRow) (c : Text) (m : Model) → owns c m ≡ true → shown gs c m ≡ m
@@ -47,10 +48,10 @@ own_shown_group c g own = ap (λ t. record g { grants = if t then g.grants else 
 -- ---- what is put into a seen model is seen alike
 
 abbrev join : Key → ModelContent → List Grant → Model
-join k h xs = record { owner = k.0; name = k.1; holds = h; grants = xs }
+join k h xs = record { owner = k.owner; name = k.name; holds = h; grants = xs }
 
 abbrev kept_grants : List GroupRow → Text → Key → List Grant → List Grant
-kept_grants gs c k xs = if bytes_eq k.0 c then xs else map (shown_grant c) (filter (is_shown gs c k) xs)
+kept_grants gs c k xs = if bytes_eq k.owner c then xs else map (shown_grant c) (filter (is_shown gs c k) xs)
 
 abbrev view : List GroupRow → Text → Option Model → List Model
 view gs c o = map (shown gs c) (filter (sees gs c) (option_to_list o))
@@ -85,11 +86,11 @@ filled_alike gs c k h (Some m) (Some n) at at' seen same = by (sees gs c m) seen
 -- ---- one edit
 
 same_models : (gs : List GroupRow) (c : Text) (k : Key) (a : Alteration ModelContent) (ms ns : List Model) → IsAscending key_cmp row_key ms → IsAscending key_cmp row_key ns → seen_models gs c ms ≡ seen_models gs c ns
-    → (bytes_eq k.0 c ≡ true) ⊎ (MayAlter a × (is_some (find (λ m. is_row k m && sees gs c m) ms) ≡ true)) → seen_models gs c (altered k a ms) ≡ seen_models gs c (altered k a ns)
+    → (bytes_eq k.owner c ≡ true) ⊎ (MayAlter a × (is_some (find (λ m. is_row k m && sees gs c m) ms) ≡ true)) → seen_models gs c (altered k a ms) ≡ seen_models gs c (altered k a ns)
 same_models gs c k a ms ns order order' same may =
     same_rows key_cmp row_key (sees gs c) (shown gs c) (λ m. refl) k (alter k a (find (is_row k) ms)) (alter k a (find (is_row k) ns)) ms ns same (elim may [ inl own ↦ of_own own | inr more ↦ of_seen a more.0 more.1 ])
   where
-    of_own : bytes_eq k.0 c ≡ true → view gs c (alter k a (find (is_row k) ms)) ≡ view gs c (alter k a (find (is_row k) ns))
+    of_own : bytes_eq k.owner c ≡ true → view gs c (alter k a (find (is_row k) ms)) ≡ view gs c (alter k a (find (is_row k) ns))
     of_own own =
         ap (λ o. view gs c (alter k a o))
         (whole_at key_cmp row_key key_total (sees gs c) (shown gs c) (λ m. refl) k
@@ -103,7 +104,7 @@ same_models gs c k a ms ns order order' same may =
         (sym (seen_there key_cmp row_key key_total (sees gs c) k ms order) ∙ s)
         (same_at key_cmp row_key key_total (sees gs c) (shown gs c) (λ m. refl) k ms ns order order' same)
 
-same_groups : (c : Text) (k : Key) (a : Alteration Listing) (gs hs : List GroupRow) → IsAscending key_cmp row_key gs → IsAscending key_cmp row_key hs → seen_groups c gs ≡ seen_groups c hs → bytes_eq k.0 c ≡ true → seen_groups c (altered k a gs) ≡ seen_groups c (altered k a hs)
+same_groups : (c : Text) (k : Key) (a : Alteration Listing) (gs hs : List GroupRow) → IsAscending key_cmp row_key gs → IsAscending key_cmp row_key hs → seen_groups c gs ≡ seen_groups c hs → bytes_eq k.owner c ≡ true → seen_groups c (altered k a gs) ≡ seen_groups c (altered k a hs)
 same_groups c k a gs hs order order' same own =
     same_rows key_cmp row_key (sees_group c) (shown_group c) (λ g. refl) k (alter k a (find (is_row k) gs)) (alter k a (find (is_row k) hs)) gs hs same
     (ap (λ o. map (shown_group c) (filter (sees_group c) (option_to_list (alter k a o))))
@@ -111,7 +112,7 @@ same_groups c k a gs hs order order' same own =
     (λ g at. (own_sees_group c g (own_at c k own g at), own_shown_group c g (own_at c k own g at))) gs hs order order' same))
 
 -- one's own groups change nothing of what is seen of models
-alike_own : (c : Text) (k : Key) (a : Alteration Listing) (gs : List GroupRow) → bytes_eq k.0 c ≡ true → Alike c (altered k a gs) gs
+alike_own : (c : Text) (k : Key) (a : Alteration Listing) (gs : List GroupRow) → bytes_eq k.owner c ≡ true → Alike c (altered k a gs) gs
 alike_own c k a gs own q same =
     any-with_row key_cmp row_key key_total (λ g. sees_group c g && (not (owns c g) && q g)) k (λ g at. fails g (own_at c k own g at)) (alter k a (find (is_row k) gs)) gs (new_fails a (find (is_row k) gs) (λ g e. own_at c k own g (found_at (is_row k) gs g e)))
   where
@@ -124,7 +125,7 @@ alike_own c k a gs own q same =
 
     new_fails : (b : Alteration Listing) (o : Option GroupRow) → ((g : GroupRow) → o ≡ Some g → owns c g ≡ true) → list_any (λ g. sees_group c g && (not (owns c g) && q g)) (option_to_list (alter k b o)) ≡ false
     new_fails (Holds None) o own_row = refl
-    new_fails (Holds (Some h)) o own_row = ap (λ t. t || false) (fails (record { owner = k.0; name = k.1; holds = h; grants = grants_of o }) own)
+    new_fails (Holds (Some h)) o own_row = ap (λ t. t || false) (fails (record { owner = k.owner; name = k.name; holds = h; grants = grants_of o }) own)
     new_fails (Grants to l) None own_row = refl
     new_fails (Grants to l) (Some g) own_row = ap (λ t. t || false) (fails (granting to l g) (own_row g refl))
 

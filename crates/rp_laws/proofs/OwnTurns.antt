@@ -7,7 +7,8 @@ use Rattle.p21_grammar.specs.File.{file_of}
 use Rattle.rp_content.specs.declared.link.Link.{Link}
 use Rattle.rp_rows.specs.declared.rows.Level.TheVariants.{Read}
 use Rattle.rp_rows.specs.declared.rows.Listing.{Listing}
-use Rattle.rp_rows.specs.Rows.{Text, Key, Model}
+use Rattle.rp_rows.specs.declared.rows.Key.{Key}
+use Rattle.rp_rows.specs.Rows.{Text, Model, key_of}
 use Rattle.rp_rows.specs.Contents.{link_names}
 use Rattle.rp_rows.specs.Alterations.{Grants}
 use Rattle.rp_plain.specs.declared.messages.Request.{Request}
@@ -17,7 +18,7 @@ use Rattle.rp_plain.specs.Plain.{Plain, part, model_at, group_at}
 use Rattle.rp_plain.specs.Edits.{Edit, EditModel, EditGroup, changed}
 use Rattle.rp_plain.specs.Readers.{asked, held}
 use Rattle.rp_plain.specs.Meaning.{first_some}
-use Rattle.rp_plain.specs.Files.{Reading, read_content, filled}
+use Rattle.rp_plain.specs.Files.{BoundFile, read_content, filled}
 use Rattle.rp_plain.specs.Grants.{unless_own}
 use Rattle.rp_rows.specs.Listings.{with_member, without_member}
 use Rattle.rp_plain.specs.Groups.{relisted}
@@ -34,7 +35,7 @@ use Rattle.rp_laws.proofs.Own.{MayEdit, MayAll, own_edits}
 itself : (c : Text) → bytes_eq c c ≡ true
 itself c = (bytes_eq-Decides c c).1 refl
 
-filled_may : (r : Plain) (c : Text) (k : Key) (links : List Link) (read : Reading) (o : Option Model) → model_at r c k ≡ o → MayAll r c (filled k (held o) links read)
+filled_may : (r : Plain) (c : Text) (k : Key) (links : List Link) (read : BoundFile) (o : Option Model) → model_at r c k ≡ o → MayAll r c (filled k (held o) links read)
 filled_may r c k links (Ok content) None e = tt
 filled_may r c k links (Err refusal) None e = tt
 filled_may r c k links (Ok content) (Some m) e = (inr (tt, ap is_some e), tt)
@@ -50,7 +51,7 @@ dropping_may : (r : Plain) (c : Text) (k : Key) (name : ℕ) (o : Option Model) 
 dropping_may r c k name None e = tt
 dropping_may r c k name (Some m) e = (inr (tt, ap is_some e), tt)
 
-relisted_may : (r : Plain) (c group : Text) (change : Listing → Listing) (o : Option Listing) → MayAll r c (relisted (c, group) change o)
+relisted_may : (r : Plain) (c group : Text) (change : Listing → Listing) (o : Option Listing) → MayAll r c (relisted (key_of c group) change o)
 relisted_may r c group change None = tt
 relisted_may r c group change (Some g) = (itself c, tt)
 
@@ -65,14 +66,14 @@ edits_may r c (Put k file links) = filled_may r c k links (read_content r.schema
 edits_may r c (Add k text) = let h = held (model_at r c k) in placing_may r c k (said r.schemas h (next_in h) text) (model_at r c k) refl
 edits_may r c (Set k name text) = placing_may r c k (said r.schemas (held (model_at r c k)) name text) (model_at r c k) refl
 edits_may r c (DropInstance k name) = dropping_may r c k name (model_at r c k) refl
-edits_may r c (GrantModel name to l) = unless_own_may r c to (EditModel (c, name) (Grants to (Some l))) (inl (itself c))
+edits_may r c (GrantModel name to l) = unless_own_may r c to (EditModel (key_of c name) (Grants to (Some l))) (inl (itself c))
 edits_may r c (RevokeModel name to) = (inl (itself c), tt)
 edits_may r c (CreateGroup name schema) = (itself c, tt)
 edits_may r c (DeleteGroup name) = (itself c, tt)
-edits_may r c (GrantGroup name to) = unless_own_may r c to (EditGroup (c, name) (Grants to (Some Read))) (itself c)
+edits_may r c (GrantGroup name to) = unless_own_may r c to (EditGroup (key_of c name) (Grants to (Some Read))) (itself c)
 edits_may r c (RevokeGroup name to) = (itself c, tt)
-edits_may r c (Include group k) = relisted_may r c group (with_member k) (held (group_at r c (c, group)))
-edits_may r c (Exclude group k) = relisted_may r c group (without_member k) (held (group_at r c (c, group)))
+edits_may r c (Include group k) = relisted_may r c group (with_member k) (held (group_at r c (key_of c group)))
+edits_may r c (Exclude group k) = relisted_may r c group (without_member k) (held (group_at r c (key_of c group)))
 edits_may r c _ = tt
 
 -- ---- own turns

@@ -11,7 +11,8 @@ use Rattle.rp_rows.specs.declared.rows.Right.TheVariants.{Reads, Owns}
 use Rattle.rp_rows.specs.declared.rows.Grant.{Grant}
 use Rattle.rp_plain.specs.declared.lists.Item.{Item}
 use Rattle.rp_plain.specs.declared.messages.Request.{Request}
-use Rattle.rp_rows.specs.Rows.{Text, Key, key_cmp, Row, row_key, is_row, Model, GroupRow}
+use Rattle.rp_rows.specs.declared.rows.Key.{Key}
+use Rattle.rp_rows.specs.Rows.{Text, key_cmp, Row, row_key, is_row, Model, GroupRow}
 use Rattle.rp_rows.specs.Sight.{at_least, right_of, owns, is_grant_to, sees_group, counts, is_counted, granted_right, level, sees, shown, shown_group, seen_models, seen_groups}
 use Rattle.rp_plain.specs.Plain.{Plain, part, model_at, group_at}
 use Rattle.rp_plain.specs.Readers.{asked, right_at, group_right_at, held, model_item, group_item, as_counted, counted_in}

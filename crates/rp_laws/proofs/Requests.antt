@@ -13,7 +13,8 @@ use Rattle.rp_content.specs.declared.link.Link.{Link}
 use Rattle.rp_rows.specs.declared.rows.Level.TheVariants.{Read}
 use Rattle.rp_rows.specs.declared.rows.Listing.{Listing}
 use Rattle.rp_rows.specs.declared.rows.ModelContent.{ModelContent}
-use Rattle.rp_rows.specs.Rows.{Text, Key}
+use Rattle.rp_rows.specs.declared.rows.Key.{Key}
+use Rattle.rp_rows.specs.Rows.{Text, key_of}
 use Rattle.rp_rows.specs.Contents.{link_names}
 use Rattle.rp_rows.specs.Listings.{with_member, without_member}
 use Rattle.rp_rows.specs.Alterations.{Holds, Grants}
@@ -26,7 +27,7 @@ use Rattle.rp_plain.specs.Edits.{Edit, EditModel, EditGroup, changed, name_of, n
 use Rattle.rp_plain.specs.Readers.{Readers, asked}
 use Rattle.rp_plain.specs.Meaning.{first_some, schema_of}
 use Rattle.rp_plain.specs.Checks as checks
-use Rattle.rp_plain.specs.Files.{Reading, read_content, stored, filled, text_by, links_of, exported}
+use Rattle.rp_plain.specs.Files.{BoundFile, read_content, stored, filled, text_by, links_of, exported}
 use Rattle.rp_plain.specs.Grants.{unless_own}
 use Rattle.rp_plain.specs.Groups.{relisted}
 use Rattle.rp_plain.specs.Instances.{Saying, said, next_in, placing, dropping}
@@ -76,7 +77,7 @@ holding c q k h there = (no_grant c q (EditModel k (Holds h)) there (λ d. refl)
 listing : (c : Text) (q : Request) (k : Key) (g : Option Listing) → Contains (names_changed c q) (OfGroup, k) → AllSaid c q (EditGroup k (Holds g) ∷ [])
 listing c q k g there = (no_grant c q (EditGroup k (Holds g)) there (λ d. refl), tt)
 
-filled_said : (c : Text) (q : Request) (k : Key) (h : Option ModelContent) (links : List Link) (read : Reading) → Contains (names_changed c q) (OfModel, k) → AllSaid c q (filled k h links read)
+filled_said : (c : Text) (q : Request) (k : Key) (h : Option ModelContent) (links : List Link) (read : BoundFile) → Contains (names_changed c q) (OfModel, k) → AllSaid c q (filled k h links read)
 filled_said c q k None links (Ok content) there = tt
 filled_said c q k None links (Err refusal) there = tt
 filled_said c q k (Some h) links (Ok content) there = holding c q k (Some _) there
@@ -100,8 +101,8 @@ unless_own_said : (c to : Text) (q : Request) (e : Edit) → IsSaid c q e → Al
 unless_own_said c to q e is = elim (bytes_eq to c) as (λ t. AllSaid c q (if t then [] else e ∷ [])) [ true ↦ tt | false ↦ (is, tt) ]
 
 edits_said : (a : Readers) (c : Text) (q : Request) → AllSaid c q (meaning a c q).edits
-edits_said a c (CreateModel name schema) = holding c (CreateModel name schema) (c, name) (Some _) (only (OfModel, (c, name)))
-edits_said a c (DeleteModel name) = holding c (DeleteModel name) (c, name) None (only (OfModel, (c, name)))
+edits_said a c (CreateModel name schema) = holding c (CreateModel name schema) (key_of c name) (Some _) (only (OfModel, key_of c name))
+edits_said a c (DeleteModel name) = holding c (DeleteModel name) (key_of c name) None (only (OfModel, key_of c name))
 edits_said a c (Put k file links) = filled_said c (Put k file links) k (a.content k) links (read_content a.schemas (a.content k) (link_names links) (file_of file)) (only (OfModel, k))
 edits_said a c (Export k links) = tt
 edits_said a c (Names k) = tt
@@ -111,17 +112,17 @@ edits_said a c (Set k name text) = placing_said c (Set k name text) k (a.content
 edits_said a c (DropInstance k name) = dropping_said c (DropInstance k name) k name (a.content k) (only (OfModel, k))
 edits_said a c ListItems = tt
 edits_said a c (GrantModel name to l) =
-    let e : Edit = EditModel (c, name) (Grants to (Some l)) in
-    unless_own_said c to (GrantModel name to l) e (grant c (GrantModel name to l) e to (only (OfModel, (c, name))) refl (λ d. refl))
-edits_said a c (RevokeModel name to) = (no_grant c (RevokeModel name to) (EditModel (c, name) (Grants to None)) (only (OfModel, (c, name))) (λ d. refl), tt)
-edits_said a c (CreateGroup name schema) = listing c (CreateGroup name schema) (c, name) (Some _) (only (OfGroup, (c, name)))
-edits_said a c (DeleteGroup name) = listing c (DeleteGroup name) (c, name) None (only (OfGroup, (c, name)))
+    let e : Edit = EditModel (key_of c name) (Grants to (Some l)) in
+    unless_own_said c to (GrantModel name to l) e (grant c (GrantModel name to l) e to (only (OfModel, key_of c name)) refl (λ d. refl))
+edits_said a c (RevokeModel name to) = (no_grant c (RevokeModel name to) (EditModel (key_of c name) (Grants to None)) (only (OfModel, key_of c name)) (λ d. refl), tt)
+edits_said a c (CreateGroup name schema) = listing c (CreateGroup name schema) (key_of c name) (Some _) (only (OfGroup, key_of c name))
+edits_said a c (DeleteGroup name) = listing c (DeleteGroup name) (key_of c name) None (only (OfGroup, key_of c name))
 edits_said a c (GrantGroup name to) =
-    let e : Edit = EditGroup (c, name) (Grants to (Some Read)) in
-    unless_own_said c to (GrantGroup name to) e (grant c (GrantGroup name to) e to (only (OfGroup, (c, name))) refl (λ d. refl))
-edits_said a c (RevokeGroup name to) = (no_grant c (RevokeGroup name to) (EditGroup (c, name) (Grants to None)) (only (OfGroup, (c, name))) (λ d. refl), tt)
-edits_said a c (Include group k) = relisted_said c (Include group k) (c, group) (with_member k) (a.listing (c, group)) (only (OfGroup, (c, group)))
-edits_said a c (Exclude group k) = relisted_said c (Exclude group k) (c, group) (without_member k) (a.listing (c, group)) (only (OfGroup, (c, group)))
+    let e : Edit = EditGroup (key_of c name) (Grants to (Some Read)) in
+    unless_own_said c to (GrantGroup name to) e (grant c (GrantGroup name to) e to (only (OfGroup, key_of c name)) refl (λ d. refl))
+edits_said a c (RevokeGroup name to) = (no_grant c (RevokeGroup name to) (EditGroup (key_of c name) (Grants to None)) (only (OfGroup, key_of c name)) (λ d. refl), tt)
+edits_said a c (Include group k) = relisted_said c (Include group k) (key_of c group) (with_member k) (a.listing (key_of c group)) (only (OfGroup, key_of c group))
+edits_said a c (Exclude group k) = relisted_said c (Exclude group k) (key_of c group) (without_member k) (a.listing (key_of c group)) (only (OfGroup, key_of c group))
 edits_said a c (Members group) = tt
 edits_said a c (Extent group entity) = tt
 edits_said a c (Users group place role) = tt
@@ -155,7 +156,7 @@ next_others r c q ordered =
 
 -- ---- refused requests
 
-stored_done : (read : Reading) (refusal : Refusal) → stored read ≡ Refused refusal → ⊥
+stored_done : (read : BoundFile) (refusal : Refusal) → stored read ≡ Refused refusal → ⊥
 stored_done (Ok content) refusal e = cc
 stored_done (Err fault) refusal e = cc
 

@@ -9,7 +9,8 @@ use Rattle.rp_rows.specs.declared.rows.Level.{Level}
 use Rattle.rp_rows.specs.declared.rows.Level.TheVariants.{Group}
 use Rattle.rp_rows.specs.declared.rows.Right.TheVariants.{Unseen, Reads, Owns}
 use Rattle.rp_rows.specs.declared.rows.Grant.{Grant}
-use Rattle.rp_rows.specs.Rows.{Text, Key, row_key, Model, GroupRow}
+use Rattle.rp_rows.specs.declared.rows.Key.{Key}
+use Rattle.rp_rows.specs.Rows.{Text, row_key, Model, GroupRow}
 use Rattle.rp_rows.specs.Sight.{at_least, owns, is_grant_to, is_granted, sees_group, group_right, lists, is_group_level, is_group_grant, may_group, counts, is_counted, granted_right, level, sees, is_shared_by, is_shown, shown_grant, shown, shown_group, seen_models, seen_groups}
 use Rattle.rp_plain.specs.Plain.{Plain, part}
 

@@ -4,25 +4,27 @@ use Rattle.std.specs.Prelude.{if◌then◌else◌}
 use Rattle.std.specs.List.{find, AllByRecursion}
 use Rattle.std.proofs.lemmas.Bool.{or_left, or_right, false_from_ne_true}
 use Rattle.std.proofs.lemmas.Bool.Decides.{nat_tests}
+use Rattle.plain_data.specs.Numbers.{is_among}
 use Rattle.ex_types.specs.Checked.{Checked}
-use Rattle.p21_instances.specs.Instances.{is_among}
 use Rattle.p21_tree.specs.declared.fault.FileFault.{FileFault}
 use Rattle.p21_tree.specs.declared.fault.InstanceFault.{InstanceFault}
 use Rattle.p21_tree.specs.declared.instance.Mapping.{Mapping}
 use Rattle.p21_read.specs.Single.{mapping_of}
 use Rattle.p21_bind.specs.Files as files
-use Rattle.p21_mappings.specs.Instances.{Read, instance}
+use Rattle.p21_mappings.specs.Instances.{Mapped, instance}
 use Rattle.p21_bind.specs.Single.{bound_instance}
 use Rattle.rp_content.specs.declared.instance.Instance.{Instance}
 use Rattle.rp_content.specs.declared.link.Link.{Link}
 use Rattle.rp_rows.specs.declared.rows.ModelContent.{ModelContent}
-use Rattle.rp_rows.specs.Rows.{Text, Key}
+use Rattle.rp_rows.specs.declared.rows.Key.{Key}
+use Rattle.rp_rows.specs.Rows.{Text}
 use Rattle.rp_rows.specs.Contents.{names}
 use Rattle.rp_rows.specs.Instances.{max_instances, max_name, is_instance, instance_of, is_used, next_name, with_instance, without_instance}
 use Rattle.rp_plain.specs.declared.messages.Refusal.TheVariants as refusal
 use Rattle.rp_plain.specs.Meaning.{schema_named}
 use Rattle.rp_plain.specs.Instances.{told, bound_by, is_defined, said_by, said, is_absent, is_full, is_needed}
-use Rattle.rp_plain.specs.Valid.{IsInstanceOfText, IsSpelled, IsSound, IsValidLink, IsValidContent}
+use Rattle.p21_bind.specs.Origins.{IsInstanceOfText, IsSpelled}
+use Rattle.rp_plain.specs.Valid.{IsSound, IsValidLink, IsValidContent}
 use Rattle.rp_laws.proofs.BoundInstances.{IsBound, instance_bound}
 use Rattle.rp_laws.proofs.Passed.{passed}
 use Rattle.rp_laws.proofs.SingleEdits.{placed_valid, dropped_valid, name_within, in_use_parts}
@@ -34,7 +36,7 @@ bound_one : (schema : Checked) (defined : ℕ → Bool) (name : ℕ) (mapping : 
 unfolding bound_instance
 bound_one schema defined name mapping i e = by (instance schema defined false (record { name = name; mapping = mapping })) refl e
   where
-    by : (o : Read Instance) → instance schema defined false (record { name = name; mapping = mapping }) ≡ o → files.told name o ≡ Ok i → IsBound schema defined name i
+    by : (o : Mapped Instance) → instance schema defined false (record { name = name; mapping = mapping }) ≡ o → files.told name o ≡ Ok i → IsBound schema defined name i
     by (Ok j) is f =
         let same : j ≡ i = cc in
         (instance_bound schema defined false (record { name = name; mapping = mapping }) i (is ∙ ap Ok same)).1

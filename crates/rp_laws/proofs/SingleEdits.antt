@@ -7,8 +7,8 @@ use Rattle.std.proofs.lemmas.Bool.{or_left, or_right}
 use Rattle.std.proofs.lemmas.Bool.Decides.{nat_tests}
 use Rattle.std.proofs.lemmas.Cmp.{nat_cmp_total}
 use Rattle.std.proofs.lemmas.List.Folds.{list_any-append}
+use Rattle.plain_data.specs.Numbers.{is_among}
 use Rattle.ex_types.specs.Checked.{Checked}
-use Rattle.p21_instances.specs.Instances.{is_among}
 use Rattle.rp_content.specs.declared.content.Content.{Content}
 use Rattle.rp_content.specs.declared.instance.Instance.{Instance}
 use Rattle.rp_content.specs.declared.link.Link.{Link}
@@ -17,10 +17,12 @@ use Rattle.sorted_tables.proofs.Altered.{any-with_row}
 use Rattle.sorted_tables.proofs.Ascending.{all-append, with_row_ascends, with_none_ascends}
 use Rattle.sorted_tables.proofs.Tables.{list_any-append as none-append, list_any-filter}
 use Rattle.rp_rows.specs.declared.rows.ModelContent.{ModelContent}
-use Rattle.rp_rows.specs.Rows.{Text, Key}
+use Rattle.rp_rows.specs.declared.rows.Key.{Key}
+use Rattle.rp_rows.specs.Rows.{Text}
 use Rattle.rp_rows.specs.Contents.{instance_name, names, greatest_name, link_name, link_names, greatest_of, references_of}
 use Rattle.rp_rows.specs.Instances.{max_instances, max_name, is_instance, instance_of, placed, dropped, refers_to, is_user, is_used, with_instance, without_instance}
-use Rattle.rp_plain.specs.Valid.{IsSpelled, IsSound, IsValidLink, IsValidContent}
+use Rattle.p21_bind.specs.Origins.{IsSpelled}
+use Rattle.rp_plain.specs.Valid.{IsSound, IsValidLink, IsValidContent}
 use Rattle.rp_rows.proofs.Keys.{found_at}
 use Rattle.rp_laws.proofs.ValidTables.{all_each, all_found, all-with_row}
 use Rattle.rp_laws.proofs.Counts.{every, count_every, count-with_row, count-without, count-replaced}

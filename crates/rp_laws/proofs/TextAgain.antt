@@ -1,5 +1,5 @@
 -- What a model of a valid repository holds is read again of its canonical text.
-use Rattle.std.proofs.Common.{◌≡◌, ◌≤◌, ◌<◌, ◌⊎◌, inl, inr, ℕ, zero, suc, Bool, true, false, ◌&&◌, List, [], ◌∷◌, ◌++◌, length, map, take, drop, Some, refl, sym, ◌∙◌, ap, subst, arith}
+use Rattle.std.proofs.Common.{◌≡◌, ◌≤◌, ◌<◌, ℕ, zero, suc, Bool, true, false, ◌&&◌, List, [], ◌∷◌, ◌++◌, length, map, take, drop, Some, refl, sym, ◌∙◌, ap, subst, arith}
 use Rattle.std.specs.Prelude.{slice_index_or, if◌then◌else◌}
 use Rattle.std.specs.List.{AllByRecursion, find, flat_map, list_all}
 use Rattle.std.specs.Ordering.{is_gt, nat_cmp}
@@ -7,9 +7,9 @@ use Rattle.std.specs.Str.{bytes_eq}
 use Rattle.std.proofs.lemmas.Bool.{and_parts}
 use Rattle.std.proofs.lemmas.Bool.Decides.{nat_tests}
 use Rattle.std.proofs.lemmas.List.Folds.{list_all-append}
+use Rattle.plain_data.specs.Numbers.{is_among, numbered_from}
 use Rattle.ex_named.specs.declared.declaration.NamedType.{NamedType}
 use Rattle.ex_types.specs.Checked.{Checked}
-use Rattle.lineage.specs.Numbered.{numbered_from}
 use Rattle.p21_instances.specs.Instances as spelled
 use Rattle.p21_laws.proofs.Attributes.{refers-Derived}
 use Rattle.p21_laws.proofs.Kept.{kept_again}
@@ -19,14 +19,13 @@ use Rattle.p21_laws.specs.Kept as kept
 use Rattle.p21_laws.specs.Kept.{IsKept}
 use Rattle.p21_laws.specs.Schemas.{IsAccepted}
 use Rattle.p21_bind.specs.Files.{AreAscending}
+use Rattle.p21_bind.specs.Origins.{IsSpelled}
 use Rattle.p21_tree.specs.declared.value.Value as tree
 use Rattle.p21_tree.specs.declared.value.Value.TheFolds as trees
 use Rattle.p21_canonical.specs.Trees.{attribute_at, attribute_tree, instance_tree, leaf_part, mapping, own_parts, record_of, records, value_tree}
-use Rattle.rp_content.specs.Headers.{default_header}
-use Rattle.rp_content.specs.declared.header.Header.{Header}
 use Rattle.rp_content.specs.declared.instance.Instance.{Instance}
-use Rattle.rp_content.specs.declared.instance.Types.{Types}
-use Rattle.rp_content.specs.declared.instance.Types.TheVariants.{Leaf, Several}
+use Rattle.rp_content.specs.declared.instance.Entities.{Entities}
+use Rattle.rp_content.specs.declared.instance.Entities.TheVariants.{Leaf, Several}
 use Rattle.rp_value.specs.declared.value.Value.{Value}
 use Rattle.rp_value.specs.declared.value.Value.TheFolds.{fold-roll-Value, ind-Value, map-Value}
 use Rattle.rp_value.specs.declared.value.Value.TheOpen.{Value-F}
@@ -36,7 +35,7 @@ use Rattle.rp_rows.specs.Contents.{greatest_name, instance_name, link_name, link
 use Rattle.rp_rows.specs.Instances.{max_name}
 use Rattle.rp_rows.specs.Rows.{Model, row_key}
 use Rattle.rp_plain.specs.Meaning.{schema_name}
-use Rattle.rp_plain.specs.Valid.{IsHeaderOfFile, IsSound, IsSpelled, IsValidContent, IsValidModel}
+use Rattle.rp_plain.specs.Valid.{IsSound, IsValidContent, IsValidModel}
 use Rattle.rp_laws.proofs.BoundValues.{Passes}
 use Rattle.rp_laws.proofs.ByName.{all_within}
 use Rattle.rp_laws.proofs.ValidTables.{all_each}
@@ -127,12 +126,12 @@ module _ (schema : Checked) (defined : ℕ → Bool) where
       both defined (flat_map spelled.references (record_of schema part own).values) (flat_map (λ part. flat_map spelled.references part.values) (records schema parts others))
       (record_passes part own (all_taken (Passes defined) (length part.marks) ws all)) (records_pass parts others (all_dropped (Passes defined) (length part.marks) ws all))
 
-  mapping_passes : (ts : Types) (ws : List Value) → AllPass ws → list_all defined (written.references_of (mapping schema ts ws)) ≡ true
+  mapping_passes : (ts : Entities) (ws : List Value) → AllPass ws → list_all defined (written.references_of (mapping schema ts ws)) ≡ true
   mapping_passes (Leaf leaf) ws all = both defined (flat_map spelled.references (record_of schema (leaf_part schema leaf) ws).values) [] (record_passes (leaf_part schema leaf) ws all) refl
   mapping_passes (Several ns) ws all = records_pass (own_parts schema ns) ws all
 
   tree_passes : (i : Instance) → list_all defined (references_of i) ≡ true → list_all defined (written.references_of (instance_tree schema i).mapping) ≡ true
-  tree_passes i e = mapping_passes i.types i.values (each_passes defined i.values e)
+  tree_passes i e = mapping_passes i.entities i.values (each_passes defined i.values e)
 
 -- ---- what a valid model holds
 
@@ -146,22 +145,6 @@ ascends (i ∷ is) order = (
   ascends is order.1,
 )
 
-header_read : (h : Header) → (h ≡ default_header) ⊎ IsHeaderOfFile h → (h ≡ default_header) ⊎ kept.IsHeaderOfFile h
-header_read h (inl is) = inl is
-header_read h (inr from) = inr (record { text = from.file; raw = from.raw; reads = from.reads; is = from.is })
-
-instance_read : (schema : Checked) (i : Instance) → IsSpelled schema i → kept.IsOfFile schema i ⊎ kept.IsOfText schema i
-instance_read schema i (inl from) = inl (record {
-  text = from.file;
-  linked = from.linked;
-  content = from.content;
-  read = (from.raw, (from.reads, from.says));
-  before = from.before;
-  behind = from.behind;
-  stands = from.stands;
-})
-instance_read schema i (inr from) = inr (record { text = from.text; mapping = from.mapping; reads = from.reads; defined = from.defined; says = from.says })
-
 module _ (schemas : List Checked) (partners : List (List ℕ)) (k : List ℕ × List ℕ) (h : ModelContent) (valid : IsValidContent schemas partners k h) where
   names_low : AllByRecursion (λ (i : Instance). i.name ≤ max_name) h.content.instances
   names_low =
@@ -172,13 +155,12 @@ module _ (schemas : List Checked) (partners : List (List ℕ)) (k : List ℕ × 
 
   is_kept : (schema : Checked) → valid.schema ≡ schema → IsKept schema (link_names h.content.links) h.content
   is_kept schema same = record {
-    header = header_read h.content.header valid.header;
+    header = valid.header;
     order = ascends h.content.instances valid.instances;
     names = names_low;
-    read = all_each (IsSpelled schema) (λ i. kept.IsOfFile schema i ⊎ kept.IsOfText schema i) (instance_read schema) h.content.instances
-        (subst (λ s. AllByRecursion (IsSpelled s) h.content.instances) same valid.spelled);
+    read = subst (λ s. AllByRecursion (IsSpelled s) h.content.instances) same valid.spelled;
     sound = all_each (IsSound h.content) (kept.IsSound schema (link_names h.content.links) h.content.instances)
-        (λ i e. tree_passes schema (spelled.is_among (names h.content.instances ++ link_names h.content.links)) i e) h.content.instances valid.sound;
+        (λ i e. tree_passes schema (is_among (names h.content.instances ++ link_names h.content.links)) i e) h.content.instances valid.sound;
   }
 
 abbrev AllAccepted : List Checked → Type 0

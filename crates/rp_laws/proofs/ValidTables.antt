@@ -12,7 +12,8 @@ use Rattle.sorted_tables.proofs.Ascending.{all-append, all-filter, with_row_asce
 use Rattle.rp_rows.specs.declared.rows.Level.{Level}
 use Rattle.rp_rows.specs.declared.rows.Grant.{Grant}
 use Rattle.rp_rows.specs.Names.{is_name}
-use Rattle.rp_rows.specs.Rows.{Text, text_cmp, Key, key_cmp, grant_key, Row, row_key, is_row}
+use Rattle.rp_rows.specs.declared.rows.Key.{Key}
+use Rattle.rp_rows.specs.Rows.{Text, text_cmp, key_cmp, grant_key, Row, row_key, is_row}
 use Rattle.rp_rows.specs.Sight.{owns}
 use Rattle.rp_rows.specs.Alterations.{Alteration, Holds, Grants, grants_of, grant_for, granting, alter, altered}
 use Rattle.rp_rows.proofs.Keys.{key_total, owner_at, found_at, altered_ascends}
@@ -74,13 +75,13 @@ module _ {A : Type 0} (partners : List Text) (V : Key → A → Type 0) (L : Gra
 
   -- what may be put under a name, and is new there only if its owner has room
   pub record MayHold (xs : List (Row A)) (k : Key) (h : A) : Type 0 where
-    pub owner : has_text partners k.0 ≡ true
-    pub name : is_name k.1 ≡ true
+    pub owner : has_text partners k.owner ≡ true
+    pub name : is_name k.name ≡ true
     pub valid : V k h
-    pub room : find (is_row k) xs ≡ None → length (filter (owns k.0) xs) < most
+    pub room : find (is_row k) xs ≡ None → length (filter (owns k.owner) xs) < most
 
   pub record MayGrant (k : Key) (g : Grant) : Type 0 where
-    pub valid : IsValidGrant partners k.0 g
+    pub valid : IsValidGrant partners k.owner g
     pub level : L g
 
   -- an alteration that keeps a table good
@@ -100,7 +101,7 @@ module _ {A : Type 0} (partners : List Text) (V : Key → A → Type 0) (L : Gra
   grants_order k None old = tt
   grants_order k (Some x) old = (old x refl).0.row.grants
 
-  grantees : (k : Key) (o : Option (Row A)) → Old k o → AllByRecursion (IsValidGrant partners k.0) (grants_of o)
+  grantees : (k : Key) (o : Option (Row A)) → Old k o → AllByRecursion (IsValidGrant partners k.owner) (grants_of o)
   grantees k None old = tt
   grantees k (Some x) old =
       let there = old x refl in
@@ -110,7 +111,7 @@ module _ {A : Type 0} (partners : List Text) (V : Key → A → Type 0) (L : Gra
   grant_levels k None old = tt
   grant_levels k (Some x) old = (old x refl).0.grants
 
-  holding : (xs : List (Row A)) (k : Key) (h : A) (o : Option (Row A)) → Old k o → MayHold xs k h → IsGood (record { owner = k.0; name = k.1; holds = h; grants = grants_of o })
+  holding : (xs : List (Row A)) (k : Key) (h : A) (o : Option (Row A)) → Old k o → MayHold xs k h → IsGood (record { owner = k.owner; name = k.name; holds = h; grants = grants_of o })
   holding xs k h o old may = record {
     row = record { owner = may.owner; name = may.name; grants = grants_order k o old; grantees = grantees k o old };
     holds = may.valid;
@@ -147,7 +148,7 @@ module _ {A : Type 0} (partners : List Text) (V : Key → A → Type 0) (L : Gra
   new_good : (xs : List (Row A)) (k : Key) (a : Alteration A) (o : Option (Row A)) → Old k o → IsFit xs k a → (y : Row A) → alter k a o ≡ Some y → IsGood y
   new_good xs k (Holds None) o old fit y e = cc
   new_good xs k (Holds (Some h)) o old fit y e =
-      let same : record { owner = k.0; name = k.1; holds = h; grants = grants_of o } ≡ y = cc in
+      let same : record { owner = k.owner; name = k.name; holds = h; grants = grants_of o } ≡ y = cc in
       subst IsGood same (holding xs k h o old fit)
   new_good xs k (Grants to l) None old fit y e = cc
   new_good xs k (Grants to l) (Some x) old fit y e =
@@ -157,7 +158,7 @@ module _ {A : Type 0} (partners : List Text) (V : Key → A → Type 0) (L : Gra
 
   -- ---- how many rows an owner has
 
-  one_more : (xs : List (Row A)) (k : Key) (row : Row A) (owner : Text) → row.owner ≡ k.0 → length (filter (owns k.0) xs) < most → length (filter (owns owner) xs) ≤ most → length (filter (owns owner) (with_row key_cmp row_key k (Some row) xs)) ≤ most
+  one_more : (xs : List (Row A)) (k : Key) (row : Row A) (owner : Text) → row.owner ≡ k.owner → length (filter (owns k.owner) xs) < most → length (filter (owns owner) xs) ≤ most → length (filter (owns owner) (with_row key_cmp row_key k (Some row) xs)) ≤ most
   one_more xs k row owner own room few = by (bytes_eq row.owner owner) refl
     where
       more : length (filter (owns owner) (with_row key_cmp row_key k (Some row) xs)) ≤ length (filter (owns owner) (row ∷ [])) + length (filter (owns owner) xs)
@@ -165,7 +166,7 @@ module _ {A : Type 0} (partners : List Text) (V : Key → A → Type 0) (L : Gra
 
       by : (t : Bool) → bytes_eq row.owner owner ≡ t → length (filter (owns owner) (with_row key_cmp row_key k (Some row) xs)) ≤ most
       by true e =
-          let who : k.0 ≡ owner = sym own ∙ (bytes_eq-Decides row.owner owner).0 e in
+          let who : k.owner ≡ owner = sym own ∙ (bytes_eq-Decides row.owner owner).0 e in
           let one : length (filter (owns owner) (row ∷ [])) ≡ 1 = rw e refl in
           let fewer : length (filter (owns owner) xs) < most = subst (λ o. length (filter (owns o) xs) < most) who room in
           let here = more in
@@ -185,9 +186,9 @@ module _ {A : Type 0} (partners : List Text) (V : Key → A → Type 0) (L : Gra
 
   few_after : (xs : List (Row A)) (k : Key) (a : Alteration A) (o : Option (Row A)) → find (is_row k) xs ≡ o → IsFit xs k a → (owner : Text) → length (filter (owns owner) xs) ≤ most → length (filter (owns owner) (with_row key_cmp row_key k (alter k a o) xs)) ≤ most
   few_after xs k (Holds None) o e fit owner few = no_more xs k owner few
-  few_after xs k (Holds (Some h)) None e fit owner few = one_more xs k (record { owner = k.0; name = k.1; holds = h; grants = [] }) owner refl (fit.room e) few
+  few_after xs k (Holds (Some h)) None e fit owner few = one_more xs k (record { owner = k.owner; name = k.name; holds = h; grants = [] }) owner refl (fit.room e) few
   few_after xs k (Holds (Some h)) (Some x) e fit owner few =
-      same_owner xs k x (record { owner = k.0; name = k.1; holds = h; grants = x.grants }) owner e (sym (owner_at k x (found_at (is_row k) xs x e))) few
+      same_owner xs k x (record { owner = k.owner; name = k.name; holds = h; grants = x.grants }) owner e (sym (owner_at k x (found_at (is_row k) xs x e))) few
   few_after xs k (Grants to l) None e fit owner few = no_more xs k owner few
   few_after xs k (Grants to l) (Some x) e fit owner few = same_owner xs k x (granting to l x) owner e refl few
 

@@ -6,7 +6,8 @@ use Rattle.p21_laws.specs.Contents.{IsRead}
 use Rattle.p21_canonical.specs.Trees.{canonical}
 use Rattle.rp_content.specs.declared.content.Content.{Content}
 use Rattle.rp_rows.specs.Contents.{link_names}
-use Rattle.rp_rows.specs.Rows.{Key, is_row, Model, GroupRow}
+use Rattle.rp_rows.specs.declared.rows.Key.{Key}
+use Rattle.rp_rows.specs.Rows.{is_row, Model, GroupRow}
 use Rattle.rp_plain.specs.declared.messages.Request.{Request}
 use Rattle.rp_plain.specs.declared.messages.Refusal.{Refusal}
 use Rattle.rp_plain.specs.declared.messages.Reply.{Reply}

@@ -2,3 +2,4 @@ pub mod Steadiness
 pub mod Kept
 pub mod Limits
 pub mod Within
+pub mod CompiledKinds

@@ -17,3 +17,9 @@ pub mod Faults
 pub mod TypeRules
 pub mod Sequence
 pub mod Report
+pub mod CompiledTypes
+pub mod CompiledNames
+pub mod CompiledExpressions
+pub mod CompiledStatements
+pub mod CompiledTrees
+pub mod Compiled

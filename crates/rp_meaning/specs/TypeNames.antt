@@ -2,7 +2,7 @@
 use Rattle.std.specs.Prelude.{ℕ, Bool, List, [], ◌∷◌, ◌++◌, map, filter, Option, Some, None, if◌then◌else◌, slice_get, codes}
 use Rattle.std.specs.List.{filter_map}
 use Rattle.std.specs.Option.{option_map, option_map_or}
-use Rattle.lineage.specs.Lineage.{is_among}
+use Rattle.plain_data.specs.Numbers.{is_among}
 use Rattle.rp_numbers.specs.declared.Logical.{Logical}
 use Rattle.rp_numbers.specs.declared.Logical.TheVariants as l
 use Rattle.rp_value.specs.declared.value.AggregateKind.{AggregateKind}

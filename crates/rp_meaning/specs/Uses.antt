@@ -1,7 +1,7 @@
 -- Who uses whom in a population (ISO 10303-11:1994, 15.26).
 use Rattle.std.specs.Prelude.{ℕ, ◌+◌, ◌==◌, ◌&&◌, Bool, true, false, List, [], ◌∷◌, ◌++◌, map, filter, length, nat_lt, if◌then◌else◌}
 use Rattle.std.specs.List.{flat_map, list_any}
-use Rattle.lineage.specs.Lineage.{is_among}
+use Rattle.plain_data.specs.Numbers.{is_among}
 use Rattle.ex_named.specs.declared.reference.AttributePlace.{AttributePlace}
 use Rattle.ex_named.specs.declared.reference.AttributeSort.{AttributeSort}
 use Rattle.ex_named.specs.declared.reference.AttributeSort.TheVariants as sort

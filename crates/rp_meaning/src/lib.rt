@@ -2,6 +2,7 @@
 #![tactic(auto)]
 
 mod body;
+mod compiled;
 mod counter;
 mod domain;
 mod laws;
@@ -14,6 +15,7 @@ mod stop;
 mod tree;
 
 pub use body::Body;
+pub use compiled::compiled_as_typed;
 pub use counter::Counter;
 pub use domain::{Domain, Seen};
 pub use laws::{a_limit_is_of_steps, kept_values_serve, limits_only_cut, steps_are_bounded};

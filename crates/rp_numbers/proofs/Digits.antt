@@ -1,6 +1,8 @@
 -- Digits and their value.
 use Rattle.std.proofs.Common.{◌≡◌, ℕ, suc, ◌+◌, ◌-◌, ◌*◌, ◌≤◌, Bool, true, false, cond, List, [], ◌∷◌, ◌++◌, take, le_refl, le_trans, refl, arith}
 use Rattle.std.specs.List.{list_all, prefix_len}
+use Rattle.std.specs.Char.{is_ascii_digit}
+use Rattle.rp_numbers.specs.Spelling.{digits_len}
 use Rattle.rp_numbers.specs.Whole.{value_after}
 
 -- more digits only make the value larger
@@ -29,3 +31,7 @@ in_front p b z false fails more = refl
 pub all_in_front : (p : ℕ → Bool) (z : List ℕ) → list_all p (take (prefix_len p z) z) ≡ true
 all_in_front p [] = refl
 all_in_front p (b ∷ z) = in_front p b z (p b) refl (all_in_front p z)
+
+-- the digits in front are digits
+pub digits_in_front : (n : ℕ) (z : List ℕ) → n ≡ digits_len z → list_all is_ascii_digit (take n z) ≡ true
+digits_in_front n z e = rw e (all_in_front is_ascii_digit z)

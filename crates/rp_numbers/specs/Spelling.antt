@@ -18,6 +18,13 @@ is_negative z = slice_index z 0 == 45
 abbrev pub digits_len : List ℕ → ℕ
 digits_len z = prefix_len is_ascii_digit z
 
+-- of what stands in front: `E`, a sign and digits, or nothing where no digits are there
+abbrev pub exponent_len : List ℕ → ℕ
+exponent_len z =
+    let sign = sign_len (drop 1 z) in
+    let digits = digits_len (drop (1 + sign) z) in
+    if (slice_index z 0 == 69 || slice_index z 0 == 101) && nat_lt 0 digits then 1 + sign + digits else 0
+
 abbrev pub signed : Bool → ℕ → ℤ
 signed true n = neg_ℤ (pos n)
 signed false n = pos n

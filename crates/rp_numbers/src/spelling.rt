@@ -1,11 +1,12 @@
 //! Reals as they are spelled.
 
-ghost use Rattle.std.specs.Prelude.{◌≡◌, ◌≤◌, ◌<◌, ◌+◌, ◌-◌, ◌^◌, ◌%◌, ◌==◌, length, take, drop, slice_index, true, nat_le, nat_lt, pos, Some, None, if◌then◌else◌, MatchOption};
+ghost use Rattle.std.specs.Prelude.{◌≡◌, ◌≤◌, ◌<◌, ◌+◌, ◌-◌, ◌^◌, ◌%◌, ◌==◌, length, take, drop, true, nat_le, nat_lt, pos, Some, None, if◌then◌else◌, MatchOption};
 ghost use Rattle.std.specs.List.{suffix_len, list_all};
 ghost use Rattle.std.specs.Char.{is_ascii_digit};
 ghost use Rattle.rp_numbers.specs.Spelling as spec;
 ghost use Rattle.rp_numbers.specs.Whole.{value_after, value};
 
+use crate::fronts::digits_len;
 use crate::whole::{are_digits, number_after};
 use std::marker::Model;
 
@@ -39,32 +40,24 @@ impl<'a> Model for Real<'a> {
     ghost invariant = { λ r. (list_all is_ascii_digit r.whole.now ≡ true) × (list_all is_ascii_digit r.fraction.now ≡ true) };
 }
 
-fn byte(text: &[u8], at: usize) -> u8
-    ensures { result ≡ slice_index text.now at }
-{
-    if at < text.len() { text[at] } else { 0 }
-}
-
-fn is_negative(text: &[u8]) -> bool
+/// Whether a number has the sign `-`.
+pub fn is_negative(text: &[u8]) -> bool
     ensures { result ≡ spec.is_negative text.now }
 {
-    byte(text, 0) == b'-'
+    match text {
+        [b'-', ..] => true,
+        _ => false,
+    }
 }
 
-fn after_sign(text: &[u8]) -> &[u8]
+/// What follows the sign, if there is one.
+pub fn after_sign(text: &[u8]) -> &[u8]
     ensures { result.now ≡ drop (spec.sign_len text.now) text.now }
 {
     match text {
         [b'+' | b'-', rest @ ..] => rest,
         _ => text,
     }
-}
-
-fn digits_len(text: &[u8]) -> usize
-    ensures value { result ≡ spec.digits_len text.now }
-    ensures within { result ≤ length text.now }
-{
-    text.iter().take_while(|b| b.is_ascii_digit()).count()
 }
 
 /// The digits in front, and what follows.
@@ -138,7 +131,7 @@ fn narrowed(exponent: i128) -> Option<i16>
 }
 
 impl Real<'_> {
-    ghost use Rattle.std.specs.Prelude.{◌≡◌, ◌≤◌, ◌<◌, ◌+◌, ◌-◌, ◌^◌, ◌%◌, ◌==◌, length, take, drop, slice_index, true, nat_le, nat_lt, pos, Some, None, if◌then◌else◌, MatchOption};
+    ghost use Rattle.std.specs.Prelude.{◌≡◌, ◌≤◌, ◌<◌, ◌+◌, ◌-◌, ◌^◌, ◌%◌, ◌==◌, length, take, drop, true, nat_le, pos, Some, None, if◌then◌else◌, MatchOption};
     ghost use Rattle.std.specs.List.{suffix_len, list_all};
     ghost use Rattle.rp_numbers.specs.Spelling as spec;
 

@@ -42,7 +42,7 @@ fn long_after(start: u128, digits: &[u8], most: u128) -> Option<u128>
 }
 
 /// The number that `digits` write after those that write `start`, where it is at most `most`.
-pub(crate) fn number_after(start: u128, digits: &[u8], most: u128) -> Option<u128>
+pub fn number_after(start: u128, digits: &[u8], most: u128) -> Option<u128>
     ensures { result ≡ (if nat_le (spec.value_after start digits.now) most then Some (spec.value_after start digits.now) else None) }
 {
     if start > u128::from(MAX_SHORT) {
@@ -55,7 +55,8 @@ pub(crate) fn number_after(start: u128, digits: &[u8], most: u128) -> Option<u12
     }
 }
 
-pub(crate) fn are_digits(text: &[u8]) -> bool
+/// Whether all bytes are digits.
+pub fn are_digits(text: &[u8]) -> bool
     ensures { result ≡ list_all is_ascii_digit text.now }
 {
     text.iter().all(|b| b.is_ascii_digit())

@@ -3,14 +3,15 @@ use Rattle.std.specs.Prelude.{◌≡◌, ℕ, Bool, false, List, [], ◌∷◌, 
 use Rattle.std.specs.List.{AllByRecursion}
 use Rattle.rp_rows.specs.declared.rows.ModelContent.{ModelContent}
 use Rattle.rp_rows.specs.declared.rows.Listing.{Listing}
-use Rattle.rp_rows.specs.Rows.{Text, Key}
+use Rattle.rp_rows.specs.declared.rows.Key.{Key}
+use Rattle.rp_rows.specs.Rows.{Text}
 use Rattle.rp_rows.specs.Alterations.{Alteration, altered, gives_to}
 use Rattle.rp_plain.specs.Plain.{Plain, Kind, OfModel, OfGroup, reaches}
 
 -- a kind, a name and what is done there
 pub data Edit : Type 0 where
-  EditModel : List ℕ × List ℕ → Alteration ModelContent → Edit
-  EditGroup : List ℕ × List ℕ → Alteration Listing → Edit
+  EditModel : Key → Alteration ModelContent → Edit
+  EditGroup : Key → Alteration Listing → Edit
 
 abbrev pub edited_by : Edit → Plain → Plain
 edited_by (EditModel k a) r = record r { models = altered k a r.models }

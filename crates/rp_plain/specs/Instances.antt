@@ -1,10 +1,10 @@
 -- The requests for single instances of a model.
 use Rattle.std.specs.Prelude.{ℕ, Bool, not, ◌||◌, nat_le, List, [], ◌∷◌, ◌++◌, length, Option, Some, None, is_some, Result, Ok, Err}
+use Rattle.plain_data.specs.Numbers.{is_among}
 use Rattle.ex_types.specs.Checked.{Checked}
 use Rattle.p21_tree.specs.declared.fault.FileFault.{FileFault}
 use Rattle.p21_tree.specs.declared.fault.InstanceFault.{InstanceFault}
 use Rattle.p21_tree.specs.declared.instance.Mapping.{Mapping}
-use Rattle.p21_instances.specs.Instances.{is_among}
 use Rattle.p21_read.specs.Single.{mapping_of}
 use Rattle.p21_spelling.specs.Instances.{instance_text}
 use Rattle.p21_bind.specs.Single.{bound_instance}
@@ -13,7 +13,8 @@ use Rattle.rp_content.specs.declared.content.Content.{Content}
 use Rattle.rp_content.specs.declared.instance.Instance.{Instance}
 use Rattle.rp_rows.specs.declared.rows.ModelContent.{ModelContent}
 use Rattle.rp_rows.specs.declared.rows.Right.TheVariants.{Writes}
-use Rattle.rp_rows.specs.Rows.{Text, Key}
+use Rattle.rp_rows.specs.declared.rows.Key.{Key}
+use Rattle.rp_rows.specs.Rows.{Text}
 use Rattle.rp_rows.specs.Contents.{names, link_names}
 use Rattle.rp_rows.specs.Instances.{max_instances, max_name, instance_of, is_used, next_name, with_instance, without_instance}
 use Rattle.rp_rows.specs.Alterations.{Holds}
@@ -41,7 +42,7 @@ line_by _ _ = []
 
 abbrev pub get : Readers → Key → ℕ → Meaning
 get a k name = let found = instance_in (a.content k) name in record {
-  tests = key_fault k ∷ is_no_partner a k.0 ∷ unseen (a.model_right k) ∷ is_absent found ∷ [];
+  tests = key_fault k ∷ is_no_partner a k.owner ∷ unseen (a.model_right k) ∷ is_absent found ∷ [];
   reply = Line (line_by (schema_of a.schemas (a.content k)) found);
   edits = [];
 }
@@ -94,7 +95,7 @@ is_full (Some h) = when (nat_le max_name h.greatest || nat_le max_instances (len
 
 abbrev pub add : Readers → Key → Text → Meaning
 add a k text = let new = said a.schemas (a.content k) (next_in (a.content k)) text in record {
-  tests = too_large text ∷ key_fault k ∷ is_no_partner a k.0 ∷ lacks Writes (a.model_right k) ∷ refused new ∷ is_full (a.content k) ∷ [];
+  tests = too_large text ∷ key_fault k ∷ is_no_partner a k.owner ∷ lacks Writes (a.model_right k) ∷ refused new ∷ is_full (a.content k) ∷ [];
   reply = Added (next_in (a.content k));
   edits = placing k (a.content k) new;
 }
@@ -103,7 +104,7 @@ add a k text = let new = said a.schemas (a.content k) (next_in (a.content k)) te
 
 abbrev pub set : Readers → Key → ℕ → Text → Meaning
 set a k name text = let new = said a.schemas (a.content k) name text in record {
-  tests = too_large text ∷ key_fault k ∷ is_no_partner a k.0 ∷ lacks Writes (a.model_right k) ∷ refused new ∷ is_absent (instance_in (a.content k) name) ∷ [];
+  tests = too_large text ∷ key_fault k ∷ is_no_partner a k.owner ∷ lacks Writes (a.model_right k) ∷ refused new ∷ is_absent (instance_in (a.content k) name) ∷ [];
   reply = Done;
   edits = placing k (a.content k) new;
 }
@@ -121,7 +122,7 @@ dropping k name (Some h) = EditModel k (Holds (Some (without_instance name h))) 
 
 abbrev pub drop_instance : Readers → Key → ℕ → Meaning
 drop_instance a k name = record {
-  tests = key_fault k ∷ is_no_partner a k.0 ∷ lacks Writes (a.model_right k) ∷ is_absent (instance_in (a.content k) name) ∷ is_needed name (a.content k) ∷ [];
+  tests = key_fault k ∷ is_no_partner a k.owner ∷ lacks Writes (a.model_right k) ∷ is_absent (instance_in (a.content k) name) ∷ is_needed name (a.content k) ∷ [];
   reply = Done;
   edits = dropping k name (a.content k);
 }

@@ -2,11 +2,13 @@
 use Rattle.std.specs.Prelude.{ℕ, Bool, not, ◌&&◌, ◌||◌, nat_le, nat_lt, List, [], ◌∷◌, Option, Some, None, is_some, if◌then◌else◌}
 use Rattle.std.specs.List.{list_all}
 use Rattle.std.specs.Str.{bytes_eq}
-use Rattle.p21_instances.specs.Instances.{in_order, is_among}
+use Rattle.plain_data.specs.Numbers.{is_among}
+use Rattle.p21_instances.specs.Instances.{in_order}
 use Rattle.rp_content.specs.declared.content.Content.{Content}
 use Rattle.rp_content.specs.declared.link.Link.{Link}
 use Rattle.rp_rows.specs.declared.rows.ModelContent.{ModelContent}
-use Rattle.rp_rows.specs.Rows.{Text, Key, same_key}
+use Rattle.rp_rows.specs.declared.rows.Key.{Key}
+use Rattle.rp_rows.specs.Rows.{Text, same_key, key_of}
 use Rattle.rp_rows.specs.Contents.{names, link_names}
 use Rattle.rp_rows.specs.Instances.{max_name, instance_of}
 use Rattle.rp_plain.specs.declared.messages.LinkFault.{LinkFault}
@@ -23,7 +25,7 @@ max_links = 10000
 
 -- the model that it leads to
 abbrev pub target_model : Link → Key
-target_model l = (l.owner, l.model)
+target_model l = key_of l.owner l.model
 
 -- in the order of their names; equals stay as they stand
 abbrev pub links_in_order : List Link → List Link

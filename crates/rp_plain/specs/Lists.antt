@@ -3,17 +3,18 @@ use Rattle.std.specs.Prelude.{Bool, List, [], ◌∷◌, map, Option, Some}
 use Rattle.std.specs.Ordering.{is_lt}
 use Rattle.ex_types.specs.Checked.{Checked}
 use Rattle.p21_instances.specs.Instances.{in_order}
-use Rattle.p21_canonical.specs.Types.{type_text}
+use Rattle.p21_canonical.specs.TypeNames.{type_text}
 use Rattle.rp_content.specs.declared.instance.Instance.{Instance}
 use Rattle.rp_rows.specs.declared.rows.ModelContent.{ModelContent}
-use Rattle.rp_rows.specs.Rows.{Text, text_cmp, Key}
+use Rattle.rp_rows.specs.declared.rows.Key.{Key}
+use Rattle.rp_rows.specs.Rows.{Text, text_cmp}
 use Rattle.rp_plain.specs.declared.lists.ListedInstance.{ListedInstance}
 use Rattle.rp_plain.specs.declared.messages.Reply.TheVariants as reply
 use Rattle.rp_plain.specs.Readers.{Readers}
 use Rattle.rp_plain.specs.Meaning.{Meaning, schema_name, schema_of, key_fault, is_no_partner, unseen}
 
 abbrev pub named : Checked → Instance → ListedInstance
-named schema i = record { name = i.name; type_name = type_text schema i.types }
+named schema i = record { name = i.name; type_name = type_text schema i.entities }
 
 -- the instances of a model of this schema, with their types
 abbrev pub names_by : Option Checked → Option ModelContent → List ListedInstance
@@ -22,7 +23,7 @@ names_by _ _ = []
 
 abbrev pub names : Readers → Key → Meaning
 names a k = record {
-  tests = key_fault k ∷ is_no_partner a k.0 ∷ unseen (a.model_right k) ∷ [];
+  tests = key_fault k ∷ is_no_partner a k.owner ∷ unseen (a.model_right k) ∷ [];
   reply = reply.Names (names_by (schema_of a.schemas (a.content k)) (a.content k));
   edits = [];
 }

@@ -7,7 +7,8 @@ use Rattle.rp_rows.specs.declared.rows.ModelContent.{ModelContent}
 use Rattle.rp_rows.specs.declared.rows.Right.{Right}
 use Rattle.rp_rows.specs.declared.rows.Right.TheVariants.{Reads}
 use Rattle.rp_rows.specs.Names.{is_name}
-use Rattle.rp_rows.specs.Rows.{Text, Key}
+use Rattle.rp_rows.specs.declared.rows.Key.{Key}
+use Rattle.rp_rows.specs.Rows.{Text}
 use Rattle.rp_rows.specs.Sight.{at_least}
 use Rattle.rp_plain.specs.declared.messages.Refusal.{Refusal}
 use Rattle.rp_plain.specs.declared.messages.Refusal.TheVariants.{BadName, UnknownPartner, UnknownSchema, NoSuchItem, NoRight}
@@ -58,7 +59,7 @@ abbrev pub names_fault : Text → Text → Option Refusal
 names_fault one other = when (not (is_name one && is_name other)) BadName
 
 abbrev pub key_fault : Key → Option Refusal
-key_fault k = names_fault k.0 k.1
+key_fault k = names_fault k.owner k.name
 
 abbrev pub is_no_partner : Readers → Text → Option Refusal
 is_no_partner a name = when (not (has_text a.partners name)) UnknownPartner

@@ -4,7 +4,7 @@ use Rattle.std.specs.Str.{str_to_ascii_uppercase}
 use Rattle.rp_content.specs.Headers.{default_header}
 use Rattle.rp_rows.specs.declared.rows.ModelContent.{ModelContent}
 use Rattle.rp_rows.specs.declared.rows.Right.TheVariants.{Reads}
-use Rattle.rp_rows.specs.Rows.{Text}
+use Rattle.rp_rows.specs.Rows.{Text, key_of}
 use Rattle.rp_rows.specs.Listings.{max_models}
 use Rattle.rp_rows.specs.Sight.{at_least}
 use Rattle.rp_rows.specs.Alterations.{Holds}
@@ -20,14 +20,14 @@ new_content schema = record { schema = str_to_ascii_uppercase schema; greatest =
 
 abbrev pub create_model : Readers → Text → Text → Text → Meaning
 create_model a c name schema = record {
-  tests = name_fault name ∷ is_no_schema a schema ∷ when (at_least Reads (a.model_right (c, name))) Exists ∷ when (nat_le max_models a.model_count) TooMany ∷ [];
+  tests = name_fault name ∷ is_no_schema a schema ∷ when (at_least Reads (a.model_right (key_of c name))) Exists ∷ when (nat_le max_models a.model_count) TooMany ∷ [];
   reply = Done;
-  edits = EditModel (c, name) (Holds (Some (new_content schema))) ∷ [];
+  edits = EditModel (key_of c name) (Holds (Some (new_content schema))) ∷ [];
 }
 
 abbrev pub delete_model : Readers → Text → Text → Meaning
 delete_model a c name = record {
-  tests = name_fault name ∷ unseen (a.model_right (c, name)) ∷ [];
+  tests = name_fault name ∷ unseen (a.model_right (key_of c name)) ∷ [];
   reply = Done;
-  edits = EditModel (c, name) (Holds None) ∷ [];
+  edits = EditModel (key_of c name) (Holds None) ∷ [];
 }

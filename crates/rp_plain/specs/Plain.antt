@@ -3,7 +3,8 @@ use Rattle.std.specs.Prelude.{ℕ, Bool, ◌&&◌, ◌||◌, List, Option, is_so
 use Rattle.std.specs.List.{find}
 use Rattle.std.specs.Str.{bytes_eq}
 use Rattle.ex_types.specs.Checked.{Checked}
-use Rattle.rp_rows.specs.Rows.{Text, Key, is_row, Model, GroupRow}
+use Rattle.rp_rows.specs.declared.rows.Key.{Key}
+use Rattle.rp_rows.specs.Rows.{Text, is_row, Model, GroupRow}
 use Rattle.rp_rows.specs.Sight.{sees, sees_group, seen_models, seen_groups, is_listed}
 
 -- models and groups stand in the order of owner and name
@@ -30,5 +31,5 @@ group_at r c k = find (λ g. is_row k g && sees_group c g) r.groups
 
 -- what c owns and sees, and each model that a group lists which he sees
 abbrev pub reaches : Plain → Text → Kind → Key → Bool
-reaches r c OfModel k = bytes_eq k.0 c || (is_some (model_at r c k) || is_listed r.groups c k)
-reaches r c OfGroup k = bytes_eq k.0 c || is_some (group_at r c k)
+reaches r c OfModel k = bytes_eq k.owner c || (is_some (model_at r c k) || is_listed r.groups c k)
+reaches r c OfGroup k = bytes_eq k.owner c || is_some (group_at r c k)

@@ -3,7 +3,8 @@ use Rattle.std.specs.Prelude.{Bool, not, List, [], ◌∷◌, map, Option, Some,
 use Rattle.std.specs.List.{list_any}
 use Rattle.ex_types.specs.Checked.{Checked}
 use Rattle.rp_rows.specs.declared.rows.Listing.{Listing}
-use Rattle.rp_rows.specs.Rows.{Text, Key, same_key}
+use Rattle.rp_rows.specs.declared.rows.Key.{Key}
+use Rattle.rp_rows.specs.Rows.{Text, same_key}
 use Rattle.rp_population.specs.declared.place.Place.{Place}
 use Rattle.rp_population.specs.Populations.{Counted, Placed, population, has_place, places}
 use Rattle.rp_population.specs.Entities as entities
@@ -25,7 +26,7 @@ member counted k = record { model = k; counts = counts_among counted k }
 
 abbrev pub members : Readers → Key → Meaning
 members a k = record {
-  tests = key_fault k ∷ is_no_partner a k.0 ∷ unseen (a.group_right k) ∷ [];
+  tests = key_fault k ∷ is_no_partner a k.owner ∷ unseen (a.group_right k) ∷ [];
   reply = reply.Members (map (member (a.counted k)) (members_of (a.listing k)));
   edits = [];
 }
@@ -44,7 +45,7 @@ extent_by (Some schema) entity xs = entities.extent schema entity xs
 -- none of an entity that the schema lacks
 abbrev pub extent : Readers → Key → Text → Meaning
 extent a k entity = record {
-  tests = key_fault k ∷ is_no_partner a k.0 ∷ unseen (a.group_right k) ∷ [];
+  tests = key_fault k ∷ is_no_partner a k.owner ∷ unseen (a.group_right k) ∷ [];
   reply = reply.Extent (places (extent_by (group_schema a.schemas (a.listing k)) entity (population (a.counted k))));
   edits = [];
 }
@@ -56,7 +57,7 @@ users_by (Some schema) role p xs = uses.users schema role p xs
 -- the names of the place aren't tested: the population has it or not
 abbrev pub users : Readers → Key → Place → Text → Meaning
 users a k p role = let xs = population (a.counted k) in record {
-  tests = key_fault k ∷ is_no_partner a k.0 ∷ unseen (a.group_right k) ∷ when (not (has_place xs p)) NoSuchInstance ∷ [];
+  tests = key_fault k ∷ is_no_partner a k.owner ∷ unseen (a.group_right k) ∷ when (not (has_place xs p)) NoSuchInstance ∷ [];
   reply = reply.Users (places (users_by (group_schema a.schemas (a.listing k)) role p xs));
   edits = [];
 }

@@ -1,6 +1,7 @@
 -- What the requests of one partner are told of a repository. They read it in no other way.
 use Rattle.std.specs.Prelude.{ℕ, List, [], map, filter, length, Option, Some, None}
 use Rattle.ex_types.specs.Checked.{Checked}
+use Rattle.rp_rows.specs.declared.rows.Key.{Key}
 use Rattle.rp_rows.specs.declared.rows.Right.{Right}
 use Rattle.rp_rows.specs.declared.rows.Right.TheVariants.{Unseen}
 use Rattle.rp_rows.specs.declared.rows.Listing.{Listing}
@@ -15,13 +16,13 @@ pub record Readers : Type 0 where
   pub schemas : List Checked
   pub partners : List (List ℕ)
   -- what he may do with the model, with the group
-  pub model_right : List ℕ × List ℕ → Right
-  pub group_right : List ℕ × List ℕ → Right
+  pub model_right : Key → Right
+  pub group_right : Key → Right
   -- what it holds, if he sees it
-  pub content : List ℕ × List ℕ → Option ModelContent
-  pub listing : List ℕ × List ℕ → Option Listing
+  pub content : Key → Option ModelContent
+  pub listing : Key → Option Listing
   -- the models that count in a group that he sees, in their order
-  pub counted : List ℕ × List ℕ → List Counted
+  pub counted : Key → List Counted
   -- how many he owns
   pub model_count : ℕ
   pub group_count : ℕ

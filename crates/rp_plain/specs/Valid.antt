@@ -1,19 +1,12 @@
 -- Which repositories there can be: they are valid when they are opened, and steps keep them so.
-use Rattle.std.specs.Prelude.{◌≡◌, ◌≤◌, ◌⊎◌, ℕ, Bool, true, false, List, ◌∷◌, ◌++◌, Some, None, length, filter, Ok}
+use Rattle.std.specs.Prelude.{◌≡◌, ◌≤◌, ◌⊎◌, ℕ, true, false, List, Some, None, length, filter}
 use Rattle.std.specs.List.{list_all, AllByRecursion}
 use Rattle.std.specs.Str.{bytes_eq}
 use Rattle.std.specs.Ordering.{nat_cmp}
+use Rattle.plain_data.specs.Numbers.{is_among}
 use Rattle.ex_types.specs.Checked.{Checked}
-use Rattle.p21_instances.specs.Instances.{is_among}
-use Rattle.p21_tree.specs.declared.raw.Raw.{Raw}
-use Rattle.p21_grammar.specs.File.{file_of}
-use Rattle.p21_tree.specs.declared.instance.Mapping.{Mapping}
-use Rattle.p21_read.specs.Single.{mapping_of}
-use Rattle.p21_mappings.specs.Contents.{header}
-use Rattle.p21_bind.specs.Files.{bound_file}
-use Rattle.p21_bind.specs.Single.{bound_instance}
+use Rattle.p21_bind.specs.Origins.{IsHeaderOfFile, IsSpelled}
 use Rattle.rp_content.specs.declared.content.Content.{Content}
-use Rattle.rp_content.specs.declared.header.Header.{Header}
 use Rattle.rp_content.specs.declared.instance.Instance.{Instance}
 use Rattle.rp_content.specs.declared.link.Link.{Link}
 use Rattle.rp_content.specs.Headers.{default_header}
@@ -22,7 +15,8 @@ use Rattle.rp_rows.specs.declared.rows.Level.TheVariants.{Read}
 use Rattle.rp_rows.specs.declared.rows.Grant.{Grant}
 use Rattle.rp_rows.specs.declared.rows.ModelContent.{ModelContent}
 use Rattle.rp_rows.specs.Names.{is_name}
-use Rattle.rp_rows.specs.Rows.{text_cmp, Key, key_cmp, same_key, grant_key, Row, row_key, Model, GroupRow}
+use Rattle.rp_rows.specs.declared.rows.Key.{Key}
+use Rattle.rp_rows.specs.Rows.{text_cmp, key_cmp, same_key, grant_key, Row, row_key, Model, GroupRow}
 use Rattle.rp_rows.specs.Listings.{max_models, max_groups, max_members, IsListed}
 use Rattle.rp_rows.specs.Contents.{instance_name, names, link_name, greatest_of, references_of}
 use Rattle.rp_rows.specs.Instances.{max_instances, max_name}
@@ -49,50 +43,19 @@ pub record IsValidRow {A : Type 0} (partners : List (List ℕ)) (x : Row A) : Ty
 
 -- ---- what models hold
 
--- a file has this header
-pub record IsHeaderOfFile (h : Header) : Type 0 where
-  pub file : List ℕ
-  pub raw : Raw
-  pub reads : file_of file ≡ Ok raw
-  pub is : h ≡ header raw.header
-
--- a file of the schema has this instance, where some names were linked
-pub record IsInstanceOfFile (schema : Checked) (i : Instance) : Type 0 where
-  pub file : List ℕ
-  pub raw : Raw
-  pub reads : file_of file ≡ Ok raw
-  pub linked : List ℕ
-  pub content : Content
-  pub says : bound_file schema linked raw ≡ Ok content
-  pub before : List Instance
-  pub behind : List Instance
-  pub stands : content.instances ≡ before ++ i ∷ behind
-
--- a text of one instance says this, where some names were defined
-pub record IsInstanceOfText (schema : Checked) (i : Instance) : Type 0 where
-  pub text : List ℕ
-  pub mapping : Mapping
-  pub reads : mapping_of text ≡ Ok mapping
-  pub defined : ℕ → Bool
-  pub says : bound_instance schema defined i.name mapping ≡ Ok i
-
--- some text has it: a file, or one that was added or set by itself
-abbrev pub IsSpelled : Checked → Instance → Type 0
-IsSpelled schema i = IsInstanceOfFile schema i ⊎ IsInstanceOfText schema i
-
 -- each name that the instance refers to is an instance or a link of the model
 abbrev pub IsSound : Content → Instance → Type 0
 IsSound x i = list_all (is_defined x) (references_of i) ≡ true
 
 -- a link has a name of no instance, and leads to another model of a partner's; whether there is such a model now isn't asked
-pub record IsValidLink (partners : List (List ℕ)) (k : List ℕ × List ℕ) (x : Content) (l : Link) : Type 0 where
+pub record IsValidLink (partners : List (List ℕ)) (k : Key) (x : Content) (l : Link) : Type 0 where
   pub free : is_among (names x.instances) l.name ≡ false
   pub target : l.target ≤ max_name
   pub owner : has_text partners l.owner ≡ true
   pub model : is_name l.model ≡ true
   pub other : same_key k (target_model l) ≡ false
 
-pub record IsValidContent (schemas : List Checked) (partners : List (List ℕ)) (k : List ℕ × List ℕ) (h : ModelContent) : Type 0 where
+pub record IsValidContent (schemas : List Checked) (partners : List (List ℕ)) (k : Key) (h : ModelContent) : Type 0 where
   -- one that is loaded
   pub schema : Checked
   pub loaded : schema_named schemas h.schema ≡ Some schema
@@ -118,8 +81,8 @@ pub record IsValidModel (schemas : List Checked) (partners : List (List ℕ)) (m
 
 -- a partner owns the member, and it has a name
 pub record IsValidMember (partners : List (List ℕ)) (k : Key) : Type 0 where
-  pub owner : has_text partners k.0 ≡ true
-  pub name : is_name k.1 ≡ true
+  pub owner : has_text partners k.owner ≡ true
+  pub name : is_name k.name ≡ true
 
 abbrev pub IsRead : Grant → Type 0
 IsRead g = g.level ≡ Read

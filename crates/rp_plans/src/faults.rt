@@ -8,13 +8,11 @@ ghost use Rattle.rp_readers.specs.Told.{told};
 
 use plain_data::Text;
 use rp_access::at_least;
+use rp_io::FILE_LIMIT;
 use rp_plain::messages::Refusal;
 use rp_readers::Readers;
 use rp_rows::names::is_valid_name;
 use rp_rows::rows::{Key, Right};
-
-/// The most bytes of a file, and of a text that is checked: 8 MiB.
-const FILE_LIMIT: usize = 8_388_608;
 
 /// The first refusal, if any test gives one.
 pub fn first(tests: &[Option<Refusal>]) -> Option<Refusal>
@@ -61,7 +59,7 @@ pub fn names_fault(one: &Text, other: &Text) -> Option<Refusal>
 pub fn key_fault(key: &Key) -> Option<Refusal>
     ensures { result ≡ meaning.key_fault key.now }
 {
-    names_fault(&key.0, &key.1)
+    names_fault(&key.owner, &key.name)
 }
 
 /// Of the name of no partner.

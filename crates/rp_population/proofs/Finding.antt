@@ -1,8 +1,8 @@
 -- What is found in one model is its part of the extent.
 use Rattle.std.proofs.Common.{◌≡◌, ℕ, Bool, true, false, List, [], ◌∷◌, map, filter, Option, Some, None, if◌then◌else◌, refl, ap}
+use Rattle.plain_data.specs.Numbers.{is_among}
 use Rattle.ex_layouts.specs.Entities.{entities_of}
 use Rattle.ex_types.specs.Checked.{Checked}
-use Rattle.lineage.specs.Lineage.{is_among}
 use Rattle.rp_content.specs.declared.instance.Instance.{Instance}
 use Rattle.rp_population.specs.Populations.{Counted, Placed, placed, places}
 use Rattle.rp_population.specs.Entities.{extent_of}
@@ -21,7 +21,7 @@ some : (schema : Checked) (entity : ℕ) (m : Counted) (xs : List Instance)
     → map (place_in m.model) (filter (is_of_sought schema (Some entity)) xs) ≡ places (extent_of schema (Some entity) (map (placed m) xs))
 some schema entity m [] = refl
 some schema entity m (i ∷ xs) =
-    step m i (filter (is_of_sought schema (Some entity)) xs) (extent_of schema (Some entity) (map (placed m) xs)) (is_among (entities_of schema i.types) entity)
+    step m i (filter (is_of_sought schema (Some entity)) xs) (extent_of schema (Some entity) (map (placed m) xs)) (is_among (entities_of schema i.entities) entity)
     (some schema entity m xs)
 
 pub extent_is : (schema : Checked) (entity : Option ℕ) (m : Counted) (xs : List Instance)

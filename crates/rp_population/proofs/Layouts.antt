@@ -6,16 +6,16 @@ use Rattle.ex_layouts.specs.Entities.{entities, entities_of}
 use Rattle.ex_layouts.specs.Layouts.{layout, leaf_slots, slots_in}
 use Rattle.ex_slots.specs.Slots.{Slot, slots, slots_of, is_derived, derived_by}
 use Rattle.ex_types.specs.Checked.{Checked}
-use Rattle.rp_content.specs.declared.instance.Types.{Types}
-use Rattle.rp_content.specs.declared.instance.Types.TheVariants.{Leaf, Several}
+use Rattle.rp_content.specs.declared.instance.Entities.{Entities}
+use Rattle.rp_content.specs.declared.instance.Entities.TheVariants.{Leaf, Several}
 use Rattle.rp_population.specs.Found.{all_slots}
 
-pub entities_are : (schema : Checked) (types : Types) → (layout schema types).entities ≡ entities_of schema types
+pub entities_are : (schema : Checked) (entities : Entities) → (layout schema entities).entities ≡ entities_of schema entities
 entities_are schema (Leaf entity) = refl
 entities_are schema (Several all) = refl
 
 -- the attributes of all records are those of the instance
-pub slots_are : (schema : Checked) (types : Types) → all_slots (layout schema types).slots ≡ slots (entities schema) (entities_of schema types)
+pub slots_are : (schema : Checked) (entities : Entities) → all_slots (layout schema entities).slots ≡ slots (entities schema) (entities_of schema entities)
 unfolding slots slots_in
 slots_are schema (Leaf entity) = append-nil (leaf_slots schema entity)
 slots_are schema (Several all) = flat_map-map (λ (xs : List Slot). xs) (slots_of (entities schema) (is_derived (flat_map (derived_by (entities schema)) all))) all

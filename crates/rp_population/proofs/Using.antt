@@ -4,11 +4,11 @@ use Rattle.std.proofs.lemmas.List.{drop_more, map-append}
 use Rattle.std.proofs.lemmas.List.Concat.{flat_map-append}
 use Rattle.std.proofs.lemmas.List.Folds.{flat_map-map}
 use Rattle.std.specs.List.{flat_map, zip}
+use Rattle.plain_data.specs.Numbers.{is_among}
 use Rattle.ex_layouts.specs.Entities.{entities_of, line_of}
 use Rattle.ex_layouts.specs.Layouts.{layout}
 use Rattle.ex_slots.specs.Slots.{Slot, slots}
 use Rattle.ex_types.specs.Checked.{Checked}
-use Rattle.lineage.specs.Lineage.{is_among}
 use Rattle.rp_content.specs.declared.instance.Instance.{Instance}
 use Rattle.rp_rows.specs.Contents.{referred, references}
 use Rattle.rp_value.specs.Elements.{Elements}
@@ -21,8 +21,8 @@ use Rattle.rp_population.specs.declared.place.Place.{Place}
 use Rattle.rp_population.specs.declared.roles.Role.{Role}
 use Rattle.rp_population.specs.declared.roles.Role.TheVariants.{Every, Of}
 use Rattle.rp_population.specs.Populations.{Counted, Placed, placed, placed_all, places, stands_for}
-use Rattle.rp_population.specs.Uses.{is_attribute, references_in, as_user, users_in}
-use Rattle.rp_population.specs.Found.{AreNames, Attribute, all_slots, is_slot_of, place_in, told_at, told_in, told_in_all, User, user_in, values_by, values_of}
+use Rattle.rp_population.specs.Uses.{is_attribute, is_slot_of, references_in, as_user, users_in}
+use Rattle.rp_population.specs.Found.{AreNames, Attribute, all_slots, place_in, told_at, told_in, told_in_all, User, user_in, values_by, values_of}
 use Rattle.rp_population.proofs.Layouts.{entities_are, slots_are}
 
 -- what an aggregate refers to
@@ -98,16 +98,16 @@ chosen true xs ys same = same
 chosen false xs ys same = refl
 
 references_are : (schema : Checked) (entity : ℕ) (name : List ℕ) (i : Instance)
-    → flat_map references (values_by (attribute_of schema entity name) (layout schema i.types) i.values) ≡ references_in schema (Of entity name) i
+    → flat_map references (values_by (attribute_of schema entity name) (layout schema i.entities) i.values) ≡ references_in schema (Of entity name) i
 references_are schema entity name i =
     let line = line_of schema entity in
-    let all = slots schema.named.schema.entities (entities_of schema i.types) in
-    let there : is_among (layout schema i.types).entities entity ≡ is_among (entities_of schema i.types) entity = ap (λ ns. is_among ns entity) (entities_are schema i.types) in
-    ap (λ t. flat_map references (if t then values_of line name (all_slots (layout schema i.types).slots) i.values else [])) there
+    let all = slots schema.named.schema.entities (entities_of schema i.entities) in
+    let there : is_among (layout schema i.entities).entities entity ≡ is_among (entities_of schema i.entities) entity = ap (λ ns. is_among ns entity) (entities_are schema i.entities) in
+    ap (λ t. flat_map references (if t then values_of line name (all_slots (layout schema i.entities).slots) i.values else [])) there
     ∙ ap (flat_map references)
-    (chosen (is_among (entities_of schema i.types) entity) (values_of line name (all_slots (layout schema i.types).slots) i.values)
+    (chosen (is_among (entities_of schema i.entities) entity) (values_of line name (all_slots (layout schema i.entities).slots) i.values)
     (map (λ (a : Slot × Value). a.1) (filter (is_attribute schema entity name) (zip all i.values)))
-    (ap (λ ss. values_of line name ss i.values) (slots_are schema i.types) ∙ values_are schema entity name all i.values))
+    (ap (λ ss. values_of line name ss i.values) (slots_are schema i.entities) ∙ values_are schema entity name all i.values))
 
 -- ---- what is told of an instance
 

@@ -1,15 +1,15 @@
 -- The extent of an entity in a population (ISO 10303-11:1994, 9.2.3).
 use Rattle.std.specs.Prelude.{ℕ, Bool, List, [], filter, Option, Some, None}
+use Rattle.plain_data.specs.Numbers.{is_among}
 use Rattle.ex_layouts.specs.Entities.{entities_of, entity_spelled}
 use Rattle.ex_types.specs.Checked.{Checked}
-use Rattle.lineage.specs.Lineage.{is_among}
 use Rattle.rp_content.specs.declared.instance.Instance.{Instance}
 use Rattle.rp_population.specs.Populations.{Placed}
 
 module _ (schema : Checked) where
   -- whether an instance is of an entity, as it is of each of its entities
   abbrev pub is_of : ℕ → Instance → Bool
-  is_of entity i = is_among (entities_of schema i.types) entity
+  is_of entity i = is_among (entities_of schema i.entities) entity
 
   abbrev pub extent_of : Option ℕ → List Placed → List Placed
   extent_of None xs = []

@@ -5,12 +5,13 @@ use Rattle.std.specs.List.{find, list_any, flat_map}
 use Rattle.rp_content.specs.declared.content.Content.{Content}
 use Rattle.rp_content.specs.declared.instance.Instance.{Instance}
 use Rattle.rp_content.specs.declared.link.Link.{Link}
-use Rattle.rp_rows.specs.Rows.{same_key}
+use Rattle.rp_rows.specs.declared.rows.Key.{Key}
+use Rattle.rp_rows.specs.Rows.{same_key, key_of}
 use Rattle.rp_population.specs.declared.place.Place.{Place}
 
 -- a model that counts in a group, with what it holds
 pub record Counted : Type 0 where
-  pub model : List ℕ × List ℕ
+  pub model : Key
   pub content : Content
 
 -- an instance of a population: where it stands, what it is, and the links of its model
@@ -51,7 +52,7 @@ abbrev pub beside : Placed → ℕ → Place
 beside x name = record { model = x.place.model; instance = name }
 
 abbrev pub target_of : Link → Place
-target_of l = record { model = (l.owner, l.model); instance = l.target }
+target_of l = record { model = key_of l.owner l.model; instance = l.target }
 
 -- it has this name, and leads to this place
 abbrev pub links_to : ℕ → Place → Link → Bool

@@ -2,10 +2,10 @@
 use Rattle.std.specs.Prelude.{ℕ, Bool, ◌&&◌, ◌==◌, List, [], ◌∷◌, map, filter, Option, Some, None, option_map, if◌then◌else◌}
 use Rattle.std.specs.List.{flat_map, zip, slice_split}
 use Rattle.std.specs.Str.{bytes_eq}
+use Rattle.plain_data.specs.Numbers.{is_among}
 use Rattle.ex_layouts.specs.Entities.{entities_of, entity_named, line_of}
 use Rattle.ex_slots.specs.Slots.{Slot, slots}
 use Rattle.ex_types.specs.Checked.{Checked}
-use Rattle.lineage.specs.Lineage.{is_among}
 use Rattle.rp_content.specs.declared.instance.Instance.{Instance}
 use Rattle.rp_value.specs.declared.value.Value.{Value}
 use Rattle.rp_rows.specs.Contents.{references}
@@ -17,6 +17,10 @@ use Rattle.rp_population.specs.Entities.{is_of}
 
 abbrev pub is_full_stop : ℕ → Bool
 is_full_stop byte = byte == 46
+
+-- whether an attribute has this name, and one of these entities declares it
+abbrev pub is_slot_of : List ℕ → List ℕ → Slot → Bool
+is_slot_of line name s = is_among line s.place.entity && bytes_eq s.name.text name
 
 module _ (schema : Checked) where
   -- ---- the names of roles
@@ -38,11 +42,11 @@ module _ (schema : Checked) where
 
   -- the explicit attributes of an instance, each with its value; one that is derived has the indeterminate value, which refers to nothing
   abbrev pub valued : Instance → List (Slot × Value)
-  valued i = zip (slots schema.named.schema.entities (entities_of schema i.types)) i.values
+  valued i = zip (slots schema.named.schema.entities (entities_of schema i.entities)) i.values
 
   -- whether an attribute is one of this name that the entity declares or inherits
   abbrev pub is_attribute : ℕ → List ℕ → Slot × Value → Bool
-  is_attribute entity name a = is_among (line_of schema entity) a.0.place.entity && bytes_eq a.0.name.text name
+  is_attribute entity name a = is_slot_of (line_of schema entity) name a.0
 
   -- the values that an instance has in a role, in the order of its attributes
   abbrev pub values_in : Role → Instance → List Value

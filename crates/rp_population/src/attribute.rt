@@ -3,10 +3,11 @@
 ghost use Rattle.std.specs.Prelude.{◌≡◌, ◌&&◌, ◌++◌, OnOk, drop};
 ghost use Rattle.std.specs.List.{flat_map};
 ghost use Rattle.std.specs.Str.{bytes_eq};
+ghost use Rattle.plain_data.specs.Numbers.{is_among};
 ghost use Rattle.ex_layouts.specs.Layouts.{layout as LayoutOf};
-ghost use Rattle.lineage.specs.Lineage.{is_among};
 ghost use Rattle.rp_rows.specs.Contents.{references};
 ghost use Rattle.rp_population.specs.Found as spec;
+ghost use Rattle.rp_population.specs.Uses as uses_spec;
 
 use crate::place::Place;
 use crate::uses::{User, push_value};
@@ -44,7 +45,7 @@ pub(crate) fn has_number(numbers: &[usize], number: usize) -> bool
 
 /// Whether it is one of the attributes.
 fn is_slot_of(slot: &Slot<'_>, attribute: &Attribute<'_>) -> bool
-    ensures { result ≡ spec.is_slot_of attribute.now.line attribute.now.name slot.now }
+    ensures { result ≡ uses_spec.is_slot_of attribute.now.line attribute.now.name slot.now }
 {
     slot.name().text.as_str() == attribute.name.as_str()
         && has_number(attribute.line, slot.place().entity)
@@ -139,13 +140,13 @@ pub fn push_in_attribute(
     instance: &Instance,
 ) -> Result<(), AllocError>
     ensures layouts { layouts.new ≡ layouts.old }
-    ensures places { OnOk result (found.new.items ≡ found.old.items ++ flat_map (spec.told_at user.now) (flat_map references (spec.values_by attribute.now (LayoutOf layouts.old instance.now.types) instance.now.values))) }
+    ensures places { OnOk result (found.new.items ≡ found.old.items ++ flat_map (spec.told_at user.now) (flat_map references (spec.values_by attribute.now (LayoutOf layouts.old instance.now.entities) instance.now.values))) }
 {
     let values = instance.values.as_slice();
-    if let Some(layout) = layouts.known(&instance.types) {
+    if let Some(layout) = layouts.known(&instance.entities) {
         return push_by_layout(alloc, found, user, attribute, layout, values);
     }
-    let layout = layout_of(alloc, layouts.schema(), &instance.types)?;
+    let layout = layout_of(alloc, layouts.loaded(), &instance.entities)?;
     push_by_layout(alloc, found, user, attribute, &layout, values)?;
-    layouts.keep(&instance.types, layout)
+    layouts.keep(&instance.entities, layout)
 }

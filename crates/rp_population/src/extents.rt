@@ -7,7 +7,7 @@ use crate::attribute::has_number;
 use crate::place::{Place, push_place};
 use ex_layouts::{Layouts, LoadedSchema, layout_of};
 use plain_data::Text;
-use rp_content::{Content, Instance, Types};
+use rp_content::{Content, Entities, Instance};
 use rp_rows::rows::Key;
 use std::alloc::{AllocError, Global};
 use std::marker::Model;
@@ -64,16 +64,16 @@ impl<'s> Extent<'s> {
 
     /// Whether an instance of these entities is of the entity.
     #[tactic(auto, using(crate::proofs::Layouts::entities_are))]
-    fn is_of(&mut self, alloc: Global, types: &Types) -> Result<bool, AllocError>
+    fn is_of(&mut self, alloc: Global, entities: &Entities) -> Result<bool, AllocError>
         ensures same { self.new ≡ self.old }
-        ensures told { IfOk result (λ is_of. is_of ≡ spec.is_sought self.old.entity (entities_of self.old.schema types.now)) }
+        ensures told { IfOk result (λ is_of. is_of ≡ spec.is_sought self.old.entity (entities_of self.old.schema entities.now)) }
     {
-        if let Some(layout) = self.layouts.known(types) {
+        if let Some(layout) = self.layouts.known(entities) {
             return Ok(is_sought(self.entity, layout.entities.as_slice()));
         }
-        let layout = layout_of(alloc, self.layouts.schema(), types)?;
+        let layout = layout_of(alloc, self.layouts.loaded(), entities)?;
         let is_of = is_sought(self.entity, layout.entities.as_slice());
-        self.layouts.keep(types, layout)?;
+        self.layouts.keep(entities, layout)?;
         Ok(is_of)
     }
 
@@ -89,7 +89,7 @@ impl<'s> Extent<'s> {
         ensures places { OnOk result (found.new.items ≡ found.old.items ++ map (spec.place_in model.now) (filter (spec.is_of_sought self.old.schema self.old.entity) instances.now)) }
     {
         for instance in instances {
-            if self.is_of(alloc, &instance.types)? {
+            if self.is_of(alloc, &instance.entities)? {
                 push_place(alloc, found, model, instance.name)?;
             }
         }

@@ -2,11 +2,11 @@
 
 ghost use Rattle.std.specs.Prelude.{◌≡◌, ◌||◌, ◌==◌, ℕ, IfOk, OnOk};
 ghost use Rattle.std.specs.List.{list_any};
-ghost use Rattle.lineage.specs.Lineage.{is_among};
+ghost use Rattle.plain_data.specs.Numbers.{is_among};
 ghost use Rattle.rp_population.specs.Populations as spec;
 ghost use Rattle.rp_population.specs.Found as found;
 
-use crate::place::{Place, is_same_key};
+use crate::place::Place;
 use rp_content::Link;
 use rp_rows::rows::Key;
 use std::alloc::{AllocError, Global};
@@ -16,7 +16,7 @@ use std::collections::BTreeSet;
 fn leads_to(link: &Link, of: &Place) -> bool
     ensures { result ≡ spec.same_place of.now (spec.target_of link.now) }
 {
-    link.owner.is(&of.model.0) && link.model.is(&of.model.1) && of.instance == link.target
+    link.owner.is(&of.model.owner) && link.model.is(&of.model.name) && of.instance == link.target
 }
 
 /// The name of the instance itself, in its model.
@@ -24,7 +24,7 @@ fn own_name(alloc: Global, of: &Place, model: &Key) -> Result<BTreeSet<u64>, All
     ensures { IfOk result (λ names. (name : ℕ) → is_among names.keys name ≡ spec.same_place of.now (record { model = model.now; instance = name })) }
 {
     let mut names = BTreeSet::new(alloc);
-    if is_same_key(&of.model, model) {
+    if of.model.is(model) {
         names.insert(of.instance)?;
     }
     Ok(names)

@@ -6,7 +6,7 @@ ghost use Rattle.rp_population.specs.Found as spec;
 
 use crate::attribute::{Attribute, push_in_attribute};
 use crate::names::names_of;
-use crate::place::{Place, copy_key};
+use crate::place::Place;
 use crate::roles::{Role, role_of};
 use crate::uses::{User, push_values};
 use ex_layouts::{Layouts, LoadedSchema};
@@ -119,7 +119,7 @@ impl<'s> Users<'s> {
     {
         let role = role_of(alloc, schema.checked(), role)?;
         let line = line_by(alloc, schema, role.as_ref())?;
-        let model = copy_key(alloc, &of.model)?;
+        let model = of.model.copy(alloc)?;
         let instance = of.instance;
         Ok(Users {
             layouts: Layouts::of(alloc, schema)?,

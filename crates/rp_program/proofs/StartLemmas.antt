@@ -1,7 +1,7 @@
 -- Why a batch of what was loaded doesn't start is why there is no repository of the configuration at its path.
 use Rattle.std.proofs.Common.{◌≡◌, ℕ, List, Option, Some, None, IfSome, Result, Ok, ap, subst, sym}
-use Rattle.text_forms.specs.declared.Failure.{Failure}
-use Rattle.text_forms.specs.Gives.{Fails}
+use Rattle.plain_data.specs.declared.failure.Failure.{Failure}
+use Rattle.plain_data.specs.Gives.{Fails}
 use Rattle.rp_config.specs.Loading.{Held, loaded_at}
 use Rattle.rp_config.specs.declared.loading.Loaded.{Loaded}
 use Rattle.rp_program.specs.declared.fault.StartFault.{StartFault}

@@ -1,7 +1,7 @@
 -- What a command works on: the repository that a configuration opens, or the text of a file.
 use Rattle.std.specs.Prelude.{◌≡◌, ℕ, List, Option, Some, None, Result, Ok, Err}
-use Rattle.text_forms.specs.declared.Failure.{Failure}
-use Rattle.text_forms.specs.declared.Failure.TheVariants as failure
+use Rattle.plain_data.specs.declared.failure.Failure.{Failure}
+use Rattle.plain_data.specs.declared.failure.Failure.TheVariants as failure
 use Rattle.ex_check.specs.declared.report.CheckFault.{CheckFault}
 use Rattle.ex_check.specs.declared.report.CheckFault.TheVariants as checked
 use Rattle.rp_config.specs.Loading.{Held, file_at, loaded_at}

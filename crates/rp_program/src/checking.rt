@@ -1,8 +1,8 @@
 //! What is told of the schema in a file.
 ghost use Rattle.std.specs.Prelude.{◌≡◌, ◌≢◌, IfOk, IfErr, IfSome, IsErrOf};
 ghost use Rattle.std.specs.Io.KnownBytes.{Appends};
-ghost use Rattle.text_forms.specs.declared.Failure.{Failure};
-ghost use Rattle.text_forms.specs.Gives.{Fails};
+ghost use Rattle.plain_data.specs.declared.failure.Failure.{Failure};
+ghost use Rattle.plain_data.specs.Gives.{Fails};
 ghost use Rattle.rp_io.specs.Front.{AppendsFront};
 ghost use Rattle.ex_check.specs.Check.{report, verdict as verdict_of};
 ghost use Rattle.ex_check.specs.Explained.{explanation};

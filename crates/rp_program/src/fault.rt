@@ -1,9 +1,9 @@
 //! Why a command ends before its work is done.
 use ex_check::CheckFault;
+use plain_data::Failure;
 use rp_config::LoadFault;
 use rp_repo::NewFault;
 use std::alloc::AllocError;
-use text_forms::Failure;
 
 /// Why there is nothing to work on.
 #[derive(Drop)]
@@ -33,10 +33,7 @@ impl From<Failure<LoadFault>> for Fault {
     ghost from_gives = { λ failure e. e ≡ Start (load_failure failure) };
 
     fn from(failure: Failure<LoadFault>) -> Fault {
-        match failure {
-            Failure::Fault(fault) => Fault::Start(Failure::Fault(StartFault::Load(fault))),
-            Failure::NoMemory => Fault::Start(Failure::NoMemory),
-        }
+        Fault::Start(failure.map(StartFault::Load))
     }
 }
 
@@ -57,7 +54,7 @@ impl From<NewFault> for Fault {
 
 impl From<AllocError> for Fault {
     ghost use Rattle.std.specs.Prelude.{◌≡◌};
-    ghost use Rattle.text_forms.specs.declared.Failure.TheVariants.{NoMemory};
+    ghost use Rattle.plain_data.specs.declared.failure.Failure.TheVariants.{NoMemory};
     ghost use Rattle.rp_program.specs.declared.fault.Fault.TheVariants.{Start};
 
     ghost from_gives = { λ error e. e ≡ Start NoMemory };

@@ -1,7 +1,7 @@
 //! All lines of an input, answered by the repository that a configuration opens.
 ghost use Rattle.std.specs.Prelude.{◌≡◌, ◌≢◌, ◌⊎◌, Ok, IfOk, IfSome, IsErrOf};
-ghost use Rattle.text_forms.specs.declared.Failure.{Failure};
-ghost use Rattle.text_forms.specs.Gives.{Fails};
+ghost use Rattle.plain_data.specs.declared.failure.Failure.{Failure};
+ghost use Rattle.plain_data.specs.Gives.{Fails};
 ghost use Rattle.rp_io.specs.Held.{unread, RunsOut};
 ghost use Rattle.rp_repo.specs.LineRuns.{max_reads, IsWholeRun, IsFirstRun, IsCutRun};
 ghost use Rattle.rp_program.specs.declared.fault.StartFault.{StartFault};

@@ -6,7 +6,8 @@ use Rattle.std.specs.Cmp.{tied_then}
 use Rattle.std.proofs.lemmas.Map.Text.{is_eq-slice_cmp}
 use Rattle.sorted_tables.specs.Table.{IsAscending}
 use Rattle.sorted_tables.proofs.Searching.{chosen}
-use Rattle.rp_rows.specs.Rows.{text_cmp, Key, key_cmp, same_key, row_key, is_row, Model, GroupRow}
+use Rattle.rp_rows.specs.declared.rows.Key.{Key}
+use Rattle.rp_rows.specs.Rows.{text_cmp, key_cmp, same_key, row_key, is_row, Model, GroupRow}
 use Rattle.rp_rows.specs.Sight.{counts}
 use Rattle.rp_plain.specs.Readers.{as_counted, counted_in}
 use Rattle.rp_plain.specs.Populations.{counts_among}
@@ -16,9 +17,9 @@ use Rattle.rp_readers.proofs.Looking.{seen_found}
 
 pub same_at : (k : Key) (m : Model) → same_key k (row_key m) ≡ is_row k m
 same_at k m =
-    let owner = sym (is_eq-slice_cmp m.owner k.0) in
-    let name = sym (is_eq-slice_cmp m.name k.1) in
-    (λ i. owner i && name i) ∙ tied_then (text_cmp m.owner k.0) (text_cmp m.name k.1)
+    let owner = sym (is_eq-slice_cmp m.owner k.owner) in
+    let name = sym (is_eq-slice_cmp m.name k.name) in
+    (λ i. owner i && name i) ∙ tied_then (text_cmp m.owner k.owner) (text_cmp m.name k.name)
 
 any_counted : (k : Key) (g : GroupRow) (ms : List Model) → counts_among (counted_in ms (Some g)) k ≡ is_some (find (λ m. is_row k m && counts m g) ms)
 any_counted k g [] = refl

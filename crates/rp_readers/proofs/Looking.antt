@@ -5,7 +5,8 @@ use Rattle.sorted_tables.specs.Table.{IsAscending}
 use Rattle.sorted_tables.proofs.Searching.{found_passing, chosen}
 use Rattle.rp_rows.specs.declared.rows.Right.{Right}
 use Rattle.rp_rows.specs.declared.rows.Right.TheVariants.{Unseen, Reads, Groups, Writes, Owns}
-use Rattle.rp_rows.specs.Rows.{Text, Key, key_cmp, Row, row_key, is_row, Model, GroupRow}
+use Rattle.rp_rows.specs.declared.rows.Key.{Key}
+use Rattle.rp_rows.specs.Rows.{Text, key_cmp, Row, row_key, is_row, Model, GroupRow}
 use Rattle.rp_rows.specs.Sight.{at_least, level, sees}
 use Rattle.rp_plain.specs.Readers.{right_at}
 use Rattle.rp_rows.proofs.Keys.{key_total}

@@ -6,11 +6,11 @@ use Rattle.std.specs.Ordering.{is_eq, nat_cmp}
 use Rattle.std.proofs.lemmas.Bool.Decides.{nat_tests}
 use Rattle.std.proofs.lemmas.Cmp.{nat_cmp_total}
 use Rattle.std.proofs.lemmas.Option.{slice_get_read}
+use Rattle.plain_data.specs.Numbers.{is_among}
 use Rattle.sorted_tables.specs.Table.{is_at, is_before, IsAscending}
 use Rattle.sorted_tables.proofs.Searching.{at_place, chosen}
 use Rattle.rp_content.specs.declared.instance.Instance.{Instance}
 use Rattle.rp_rows.specs.Rows.{Text, is_row, Model, GroupRow}
-use Rattle.p21_instances.specs.Instances.{is_among}
 use Rattle.rp_rows.specs.Contents.{instance_name, names}
 use Rattle.rp_rows.specs.Instances.{instance_of}
 use Rattle.rp_rows.specs.Sight.{sees, sees_group}

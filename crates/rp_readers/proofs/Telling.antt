@@ -3,7 +3,8 @@ use Rattle.std.proofs.Common.{◌≡◌, List, [], ◌∷◌, map, Option, Some,
 use Rattle.std.specs.Prelude.{Result, Ok, Err, IfOk}
 use Rattle.std.specs.List.{find}
 use Rattle.sorted_tables.specs.Table.{IsAscending}
-use Rattle.rp_rows.specs.Rows.{Key, key_cmp, row_key, is_row, Model, GroupRow}
+use Rattle.rp_rows.specs.declared.rows.Key.{Key}
+use Rattle.rp_rows.specs.Rows.{key_cmp, row_key, is_row, Model, GroupRow}
 use Rattle.rp_rows.specs.declared.rows.ModelContent.{ModelContent}
 use Rattle.rp_tables.specs.declared.table.RowRef.{RowRef}
 use Rattle.rp_tables.specs.Stored.{row_of}

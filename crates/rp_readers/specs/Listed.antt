@@ -2,7 +2,8 @@
 use Rattle.std.specs.Prelude.{◌≡◌, Some}
 use Rattle.std.specs.List.{AllByRecursion}
 use Rattle.rp_rows.specs.declared.rows.Listing.{Listing}
-use Rattle.rp_rows.specs.Rows.{Key, GroupRow}
+use Rattle.rp_rows.specs.declared.rows.Key.{Key}
+use Rattle.rp_rows.specs.Rows.{GroupRow}
 use Rattle.rp_rows.specs.Listings.{IsListed}
 use Rattle.rp_population.specs.Populations.{Counted}
 use Rattle.rp_plain.specs.Plain.{Plain}

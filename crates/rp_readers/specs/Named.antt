@@ -5,7 +5,7 @@ use Rattle.std.specs.Ordering.{nat_cmp}
 use Rattle.sorted_tables.specs.Table.{IsAscending}
 use Rattle.rp_content.specs.declared.content.Content.{Content}
 use Rattle.rp_rows.specs.declared.rows.ModelContent.{ModelContent}
-use Rattle.rp_rows.specs.Rows.{Key}
+use Rattle.rp_rows.specs.declared.rows.Key.{Key}
 use Rattle.rp_rows.specs.Contents.{link_name}
 use Rattle.rp_rows.specs.Instances.{IsInOrder}
 use Rattle.rp_plain.specs.Plain.{Plain}

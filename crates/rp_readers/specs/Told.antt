@@ -1,7 +1,8 @@
 -- What a partner's requests are told of what a repository holds.
 use Rattle.rp_rows.specs.declared.rows.Right.{Right}
 use Rattle.std.specs.Prelude.{Bool}
-use Rattle.rp_rows.specs.Rows.{Key, Model, GroupRow}
+use Rattle.rp_rows.specs.declared.rows.Key.{Key}
+use Rattle.rp_rows.specs.Rows.{Model, GroupRow}
 use Rattle.rp_plain.specs.declared.lists.Member.{Member}
 use Rattle.rp_plain.specs.declared.lists.Item.{Item}
 use Rattle.rp_plain.specs.Plain.{Plain}

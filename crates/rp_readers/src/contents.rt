@@ -59,7 +59,7 @@ fn listed_instances(
 {
     let mut rows = Vec::with_capacity(alloc, instances.len())?;
     for instance in instances {
-        let type_name = type_text(alloc, schema, &instance.types)?;
+        let type_name = type_text(alloc, schema, &instance.entities)?;
         rows.push(ListedInstance {
             name: instance.name,
             type_name,

@@ -15,10 +15,10 @@ use rp_rows::rows::{Key, Listing, ModelContent, Right};
 use std::alloc::{AllocError, Global};
 
 fn item(alloc: Global, key: &Key, schema: &Text, right: Right) -> Result<Item, AllocError>
-    ensures { IfOk result (λ item. item ≡ record { owner = key.now.0; name = key.now.1; schema = schema.now; right = right }) }
+    ensures { IfOk result (λ item. item ≡ record { owner = key.now.owner; name = key.now.name; schema = schema.now; right = right }) }
 {
-    let owner = key.0.copy(alloc)?;
-    let name = key.1.copy(alloc)?;
+    let owner = key.owner.copy(alloc)?;
+    let name = key.name.copy(alloc)?;
     let schema = schema.copy(alloc)?;
     Ok(Item {
         owner,

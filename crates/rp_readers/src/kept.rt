@@ -12,12 +12,11 @@ use ex_layouts::{Layouts, LoadedSchema};
 use p21_bind::bind_instance;
 use p21_read::Mapping;
 use p21_write::write_instance;
-use plain_data::Text;
+use plain_data::{Failure, Text};
 use rp_content::Instance;
 use rp_plain::messages::Refusal;
 use std::alloc::{AllocError, Global};
 use std::marker::Model;
-use text_forms::Failure;
 
 /// The schemas of a repository, each with what was found in it for some instances. No reply tells what is kept.
 #[derive(Drop)]
@@ -45,7 +44,7 @@ fn place_named(layouts: &[Layouts<'_>], name: &Text) -> Option<usize>
     ensures place { result ≡ position (λ schema. bytes_eq name.now (schema_name schema)) layouts.now }
     ensures within { IfSome result (λ place. place < length layouts.now) }
 {
-    layouts.iter().position(|layouts| name.as_str() == layouts.schema().checked().name())
+    layouts.iter().position(|layouts| name.as_str() == layouts.loaded().checked().name())
 }
 
 /// The instance of this name that the mapping is by the schema, or its first fault.

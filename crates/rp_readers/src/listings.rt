@@ -2,6 +2,7 @@
 #![tactic(auto, unfolding(crate::specs::Told::told))]
 
 ghost use Rattle.std.specs.Prelude.{◌≡◌, map, option_map, option_copied, IfOk};
+ghost use Rattle.rp_rows.specs.Rows.{key_of};
 ghost use Rattle.rp_plain.specs.Plain.{group_at};
 ghost use Rattle.rp_plain.specs.Groups.{members_of as MembersOf};
 ghost use Rattle.rp_plain.specs.Populations.{member};
@@ -11,7 +12,7 @@ ghost use Rattle.rp_readers.specs.Told.{plain_of, told, member_told};
 
 use crate::readers::Readers;
 use plain_data::{Rows, Text};
-use rp_access::{Member as Listed, copy_key, group_right, members_of, sees_group};
+use rp_access::{Member as Listed, group_right, members_of, sees_group};
 use rp_plain::lists::Member;
 use rp_rows::rows::{Key, Listing, Right};
 use rp_tables::RowRef;
@@ -23,7 +24,7 @@ fn told_members(alloc: Global, members: &[Listed<'_>]) -> Result<Rows<Member>, A
 {
     let mut rows = Vec::with_capacity(alloc, members.len())?;
     for member in members {
-        let model = copy_key(alloc, member.model)?;
+        let model = member.model.copy(alloc)?;
         rows.push(Member {
             model,
             counts: member.counts,
@@ -35,7 +36,7 @@ fn told_members(alloc: Global, members: &[Listed<'_>]) -> Result<Rows<Member>, A
 impl<'a, 's> Readers<'a, 's> {
     /// The group of this owner and name, if the partner sees it.
     fn group_of(&self, owner: &Text, name: &Text) -> Option<RowRef<'a, Listing>>
-        ensures { option_map row_of result ≡ group_at (plain_of self.now) self.now.caller.now (owner.now, name.now) }
+        ensures { option_map row_of result ≡ group_at (plain_of self.now) self.now.caller.now (key_of owner.now name.now) }
     {
         let group = self.groups.table().find_for(owner, name)?;
         if sees_group(self.caller, &group) {
@@ -49,12 +50,12 @@ impl<'a, 's> Readers<'a, 's> {
     pub fn group(&self, key: &Key) -> Option<RowRef<'a, Listing>>
         ensures { option_map row_of result ≡ group_at (plain_of self.now) self.now.caller.now key.now }
     {
-        self.group_of(&key.0, &key.1)
+        self.group_of(&key.owner, &key.name)
     }
 
     /// What the partner may do with the group of this owner and name.
     fn right_on_group(&self, owner: &Text, name: &Text) -> Right
-        ensures { result ≡ (told self.now).group_right (owner.now, name.now) }
+        ensures { result ≡ (told self.now).group_right (key_of owner.now name.now) }
     {
         match self.group_of(owner, name) {
             Some(group) => group_right(self.caller, &group),
@@ -66,12 +67,12 @@ impl<'a, 's> Readers<'a, 's> {
     pub fn group_right(&self, key: &Key) -> Right
         ensures { result ≡ (told self.now).group_right key.now }
     {
-        self.right_on_group(&key.0, &key.1)
+        self.right_on_group(&key.owner, &key.name)
     }
 
     /// What the partner may do with his own group of this name. No key is made for it.
     pub fn own_group_right(&self, name: &Text) -> Right
-        ensures { result ≡ (told self.now).group_right (self.now.caller.now, name.now) }
+        ensures { result ≡ (told self.now).group_right (key_of self.now.caller.now name.now) }
     {
         self.right_on_group(self.caller, name)
     }
@@ -88,7 +89,7 @@ impl<'a, 's> Readers<'a, 's> {
 
     /// What the partner's own group of this name lists. No key is made for it.
     pub fn own_listing(&self, name: &Text) -> Option<&'a Listing>
-        ensures { option_copied result ≡ (told self.now).listing (self.now.caller.now, name.now) }
+        ensures { option_copied result ≡ (told self.now).listing (key_of self.now.caller.now name.now) }
     {
         match self.group_of(self.caller, name) {
             Some(group) => Some(group.holds),

@@ -2,8 +2,8 @@
 
 ghost use Rattle.std.specs.Prelude.{◌≡◌, filter, length};
 ghost use Rattle.std.specs.Ordering.{is_lt, nat_cmp};
+ghost use Rattle.plain_data.specs.Numbers.{is_among};
 ghost use Rattle.sorted_tables.specs.Table.{is_before, IsAscending};
-ghost use Rattle.p21_instances.specs.Instances.{is_among};
 ghost use Rattle.rp_rows.specs.Contents.{names, link_name, link_names};
 ghost use Rattle.rp_rows.specs.Instances.{IsInOrder};
 ghost use Rattle.rp_readers.specs.Named.{IsSearchable};

@@ -2,6 +2,7 @@
 #![tactic(auto, unfolding(crate::specs::Told::told))]
 
 ghost use Rattle.std.specs.Prelude.{◌≡◌, ◌<◌, [], false, slice_index_or, MatchOption, length, option_map, option_copied};
+ghost use Rattle.rp_rows.specs.Rows.{key_of};
 ghost use Rattle.rp_plain.specs.Plain.{model_at};
 ghost use Rattle.rp_plain.specs.Meaning.{has_text, has_schema as HasSchema, schema_named as SchemaNamed};
 ghost use Rattle.rp_tables.specs.Stored.{row_of};
@@ -82,7 +83,7 @@ impl<'a, 's> Readers<'a, 's> {
 
     /// The model of this owner and name, if the partner sees it.
     fn model(&self, owner: &Text, name: &Text) -> Option<RowRef<'a, ModelContent>>
-        ensures { option_map row_of result ≡ model_at (plain_of self.now) self.now.caller.now (owner.now, name.now) }
+        ensures { option_map row_of result ≡ model_at (plain_of self.now) self.now.caller.now (key_of owner.now name.now) }
     {
         let model = self.models.find_for(owner, name)?;
         if at_least(Right::Reads, level(self.groups, self.caller, &model)) {
@@ -94,7 +95,7 @@ impl<'a, 's> Readers<'a, 's> {
 
     /// What the partner may do with the model of this owner and name.
     fn right_on_model(&self, owner: &Text, name: &Text) -> Right
-        ensures { result ≡ (told self.now).model_right (owner.now, name.now) }
+        ensures { result ≡ (told self.now).model_right (key_of owner.now name.now) }
     {
         match self.models.find_for(owner, name) {
             Some(model) => level(self.groups, self.caller, &model),
@@ -106,19 +107,19 @@ impl<'a, 's> Readers<'a, 's> {
     pub fn model_right(&self, key: &Key) -> Right
         ensures { result ≡ (told self.now).model_right key.now }
     {
-        self.right_on_model(&key.0, &key.1)
+        self.right_on_model(&key.owner, &key.name)
     }
 
     /// What the partner may do with his own model of this name. No key is made for it.
     pub fn own_model_right(&self, name: &Text) -> Right
-        ensures { result ≡ (told self.now).model_right (self.now.caller.now, name.now) }
+        ensures { result ≡ (told self.now).model_right (key_of self.now.caller.now name.now) }
     {
         self.right_on_model(self.caller, name)
     }
 
     /// What the model of this owner and name holds, if the partner sees it. No key is made for it.
     pub fn content_of(&self, owner: &Text, name: &Text) -> Option<&'a ModelContent>
-        ensures { option_copied result ≡ (told self.now).content (owner.now, name.now) }
+        ensures { option_copied result ≡ (told self.now).content (key_of owner.now name.now) }
     {
         match self.model(owner, name) {
             Some(model) => Some(model.holds),
@@ -130,7 +131,7 @@ impl<'a, 's> Readers<'a, 's> {
     pub fn content(&self, key: &Key) -> Option<&'a ModelContent>
         ensures { option_copied result ≡ (told self.now).content key.now }
     {
-        self.content_of(&key.0, &key.1)
+        self.content_of(&key.owner, &key.name)
     }
 
     /// How many models are the partner's own.

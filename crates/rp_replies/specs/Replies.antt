@@ -114,11 +114,11 @@ link_data l = object (with_number (codes "instance") l.target (with_string (code
 
 -- whether it counts, and the model
 abbrev pub member_data : Member → Data
-member_data m = object (member (codes "counts") (boolean m.counts) (with_string (codes "model") m.model.1 (with_string (codes "owner") m.model.0 no_members)))
+member_data m = object (member (codes "counts") (boolean m.counts) (with_string (codes "model") m.model.name (with_string (codes "owner") m.model.owner no_members)))
 
 -- an owner, the name of a model, and that of an instance
 abbrev pub instance_data : Place → Data
-instance_data p = array (item (string p.model.0) (item (string p.model.1) (item (number (unsigned p.instance)) no_items)))
+instance_data p = array (item (string p.model.owner) (item (string p.model.name) (item (number (unsigned p.instance)) no_items)))
 
 -- a place in a text, and of which kind it is
 abbrev pub place_data : ℕ → List ℕ → Data

@@ -97,11 +97,10 @@ fn write_member(out: &mut Writer, member: &Member) -> Result<(), AllocError>
     ensures ok { OnOk result (out.new.tokens ≡ out.old.tokens ++ tokens_of (member_data member.now)) }
     ensures before { out.new.before ≡ out.old.before }
 {
-    let (owner, name) = &member.model;
     out.begin_object()?;
     boolean_at(out, "counts", member.counts)?;
-    string_at(out, "model", name.as_str())?;
-    string_at(out, "owner", owner.as_str())?;
+    string_at(out, "model", member.model.name.as_str())?;
+    string_at(out, "owner", member.model.owner.as_str())?;
     out.end_object()
 }
 
@@ -121,10 +120,9 @@ fn write_place(out: &mut Writer, place: &Place) -> Result<(), AllocError>
     ensures ok { OnOk result (out.new.tokens ≡ out.old.tokens ++ tokens_of (instance_data place.now)) }
     ensures before { out.new.before ≡ out.old.before }
 {
-    let (owner, name) = &place.model;
     out.begin_array()?;
-    out.string(owner.as_str())?;
-    out.string(name.as_str())?;
+    out.string(place.model.owner.as_str())?;
+    out.string(place.model.name.as_str())?;
     out.u64(place.instance)?;
     out.end_array()
 }

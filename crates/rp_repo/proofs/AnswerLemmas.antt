@@ -16,7 +16,8 @@ use Rattle.rp_core.specs.Held.{made, IsPrepared}
 use Rattle.rp_core.specs.declared.steps.Pending.{Pending}
 use Rattle.rp_requests.specs.Asks.{asked_of}
 use Rattle.rp_replies.specs.Replies.{line_of_reply}
-use Rattle.rp_repo.specs.LineRuns.{max_line, caller_of, turn_for, refusal_of, meant_for, meant, Answers}
+use Rattle.rp_io.specs.Limits.{line_limit}
+use Rattle.rp_repo.specs.LineRuns.{caller_of, turn_for, refusal_of, meant_for, meant, Answers}
 use Rattle.rp_repo.proofs.Partners.{is_among}
 
 -- ---- refusals
@@ -37,14 +38,14 @@ if_refused items r refusal meaning (Ok v) told means said = refused_answers r re
 
 -- ---- lines
 
-too_large : (r : Plain) (line : List ℕ) → max_line < length line → meant r line ≡ refusal_of r TooLarge
+too_large : (r : Plain) (line : List ℕ) → line_limit < length line → meant r line ≡ refusal_of r TooLarge
 too_large r line over =
-    let is : nat_lt max_line (length line) ≡ true = grind (arith, nat_tests) in
+    let is : nat_lt line_limit (length line) ≡ true = grind (arith, nat_tests) in
     ap (λ t. if t then refusal_of r TooLarge else meant_for r BadRequest (turn_for r.partners (asked_of line))) is
 
-kept_whole : (r : Plain) (line : List ℕ) → length line < suc max_line → meant r line ≡ meant_for r BadRequest (turn_for r.partners (asked_of line))
+kept_whole : (r : Plain) (line : List ℕ) → length line < suc line_limit → meant r line ≡ meant_for r BadRequest (turn_for r.partners (asked_of line))
 kept_whole r line within =
-    let is : nat_lt max_line (length line) ≡ false = grind (arith, nat_tests) in
+    let is : nat_lt line_limit (length line) ≡ false = grind (arith, nat_tests) in
     ap (λ t. if t then refusal_of r TooLarge else meant_for r BadRequest (turn_for r.partners (asked_of line))) is
 
 pub if_too_large : {V E : Type 0} (items : V → List ℕ) (r : Plain) (how : Room) (kept : List ℕ) (o : Result V E) → how ≡ room.TooLarge → IfOk o (λ v. items v ≡ line_of_reply (Refused TooLarge))

@@ -10,20 +10,21 @@ use Rattle.rp_plain.specs.Turns.{Turn, Run}
 use Rattle.rp_laws.specs.Laws.{TwoRuns}
 use Rattle.rp_requests.specs.Asks.{asked_of}
 use Rattle.rp_replies.specs.Replies.{line_of_reply}
-use Rattle.rp_repo.specs.LineRuns.{max_line, turn_for, refusal_of, meant_for, meant}
+use Rattle.rp_io.specs.Limits.{line_limit}
+use Rattle.rp_repo.specs.LineRuns.{turn_for, refusal_of, meant_for, meant}
 use Rattle.rp_repo.specs.LineLaws.{turn_of, with_turn, with_reply, turns_of, replies_of, LinesAreTurns, TwoInputs}
 use Rattle.rp_repo.proofs.Partners.{next_partners, left_partners}
 
 -- why a line is refused that asks for no turn
 abbrev refusal_for : List ℕ → Refusal
-refusal_for line = if nat_lt max_line (length line) then TooLarge else BadRequest
+refusal_for line = if nat_lt line_limit (length line) then TooLarge else BadRequest
 
 by_length : (r : Plain) (asked : Option Turn) (t : Bool) → (if t then refusal_of r TooLarge else meant_for r BadRequest asked) ≡ meant_for r (if t then TooLarge else BadRequest) (if t then None else asked)
 by_length r asked true = refl
 by_length r asked false = refl
 
 meaning : (r : Plain) (line : List ℕ) → meant r line ≡ meant_for r (refusal_for line) (turn_of r.partners line)
-meaning r line = by_length r (turn_for r.partners (asked_of line)) (nat_lt max_line (length line))
+meaning r line = by_length r (turn_for r.partners (asked_of line)) (nat_lt line_limit (length line))
 
 meant_partners : (r : Plain) (refusal : Refusal) (turn : Option Turn) → (meant_for r refusal turn).next.partners ≡ r.partners
 meant_partners r refusal None = refl

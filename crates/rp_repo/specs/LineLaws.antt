@@ -6,11 +6,12 @@ use Rattle.rp_plain.specs.Valid.{IsOrdered}
 use Rattle.rp_plain.specs.declared.messages.Reply.{Reply}
 use Rattle.rp_requests.specs.Asks.{asked_of}
 use Rattle.rp_replies.specs.Replies.{line_of_reply}
-use Rattle.rp_repo.specs.LineRuns.{max_line, turn_for, LineRun}
+use Rattle.rp_io.specs.Limits.{line_limit}
+use Rattle.rp_repo.specs.LineRuns.{turn_for, LineRun}
 
 -- the turn that a line asks for; a line that is no partner's request asks for none
 abbrev pub turn_of : List (List ℕ) → List ℕ → Option Turn
-turn_of partners line = if nat_lt max_line (length line) then None else turn_for partners (asked_of line)
+turn_of partners line = if nat_lt line_limit (length line) then None else turn_for partners (asked_of line)
 
 abbrev pub with_turn : Option Turn → List Turn → List Turn
 with_turn None turns = turns

@@ -2,6 +2,7 @@
 use Rattle.std.specs.Prelude.{◌≡◌, ℕ, Bool, true, List, [], ◌∷◌, ◌++◌, length, nat_lt, if◌then◌else◌, Option, Some, None, option_map, flat_map, ⊤}
 use Rattle.std.specs.Io.KnownBytes.{Appends}
 use Rattle.rp_io.specs.Front.{AppendsFront}
+use Rattle.rp_io.specs.Limits.{line_limit}
 use Rattle.rp_io.specs.Lines.{lines_of}
 use Rattle.rp_plain.specs.Plain.{Plain}
 use Rattle.rp_plain.specs.Meaning.{has_text}
@@ -17,10 +18,6 @@ use Rattle.rp_requests.specs.Asks.{asked_of}
 use Rattle.rp_replies.specs.Replies.{line_of_reply}
 
 -- ---- one line
-
--- the bytes of a line: 16 MiB
-abbrev pub max_line : ℕ
-max_line = 16777216
 
 -- whom a line names, if it names one of these partners
 abbrev pub caller_of : List (List ℕ) → Option (List ℕ) → Option (List ℕ)
@@ -43,7 +40,7 @@ meant_for r refusal (Some t) = effect r t
 
 -- what a line means: a partner's request is his turn
 abbrev pub meant : Plain → List ℕ → Effect
-meant r line = if nat_lt max_line (length line) then refusal_of r TooLarge else meant_for r BadRequest (turn_for r.partners (asked_of line))
+meant r line = if nat_lt line_limit (length line) then refusal_of r TooLarge else meant_for r BadRequest (turn_for r.partners (asked_of line))
 
 -- ---- runs
 

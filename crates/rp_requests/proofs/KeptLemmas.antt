@@ -1,5 +1,5 @@
 -- What is kept of values and of members.
-use Rattle.std.proofs.Common.{◌≡◌, ◌<◌, ◌-◌, ℕ, List, length, [], ◌∷◌, Bool, true, false, true≢false, cond, is_some, codes, bytes_eq, Option, Some, None, MatchOption, option_map, option_and_then, refl, ap, ap₂, sym, ◌∙◌}
+use Rattle.std.proofs.Common.{◌≡◌, ◌<◌, ◌-◌, ℕ, List, length, [], ◌∷◌, Bool, true, false, true≢false, cond, is_some, codes, bytes_eq, Option, Some, None, MatchOption, option_map, option_and_then, refl, ap, ap₂, sym, ◌∙◌, arith, rules}
 use Rattle.std.proofs.lemmas.Slice.Eq.{bytes_eq-Decides}
 use Rattle.json.specs.Token as spec
 use Rattle.json.specs.Json.{parse_map, items, value}
@@ -8,23 +8,24 @@ use Rattle.serde_json.specs.Data.{Num, Data, null, number, array, Items, Members
 use Rattle.serde_json.specs.Find.{as_array, get_member}
 use Rattle.serde_json.specs.Read.{number_of, of_json, of_items, converted}
 use Rattle.serde_json.specs.View.{view}
-use Rattle.serde_json.specs.declared.value.Value.{Value}
+use Rattle.serde_json.specs.declared.value.Value.{Value, Null, the_lemmas}
 use Rattle.serde_json.proofs.Views.{get_member-put, get_member-put_other}
 use Rattle.rp_content.specs.declared.link.Link.{Link}
 use Rattle.rp_population.specs.declared.place.Place.{Place}
 use Rattle.shallow_json.specs.Passing.{scalar_of}
 use Rattle.shallow_json.specs.Shallow.{plain, shallow}
+use Rattle.shallow_json.proofs.Passes.{list_refused}
 use Rattle.shallow_json.proofs.Reading.{pick, converted-array}
 use Rattle.rp_requests.specs.declared.lines.Lists.{Lists}
 use Rattle.rp_requests.specs.Asks.{links_of, links_if_any, links_in, place_of, place_in, lists_in}
-use Rattle.rp_requests.specs.Kept.{seen, with_list, lists_at, kept_at, kept}
+use Rattle.rp_requests.specs.Kept.{seen, with_list, items_read, lists_at, kept_at, kept}
 
 pub mapped_none : {A B : Type 0} (f : A → B) (o : Option (A × List spec.Token)) → parse_map f o ≡ None → o ≡ None
 mapped_none f None e = refl
 mapped_none f (Some p) e = absurd (cc)
 
 -- a list begins here
-pub list_opened : (ts r : List spec.Token) (o : Option Value) → o ≡ None
+list_opened : (ts r : List spec.Token) (o : Option Value) → o ≡ None
     → MatchOption o (ts ≡ spec.begin_array ∷ r) (λ v. parse_map seen (converted of_json (value 126 ts)) ≡ Some ((view v, None), r)) → ts ≡ spec.begin_array ∷ r
 list_opened ts r None is told = told
 list_opened ts r (Some v) is told = absurd (cc)
@@ -35,12 +36,27 @@ of_array : {A : Type 0} (make : Items → Option A) (o : Option (Items × List s
 of_array make None = refl
 of_array make (Some p) = refl
 
-pub list_kept : {A : Type 0} (make : Items → Option A) (depth : ℕ) (ts r : List spec.Token) (made : Option A) → 0 < depth → parse_map make (converted of_items (items (value (depth - 1)) (length ts) ts)) ≡ Some (made, r)
+list_kept : {A : Type 0} (make : Items → Option A) (depth : ℕ) (ts r : List spec.Token) (made : Option A) → 0 < depth → parse_map make (converted of_items (items (value (depth - 1)) (length ts) ts)) ≡ Some (made, r)
     → parse_map (with_list make) (converted of_json (value depth (spec.begin_array ∷ ts))) ≡ Some ((null, made), r)
 list_kept {A = A} make depth ts r made h read =
     let o = items (value (depth - 1)) (length ts) ts in
     ap (λ v. parse_map (with_list make) (converted of_json v)) (value-begin_array depth ts h) ∙ ap (parse_map (with_list make)) (converted-array o) ∙ of_array make (converted of_items o)
     ∙ ap (parse_map {B = Data × Option A} (λ m. (null, m))) read
+
+-- what is made of a list of which the bracket is read
+pub list_read : {A : Type 0} (make : Items → Option A) (ts rest r : List spec.Token) (o : Option Value) (made : Option A) → o ≡ None
+    → MatchOption o (ts ≡ spec.begin_array ∷ rest) (λ v. parse_map seen (converted of_json (value 126 ts)) ≡ Some ((view v, None), rest))
+    → parse_map make (items_read rest) ≡ Some (made, r) → parse_map (with_list make) (converted of_json (value 126 ts)) ≡ Some ((view Null, made), r)
+list_read {A = A} make ts rest r o made is told read =
+    let is_null : view Null ≡ null = search (rules, the_lemmas) in
+    ap (λ all. parse_map (with_list make) (converted of_json (value 126 all))) (list_opened ts rest o is told) ∙ list_kept make 126 rest r made (omega arith) read
+    ∙ ap {B = Option ((Data × Option A) × List spec.Token)} (λ d. Some ((d, made), r)) (sym is_null)
+
+-- one whose items can't be read
+pub list_unread : (ts rest : List spec.Token) (o : Option Value) → o ≡ None
+    → MatchOption o (ts ≡ spec.begin_array ∷ rest) (λ v. parse_map seen (converted of_json (value 126 ts)) ≡ Some ((view v, None), rest))
+    → items_read rest ≡ None → converted of_json (value 126 ts) ≡ None
+list_unread ts rest o is told none = ap (λ all. converted of_json (value 126 all)) (list_opened ts rest o is told) ∙ list_refused 126 rest (omega arith) none
 
 of_seen : {A : Type 0} (make : Items → Option A) (o : Option (Data × List spec.Token)) → parse_map (with_list make) o ≡ parse_map (λ q. (q.0, option_and_then make q.1)) (parse_map seen o)
 of_seen make None = refl

@@ -12,17 +12,7 @@ use Rattle.serde_json.specs.Find.{get_member, as_str}
 use Rattle.serde_json.specs.View.{view, members_view}
 use Rattle.serde_json.specs.declared.value.Value.{Value}
 use Rattle.serde_json.proofs.Views.{Entry, view-lookup}
-use Rattle.rp_requests.specs.Asks.{has_only, without, text_in, text_if_any, flag_if_any, number_of, number_in}
-
-list_any-map : {X Y : Type 0} (p : X → Bool) (h : Y → X) (ys : List Y) → list_any p (map h ys) ≡ list_any (λ y. p (h y)) ys
-list_any-map p h [] = refl
-list_any-map p h (y ∷ ys) = rw (list_any-map p h ys)
-
-pub has_only-members_view : (keys : List (Bor (List ℕ))) (es : List Entry)
-    → list_all (λ k. list_any (λ key. bytes_eq key.now (string_bytes k)) keys) (keys_of es) ≡ has_only (map (λ key. key.now) keys) (members_view es)
-has_only-members_view keys [] = refl
-has_only-members_view keys (e ∷ es) =
-    rw (list_any-map (λ key. bytes_eq key (string_bytes e.0)) (λ (key : Bor (List ℕ)). key.now) keys, has_only-members_view keys es)
+use Rattle.rp_requests.specs.Asks.{without, text_in, text_if_any, flag_if_any, number_of, number_in}
 
 -- how a map compares a name to its keys
 abbrev pub is_named : List ℕ → String Global → Bool

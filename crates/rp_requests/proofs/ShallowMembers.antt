@@ -13,7 +13,8 @@ use Rattle.shallow_json.proofs.Reading.{pick}
 use Rattle.shallow_json.specs.Shallow.{plain, shallow, flat}
 use Rattle.rp_requests.specs.declared.lines.Lists.{Lists}
 use Rattle.rp_requests.specs.Kept.{kept}
-use Rattle.rp_requests.specs.Asks.{has_only, without, text_in, text_if_any, flag_if_any, number_of, number_in, link_in, link_of, lists_in, create_model_of, item_in, model_in, group_in, put_of, export_of, names_of, get_of, add_of, set_of, drop_of, delete_model_of, list_of, kind_in, level_in, grant_of, revoke_of, create_group_of, delete_group_of, include_of, exclude_of, members_of, extent_of, users_of, schemas_of, check_schema_of, group_request_for, other_request_for, request_for, request_in, asked_with, asked_in, asked_of}
+use Rattle.shallow_json.specs.Keys.{has_only}
+use Rattle.rp_requests.specs.Asks.{without, text_in, text_if_any, flag_if_any, number_of, number_in, link_in, link_of, lists_in, create_model_of, item_in, model_in, group_in, put_of, export_of, names_of, get_of, add_of, set_of, drop_of, delete_model_of, list_of, kind_in, level_in, grant_of, revoke_of, create_group_of, delete_group_of, include_of, exclude_of, members_of, extent_of, users_of, schemas_of, check_schema_of, group_request_for, other_request_for, request_for, request_in, asked_with, asked_in, asked_of}
 
 has_only-shallow : (keys : List (List ℕ)) (ms : Members) → has_only keys (shallow ms) ≡ has_only keys ms
 has_only-shallow keys no_members = refl

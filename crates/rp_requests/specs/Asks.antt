@@ -5,10 +5,13 @@ use Rattle.std.specs.Str.{bytes_eq, is_utf8}
 use Rattle.serde_json.specs.Data.{Data, Items, no_items, item, Members, no_members, member}
 use Rattle.serde_json.specs.Find.{get_member, as_bool, as_str, as_number, as_u64, as_array, as_object}
 use Rattle.serde_json.specs.Read.{read}
+use Rattle.shallow_json.specs.Keys.{has_only}
 use Rattle.rp_content.specs.declared.link.Link.{Link}
 use Rattle.rp_rows.specs.declared.rows.Level.{Level}
 use Rattle.rp_rows.specs.declared.rows.Level.TheVariants.{Read, Group, Write}
-use Rattle.rp_rows.specs.Rows.{Key}
+use Rattle.rp_rows.specs.declared.rows.Key.{Key}
+use Rattle.rp_rows.specs.Rows.{key_of}
+use Rattle.rp_rows.specs.Instances.{max_name}
 use Rattle.rp_population.specs.declared.place.Place.{Place}
 use Rattle.rp_plain.specs.declared.messages.Request.{Request}
 use Rattle.rp_plain.specs.declared.messages.Request.TheVariants.{CreateModel, DeleteModel, Put, Export, Names, Get, Add, Set, DropInstance, ListItems, GrantModel, RevokeModel, CreateGroup, DeleteGroup, GrantGroup, RevokeGroup, Include, Exclude, Members as ListMembers, Extent, Users, Schemas, CheckSchema}
@@ -18,11 +21,6 @@ use Rattle.rp_requests.specs.declared.grants.ItemKind.{ItemKind}
 use Rattle.rp_requests.specs.declared.grants.ItemKind.TheVariants as kinds
 
 -- ---- the members of an object
-
--- each key is one of these
-abbrev pub has_only : List (List ℕ) → Members → Bool
-has_only keys no_members = true
-has_only keys (member k d ms) = list_any (λ key. bytes_eq key k) keys && has_only keys ms
 
 -- the members but for the one at this key
 abbrev pub without : List ℕ → Members → Members
@@ -43,12 +41,9 @@ abbrev pub flag_if_any : Option Data → Option Bool
 flag_if_any None = Some false
 flag_if_any (Some d) = as_bool d
 
--- the greatest number that a request may have: 18 digits
-abbrev pub max_number : ℕ
-max_number = 999999999999999999
-
+-- a number up to the greatest name of an instance
 abbrev pub unless_greater : ℕ → Option ℕ
-unless_greater n = if nat_le n max_number then Some n else None
+unless_greater n = if nat_le n max_name then Some n else None
 
 -- the number of a member, if it is a whole one and not too great
 abbrev pub number_of : Data → Option ℕ
@@ -64,7 +59,7 @@ with_text key ms make = option_and_then make (text_in key ms)
 
 -- the owner of an item, and its name, which stands at this key
 abbrev pub item_in : List ℕ → Members → Option Key
-item_in key ms = with_text (codes "owner") ms (λ owner. with_text key ms (λ name. Some (owner, name)))
+item_in key ms = with_text (codes "owner") ms (λ owner. with_text key ms (λ name. Some (key_of owner name)))
 
 abbrev pub model_in : Members → Option Key
 model_in ms = item_in (codes "model") ms
@@ -75,7 +70,7 @@ group_in ms = item_in (codes "group") ms
 -- ---- links: each has its four keys and no others
 
 abbrev pub link_in : Members → Option Link
-link_in ms = if has_only (codes "instance" ∷ codes "model" ∷ codes "name" ∷ codes "owner" ∷ []) ms then option_and_then (λ target. option_and_then (λ name. option_map (λ model. record { name = name; owner = model.0; model = model.1; target = target }) (model_in ms)) (number_in (codes "name") ms)) (number_in (codes "instance") ms) else None
+link_in ms = if has_only (codes "instance" ∷ codes "model" ∷ codes "name" ∷ codes "owner" ∷ []) ms then option_and_then (λ target. option_and_then (λ name. option_map (λ model. record { name = name; owner = model.owner; model = model.name; target = target }) (model_in ms)) (number_in (codes "name") ms)) (number_in (codes "instance") ms) else None
 
 abbrev pub link_of : Data → Option Link
 link_of d = option_and_then link_in (as_object d)
@@ -97,7 +92,7 @@ links_in ms = links_if_any (get_member (codes "links") ms)
 -- ---- places: a list of an owner, the name of a model, and that of an instance
 
 abbrev pub place_of : Items → Option Place
-place_of (item owner (item name (item instance no_items))) = option_and_then (λ n. option_and_then (λ o. option_map (λ m. record { model = (o, m); instance = n }) (as_str name)) (as_str owner)) (number_of instance)
+place_of (item owner (item name (item instance no_items))) = option_and_then (λ n. option_and_then (λ o. option_map (λ m. record { model = key_of o m; instance = n }) (as_str name)) (as_str owner)) (number_of instance)
 place_of _ = None
 
 -- the place at `of`

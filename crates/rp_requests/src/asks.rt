@@ -8,11 +8,10 @@ use crate::grants::{grant, revoke};
 use crate::groups::{group_request_for, users};
 use crate::lines::{Lists, read_line};
 use crate::links::Links;
-use crate::members::{
-    Members, has_only_keys, take_flag, take_model, take_number, take_text, take_text_if_any,
-};
+use crate::members::{Members, take_flag, take_model, take_number, take_text, take_text_if_any};
 use plain_data::Text;
 use rp_plain::messages::Request;
+use shallow_json::has_only_keys;
 use std::alloc::Global;
 
 /// A request, and who asks.

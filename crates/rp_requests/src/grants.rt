@@ -5,10 +5,11 @@ ghost use Rattle.std.specs.Str.{bytes_eq};
 ghost use Rattle.serde_json.specs.View.{members_view};
 ghost use Rattle.rp_requests.specs.Asks.{text_in, kind_of, kind_in, level_of, level_in, grant_for, grant_of, revoke_for, revoke_of};
 
-use crate::members::{Members, has_only_keys, take_text};
+use crate::members::{Members, take_text};
 use plain_data::Text;
 use rp_plain::messages::Request;
 use rp_rows::rows::Level;
+use shallow_json::has_only_keys;
 
 /// What may be granted.
 #[derive(Clone, Copy)]

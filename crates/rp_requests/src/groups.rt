@@ -4,9 +4,10 @@ ghost use Rattle.std.specs.Prelude.{◌≡◌};
 ghost use Rattle.serde_json.specs.View.{members_view};
 ghost use Rattle.rp_requests.specs.Asks.{create_group_of, delete_group_of, include_of, exclude_of, members_of, extent_of, users_of, group_request_for};
 
-use crate::members::{Members, has_only_keys, take_group, take_model, take_text};
+use crate::members::{Members, take_group, take_model, take_text};
 use rp_plain::messages::Request;
 use rp_population::Place;
+use shallow_json::has_only_keys;
 
 /// Any that has no list.
 pub(crate) fn group_request_for(word: &str, members: Members) -> Option<Request>

@@ -7,13 +7,14 @@ ghost use Rattle.serde_json.specs.View.{view, members_view};
 ghost use Rattle.rp_requests.specs.Asks.{link_in, link_of, links_of};
 ghost use Rattle.rp_requests.specs.Kept.{with_list, items_read};
 
-use crate::members::{Members, has_only_keys, take_model, take_number};
+use crate::members::{Members, take_model, take_number};
 use crate::values::{ITEM_DEPTH, read_unless_list};
 use json::Reader;
 use plain_data::Rows;
 use rp_content::Link;
+use rp_rows::rows::Key;
 use serde_json::Value;
-use shallow_json::{Unread, read_flat};
+use shallow_json::{Unread, has_only_keys, read_flat};
 use std::alloc::{AllocError, Global};
 
 /// The links of a member: nothing where it is no list of links.
@@ -74,7 +75,7 @@ fn link_in(mut members: Members) -> Option<Link>
     }
     let target = take_number(&mut members, "instance")?;
     let name = take_number(&mut members, "name")?;
-    let (owner, model) = take_model(&mut members)?;
+    let Key { owner, name: model } = take_model(&mut members)?;
     Some(Link {
         name,
         owner,

@@ -1,21 +1,17 @@
 //! The members of a JSON object, taken out one after another.
 
-ghost use Rattle.std.specs.Prelude.{◌≡◌, false, map, codes, List, ℕ, option_map, string_bytes};
-ghost use Rattle.std.specs.List.{list_all, list_any};
+ghost use Rattle.std.specs.Prelude.{◌≡◌, false, codes, List, ℕ, option_map};
 ghost use Rattle.std.specs.Str.{bytes_eq};
-ghost use Rattle.std.specs.BTreeMap.{keys as map_keys};
 ghost use Rattle.serde_json.specs.View.{view, members_view};
 ghost use Rattle.serde_json.specs.Find.{get_member, as_str};
-ghost use Rattle.rp_requests.specs.Asks.{has_only, without, text_in, text_if_any, flag_if_any, number_in, number_of, unless_greater, model_in, group_in};
+ghost use Rattle.rp_requests.specs.Asks.{without, text_in, text_if_any, flag_if_any, number_in, number_of, unless_greater, model_in, group_in};
 
 use plain_data::Text;
+use rp_rows::limits::MAX_NAME;
 use rp_rows::rows::Key;
 use serde_json::{Map, Value};
 
 pub(crate) type Members = Map<String, Value>;
-
-/// The greatest number that a request may have: 18 digits.
-const MAX_NUMBER: u64 = 999_999_999_999_999_999;
 
 /// Takes out the string at this key. A member that is no string goes too.
 pub(crate) fn take_text(members: &mut Members, key: &str) -> Option<Text>
@@ -66,7 +62,7 @@ pub(crate) fn take_model(members: &mut Members) -> Option<Key>
 {
     let owner = take_text(members, "owner")?;
     let name = take_text(members, "model")?;
-    Some((owner, name))
+    Some(Key { owner, name })
 }
 
 /// Takes out the owner and the name of a group.
@@ -77,8 +73,8 @@ pub(crate) fn take_group(members: &mut Members) -> Option<Key>
         ≡ text_in other (members_view members.old.entries) }
 {
     let owner = take_text(members, "owner")?;
-    let group = take_text(members, "group")?;
-    Some((owner, group))
+    let name = take_text(members, "group")?;
+    Some(Key { owner, name })
 }
 
 /// Takes out the truth value at this key: false where the key is missing. Another member goes too,
@@ -128,28 +124,9 @@ pub(crate) fn number_of(value: Value) -> Option<u64>
 fn unless_greater(number: u64) -> Option<u64>
     ensures { result ≡ unless_greater number }
 {
-    if number <= MAX_NUMBER {
+    if number <= MAX_NAME {
         Some(number)
     } else {
         None
     }
-}
-
-/// Whether each key is one of these.
-pub(crate) fn has_only_keys(members: &Members, keys: &[&str]) -> bool
-    ensures { result ≡ has_only (map (λ key. key.now) keys.now) (members_view members.now.entries) }
-{
-    each_is_among(members, keys)
-}
-
-fn each_is_among(members: &Members, keys: &[&str]) -> bool
-    ensures { result ≡ list_all (λ k. list_any (λ key. bytes_eq key.now (string_bytes k)) keys.now) (map_keys members.now) }
-{
-    members.keys().all(|name| is_among(name.as_str(), keys))
-}
-
-fn is_among(name: &str, keys: &[&str]) -> bool
-    ensures { result ≡ list_any (λ key. bytes_eq key.now name.now) keys.now }
-{
-    keys.iter().any(|key| *key == name)
 }

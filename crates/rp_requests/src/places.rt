@@ -12,6 +12,7 @@ use crate::members::{number_of, text_of};
 use crate::values::{ITEM_DEPTH, ListItem, next_item, read_unless_list};
 use json::Reader;
 use rp_population::Place;
+use rp_rows::rows::Key;
 use serde_json::Value;
 use shallow_json::{Unread, skip_items};
 use std::alloc::Global;
@@ -61,7 +62,7 @@ fn place_of(owner: ListItem, name: ListItem, instance: ListItem) -> Option<Place
     let owner = text_of(owner.into_value())?;
     let name = text_of(name.into_value())?;
     Some(Place {
-        model: (owner, name),
+        model: Key { owner, name },
         instance,
     })
 }

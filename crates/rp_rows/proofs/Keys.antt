@@ -12,24 +12,25 @@ use Rattle.std.proofs.lemmas.Map.Text.{is_eq-slice_cmp}
 use Rattle.std.proofs.lemmas.Slice.Eq.{bytes_eq-Decides}
 use Rattle.sorted_tables.specs.Table.{IsAscending, with_row}
 use Rattle.sorted_tables.proofs.Ascending.{with_row_ascends, with_none_ascends}
-use Rattle.rp_rows.specs.Rows.{Key, key_cmp, Row, row_key, is_row}
+use Rattle.rp_rows.specs.declared.rows.Key.{Key}
+use Rattle.rp_rows.specs.Rows.{key_cmp, Row, row_key, is_row}
 use Rattle.rp_rows.specs.Alterations.{Alteration, Holds, Grants, altered, granting, grants_of}
 
 pub key_total : IsTotalOrder key_cmp
-key_total = then_total (on_total (λ k. k.0) nat_list_cmp_total) (on_total (λ k. k.1) nat_list_cmp_total)
+key_total = then_total (on_total (λ (k : Key). k.owner) nat_list_cmp_total) (on_total (λ (k : Key). k.name) nat_list_cmp_total)
 
 -- a row at a key has that owner and that name
-key_parts : {A : Type 0} (k : Key) (x : Row A) → is_row k x ≡ true → (is_eq (slice_cmp nat_cmp x.owner k.0) ≡ true) × (is_eq (slice_cmp nat_cmp x.name k.1) ≡ true)
-key_parts k x h = and_parts (is_eq (slice_cmp nat_cmp x.owner k.0)) (is_eq (slice_cmp nat_cmp x.name k.1)) (tied_then (slice_cmp nat_cmp x.owner k.0) (slice_cmp nat_cmp x.name k.1) ∙ h)
+key_parts : {A : Type 0} (k : Key) (x : Row A) → is_row k x ≡ true → (is_eq (slice_cmp nat_cmp x.owner k.owner) ≡ true) × (is_eq (slice_cmp nat_cmp x.name k.name) ≡ true)
+key_parts k x h = and_parts (is_eq (slice_cmp nat_cmp x.owner k.owner)) (is_eq (slice_cmp nat_cmp x.name k.name)) (tied_then (slice_cmp nat_cmp x.owner k.owner) (slice_cmp nat_cmp x.name k.name) ∙ h)
 
-pub owner_at : {A : Type 0} (k : Key) (x : Row A) → is_row k x ≡ true → x.owner ≡ k.0
-owner_at k x h = (bytes_eq-Decides x.owner k.0).0 (sym (is_eq-slice_cmp x.owner k.0) ∙ (key_parts k x h).0)
+pub owner_at : {A : Type 0} (k : Key) (x : Row A) → is_row k x ≡ true → x.owner ≡ k.owner
+owner_at k x h = (bytes_eq-Decides x.owner k.owner).0 (sym (is_eq-slice_cmp x.owner k.owner) ∙ (key_parts k x h).0)
 
-pub name_at : {A : Type 0} (k : Key) (x : Row A) → is_row k x ≡ true → x.name ≡ k.1
-name_at k x h = (bytes_eq-Decides x.name k.1).0 (sym (is_eq-slice_cmp x.name k.1) ∙ (key_parts k x h).1)
+pub name_at : {A : Type 0} (k : Key) (x : Row A) → is_row k x ≡ true → x.name ≡ k.name
+name_at k x h = (bytes_eq-Decides x.name k.name).0 (sym (is_eq-slice_cmp x.name k.name) ∙ (key_parts k x h).1)
 
 pub key_at : {A : Type 0} (k : Key) (x : Row A) → is_row k x ≡ true → row_key x ≡ k
-key_at k x h = λ i. (owner_at k x h i, name_at k x h i)
+key_at k x h = λ i. record { owner = owner_at k x h i; name = name_at k x h i }
 
 pub found_at : {X : Type 0} (p : X → Bool) (xs : List X) (x : X) → find p xs ≡ Some x → p x ≡ true
 found_at p [] x h = cc
@@ -44,7 +45,7 @@ row_ascends k row xs at order = subst (λ j. IsAscending key_cmp row_key (with_r
 
 pub altered_ascends : {A : Type 0} (k : Key) (a : Alteration A) (xs : List (Row A)) → IsAscending key_cmp row_key xs → IsAscending key_cmp row_key (altered k a xs)
 altered_ascends k (Holds None) xs order = with_none_ascends key_cmp row_key key_total k xs order
-altered_ascends k (Holds (Some h)) xs order = row_ascends k (record { owner = k.0; name = k.1; holds = h; grants = grants_of (find (is_row k) xs) }) xs refl order
+altered_ascends k (Holds (Some h)) xs order = row_ascends k (record { owner = k.owner; name = k.name; holds = h; grants = grants_of (find (is_row k) xs) }) xs refl order
 altered_ascends {A = A} k (Grants to l) xs order = by (find (is_row k) xs) refl
   where
     by : (o : Option (Row A)) → find (is_row k) xs ≡ o → IsAscending key_cmp row_key (with_row key_cmp row_key k (option_map (granting to l) o) xs)

@@ -5,7 +5,8 @@ use Rattle.std.specs.Str.{bytes_eq}
 use Rattle.sorted_tables.specs.Table.{with_row}
 use Rattle.rp_rows.specs.declared.rows.Level.{Level}
 use Rattle.rp_rows.specs.declared.rows.Grant.{Grant}
-use Rattle.rp_rows.specs.Rows.{Text, text_cmp, Key, key_cmp, grant_key, Row, row_key, is_row}
+use Rattle.rp_rows.specs.declared.rows.Key.{Key}
+use Rattle.rp_rows.specs.Rows.{Text, text_cmp, key_cmp, grant_key, Row, row_key, is_row}
 
 -- what the row of a name holds from now on (none: it is gone, with its grants), or one partner's grant on it
 pub data Alteration (A : Type 0) : Type 0 where
@@ -26,7 +27,7 @@ granting to l x = record x { grants = with_row text_cmp grant_key to (grant_for 
 -- the row that stands at a key afterwards
 abbrev pub alter : {A : Type 0} → Key → Alteration A → Option (Row A) → Option (Row A)
 alter k (Holds None) old = None
-alter k (Holds (Some a)) old = Some (record { owner = k.0; name = k.1; holds = a; grants = grants_of old })
+alter k (Holds (Some a)) old = Some (record { owner = k.owner; name = k.name; holds = a; grants = grants_of old })
 alter k (Grants to l) old = option_map (granting to l) old
 
 abbrev pub altered : {A : Type 0} → Key → Alteration A → List (Row A) → List (Row A)

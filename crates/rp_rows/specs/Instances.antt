@@ -4,16 +4,13 @@ use Rattle.std.specs.List.{find, list_any}
 use Rattle.std.specs.Ordering.{nat_cmp}
 use Rattle.sorted_tables.specs.Table.{is_at, with_row, IsAscending}
 use Rattle.rp_content.specs.declared.instance.Instance.{Instance}
+pub use Rattle.p21_tree.specs.Names.{max_name}
 use Rattle.rp_rows.specs.declared.rows.ModelContent.{ModelContent}
 use Rattle.rp_rows.specs.Contents.{instance_name, references_of}
 
 -- the instances of a model
 abbrev pub max_instances : ℕ
 max_instances = 200000
-
--- the greatest name of an instance: 18 digits
-abbrev pub max_name : ℕ
-max_name = 999999999999999999
 
 abbrev pub is_instance : ℕ → Instance → Bool
 is_instance = is_at nat_cmp instance_name

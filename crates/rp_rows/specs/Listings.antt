@@ -3,7 +3,8 @@ use Rattle.std.specs.Prelude.{ℕ, Bool, List, Some, None}
 use Rattle.std.specs.List.{list_any}
 use Rattle.sorted_tables.specs.Table.{IsAscending, with_row}
 use Rattle.rp_rows.specs.declared.rows.Listing.{Listing}
-use Rattle.rp_rows.specs.Rows.{Key, key_cmp, same_key}
+use Rattle.rp_rows.specs.declared.rows.Key.{Key}
+use Rattle.rp_rows.specs.Rows.{key_cmp, same_key}
 
 -- the models of one owner
 abbrev pub max_models : ℕ
@@ -25,8 +26,8 @@ abbrev pub IsListed : Listing → Type 0
 IsListed g = IsAscending key_cmp itself g.members
 
 -- whether a model is among them
-abbrev pub is_among : Key → List Key → Bool
-is_among k = list_any (same_key k)
+abbrev pub lists_key : Key → List Key → Bool
+lists_key k = list_any (same_key k)
 
 -- the list has the model from now on
 abbrev pub with_member : Key → Listing → Listing

@@ -7,7 +7,8 @@ use Rattle.rp_rows.specs.declared.rows.Level.TheVariants.{Read, Group, Write}
 use Rattle.rp_rows.specs.declared.rows.Right.{Right}
 use Rattle.rp_rows.specs.declared.rows.Right.TheVariants.{Unseen, Reads, Groups, Writes, Owns}
 use Rattle.rp_rows.specs.declared.rows.Grant.{Grant}
-use Rattle.rp_rows.specs.Rows.{Text, Key, same_key, Row, row_key, Model, GroupRow}
+use Rattle.rp_rows.specs.declared.rows.Key.{Key}
+use Rattle.rp_rows.specs.Rows.{Text, same_key, Row, row_key, Model, GroupRow}
 
 abbrev pub rank : Right → ℕ
 rank Unseen = 0

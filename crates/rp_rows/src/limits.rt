@@ -1,5 +1,7 @@
 //! How much there may be at most.
 
+pub use p21_tree::MAX_NAME;
+
 /// The models of one owner.
 pub const MAX_MODELS: usize = 100;
 
@@ -14,6 +16,3 @@ pub const MAX_INSTANCES: usize = 200_000;
 
 /// The links of a model.
 pub const MAX_LINKS: usize = 10_000;
-
-/// The greatest name of an instance: 18 digits.
-pub const MAX_NAME: u64 = 999_999_999_999_999_999;

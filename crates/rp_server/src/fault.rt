@@ -1,12 +1,11 @@
 //! Why the program ends with status 2, and the line that it then writes on standard error.
-use plain_data::Text;
+use plain_data::{Failure, Text};
 use rp_command::CommandLineFault;
 use rp_config::LoadFault;
 use rp_program::{Fault as CommandFault, StartFault};
 use rp_repo::NewFault;
 use std::alloc::{AllocError, AllocFailed};
 use std::fmt;
-use text_forms::Failure;
 
 /// Why the program ends with status 2.
 #[derive(Drop)]

@@ -4,7 +4,7 @@
 mod fault;
 
 use fault::Fault;
-use plain_data::Text;
+use plain_data::{Failure, Text};
 use rp_command::{Command, command_of};
 use rp_config::{FromFiles, LoadFault, file_bytes, wrong_place};
 use rp_program::{Done, Fault as CommandFault, StartFault, batch, check, explain, status_of};
@@ -12,7 +12,6 @@ use rp_repo::{FromReader, ToWriter};
 use std::process::ExitCode;
 use std::rt::{Env, Files};
 use std::{env, io};
-use text_forms::Failure;
 
 fn main(rt: HostRuntime) -> ExitCode {
     let ended = run(&rt);

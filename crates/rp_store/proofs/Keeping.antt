@@ -8,7 +8,8 @@ use Rattle.std.proofs.Math.Seq.{map-set_same}
 use Rattle.sorted_tables.specs.Table.{is_before, IsAscending}
 use Rattle.sorted_tables.proofs.Tables.{map-append}
 use Rattle.rp_rows.specs.declared.rows.ModelContent.{ModelContent}
-use Rattle.rp_rows.specs.Rows.{Key, key_cmp, Row}
+use Rattle.rp_rows.specs.declared.rows.Key.{Key}
+use Rattle.rp_rows.specs.Rows.{key_cmp, Row}
 use Rattle.rp_rows.proofs.Keys.{key_total, key_at, found_at}
 use Rattle.rp_store.specs.declared.model.KeptModel.{KeptModel}
 use Rattle.rp_store.specs.Places.{place_of, IsThere, IsAbsent}
@@ -71,7 +72,7 @@ gone_there k xs ms i same there = rw (map-remove xs i) (taken_there key_cmp held
 
 -- a model at a key has that key
 held_is_at : (k : Key) (m : Held) → is_held k m ≡ true → m.key ≡ k
-held_is_at k m h = let row : Row ModelContent = record { owner = m.key.0; name = m.key.1; holds = m.holds; grants = [] } in key_at k row h
+held_is_at k m h = let row : Row ModelContent = record { owner = m.key.owner; name = m.key.name; holds = m.holds; grants = [] } in key_at k row h
 
 found_key : (k : Key) (ms : List Held) (m : Held) → find (is_held k) ms ≡ Some m → m.key ≡ k
 found_key k ms m found = held_is_at k m (found_at (is_held k) ms m found)

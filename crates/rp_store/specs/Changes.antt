@@ -32,7 +32,7 @@ abbrev pub fault : Change → List Held → Option StoreFault
 fault (Create k schema) ms = when (is_some (held_at k ms)) Exists
 fault (Remove k) ms = tested (λ h. None) (held_at k ms)
 fault (Put k content) ms = tested (λ h. None) (held_at k ms)
-fault (Add k types values) ms = tested is_full (held_at k ms)
+fault (Add k entities values) ms = tested is_full (held_at k ms)
 fault (Set k i) ms = tested (is_missing i.name) (held_at k ms)
 fault (DropInstance k n) ms = tested (is_needed n) (held_at k ms)
 
@@ -41,6 +41,6 @@ abbrev pub changed : Change → List Held → List Held
 changed (Create k schema) ms = with_model k (Some (new_model schema)) ms
 changed (Remove k) ms = with_model k None ms
 changed (Put k content) ms = edited k (refilled (content_of content)) ms
-changed (Add k types values) ms = edited k (added types values) ms
+changed (Add k entities values) ms = edited k (added entities values) ms
 changed (Set k i) ms = edited k (with_instance i) ms
 changed (DropInstance k n) ms = edited k (without_instance n) ms

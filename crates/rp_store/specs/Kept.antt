@@ -1,6 +1,7 @@
 -- How models are kept, and what a prepared change is.
 use Rattle.std.specs.Prelude.{◌≡◌, ◌≢◌, ◌<◌, List, Some, None, get_or, Result, MatchResult}
-use Rattle.rp_rows.specs.Rows.{Key, key_cmp}
+use Rattle.rp_rows.specs.declared.rows.Key.{Key}
+use Rattle.rp_rows.specs.Rows.{key_cmp}
 use Rattle.rp_store.specs.declared.changes.Prepared.{Prepared}
 use Rattle.rp_store.specs.declared.changes.Prepared.TheVariants.{Hold, Remove, Place, Drop}
 use Rattle.rp_store.specs.declared.changes.Change.{Change}

@@ -4,12 +4,13 @@ use Rattle.std.specs.List.{find}
 use Rattle.sorted_tables.specs.Table.{is_at, with_row}
 use Rattle.rp_content.specs.declared.instance.Instance.{Instance}
 use Rattle.rp_rows.specs.declared.rows.ModelContent.{ModelContent}
-use Rattle.rp_rows.specs.Rows.{Key, key_cmp}
+use Rattle.rp_rows.specs.declared.rows.Key.{Key}
+use Rattle.rp_rows.specs.Rows.{key_cmp}
 use Rattle.rp_rows.specs.Instances.{instance_of}
 
 -- a model's owner and name, and what it holds
 pub record Held : Type 0 where
-  pub key : List ℕ × List ℕ
+  pub key : Key
   pub holds : ModelContent
 
 abbrev pub held_key : Held → Key

@@ -2,7 +2,7 @@
 
 use crate::model::{KeptContent, KeptModel};
 use plain_data::{Items, Text};
-use rp_content::{Instance, Types};
+use rp_content::{Entities, Instance};
 use rp_rows::rows::Key;
 use rp_value::Value;
 use std::alloc::AllocError;
@@ -16,7 +16,7 @@ pub enum Change {
     /// Another content in place of the former.
     Put(Key, KeptContent),
     /// One instance more, under the greatest name and one.
-    Add(Key, Types, Items<Value>),
+    Add(Key, Entities, Items<Value>),
     /// Another instance in place of the one of its name.
     Set(Key, Instance),
     DropInstance(Key, u64),

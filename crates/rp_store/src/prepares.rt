@@ -11,7 +11,7 @@ use crate::changes::{Change, Prepared, StoreFault};
 use crate::model::{KeptContent, KeptModel};
 use crate::store::Store;
 use plain_data::{Items, Text};
-use rp_content::{Instance, Types};
+use rp_content::{Entities, Instance};
 use rp_rows::limits::{MAX_INSTANCES, MAX_NAME};
 use rp_rows::rows::Key;
 use rp_value::Value;
@@ -80,17 +80,17 @@ impl Store {
     pub fn add(
         &mut self,
         key: Key,
-        types: Types,
+        entities: Entities,
         values: Items<Value>,
     ) -> Result<Prepared, StoreFault>
         ensures models { self.new.models ≡ self.old.models }
-        ensures prepares { Prepares (c.Add key types values) self.old.models self.new result }
+        ensures prepares { Prepares (c.Add key entities values) self.old.models self.new result }
     {
         let name = self.next_name(&key)?;
         self.reserve_in(&key)?;
         let instance = Instance {
             name,
-            types,
+            entities,
             values,
         };
         Ok(Prepared::Place(key, instance))
@@ -145,7 +145,7 @@ impl Store {
             Change::Create(key, schema) => self.create(alloc, key, schema),
             Change::Remove(key) => self.remove(key),
             Change::Put(key, content) => self.put(alloc, key, content),
-            Change::Add(key, types, values) => self.add(key, types, values),
+            Change::Add(key, entities, values) => self.add(key, entities, values),
             Change::Set(key, instance) => self.set(key, instance),
             Change::DropInstance(key, name) => self.drop_instance(alloc, key, name),
         }

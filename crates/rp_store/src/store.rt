@@ -52,13 +52,13 @@ impl Model for Store {
 fn is_key(key: &Key, other: &Key) -> bool
     ensures { result ≡ is_eq (key_cmp other.now key.now) }
 {
-    other.0.order(&key.0).then(other.1.order(&key.1)).is_eq()
+    other.order(key).is_eq()
 }
 
 fn is_before_key(key: &Key, other: &Key) -> bool
     ensures { result ≡ is_lt (key_cmp other.now key.now) }
 {
-    other.0.order(&key.0).then(other.1.order(&key.1)).is_lt()
+    other.order(key).is_lt()
 }
 
 impl Store {

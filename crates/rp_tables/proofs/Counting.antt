@@ -35,37 +35,37 @@ first_not_less Less u h = cc
 first_not_less Equal u h = refl
 first_not_less Greater u h = refl
 
-owner_not_less : {B : Type 0} (x y : Entry B) → is_after key_cmp entry_key (entry_key x) y ≡ true → is_lt (text_cmp y.key.0 x.key.0) ≡ false
-owner_not_less x y h = first_not_less (text_cmp y.key.0 x.key.0) (text_cmp y.key.1 x.key.1) h
+owner_not_less : {B : Type 0} (x y : Entry B) → is_after key_cmp entry_key (entry_key x) y ≡ true → is_lt (text_cmp y.key.owner x.key.owner) ≡ false
+owner_not_less x y h = first_not_less (text_cmp y.key.owner x.key.owner) (text_cmp y.key.name x.key.name) h
 
 -- an entry of an owner before c, one of an owner not after c, and one of c
 abbrev pub is_earlier : {B : Type 0} → Text → Entry B → Bool
-is_earlier c x = is_lt (text_cmp x.key.0 c)
+is_earlier c x = is_lt (text_cmp x.key.owner c)
 
 abbrev pub is_not_later : {B : Type 0} → Text → Entry B → Bool
-is_not_later c x = not (is_gt (text_cmp x.key.0 c))
+is_not_later c x = not (is_gt (text_cmp x.key.owner c))
 
 abbrev pub is_owned : {B : Type 0} → Text → Entry B → Bool
-is_owned c x = bytes_eq x.key.0 c
+is_owned c x = bytes_eq x.key.owner c
 
 pub earlier_splits : {B : Type 0} (c : Text) (xs : List (Entry B)) → IsAscending key_cmp entry_key xs → IsPartitionedBy (is_earlier c) xs
-earlier_splits c xs = partitioned key_cmp entry_key (is_earlier c) (λ x y h. down_lt text_cmp nat_list_cmp_total x.key.0 y.key.0 c (text_cmp y.key.0 x.key.0) refl (owner_not_less x y h)) xs
+earlier_splits c xs = partitioned key_cmp entry_key (is_earlier c) (λ x y h. down_lt text_cmp nat_list_cmp_total x.key.owner y.key.owner c (text_cmp y.key.owner x.key.owner) refl (owner_not_less x y h)) xs
 
 pub not_later_splits : {B : Type 0} (c : Text) (xs : List (Entry B)) → IsAscending key_cmp entry_key xs → IsPartitionedBy (is_not_later c) xs
-not_later_splits c xs = partitioned key_cmp entry_key (is_not_later c) (λ x y h. down_le text_cmp nat_list_cmp_total x.key.0 y.key.0 c (text_cmp y.key.0 x.key.0) refl (owner_not_less x y h)) xs
+not_later_splits c xs = partitioned key_cmp entry_key (is_not_later c) (λ x y h. down_le text_cmp nat_list_cmp_total x.key.owner y.key.owner c (text_cmp y.key.owner x.key.owner) refl (owner_not_less x y h)) xs
 
 -- those of owners up to c are those of owners before him, and his own
 pub up_to_owner : {B : Type 0} (c : Text) (xs : List (Entry B)) → length (filter (is_not_later c) xs) ≡ length (filter (is_earlier c) xs) + length (filter (is_owned c) xs)
 up_to_owner c [] = refl
-up_to_owner c (x ∷ xs) = by (text_cmp x.key.0 c) refl (up_to_owner c xs)
+up_to_owner c (x ∷ xs) = by (text_cmp x.key.owner c) refl (up_to_owner c xs)
   where
-    by : (t : Ordering) → text_cmp x.key.0 c ≡ t → length (filter (is_not_later c) xs) ≡ length (filter (is_earlier c) xs) + length (filter (is_owned c) xs) → length (filter (is_not_later c) (x ∷ xs)) ≡ length (filter (is_earlier c) (x ∷ xs)) + length (filter (is_owned c) (x ∷ xs))
+    by : (t : Ordering) → text_cmp x.key.owner c ≡ t → length (filter (is_not_later c) xs) ≡ length (filter (is_earlier c) xs) + length (filter (is_owned c) xs) → length (filter (is_not_later c) (x ∷ xs)) ≡ length (filter (is_earlier c) (x ∷ xs)) + length (filter (is_owned c) (x ∷ xs))
     by Less e rest =
-        let other : bytes_eq x.key.0 c ≡ false = sym (is_eq-slice_cmp x.key.0 c) ∙ ap is_eq e in
+        let other : bytes_eq x.key.owner c ≡ false = sym (is_eq-slice_cmp x.key.owner c) ∙ ap is_eq e in
         rw (e, other) (omega arith)
     by Equal e rest =
-        let own : bytes_eq x.key.0 c ≡ true = sym (is_eq-slice_cmp x.key.0 c) ∙ ap is_eq e in
+        let own : bytes_eq x.key.owner c ≡ true = sym (is_eq-slice_cmp x.key.owner c) ∙ ap is_eq e in
         rw (e, own) (omega arith)
     by Greater e rest =
-        let other : bytes_eq x.key.0 c ≡ false = sym (is_eq-slice_cmp x.key.0 c) ∙ ap is_eq e in
+        let other : bytes_eq x.key.owner c ≡ false = sym (is_eq-slice_cmp x.key.owner c) ∙ ap is_eq e in
         rw (e, other) rest

@@ -11,7 +11,8 @@ use Rattle.std.proofs.lemmas.Option.{slice_get-get_or, slice_get_past}
 use Rattle.sorted_tables.specs.Table.{is_before, with_row, IsAscending}
 use Rattle.sorted_tables.proofs.Searching.{before_splits, at_place, chosen, replaced, absent_stays}
 use Rattle.sorted_tables.proofs.Ascending.{follows_all, none_before, none_there, all_after, inserted, removed, with_row_ascends, with_none_ascends}
-use Rattle.rp_rows.specs.Rows.{Key, key_cmp, Row}
+use Rattle.rp_rows.specs.declared.rows.Key.{Key}
+use Rattle.rp_rows.specs.Rows.{key_cmp, Row}
 use Rattle.rp_rows.proofs.Keys.{key_total, key_at, found_at}
 use Rattle.rp_tables.specs.declared.keyed.Entry.{Entry}
 use Rattle.rp_tables.specs.Entries.{entry_key, is_entry, place_in, IsThere, IsAbsent, with_value, revalued, standing}
@@ -21,7 +22,7 @@ splits k xs order = before_splits key_cmp entry_key key_total k xs order
 
 -- an entry at a key has that key
 pub entry_at : {B : Type 0} (k : Key) (x : Entry B) → is_entry k x ≡ true → entry_key x ≡ k
-entry_at {B = B} k x h = let row : Row B = record { owner = x.key.0; name = x.key.1; holds = x.value; grants = [] } in key_at k row h
+entry_at {B = B} k x h = let row : Row B = record { owner = x.key.owner; name = x.key.name; holds = x.value; grants = [] } in key_at k row h
 
 -- ---- what a search finds
 

@@ -6,7 +6,8 @@ use Rattle.std.specs.Ordering.{is_lt, is_eq, is_gt}
 use Rattle.sorted_tables.specs.Table.{is_before, is_after, with_row, IsAscending}
 use Rattle.sorted_tables.proofs.Tables.{map-append}
 use Rattle.rp_rows.specs.declared.rows.Grant.{Grant}
-use Rattle.rp_rows.specs.Rows.{Text, Key, key_cmp, Row, row_key, is_row}
+use Rattle.rp_rows.specs.declared.rows.Key.{Key}
+use Rattle.rp_rows.specs.Rows.{Text, key_cmp, Row, row_key, is_row}
 use Rattle.rp_rows.specs.Sight.{owns}
 use Rattle.rp_rows.specs.Alterations.{Holds, altered, grants_of}
 use Rattle.rp_tables.specs.declared.keyed.Entry.{Entry}
@@ -174,7 +175,7 @@ pub record Makes {A : Type 0} (xs : List (Entry A)) (ys : List (Entry (List Gran
   pub rows_are : joined xs ys ≡ rows
   pub table : IsTable xs ys
 
-stood : {A : Type 0} (k : Key) (h : A) (o : Option (Entry A)) (p : Option (Entry (List Grant))) → map entry_key (option_to_list o) ≡ map entry_key (option_to_list p) → entry_key (standing k [] p) ≡ k → both (Some (record { key = k; value = h })) (Some (standing k [] p)) ≡ Some (record { owner = k.0; name = k.1; holds = h; grants = grants_of (both o p) })
+stood : {A : Type 0} (k : Key) (h : A) (o : Option (Entry A)) (p : Option (Entry (List Grant))) → map entry_key (option_to_list o) ≡ map entry_key (option_to_list p) → entry_key (standing k [] p) ≡ k → both (Some (record { key = k; value = h })) (Some (standing k [] p)) ≡ Some (record { owner = k.owner; name = k.name; holds = h; grants = grants_of (both o p) })
 stood k h None None same at = refl
 stood k h None (Some y) same at = cc
 stood k h (Some x) None same at = cc
@@ -190,7 +191,7 @@ put_makes {A = A} k h xs ys table =
       rows_are =
           joined-with k (Some x) (Some y) xs ys table.same alike
           ∙ ap (λ o. with_row key_cmp row_key k o (joined xs ys)) (stood k h (find (is_entry k) xs) (find (is_entry k) ys) (same_found k xs ys table.same) at)
-          ∙ ap (λ o. with_row key_cmp row_key k (Some (record { owner = k.0; name = k.1; holds = h; grants = grants_of o })) (joined xs ys)) (sym (find-joined k xs ys table.same));
+          ∙ ap (λ o. with_row key_cmp row_key k (Some (record { owner = k.owner; name = k.name; holds = h; grants = grants_of o })) (joined xs ys)) (sym (find-joined k xs ys table.same));
       table = record {
         same = same_with k (Some x) (Some y) xs ys table.same alike;
         order = keyed_ascends k x xs refl table.order;
@@ -299,13 +300,13 @@ held_at {A = A} P k xs ys rows table are has x found = by (find (is_entry k) ys)
         cc
     by (Some y) e = has (joined_row x y) (at ∙ ap (both (Some x)) e)
 
-pub row_read : {A : Type 0} (xs : List (Entry A)) (ys : List (Entry (List Grant))) (rows : List (Row A)) (i : ℕ) (x : Entry A) (y : Entry (List Grant)) (gs : List Grant) → joined xs ys ≡ rows → map entry_key xs ≡ map entry_key ys → i < length rows → x ≡ get_or xs i x → y ≡ get_or ys i y → gs ≡ y.value → let r : Row A = record { owner = x.key.0; name = x.key.1; holds = x.value; grants = gs } in get_or rows i r ≡ r
+pub row_read : {A : Type 0} (xs : List (Entry A)) (ys : List (Entry (List Grant))) (rows : List (Row A)) (i : ℕ) (x : Entry A) (y : Entry (List Grant)) (gs : List Grant) → joined xs ys ≡ rows → map entry_key xs ≡ map entry_key ys → i < length rows → x ≡ get_or xs i x → y ≡ get_or ys i y → gs ≡ y.value → let r : Row A = record { owner = x.key.owner; name = x.key.name; holds = x.value; grants = gs } in get_or rows i r ≡ r
 row_read {A = A} xs ys rows i x y gs are same within is_x is_y is_gs =
-    let r : Row A = record { owner = x.key.0; name = x.key.1; holds = x.value; grants = gs } in
+    let r : Row A = record { owner = x.key.owner; name = x.key.name; holds = x.value; grants = gs } in
     ap (λ rs. get_or rs i r) (sym are)
     ∙ get-joined xs ys i r x y same (omega (arith, length-joined xs ys same, ap length are))
     ∙ (λ j. joined_row (sym is_x j) (sym is_y j))
-    ∙ ap (λ (hs : List Grant). record { owner = x.key.0; name = x.key.1; holds = x.value; grants = hs }) (sym is_gs)
+    ∙ ap (λ (hs : List Grant). record { owner = x.key.owner; name = x.key.name; holds = x.value; grants = hs }) (sym is_gs)
 
 -- where the row at a key stands, told by its entry
 pub row_there : {A : Type 0} (k : Key) (xs : List (Entry A)) (ys : List (Entry (List Grant))) (rows : List (Row A)) (i : ℕ) → IsTable xs ys → joined xs ys ≡ rows → IsThere k xs i → IsRowThere k rows i

@@ -59,21 +59,21 @@ rest_fails {X = X} p (x ∷ xs) split = by (rest_fails p xs (tail_split p x xs s
 -- those before him are not after him, and those neither before nor after him are his
 earlier_alone : {B : Type 0} (c : Text) (xs : List (Entry B)) → filter (is_earlier c) (filter (is_not_later c) xs) ≡ filter (is_earlier c) xs
 earlier_alone c [] = refl
-earlier_alone c (x ∷ xs) = by (text_cmp x.key.0 c) refl (earlier_alone c xs)
+earlier_alone c (x ∷ xs) = by (text_cmp x.key.owner c) refl (earlier_alone c xs)
   where
-    by : (t : Ordering) → text_cmp x.key.0 c ≡ t → filter (is_earlier c) (filter (is_not_later c) xs) ≡ filter (is_earlier c) xs → filter (is_earlier c) (filter (is_not_later c) (x ∷ xs)) ≡ filter (is_earlier c) (x ∷ xs)
+    by : (t : Ordering) → text_cmp x.key.owner c ≡ t → filter (is_earlier c) (filter (is_not_later c) xs) ≡ filter (is_earlier c) xs → filter (is_earlier c) (filter (is_not_later c) (x ∷ xs)) ≡ filter (is_earlier c) (x ∷ xs)
     by Less e rest = rw e (rw e (ap (λ ys. x ∷ ys) rest))
     by Equal e rest = rw e (rw e rest)
     by Greater e rest = rw e rest
 
 own_alone : {B : Type 0} (c : Text) (xs : List (Entry B)) → filter (λ x. not (is_earlier c x)) (filter (is_not_later c) xs) ≡ filter (is_owned c) xs
 own_alone c [] = refl
-own_alone c (x ∷ xs) = by (text_cmp x.key.0 c) refl (own_alone c xs)
+own_alone c (x ∷ xs) = by (text_cmp x.key.owner c) refl (own_alone c xs)
   where
-    same : (t : Ordering) → text_cmp x.key.0 c ≡ t → is_owned c x ≡ is_eq t
-    same t e = sym (is_eq-slice_cmp x.key.0 c) ∙ ap is_eq e
+    same : (t : Ordering) → text_cmp x.key.owner c ≡ t → is_owned c x ≡ is_eq t
+    same t e = sym (is_eq-slice_cmp x.key.owner c) ∙ ap is_eq e
 
-    by : (t : Ordering) → text_cmp x.key.0 c ≡ t → filter (λ y. not (is_earlier c y)) (filter (is_not_later c) xs) ≡ filter (is_owned c) xs → filter (λ y. not (is_earlier c y)) (filter (is_not_later c) (x ∷ xs)) ≡ filter (is_owned c) (x ∷ xs)
+    by : (t : Ordering) → text_cmp x.key.owner c ≡ t → filter (λ y. not (is_earlier c y)) (filter (is_not_later c) xs) ≡ filter (is_owned c) xs → filter (λ y. not (is_earlier c y)) (filter (is_not_later c) (x ∷ xs)) ≡ filter (is_owned c) (x ∷ xs)
     by Less e rest = rw (same Less e, e) (rw e rest)
     by Equal e rest = rw (same Equal e, e) (rw e (ap (λ ys. x ∷ ys) rest))
     by Greater e rest = rw (same Greater e, e) rest

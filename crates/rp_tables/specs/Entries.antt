@@ -3,7 +3,8 @@ use Rattle.std.specs.Prelude.{◌≡◌, ℕ, ◌<◌, ◌≤◌, Bool, true, no
 use Rattle.std.specs.Str.{bytes_eq}
 use Rattle.std.specs.List.{find}
 use Rattle.sorted_tables.specs.Table.{is_at, is_before, IsAscending}
-use Rattle.rp_rows.specs.Rows.{Text, Key, key_cmp}
+use Rattle.rp_rows.specs.declared.rows.Key.{Key}
+use Rattle.rp_rows.specs.Rows.{Text, key_cmp}
 use Rattle.rp_tables.specs.declared.keyed.Entry.{Entry}
 
 abbrev pub entry_key : {B : Type 0} → Entry B → Key

@@ -3,13 +3,14 @@ use Rattle.std.specs.Prelude.{◌≡◌, ℕ, ◌<◌, true, List, [], ◌∷◌
 use Rattle.std.specs.List.{find}
 use Rattle.sorted_tables.specs.Table.{is_before, with_row, IsAscending}
 use Rattle.rp_rows.specs.declared.rows.Grant.{Grant}
-use Rattle.rp_rows.specs.Rows.{Key, key_cmp, Row, row_key, is_row}
+use Rattle.rp_rows.specs.declared.rows.Key.{Key}
+use Rattle.rp_rows.specs.Rows.{key_cmp, Row, row_key, is_row}
 use Rattle.rp_tables.specs.declared.keyed.Entry.{Entry}
 use Rattle.rp_tables.specs.declared.table.RowRef.{RowRef}
 use Rattle.rp_tables.specs.Entries.{entry_key}
 
 abbrev pub joined_row : {A : Type 0} → Entry A → Entry (List Grant) → Row A
-joined_row x y = record { owner = x.key.0; name = x.key.1; holds = x.value; grants = y.value }
+joined_row x y = record { owner = x.key.owner; name = x.key.name; holds = x.value; grants = y.value }
 
 abbrev pub joined : {A : Type 0} → List (Entry A) → List (Entry (List Grant)) → List (Row A)
 joined [] rights = []
@@ -46,7 +47,7 @@ HasRoom t = (0 < t.room) × (0 < t.right_room)
 
 -- a row as it is looked at
 abbrev pub row_of : {A : Type 0} → RowRef A → Row A
-row_of r = record { owner = r.key.now.0; name = r.key.now.1; holds = r.holds.now; grants = r.grants.now }
+row_of r = record { owner = r.key.now.owner; name = r.key.now.name; holds = r.holds.now; grants = r.grants.now }
 
 -- the row at a key stands at this place
 pub record IsRowThere {A : Type 0} (k : Key) (rows : List (Row A)) (place : ℕ) : Type 0 where

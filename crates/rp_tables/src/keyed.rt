@@ -5,7 +5,7 @@ ghost use Rattle.std.specs.List.{find};
 ghost use Rattle.std.specs.Ordering.{is_lt, is_eq, is_gt};
 ghost use Rattle.std.specs.Str.{bytes_eq};
 ghost use Rattle.sorted_tables.specs.Table.{with_row};
-ghost use Rattle.rp_rows.specs.Rows.{text_cmp, key_cmp};
+ghost use Rattle.rp_rows.specs.Rows.{text_cmp, key_cmp, key_of};
 ghost use Rattle.std.specs.Vec.{vec_capacity};
 ghost use Rattle.rp_rows.specs.Instances.{with_instance, without_instance};
 ghost use Rattle.rp_tables.specs.Entries.{entry_key, is_entry, place_in as place_of, IsThere, IsAbsent, with_value, revalued, HasAt, standing, without_name};
@@ -50,27 +50,27 @@ impl<B> Model for Keyed<B> {
 }
 
 fn is_key(owner: &Text, name: &Text, other: &Key) -> bool
-    ensures { result ≡ is_eq (key_cmp other.now (owner.now, name.now)) }
+    ensures { result ≡ is_eq (key_cmp other.now (key_of owner.now name.now)) }
 {
-    other.0.order(owner).then(other.1.order(name)).is_eq()
+    other.order_to(owner, name).is_eq()
 }
 
 fn is_before_key(owner: &Text, name: &Text, other: &Key) -> bool
-    ensures { result ≡ is_lt (key_cmp other.now (owner.now, name.now)) }
+    ensures { result ≡ is_lt (key_cmp other.now (key_of owner.now name.now)) }
 {
-    other.0.order(owner).then(other.1.order(name)).is_lt()
+    other.order_to(owner, name).is_lt()
 }
 
 fn is_of_earlier(owner: &Text, key: &Key) -> bool
-    ensures { result ≡ is_lt (text_cmp key.now.0 owner.now) }
+    ensures { result ≡ is_lt (text_cmp key.now.owner owner.now) }
 {
-    key.0.order(owner).is_lt()
+    key.owner.order(owner).is_lt()
 }
 
 fn is_not_of_later(owner: &Text, key: &Key) -> bool
-    ensures { result ≡ not (is_gt (text_cmp key.now.0 owner.now)) }
+    ensures { result ≡ not (is_gt (text_cmp key.now.owner owner.now)) }
 {
-    key.0.order(owner).is_le()
+    key.owner.order(owner).is_le()
 }
 
 fn front<B>(entries: &[Entry<B>], count: usize) -> &[Entry<B>]
@@ -111,7 +111,7 @@ impl<B> Keyed<B> {
 
     /// How many keys stand before this one.
     fn place(&self, owner: &Text, name: &Text) -> usize
-        ensures { result ≡ place_of (owner.now, name.now) self.now.entries }
+        ensures { result ≡ place_of (key_of owner.now name.now) self.now.entries }
     {
         self.entries
             .partition_point(|entry| is_before_key(owner, name, &entry.key))
@@ -119,7 +119,7 @@ impl<B> Keyed<B> {
 
     /// Where the key of this owner and name stands, or where it is to stand.
     fn search_for(&self, owner: &Text, name: &Text) -> Result<usize, usize>
-        ensures { MatchResult result (IsThere (owner.now, name.now) self.now.entries) (IsAbsent (owner.now, name.now) self.now.entries) }
+        ensures { MatchResult result (IsThere (key_of owner.now name.now) self.now.entries) (IsAbsent (key_of owner.now name.now) self.now.entries) }
     {
         let place = self.place(owner, name);
         if place >= self.entries.len() {
@@ -136,12 +136,12 @@ impl<B> Keyed<B> {
     pub fn search(&self, key: &Key) -> Result<usize, usize>
         ensures { MatchResult result (IsThere key.now self.now.entries) (IsAbsent key.now self.now.entries) }
     {
-        self.search_for(&key.0, &key.1)
+        self.search_for(&key.owner, &key.name)
     }
 
     /// What stands under the key of this owner and name.
     pub fn find_for(&self, owner: &Text, name: &Text) -> Option<&Entry<B>>
-        ensures { option_copied result ≡ find (is_entry (owner.now, name.now)) self.now.entries }
+        ensures { option_copied result ≡ find (is_entry (key_of owner.now name.now)) self.now.entries }
     {
         match self.search_for(owner, name) {
             Ok(place) => Some(&self.entries[place]),
@@ -153,12 +153,12 @@ impl<B> Keyed<B> {
     pub fn find(&self, key: &Key) -> Option<&Entry<B>>
         ensures { option_copied result ≡ find (is_entry key.now) self.now.entries }
     {
-        self.find_for(&key.0, &key.1)
+        self.find_for(&key.owner, &key.name)
     }
 
     /// How many keys are of owners before this one.
     fn first_place(&self, owner: &Text) -> usize
-        ensures { result ≡ length (filter (λ x. is_lt (text_cmp x.key.0 owner.now)) self.now.entries) }
+        ensures { result ≡ length (filter (λ x. is_lt (text_cmp x.key.owner owner.now)) self.now.entries) }
     {
         self.entries
             .partition_point(|entry| is_of_earlier(owner, &entry.key))
@@ -166,7 +166,7 @@ impl<B> Keyed<B> {
 
     /// How many keys are of owners before this one, or his own.
     fn last_place(&self, owner: &Text) -> usize
-        ensures { result ≡ length (filter (λ x. not (is_gt (text_cmp x.key.0 owner.now))) self.now.entries) }
+        ensures { result ≡ length (filter (λ x. not (is_gt (text_cmp x.key.owner owner.now))) self.now.entries) }
     {
         self.entries
             .partition_point(|entry| is_not_of_later(owner, &entry.key))
@@ -174,14 +174,14 @@ impl<B> Keyed<B> {
 
     /// How many keys are the owner's. Those of others aren't walked over.
     pub fn count_of(&self, owner: &Text) -> usize
-        ensures { result ≡ length (filter (λ x. bytes_eq x.key.0 owner.now) self.now.entries) }
+        ensures { result ≡ length (filter (λ x. bytes_eq x.key.owner owner.now) self.now.entries) }
     {
         self.last_place(owner) - self.first_place(owner)
     }
 
     /// What stands under the keys of the owner. Those of others aren't walked over.
     pub fn of_owner(&self, owner: &Text) -> &[Entry<B>]
-        ensures { result.now ≡ filter (λ x. bytes_eq x.key.0 owner.now) self.now.entries }
+        ensures { result.now ≡ filter (λ x. bytes_eq x.key.owner owner.now) self.now.entries }
     {
         let first = self.first_place(owner);
         let last = self.last_place(owner);
@@ -314,7 +314,7 @@ fn drop_name(alloc: Global, entry: &mut Entry<Rows<Text>>, name: &Text)
 impl Keyed<Rows<Text>> {
     /// The name isn't among those under the key of this owner and name from now on. It takes no memory.
     pub fn drop_name(&mut self, alloc: Global, owner: &Text, other: &Text, name: &Text)
-        ensures { self.new.entries ≡ with_row key_cmp entry_key (owner.now, other.now) (option_map (revalued (without_name name.now)) (find (is_entry (owner.now, other.now)) self.old.entries)) self.old.entries }
+        ensures { self.new.entries ≡ with_row key_cmp entry_key (key_of owner.now other.now) (option_map (revalued (without_name name.now)) (find (is_entry (key_of owner.now other.now)) self.old.entries)) self.old.entries }
     {
         if let Ok(place) = self.search_for(owner, other) {
             drop_name(alloc, &mut self.entries[place], name);

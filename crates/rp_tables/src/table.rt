@@ -3,7 +3,7 @@
 ghost use Rattle.std.specs.Prelude.{◌≡◌, ◌<◌, length, filter, [], Some, None, OnOk, MatchOption, get_or, option_map};
 ghost use Rattle.std.specs.List.{find};
 ghost use Rattle.sorted_tables.specs.Table.{IsAscending};
-ghost use Rattle.rp_rows.specs.Rows.{key_cmp, row_key, is_row};
+ghost use Rattle.rp_rows.specs.Rows.{key_cmp, row_key, is_row, key_of};
 ghost use Rattle.rp_rows.specs.Sight.{owns};
 ghost use Rattle.rp_rows.specs.Alterations.{Holds, altered, grants_of};
 ghost use Rattle.rp_tables.specs.Stored.{row_of, rewritten, HasRoom, IsRowThere};
@@ -85,7 +85,7 @@ impl<A> Table<A> {
 
     /// The row under the key of this owner and name.
     pub fn find_for(&self, owner: &Text, name: &Text) -> Option<RowRef<'_, A>>
-        ensures found { option_map row_of result ≡ find (is_row (owner.now, name.now)) self.now.rows }
+        ensures found { option_map row_of result ≡ find (is_row (key_of owner.now name.now)) self.now.rows }
         ensures ascending { IsAscending key_cmp row_key self.now.rows }
     {
         let entry = self.held.find_for(owner, name)?;
@@ -101,7 +101,7 @@ impl<A> Table<A> {
         ensures found { option_map row_of result ≡ find (is_row key.now) self.now.rows }
         ensures ascending { IsAscending key_cmp row_key self.now.rows }
     {
-        self.find_for(&key.0, &key.1)
+        self.find_for(&key.owner, &key.name)
     }
 
     /// Where the row under the key stands.

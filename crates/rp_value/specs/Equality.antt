@@ -31,10 +31,10 @@ module _ (equal : Value → Value → Logical) where
 
   abbrev pub equal_elements : Bool → List Value → List Value → Logical
   equal_elements are_placed xs ys =
-    if not (length xs == length ys) then False
-    else if are_placed then equal_in_places xs ys
-    else if list_any (λ x. is_indeterminate (seen x)) (xs ++ ys) then Unknown
-    else of_test (occur_equally xs ys)
+      if not (length xs == length ys) then False
+      else if are_placed then equal_in_places xs ys
+      else if list_any (λ x. is_indeterminate (seen x)) (xs ++ ys) then Unknown
+      else of_test (occur_equally xs ys)
 
 module _ (scalars : Seen → Seen → Logical) where
   -- Where a side is a BAG or a SET, the elements have no places. An initialiser goes as a LIST.
@@ -58,6 +58,6 @@ equal_scalars s t = equals (compare_scalars s t)
 abbrev pub same_scalars : Seen → Seen → Logical
 same_scalars (Instance name) (Instance other) = of_test (name == other)
 same_scalars s t =
-  if is_indeterminate s || is_indeterminate t then Unknown
-  else if same_kind s t then equals (compare_scalars s t)
-  else False
+    if is_indeterminate s || is_indeterminate t then Unknown
+    else if same_kind s t then equals (compare_scalars s t)
+    else False

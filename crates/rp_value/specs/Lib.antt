@@ -1,3 +1,4 @@
+pub mod Bare
 pub mod Elements
 pub mod Equality
 pub mod Held

@@ -29,8 +29,8 @@ compare_seen equal s t = compare_scalars s t
 -- of two values as `=` and `<` see them: nothing is known with `?`, with an instance at any depth, and of two kinds
 unfoldable pub compare : Value → Value → Compared
 compare x y =
-  if holds_instance x || holds_instance y then c.Unknown
-  else compare_seen (equality equal_scalars x y) (seen x) (seen y)
+    if holds_instance x || holds_instance y then c.Unknown
+    else compare_seen (equality equal_scalars x y) (seen x) (seen y)
 
 -- `x :=: y`
 unfoldable pub same : Value → Value → Logical
@@ -121,9 +121,9 @@ difference x y = difference_seen y (seen x) (seen y)
 -- of a value in an aggregate, by an equality
 abbrev pub membership_by : (Value → Value → Bool) → Value → Seen → Value
 membership_by equal x (Aggregate kind ys) = v.Log (
-  if list_any (equal x) ys.items then True
-  else if is_indeterminate (seen x) || list_any (λ y. is_indeterminate (seen y)) ys.items then Unknown
-  else False)
+    if list_any (equal x) ys.items then True
+    else if is_indeterminate (seen x) || list_any (λ y. is_indeterminate (seen y)) ys.items then Unknown
+    else False)
 membership_by equal x Indeterminate = v.Log Unknown
 membership_by equal x t = v.Indet
 

@@ -1,6 +1,7 @@
 //! Values of EXPRESS and of exchange files, which are plain data to contracts and whose copies share what they hold.
 #![tactic(auto)]
 
+mod bare;
 mod bits;
 mod characters;
 mod compared;

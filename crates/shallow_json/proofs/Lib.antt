@@ -1,3 +1,4 @@
+mod KeyLemmas
 pub mod Passes
 pub mod Reading
 pub mod Shallow

@@ -1,3 +1,4 @@
+pub mod Keys
 pub mod Shallow
 pub mod Passing
 pub mod Texts

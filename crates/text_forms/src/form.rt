@@ -2,9 +2,9 @@
 
 ghost use Rattle.std.specs.Prelude.{◌≡◌, ◌<◌, ℕ, Bool, OnOk};
 ghost use Rattle.text_forms.specs.Forms as forms;
-ghost use Rattle.text_forms.specs.Gives.{Reads, ReadsAs};
+ghost use Rattle.text_forms.specs.Reads.{Reads, ReadsAs};
 
-use crate::Failure;
+use plain_data::Failure;
 use std::alloc::Global;
 
 /// What forms read from: the tokens of a text that are left.

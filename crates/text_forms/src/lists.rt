@@ -3,11 +3,10 @@
 ghost use Rattle.std.specs.Prelude.{◌≡◌, ◌<◌, ◌≤◌, [], IfOk, OnOk};
 ghost use Rattle.text_forms.specs.Forms.{repeat_by, many_by, some_by, separated_by};
 ghost use Rattle.text_forms.specs.Forms as forms;
-ghost use Rattle.text_forms.specs.Gives.{Reads, ReadsAs};
+ghost use Rattle.text_forms.specs.Reads.{Reads, ReadsAs};
 
-use crate::Failure;
 use crate::form::{Begins, Form, TokenSource};
-use plain_data::Items;
+use plain_data::{Failure, Items};
 use std::alloc::{AllocError, Global};
 
 /// No item, with room for one: most lists of a text have no more.

@@ -167,7 +167,8 @@ const DIGITS: [&str; 10] = ["0", "1", "2", "3", "4", "5", "6", "7", "8", "9"];
 
 fn key(alloc: Global, owner: &str, name: &str) -> Result<Key, AllocError> {
     let owner = Text::from_str(alloc, owner)?;
-    Ok((owner, Text::from_str(alloc, name)?))
+    let name = Text::from_str(alloc, name)?;
+    Ok(Key { owner, name })
 }
 
 fn model(alloc: Global, name: &str) -> Result<Key, AllocError> {

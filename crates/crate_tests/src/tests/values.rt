@@ -1,7 +1,7 @@
 //! Values and their copies, and what a model begins with.
 
 use plain_data::{Items, Text};
-use rp_content::{Content, Instance, Types};
+use rp_content::{Content, Entities, Instance};
 use rp_value::{AggregateKind, Decimal, Logical, Value};
 use std::alloc::{AllocError, Global};
 use std::test::*;
@@ -99,13 +99,13 @@ fn instances_are_copied_and_models_begin_empty(rt: HostRuntime) -> Result<(), Fa
     values.push(sample(alloc, decimal)?)?;
     let instance = Instance {
         name: 12,
-        types: Types::Leaf(5),
+        entities: Entities::Leaf(5),
         values,
     };
     let copy = instance.copy(alloc)?;
     drop(instance);
     assert_eq!(rt; copy.name, 12);
-    assert!(rt; matches!(&copy.types, Types::Leaf(5)));
+    assert!(rt; matches!(&copy.entities, Entities::Leaf(5)));
     let [value] = copy.values.as_slice() else {
         return Err("another number of values".into());
     };

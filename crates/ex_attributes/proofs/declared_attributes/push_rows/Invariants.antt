@@ -1,5 +1,5 @@
 use Rattle.std.proofs.Common.{◌≡◌, ◌++◌, drop}
-use Rattle.lineage.specs.Numbered.{numbered_from}
+use Rattle.plain_data.specs.Numbers.{numbered_from}
 use Rattle.ex_attributes.specs.Attributes as spec
 use Rattle.ex_attributes.specs.Steps.{rows_of}
 use Rattle.ex_attributes.proofs.declared_attributes.push_rows.Given as goal

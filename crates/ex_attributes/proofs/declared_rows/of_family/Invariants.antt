@@ -1,5 +1,5 @@
 use Rattle.std.proofs.Common.{◌≡◌, ◌++◌, filter, drop}
-use Rattle.ex_named.specs.Scopes.{is_among}
+use Rattle.plain_data.specs.Numbers.{is_among}
 use Rattle.ex_attributes.specs.Steps.{read}
 use Rattle.ex_attributes.proofs.declared_rows.of_family.Given as goal
 

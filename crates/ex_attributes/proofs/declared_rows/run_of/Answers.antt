@@ -1,8 +1,8 @@
 use Rattle.std.proofs.Common.{◌-◌, length, take, drop, leb, ltb, rules}
 use Rattle.std.proofs.lemmas.List.{take_rest}
 use Rattle.std.proofs.lemmas.List.Sorted.{IsPartitionPoint-from_clause, IsPartitionedBy-leb, IsPartitionedBy-ltb, IsNonDecreasingBy-drop}
+use Rattle.plain_data.proofs.Runs.{run}
 use Rattle.ex_attributes.specs.Tables.{declarer_at}
-use Rattle.ex_attributes.proofs.Runs.{run}
 use Rattle.ex_attributes.proofs.declared_rows.run_of.Goals as goal
 
 pub returns : goal.returns

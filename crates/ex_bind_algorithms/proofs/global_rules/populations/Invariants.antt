@@ -1,7 +1,7 @@
 use Rattle.std.proofs.Common.{◌≡◌, ℕ, ◌||◌, drop}
 use Rattle.std.specs.List.Sorted.{IsStrictlySortedBy}
 use Rattle.std.specs.Ordering.{nat_cmp}
-use Rattle.ex_named.specs.Scopes.{is_among}
+use Rattle.plain_data.specs.Numbers.{is_among}
 use Rattle.ex_bind_algorithms.specs.Algorithms.{entities_of}
 use Rattle.ex_bind_algorithms.proofs.global_rules.populations.Given as goal
 

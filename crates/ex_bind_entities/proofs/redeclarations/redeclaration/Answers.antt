@@ -1,7 +1,7 @@
 use Rattle.std.proofs.Common.{◌≡◌, false, ◌&&◌, nat_lt, length, sym, subst, arith}
 use Rattle.ex_named.specs.declared.declaration.NamedRedeclaration.{NamedRedeclaration}
 use Rattle.ex_named.specs.Outcomes.{Binds, Outcome}
-use Rattle.lineage.specs.Lineage.{is_ancestor}
+use Rattle.graphs.specs.Graphs.{is_ancestor}
 use Rattle.ex_scopes.specs.Sorts.{admitted}
 use Rattle.ex_bind_entities.proofs.Inherited.{redeclaration_refused}
 use Rattle.ex_bind_entities.proofs.redeclarations.redeclaration.Goals as goal

@@ -1,5 +1,5 @@
 use Rattle.std.proofs.Common.{◌≡◌, map, drop}
-use Rattle.lineage.specs.Numbered.{numbered, numbered_from}
+use Rattle.plain_data.specs.Numbers.{numbered, numbered_from}
 use Rattle.ex_declarations.specs.Declared as spec
 use Rattle.ex_declarations.specs.Steps.{and_attributes}
 use Rattle.ex_declarations.proofs.collected.push_entities.Given as goal

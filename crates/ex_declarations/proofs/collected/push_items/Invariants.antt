@@ -1,5 +1,5 @@
 use Rattle.std.proofs.Common.{◌≡◌, drop}
-use Rattle.lineage.specs.Numbered.{numbered, numbered_from}
+use Rattle.plain_data.specs.Numbers.{numbered, numbered_from}
 use Rattle.ex_declarations.specs.Steps.{and_items}
 use Rattle.ex_declarations.proofs.collected.push_items.Given as goal
 

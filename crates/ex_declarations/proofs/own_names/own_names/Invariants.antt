@@ -1,6 +1,6 @@
 use Rattle.std.proofs.Common.{◌≡◌, ◌+◌, ◌++◌, drop}
+use Rattle.plain_data.specs.Numbers.{numbered, numbered_from}
 use Rattle.ex_named.specs.declared.reference.Declared.TheVariants as d
-use Rattle.lineage.specs.Numbered.{numbered, numbered_from}
 use Rattle.ex_declarations.specs.Declared as spec
 use Rattle.ex_declarations.specs.Steps.{rows_of}
 use Rattle.ex_declarations.proofs.own_names.own_names.Given as goal

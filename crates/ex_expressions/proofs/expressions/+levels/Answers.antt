@@ -1,5 +1,5 @@
 use Rattle.std.proofs.Common.{sym, subst}
-use Rattle.text_forms.specs.Gives.{Reads}
+use Rattle.text_forms.specs.Reads.{Reads}
 use Rattle.ex_expressions.proofs.Levels.{level-is}
 use Rattle.ex_expressions.proofs.expressions.+levels.Goals as goal
 

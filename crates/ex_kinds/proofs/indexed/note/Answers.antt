@@ -1,5 +1,5 @@
 use Rattle.std.proofs.Common.{sym, ◌∙◌}
-use Rattle.lineage.proofs.Sets.{inserted}
+use Rattle.graphs.proofs.Sets.{inserted}
 use Rattle.ex_kinds.proofs.Entities.{of_one}
 use Rattle.ex_kinds.proofs.indexed.note.Goals as goal
 

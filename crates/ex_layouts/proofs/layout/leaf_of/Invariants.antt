@@ -1,7 +1,7 @@
 use Rattle.std.proofs.Common.{◌≡◌, drop}
 use Rattle.std.specs.List.{find, list_all}
+use Rattle.plain_data.specs.Numbers.{is_among}
 use Rattle.ex_layouts.specs.Entities.{line_of}
-use Rattle.lineage.specs.Lineage.{is_among}
 use Rattle.ex_layouts.specs.Layouts as spec
 use Rattle.ex_layouts.proofs.layout.leaf_of.Given as goal
 

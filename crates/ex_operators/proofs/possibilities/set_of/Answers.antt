@@ -1,6 +1,6 @@
 use Rattle.std.proofs.Common.{get_or, ◌∙◌}
-use Rattle.lineage.proofs.Sets.{inserted}
-use Rattle.ex_operators.proofs.Asked.{set_next}
+use Rattle.plain_data.proofs.Numbers.{set_next}
+use Rattle.graphs.proofs.Sets.{inserted}
 use Rattle.ex_operators.proofs.possibilities.set_of.Goals as goal
 
 pub loop-number-preserved : goal.loop-number-preserved

@@ -1,5 +1,5 @@
 use Rattle.std.proofs.Common.{◌≡◌, ℕ, ◌||◌, drop}
-use Rattle.ex_named.specs.Scopes.{is_among}
+use Rattle.plain_data.specs.Numbers.{is_among}
 use Rattle.ex_operators.proofs.possibilities.set_of.Given as goal
 
 abbrev pub invariant-loop-number : goal.invariant-loop-number

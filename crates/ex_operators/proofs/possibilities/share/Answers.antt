@@ -1,5 +1,5 @@
 use Rattle.std.proofs.Common.{◌∙◌}
-use Rattle.ex_operators.proofs.Asked.{shared_by_set}
+use Rattle.ex_operators.proofs.Operands.{shared_by_set}
 use Rattle.ex_operators.proofs.possibilities.share.Goals as goal
 
 pub returns : goal.returns

@@ -1,5 +1,5 @@
 use Rattle.std.proofs.Common.{sym, ◌∙◌}
-use Rattle.ex_operators.proofs.Asked.{none_first, none_second}
+use Rattle.ex_operators.proofs.Operands.{none_first, none_second}
 use Rattle.ex_operators.proofs.possibilities.share_enumeration.Goals.{else-is_enumeration-via-then-is_enumeration+else-is_enumeration-2, else-is_enumeration-via-else-is_enumeration}
 use Rattle.ex_operators.proofs.possibilities.share_enumeration.Goals as goal
 

@@ -1,6 +1,6 @@
 use Rattle.std.proofs.Common.{◌-◌, ◌++◌, ◌+◌, ◌∙◌, ap, sym, drop, filter, length, get_or, ◌≡◌, arith}
 use Rattle.std.specs.List.{flat_map}
-use Rattle.lineage.specs.Numbered.{numbered_from}
+use Rattle.plain_data.specs.Numbers.{numbered_from}
 use Rattle.ex_resolve.proofs.Numbers.{seam, seam_bound, at_item}
 use Rattle.ex_resolve.proofs.named.push_explicit.Goals as goal
 use Rattle.ex_resolve.specs.Schemas as spec

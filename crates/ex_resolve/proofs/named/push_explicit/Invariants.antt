@@ -1,6 +1,6 @@
 use Rattle.std.proofs.Common.{◌≡◌, ◌≤◌, ◌-◌, ◌++◌, length, filter, drop}
 use Rattle.std.specs.List.{flat_map}
-use Rattle.lineage.specs.Numbered.{numbered_from}
+use Rattle.plain_data.specs.Numbers.{numbered_from}
 use Rattle.ex_resolve.specs.Schemas as spec
 use Rattle.ex_resolve.proofs.named.push_explicit.Given as goal
 

@@ -1,5 +1,5 @@
 use Rattle.std.proofs.Common.{◌<◌, ◌∙◌, ap, arith, length, slice_index_or, false}
-use Rattle.lineage.specs.Lineage.{is_ancestor}
+use Rattle.graphs.specs.Graphs.{is_ancestor}
 use Rattle.ex_resolve.proofs.Numbers.{mark-at, length-numbers}
 use Rattle.ex_resolve.proofs.parts.types.Goals as goal
 

@@ -1,10 +1,10 @@
 use Rattle.std.proofs.Common.{◌≡◌, ◌∙◌, ap, sym, subst, IfOk, List, drop, filter, rules}
+use Rattle.plain_data.specs.Numbers.{is_among}
 use Rattle.ex_named.specs.declared.reference.AttributePlace.{AttributePlace}
-use Rattle.ex_named.specs.Scopes.{is_among}
 use Rattle.ex_scopes.specs.declared.seen.Seen.{Seen}
 use Rattle.ex_scopes.specs.Attributes.{seen_after}
 use Rattle.ex_scopes.specs.Sorts.{admitted}
-use Rattle.descent.proofs.InTurn.{of_members}
+use Rattle.ancestors.proofs.InTurn.{of_members}
 use Rattle.ex_scopes.proofs.Told.{settled, seen_split}
 use Rattle.ex_scopes.proofs.attributes.+and_left.Goals as goal
 

@@ -1,6 +1,6 @@
 use Rattle.std.proofs.Common.{sym, ◌∙◌, drop, filter}
+use Rattle.plain_data.specs.Numbers.{is_among}
 use Rattle.ex_named.specs.declared.reference.AttributePlace.{AttributePlace}
-use Rattle.ex_named.specs.Scopes.{is_among}
 use Rattle.ex_scopes.specs.Sorts.{admitted}
 use Rattle.ex_scopes.proofs.Told.{settled}
 use Rattle.ex_scopes.proofs.attributes.and_of_family.Goals as goal

@@ -1,5 +1,5 @@
 use Rattle.std.proofs.Common.{◌≡◌, drop, filter}
-use Rattle.ex_named.specs.Scopes.{is_among}
+use Rattle.plain_data.specs.Numbers.{is_among}
 use Rattle.ex_scopes.specs.Attributes.{seen_after}
 use Rattle.ex_scopes.specs.Sorts.{admitted}
 use Rattle.ex_scopes.proofs.attributes.and_of_family.Given as goal

@@ -1,5 +1,5 @@
 use Rattle.std.proofs.Common.{◌≡◌, ◌++◌, drop, filter}
-use Rattle.ex_named.specs.Scopes.{is_among}
+use Rattle.plain_data.specs.Numbers.{is_among}
 use Rattle.ex_scopes.proofs.attributes.declared_in.Given as goal
 
 abbrev pub invariant-loop-place : goal.invariant-loop-place

@@ -1,8 +1,8 @@
 use Rattle.std.proofs.Common.{ℕ, ◌-◌, length, take, drop, leb, ltb, rules}
 use Rattle.std.proofs.lemmas.List.{take_rest}
 use Rattle.std.proofs.lemmas.List.Sorted.{IsPartitionPoint-from_clause, IsPartitionedBy-leb, IsPartitionedBy-ltb, IsNonDecreasingBy-drop}
+use Rattle.plain_data.proofs.Runs.{run}
 use Rattle.ex_named.specs.declared.reference.AttributePlace.{AttributePlace}
-use Rattle.ex_scopes.proofs.Runs.{run}
 use Rattle.ex_scopes.proofs.attributes.run_of.Goals as goal
 
 pub returns : goal.returns

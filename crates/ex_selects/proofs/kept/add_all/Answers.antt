@@ -1,6 +1,6 @@
 use Rattle.std.proofs.Common.{get_or, ◌∙◌}
-use Rattle.lineage.proofs.Sets.{inserted}
-use Rattle.ex_selects.proofs.Standing.{set_next}
+use Rattle.plain_data.proofs.Numbers.{set_next}
+use Rattle.graphs.proofs.Sets.{inserted}
 use Rattle.ex_selects.proofs.kept.add_all.Goals as goal
 
 pub loop-number-preserved : goal.loop-number-preserved

@@ -1,4 +1,4 @@
-use Rattle.lineage.proofs.Sets.{inserted}
+use Rattle.graphs.proofs.Sets.{inserted}
 use Rattle.ex_selects.proofs.kept.add_if.Goals as goal
 
 pub returns-in_ok-insert : goal.returns-in_ok-insert

@@ -1,5 +1,6 @@
 use Rattle.std.proofs.Common.{◌≡◌, ◌||◌, ◌&&◌, ◌==◌, ℕ, subst, ◌∙◌, ap}
-use Rattle.lineage.specs.Lineage.{is_among, supertypes}
+use Rattle.plain_data.specs.Numbers.{is_among}
+use Rattle.graphs.specs.Graphs.{supertypes}
 use Rattle.ex_selects.specs.Sorts.{sort_at, is_of}
 use Rattle.ex_selects.specs.Kept.{IsUnited, StandFor}
 use Rattle.ex_selects.proofs.Standing.{family_stands}

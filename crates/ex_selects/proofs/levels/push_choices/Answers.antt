@@ -1,7 +1,7 @@
 use Rattle.std.proofs.Common.{◌<◌, ◌++◌, Some, length, take, get_or, subst}
 use Rattle.std.specs.List.{filter_map}
 use Rattle.std.specs.Option.{option_to_list}
-use Rattle.ex_selects.specs.Levels.{asked_at, asked_choice, IsGroup}
+use Rattle.ex_selects.specs.Levels.{aggregate_at, chosen_aggregate, IsGroup}
 use Rattle.ex_selects.proofs.Groups.{choices_more, keeps_both}
 use Rattle.ex_selects.proofs.levels.push_choices.Goals as goal
 
@@ -15,9 +15,9 @@ loop-number-preserved c =
     let group = c.push_candidate.new.group in
     record {
       kept = keeps_both c.args.targets.now c.loop-number.targets new c.loop-number.invariant.kept c.in_ok-push_candidate.ensures.kept;
-      more = λ asked is.
-          let before = asked ++ filter_map (asked_choice types) (take i ks) in
-          let pushed = c.in_ok-push_candidate.ensures.more before (c.loop-number.invariant.more asked is) in
-          choices_more types new group asked ks i within
-          (subst (λ b. IsGroup new group (before ++ option_to_list (asked_at types b (Some (get_or ks i 0))))) c.base_of.ensures pushed);
+      more = λ aggregates is.
+          let before = aggregates ++ filter_map (chosen_aggregate types) (take i ks) in
+          let pushed = c.in_ok-push_candidate.ensures.more before (c.loop-number.invariant.more aggregates is) in
+          choices_more types new group aggregates ks i within
+          (subst (λ b. IsGroup new group (before ++ option_to_list (aggregate_at types b (Some (get_or ks i 0))))) c.base_of.ensures pushed);
     }

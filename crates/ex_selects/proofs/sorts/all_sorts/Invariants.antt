@@ -1,5 +1,5 @@
 use Rattle.std.proofs.Common.{◌≡◌, ◌++◌, drop}
-use Rattle.lineage.specs.Numbered.{numbered, numbered_from}
+use Rattle.plain_data.specs.Numbers.{numbered, numbered_from}
 use Rattle.ex_selects.specs.Sorts.{sort_of}
 use Rattle.ex_selects.proofs.sorts.all_sorts.Given as goal
 

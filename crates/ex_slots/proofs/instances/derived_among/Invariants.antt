@@ -5,5 +5,5 @@ use Rattle.ex_slots.proofs.instances.derived_among.Given as goal
 
 abbrev pub invariant-loop-number : goal.invariant-loop-number
 invariant-loop-number l = (e p : ℕ) →
-    (spec.has l.found.keys e p || spec.is_derived (flat_map (spec.derived_by l.entities) (drop l.number-index l.types)) e p)
-    ≡ spec.is_derived (flat_map (spec.derived_by l.entities) l.types) e p
+    (spec.has l.found.keys e p || spec.is_derived (flat_map (spec.derived_by l.entities) (drop l.number-index l.numbers)) e p)
+    ≡ spec.is_derived (flat_map (spec.derived_by l.entities) l.numbers) e p

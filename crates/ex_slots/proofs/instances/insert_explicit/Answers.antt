@@ -1,8 +1,9 @@
 use Rattle.std.proofs.Common.{rules, arith, ◌≡◌, ◌==◌, ◌&&◌, ◌||◌, ap, ◌∙◌}
 use Rattle.std.proofs.lemmas.Bool.Decides.{nat_tests}
+use Rattle.plain_data.proofs.Disjunctions.{or_swap}
 use Rattle.ex_named.specs.declared.reference.AttributeSort.TheVariants.{Explicit}
 use Rattle.ex_slots.specs.Slots as spec
-use Rattle.ex_slots.proofs.Pairs.{any-insert, or_swap, explicit_is}
+use Rattle.ex_slots.proofs.Pairs.{any-insert, explicit_is}
 use Rattle.ex_slots.proofs.instances.insert_explicit.Goals as goal
 
 pub returns-in_ok-insert : goal.returns-in_ok-insert

@@ -1,5 +1,5 @@
 use Rattle.std.proofs.Common.{◌≡◌, ◌++◌, drop}
-use Rattle.lineage.specs.Numbered.{numbered, numbered_from}
+use Rattle.plain_data.specs.Numbers.{numbered, numbered_from}
 use Rattle.ex_slots.specs.Slots as spec
 use Rattle.ex_slots.proofs.instances.push_slots.Given as goal
 

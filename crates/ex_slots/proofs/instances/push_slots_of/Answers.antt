@@ -1,7 +1,7 @@
 use Rattle.std.proofs.Common.{◌≡◌, ◌++◌, [], None, sym, ◌∙◌, ap, slice_get, append-nil}
 use Rattle.std.proofs.lemmas.Option.{slice_get_past}
 use Rattle.std.specs.Option.{option_map_or}
-use Rattle.lineage.specs.Numbered.{numbered}
+use Rattle.plain_data.specs.Numbers.{numbered}
 use Rattle.ex_slots.specs.Slots as spec
 use Rattle.ex_slots.proofs.instances.push_slots_of.Goals as goal
 

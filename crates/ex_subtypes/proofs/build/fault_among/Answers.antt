@@ -1,5 +1,5 @@
 use Rattle.std.proofs.Common.{[], fold}
-use Rattle.lineage.specs.Lineage.{is_among}
+use Rattle.plain_data.specs.Numbers.{is_among}
 use Rattle.ex_subtypes.specs.Faults as spec
 use Rattle.ex_subtypes.proofs.Readable.{fault_among-next}
 use Rattle.ex_subtypes.proofs.build.fault_among.Goals as goal

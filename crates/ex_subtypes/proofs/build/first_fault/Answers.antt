@@ -1,7 +1,8 @@
 use Rattle.std.proofs.Common.{◌≡◌, ◌<◌, ℕ, ◌&&◌, true, nat_lt, length, fold, get_or, ◌∙◌, ap, arith}
 use Rattle.std.proofs.lemmas.Bool.Decides.{nat_tests}
 use Rattle.std.specs.List.{flat_map}
-use Rattle.lineage.specs.Lineage.{is_among, supertypes}
+use Rattle.plain_data.specs.Numbers.{is_among}
+use Rattle.graphs.specs.Graphs.{supertypes}
 use Rattle.ex_subtypes.specs.Faults as spec
 use Rattle.ex_subtypes.specs.Legal.{constraints_of, is_direct_subtype}
 use Rattle.ex_subtypes.proofs.Readable.{first_fault-next}

@@ -1,6 +1,6 @@
 use Rattle.std.proofs.Common.{◌≡◌, drop, fold}
 use Rattle.std.specs.List.{flat_map}
-use Rattle.lineage.specs.Numbered.{numbered_from}
+use Rattle.plain_data.specs.Numbers.{numbered_from}
 use Rattle.ex_subtypes.specs.Faults as spec
 use Rattle.ex_subtypes.proofs.build.first_fault.Given as goal
 

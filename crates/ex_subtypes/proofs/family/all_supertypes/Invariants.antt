@@ -1,6 +1,7 @@
 use Rattle.std.proofs.Common.{◌≡◌, ◌||◌, ℕ, drop}
 use Rattle.std.specs.List.{list_any}
-use Rattle.lineage.specs.Lineage.{is_among, supertypes}
+use Rattle.plain_data.specs.Numbers.{is_among}
+use Rattle.graphs.specs.Graphs.{supertypes}
 use Rattle.ex_subtypes.specs.Legal as spec
 use Rattle.ex_subtypes.proofs.family.all_supertypes.Given as goal
 

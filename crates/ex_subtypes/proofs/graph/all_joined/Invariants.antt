@@ -1,5 +1,6 @@
 use Rattle.std.proofs.Common.{◌≡◌, ◌&&◌, ◌||◌, ℕ, nat_lt, length}
-use Rattle.lineage.specs.Lineage.{is_among, supertypes}
+use Rattle.plain_data.specs.Numbers.{is_among}
+use Rattle.graphs.specs.Graphs.{supertypes}
 use Rattle.ex_subtypes.proofs.graph.all_joined.Given as goal
 
 abbrev pub invariant-loop-place : goal.invariant-loop-place

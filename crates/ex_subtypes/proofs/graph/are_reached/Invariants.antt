@@ -1,6 +1,7 @@
 use Rattle.std.proofs.Common.{◌≡◌, ◌||◌, ◌==◌, ◌-◌, zero}
 use Rattle.std.specs.List.{list_all}
-use Rattle.lineage.specs.Lineage.{is_among, numbers_from}
+use Rattle.plain_data.specs.Numbers.{is_among}
+use Rattle.graphs.specs.Graphs.{numbers_from}
 use Rattle.ex_subtypes.proofs.graph.are_reached.Given as goal
 
 abbrev pub invariant-loop-place : goal.invariant-loop-place

@@ -1,6 +1,7 @@
 use Rattle.std.proofs.Common.{◌≡◌, ◌↔◌, ℕ, true, zero, length, ◌&&◌, ◌||◌, ◌==◌, nat_lt, sym, ◌∙◌, ap}
 use Rattle.std.specs.List.{list_all}
-use Rattle.lineage.specs.Lineage.{is_among, numbers_from, supertypes, IsAncestor}
+use Rattle.plain_data.specs.Numbers.{is_among}
+use Rattle.graphs.specs.Graphs.{numbers_from, supertypes, IsAncestor}
 use Rattle.ex_subtypes.specs.Legal as spec
 use Rattle.ex_subtypes.proofs.Connected.{are_below, connected_told}
 use Rattle.ex_subtypes.proofs.graph.connected_below.Goals as goal

@@ -1,5 +1,6 @@
 use Rattle.std.proofs.Common.{◌≡◌, ◌&&◌, ℕ, nat_lt, length}
-use Rattle.lineage.specs.Lineage.{is_among, supertypes}
+use Rattle.plain_data.specs.Numbers.{is_among}
+use Rattle.graphs.specs.Graphs.{supertypes}
 use Rattle.ex_subtypes.specs.Edges.{one_stands_at}
 use Rattle.ex_subtypes.specs.Legal as spec
 use Rattle.ex_subtypes.proofs.graph.steps_up.Given as goal

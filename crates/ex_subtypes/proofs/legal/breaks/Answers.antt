@@ -1,7 +1,7 @@
 use Rattle.std.proofs.Common.{◌≡◌, ℕ, Some, None, sym, ◌∙◌, ap}
 use Rattle.std.specs.List.{list_any}
 use Rattle.std.specs.Option.{option_copied}
-use Rattle.lineage.specs.Lineage.{is_among}
+use Rattle.plain_data.specs.Numbers.{is_among}
 use Rattle.ex_subtypes.specs.Legal.{is_neither}
 use Rattle.ex_subtypes.specs.Nodes.{all_kept, kept_at, taken_at}
 use Rattle.ex_subtypes.specs.Places.{is_place_of}

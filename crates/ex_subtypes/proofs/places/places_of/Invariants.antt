@@ -1,6 +1,6 @@
 use Rattle.std.proofs.Common.{◌≡◌, ◌||◌, ℕ, drop}
 use Rattle.std.specs.List.{list_any}
-use Rattle.lineage.specs.Lineage.{is_among}
+use Rattle.plain_data.specs.Numbers.{is_among}
 use Rattle.ex_subtypes.specs.Places.{is_place_of}
 use Rattle.ex_subtypes.proofs.places.places_of.Given as goal
 

@@ -1,6 +1,6 @@
 use Rattle.std.proofs.Common.{◌∙◌, ap}
 use Rattle.std.proofs.lemmas.List.Sorted.{IsNonDecreasingBy-from_default}
-use Rattle.lineage.specs.Lineage.{is_among}
+use Rattle.plain_data.specs.Numbers.{is_among}
 use Rattle.ex_subtypes.proofs.Numbers.{rises}
 use Rattle.ex_subtypes.proofs.places.touched.Goals as goal
 

@@ -1,5 +1,5 @@
 use Rattle.std.proofs.Common.{◌||◌}
-use Rattle.lineage.specs.Lineage.{is_among}
+use Rattle.plain_data.specs.Numbers.{is_among}
 use Rattle.ex_subtypes.proofs.Numbers.{put_next}
 use Rattle.ex_subtypes.proofs.sets.put_all.Goals as goal
 

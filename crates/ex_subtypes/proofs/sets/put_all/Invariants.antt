@@ -1,5 +1,5 @@
 use Rattle.std.proofs.Common.{◌≡◌, ◌||◌, ℕ, drop}
-use Rattle.lineage.specs.Lineage.{is_among}
+use Rattle.plain_data.specs.Numbers.{is_among}
 use Rattle.ex_subtypes.proofs.sets.put_all.Given as goal
 
 abbrev pub invariant-loop-number : goal.invariant-loop-number

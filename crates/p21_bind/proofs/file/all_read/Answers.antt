@@ -1,6 +1,7 @@
 use Rattle.std.proofs.Common.{◌≡◌, ◌∷◌, ◌++◌, Ok, Bool, true, false, not, reverse, ◌∙◌, refl, sym, ap}
 use Rattle.std.specs.List.{list_any}
-use Rattle.p21_instances.specs.Instances.{has_twice, is_among, names}
+use Rattle.plain_data.specs.Numbers.{is_among}
+use Rattle.p21_instances.specs.Instances.{has_twice, names}
 use Rattle.p21_instances.proofs.SortedNames.{is_one, once_in_any_order}
 use Rattle.p21_bind.specs.Files as spec
 use Rattle.p21_mappings.specs.Instances as instances

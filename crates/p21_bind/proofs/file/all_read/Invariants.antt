@@ -1,5 +1,6 @@
 use Rattle.std.proofs.Common.{◌≡◌, ◌++◌, true, false, length, reverse}
-use Rattle.p21_instances.specs.Instances.{has_twice, is_among, names}
+use Rattle.plain_data.specs.Numbers.{is_among}
+use Rattle.p21_instances.specs.Instances.{has_twice, names}
 use Rattle.p21_instances.proofs.SortedNames.{is_one}
 use Rattle.p21_bind.specs.Files as spec
 use Rattle.p21_bind.proofs.file.all_read.Given as goal

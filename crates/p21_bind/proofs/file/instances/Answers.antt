@@ -1,8 +1,9 @@
 use Rattle.std.proofs.Common.{◌++◌, false, reverse, sym, ◌∙◌, ap, subst}
 use Rattle.std.proofs.lemmas.List.{reverse-reverse}
 use Rattle.std.specs.List.Sorted.{IsPermutation}
-use Rattle.text_forms.specs.Gives.{Gives}
-use Rattle.p21_instances.specs.Instances.{is_among, names}
+use Rattle.plain_data.specs.Numbers.{is_among}
+use Rattle.p21_instances.specs.Instances.{names}
+use Rattle.plain_data.specs.Gives.{Gives}
 use Rattle.p21_bind.specs.Files as spec
 use Rattle.p21_mappings.proofs.Linked.{same_names}
 use Rattle.p21_bind.proofs.file.instances.Goals as goal

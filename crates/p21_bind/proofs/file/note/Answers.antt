@@ -1,4 +1,4 @@
-use Rattle.lineage.proofs.Sets.{inserted}
+use Rattle.graphs.proofs.Sets.{inserted}
 use Rattle.p21_bind.proofs.file.note.Goals as goal
 
 pub returns : goal.returns

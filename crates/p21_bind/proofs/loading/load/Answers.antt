@@ -1,7 +1,8 @@
 use Rattle.std.proofs.Common.{◌≡◌, true, false, ◌++◌, ◌==◌, [], Some, Ok, refl, sym, ◌∙◌, ap, subst}
 use Rattle.std.specs.List.{list_all}
 use Rattle.std.specs.Prelude.{IfSome}
-use Rattle.p21_instances.specs.Instances.{has_twice, is_among}
+use Rattle.plain_data.specs.Numbers.{is_among}
+use Rattle.p21_instances.specs.Instances.{has_twice}
 use Rattle.p21_grammar.specs.File.{file_of}
 use Rattle.p21_grammar.specs.Visited.{ShownAll}
 use Rattle.p21_bind.specs.OnePass.{Becomes, loaded}

@@ -1,6 +1,6 @@
 use Rattle.std.proofs.Common.{◌≡◌, ◌++◌, drop}
 use Rattle.std.specs.List.{flat_map}
-use Rattle.lineage.specs.Numbered.{numbered, numbered_from}
+use Rattle.plain_data.specs.Numbers.{numbered, numbered_from}
 use Rattle.p21_spelling.specs.Instances.{record_text}
 use Rattle.p21_canonical.specs.Trees.{own_part, records}
 use Rattle.p21_canonical.proofs.instance.write_records.Given as goal

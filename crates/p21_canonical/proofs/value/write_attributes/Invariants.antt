@@ -1,5 +1,5 @@
 use Rattle.std.proofs.Common.{◌≡◌, ◌==◌, ◌++◌, ◌∷◌, map, drop}
-use Rattle.lineage.specs.Numbered.{numbered_from}
+use Rattle.plain_data.specs.Numbers.{numbered_from}
 use Rattle.p21_spelling.specs.Values as spelled
 use Rattle.p21_canonical.proofs.Written.{left}
 use Rattle.p21_canonical.specs.Trees as spec

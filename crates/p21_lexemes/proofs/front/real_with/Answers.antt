@@ -1,6 +1,6 @@
 use Rattle.std.proofs.Common.{◌≡◌, ◌∙◌, ◌+◌, drop, ap}
 use Rattle.std.proofs.lemmas.List.{take_rest}
-use Rattle.p21_lexemes.specs.Lexical.{digits_len, exponent_len}
+use Rattle.rp_numbers.specs.Spelling.{digits_len, exponent_len}
 use Rattle.p21_lexemes.proofs.Reals.{real_len}
 use Rattle.p21_lexemes.proofs.front.real_with.Goals as goal
 

@@ -1,7 +1,7 @@
 use Rattle.std.proofs.Common.{◌≡◌, ◌≤◌, ◌∙◌, ◌+◌, drop, ap, sym, subst, arith}
 use Rattle.std.proofs.lemmas.Bool.Decides.{nat_tests}
 use Rattle.std.proofs.lemmas.List.{take_rest}
-use Rattle.p21_lexemes.specs.Lexical.{digits_len}
+use Rattle.rp_numbers.specs.Spelling.{digits_len}
 use Rattle.p21_lexemes.specs.Usual.{IsNear}
 use Rattle.p21_lexemes.proofs.Reals.{real_len, near_real}
 use Rattle.p21_lexemes.proofs.usual.real_len.Goals as goal

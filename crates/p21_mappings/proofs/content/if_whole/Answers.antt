@@ -1,7 +1,8 @@
 use Rattle.std.proofs.Common.{◌≡◌, Bool, true, false, not, refl, sym, ◌∙◌}
 use Rattle.std.proofs.lemmas.List.Sorted.{IsPermutation-refl}
 use Rattle.std.specs.List.{list_all}
-use Rattle.p21_instances.specs.Instances.{has_twice, is_among}
+use Rattle.plain_data.specs.Numbers.{is_among}
+use Rattle.p21_instances.specs.Instances.{has_twice}
 use Rattle.p21_instances.proofs.SortedNames.{is_one, once_in_any_order}
 use Rattle.p21_mappings.proofs.Linked.{same_names}
 use Rattle.p21_mappings.proofs.content.if_whole.Goals as goal

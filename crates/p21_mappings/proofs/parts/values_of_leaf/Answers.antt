@@ -1,7 +1,7 @@
 use Rattle.std.proofs.Common.{◌∙◌, subst}
 use Rattle.std.specs.List.{zip}
 use Rattle.ex_layouts.specs.Layouts.{leaf_slots}
-use Rattle.text_forms.specs.Gives.{Gives}
+use Rattle.plain_data.specs.Gives.{Gives}
 use Rattle.p21_mappings.specs.Instances.{each}
 use Rattle.p21_mappings.specs.ReadSlots.{slot_value}
 use Rattle.p21_mappings.proofs.Slots.{same_values}

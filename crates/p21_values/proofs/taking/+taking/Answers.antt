@@ -11,7 +11,7 @@ use Rattle.ex_selects.specs.Seen.{seen, seen_target}
 use Rattle.p21_values.specs.Taking.{meaning, bare_at, named_by, of_list, place}
 use Rattle.ex_selects.specs.Items.{type_named}
 use Rattle.p21_values.specs.Deciding.{StartsWith, only_candidate, rows, rows_of_list}
-use Rattle.ex_selects.specs.Levels.{AreLevels, IsGroup, asked, element}
+use Rattle.ex_selects.specs.Levels.{AreLevels, IsGroup, aggregates, element}
 use Rattle.p21_values.proofs.Groups.{base_in, value_at, candidate_element, always, no_levels, list_at_level, more_end, more_start, nothing_moved, placed_next, rest_ends, rest_starts, this_starts, under_some_name}
 use Rattle.ex_selects.proofs.Groups.{group_there}
 use Rattle.p21_values.proofs.Lists.{list_meaning}
@@ -262,7 +262,7 @@ items_at-elements_at-requires t c =
     let same : there.0 ≡ group = let both = sym there.1.0 ∙ found in cc in (
       search rules,
       (
-        subst (λ g. IsGroup next.targets.items g (asked types (seen c.args.target.now.base))) same there.1.1,
+        subst (λ g. IsGroup next.targets.items g (aggregates types (seen c.args.target.now.base))) same there.1.1,
         (
           are.1,
           subst (λ ls. StartsWith (flat_map (rows types ls) c.args.values.now) c.args.rest.now) whole c.requires.rows,

@@ -17,7 +17,7 @@ returns-in-Some c = λ unlike.
     let a = told c.args.asked.now in
     let k = c.args.key in
     let n = c.args.name in
-    let tests = key_fault k ∷ is_no_partner a k.0 ∷ lacks Writes (a.model_right k) ∷ is_absent (instance_in (a.content k) n) ∷ [] in
+    let tests = key_fault k ∷ is_no_partner a k.owner ∷ lacks Writes (a.model_right k) ∷ is_absent (instance_in (a.content k) n) ∷ [] in
     first_front tests (is_needed n (a.content k) ∷ []) c.in-Some.refusal
     (sym (c.in-Some.ensures ∙ (λ i. first_some (c.key_fault.ensures i ∷ c.is_no_partner.ensures i ∷ (c.lacks.ensures ∙ ap (lacks Writes) c.model_right.ensures) i ∷ (c.is_absent.ensures ∙ ap is_absent c.instance_in.ensures) i ∷ []))))
 
@@ -26,7 +26,7 @@ returns-in-Some-is_needed c = λ unlike.
     let a = told c.args.asked.now in
     let k = c.args.key in
     let n = c.args.name in
-    let tests = key_fault k ∷ is_no_partner a k.0 ∷ lacks Writes (a.model_right k) ∷ is_absent (instance_in (a.content k) n) ∷ [] in
+    let tests = key_fault k ∷ is_no_partner a k.owner ∷ lacks Writes (a.model_right k) ∷ is_absent (instance_in (a.content k) n) ∷ [] in
     first_behind tests (is_needed n (a.content k) ∷ [])
     (sym (c.in_default.ensures ∙ (λ i. first_some (c.key_fault.ensures i ∷ c.is_no_partner.ensures i ∷ (c.lacks.ensures ∙ ap (lacks Writes) c.model_right.ensures) i ∷ (c.is_absent.ensures ∙ ap is_absent c.instance_in.ensures) i ∷ []))))
     ∙ ap (λ o. first_some (o ∷ [])) (sym c.in-Some-is_needed.ensures)
@@ -36,12 +36,12 @@ returns c =
     let a = told c.args.asked.now in
     let k = c.args.key in
     let n = c.args.name in
-    let tests = key_fault k ∷ is_no_partner a k.0 ∷ lacks Writes (a.model_right k) ∷ is_absent (instance_in (a.content k) n) ∷ [] in
+    let tests = key_fault k ∷ is_no_partner a k.owner ∷ lacks Writes (a.model_right k) ∷ is_absent (instance_in (a.content k) n) ∷ [] in
     let none : first_some tests ≡ None =
     sym (c.in_default.ensures ∙ (λ i. first_some (c.key_fault.ensures i ∷ c.is_no_partner.ensures i ∷ (c.lacks.ensures ∙ ap (lacks Writes) c.model_right.ensures) i ∷ (c.is_absent.ensures ∙ ap is_absent c.instance_in.ensures) i ∷ []))) in
     record {
       passes = first_behind tests (is_needed n (a.content k) ∷ []) none ∙ ap (λ o. first_some (o ∷ [])) (sym c.in_default-is_needed.ensures);
       replies = refl;
       edits = refl;
-      seen = has_model n (a.content k) (fourth_none (key_fault k) (is_no_partner a k.0) (lacks Writes (a.model_right k)) (is_absent (instance_in (a.content k) n)) none);
+      seen = has_model n (a.content k) (fourth_none (key_fault k) (is_no_partner a k.owner) (lacks Writes (a.model_right k)) (is_absent (instance_in (a.content k) n)) none);
     }

@@ -1,6 +1,6 @@
 use Rattle.std.proofs.Common.{◌≡◌, ◌||◌, ℕ, drop}
 use Rattle.std.specs.List.{list_any}
-use Rattle.lineage.specs.Lineage.{is_among}
+use Rattle.plain_data.specs.Numbers.{is_among}
 use Rattle.rp_population.specs.Populations.{links_to}
 use Rattle.rp_population.proofs.names.insert_all_leading.Given as goal
 

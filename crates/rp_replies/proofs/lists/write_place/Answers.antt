@@ -10,8 +10,8 @@ returns-clause-ok c =
     let old = c.args.out.now.tokens in
     let place = c.args.place.now in
     let begun : c.begin_array.new.self.tokens ≡ old ++ begin_array ∷ [] = search rules in
-    let owner : c.string.new.self.tokens ≡ c.begin_array.new.self.tokens ++ string place.model.0 ∷ [] = search rules in
-    let model : c.string-2.new.self.tokens ≡ c.string.new.self.tokens ++ string place.model.1 ∷ [] = search rules in
+    let owner : c.string.new.self.tokens ≡ c.begin_array.new.self.tokens ++ string place.model.owner ∷ [] = search rules in
+    let model : c.string-2.new.self.tokens ≡ c.string.new.self.tokens ++ string place.model.name ∷ [] = search rules in
     let instance : c.u64.new.self.tokens ≡ c.string-2.new.self.tokens ++ number (decimal place.instance) ∷ [] = search rules in
     let two = joined old _ _ _ _ (joined old _ _ _ _ begun owner) model in
     on_ok_weaker c.end_array.result (joined old _ _ _ _ (joined old _ _ _ _ two instance)) c.end_array.ensures.ok

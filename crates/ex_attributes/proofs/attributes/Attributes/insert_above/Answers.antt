@@ -1,7 +1,7 @@
 use Rattle.std.proofs.Common.{◌≡◌, ◌+◌, ◌==◌, ◌&&◌, ◌||◌, not, true, false, drop, get_or, ◌∙◌, ap, arith}
 use Rattle.std.proofs.lemmas.Bool.Decides.{nat_tests}
-use Rattle.lineage.proofs.Sets.{inserted}
-use Rattle.ex_named.specs.Scopes.{is_among}
+use Rattle.plain_data.specs.Numbers.{is_among}
+use Rattle.graphs.proofs.Sets.{inserted}
 use Rattle.ex_attributes.proofs.Above.{inserted_next, left_out_next}
 use Rattle.ex_attributes.proofs.attributes.Attributes.insert_above.Goals.{then-above-entity+in_ok-insert, else-above-entity}
 use Rattle.ex_attributes.proofs.attributes.Attributes.insert_above.Goals as goal

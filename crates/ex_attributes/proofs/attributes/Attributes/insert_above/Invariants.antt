@@ -1,5 +1,5 @@
 use Rattle.std.proofs.Common.{◌≡◌, ℕ, not, ◌==◌, ◌&&◌, ◌||◌, drop}
-use Rattle.ex_named.specs.Scopes.{is_among}
+use Rattle.plain_data.specs.Numbers.{is_among}
 use Rattle.ex_attributes.proofs.attributes.Attributes.insert_above.Given as goal
 
 abbrev pub invariant-loop-above : goal.invariant-loop-above

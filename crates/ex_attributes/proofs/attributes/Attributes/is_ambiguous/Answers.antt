@@ -1,7 +1,7 @@
 use Rattle.std.proofs.Common.{◌≡◌, ◌<◌, ◌+◌, ◌-◌, ℕ, Bool, false, length, subst, sym, ◌∙◌, ap, arith}
 use Rattle.std.specs.List.{list_any}
 use Rattle.std.proofs.lemmas.List.{length-map}
-use Rattle.lineage.specs.Lineage.{numbers_from}
+use Rattle.graphs.specs.Graphs.{numbers_from}
 use Rattle.ex_attributes.specs.Attributes as spec
 use Rattle.ex_attributes.proofs.Several.{declared_once, none_here, numbers_from_below}
 use Rattle.ex_attributes.proofs.attributes.Attributes.is_ambiguous.Goals as goal

@@ -1,6 +1,6 @@
 use Rattle.std.proofs.Common.{◌≡◌, ◌-◌, length}
 use Rattle.std.specs.List.{list_any}
-use Rattle.lineage.specs.Lineage.{numbers_from}
+use Rattle.graphs.specs.Graphs.{numbers_from}
 use Rattle.ex_attributes.specs.Attributes as spec
 use Rattle.ex_attributes.proofs.attributes.Attributes.is_ambiguous.Given as goal
 

@@ -1,5 +1,5 @@
 use Rattle.std.proofs.Common.{◌≡◌, ℕ, ◌||◌, drop}
-use Rattle.ex_named.specs.Scopes.{is_among}
+use Rattle.plain_data.specs.Numbers.{is_among}
 use Rattle.ex_attributes.specs.Attributes as spec
 use Rattle.ex_attributes.specs.Steps.{read}
 use Rattle.ex_attributes.proofs.attributes.Attributes.overridden.Given as goal

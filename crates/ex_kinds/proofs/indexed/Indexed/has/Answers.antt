@@ -1,6 +1,6 @@
 use Rattle.std.proofs.Common.{sym, ◌∙◌, ap}
 use Rattle.std.specs.List.{list_any}
-use Rattle.lineage.proofs.Sets.{contained}
+use Rattle.graphs.proofs.Sets.{contained}
 use Rattle.ex_kinds.specs.Kinds.{same}
 use Rattle.ex_kinds.proofs.Entities.{the_entity}
 use Rattle.ex_kinds.proofs.indexed.Indexed.has.Goals as goal

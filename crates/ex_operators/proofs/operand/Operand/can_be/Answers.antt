@@ -1,6 +1,6 @@
 use Rattle.std.proofs.Common.{◌∙◌, ap}
 use Rattle.ex_kinds.specs.Types.{can_be as can_be_in}
-use Rattle.ex_operators.proofs.Asked.{can_be_exact}
+use Rattle.ex_operators.proofs.Operands.{can_be_exact}
 use Rattle.ex_operators.proofs.operand.Operand.can_be.Goals as goal
 
 pub returns : goal.returns

@@ -1,7 +1,7 @@
 use Rattle.std.proofs.Common.{◌≡◌, false, sym, ◌∙◌, ap}
 use Rattle.ex_kinds.specs.Kinds as kinds
 use Rattle.ex_kinds.specs.Types.{some_plain, has_elements}
-use Rattle.ex_operators.proofs.Asked.{no_elements}
+use Rattle.ex_operators.proofs.Operands.{no_elements}
 use Rattle.ex_operators.proofs.operand.Operand.elements.Goals as goal
 
 pub returns-else-can_have_elements : goal.returns-else-can_have_elements

@@ -1,7 +1,7 @@
 use Rattle.std.proofs.Common.{◌≡◌, ℕ, List, IfOk, subst, ◌∙◌, ap}
 use Rattle.std.specs.List.{filter_map}
 use Rattle.ex_kinds.specs.Types.{enumeration}
-use Rattle.ex_operators.proofs.Asked.{enumerations_are}
+use Rattle.ex_operators.proofs.Operands.{enumerations_are}
 use Rattle.ex_operators.proofs.operand.Operand.enumerations.Goals as goal
 
 pub returns : goal.returns

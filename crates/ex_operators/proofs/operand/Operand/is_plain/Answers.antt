@@ -1,5 +1,5 @@
 use Rattle.std.proofs.Common.{sym, ◌∙◌, ap}
-use Rattle.ex_operators.proofs.Asked.{plain_first}
+use Rattle.ex_operators.proofs.Operands.{plain_first}
 use Rattle.ex_operators.specs.Operands.{Operand}
 use Rattle.ex_operators.specs.Fitting.{is_nothing}
 use Rattle.ex_operators.proofs.operand.Operand.is_plain.Goals as goal

@@ -1,7 +1,7 @@
 use Rattle.std.proofs.Common.{◌≡◌, ◌∙◌, ap, List, filter}
+use Rattle.plain_data.specs.Numbers.{is_among}
 use Rattle.name_tables.specs.Names.{named}
 use Rattle.ex_named.specs.declared.reference.AttributePlace.{AttributePlace}
-use Rattle.ex_named.specs.Scopes.{is_among}
 use Rattle.ex_scopes.specs.Attributes.{seen_after, told}
 use Rattle.ex_scopes.specs.declared.seen.Seen.TheVariants.{Nothing}
 use Rattle.ex_scopes.specs.Sorts.{admitted}

@@ -1,6 +1,6 @@
 use Rattle.name_tables.specs.Names.{named}
 use Rattle.ex_named.specs.declared.reference.AttributePlace.{AttributePlace}
-use Rattle.descent.proofs.InTurn.{of_members}
+use Rattle.ancestors.proofs.InTurn.{of_members}
 use Rattle.ex_scopes.proofs.Runs.{said_to_rise}
 use Rattle.ex_scopes.proofs.attributes.AttributeRows.of_family.Goals as goal
 

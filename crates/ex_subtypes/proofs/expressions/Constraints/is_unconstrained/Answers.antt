@@ -1,5 +1,5 @@
 use Rattle.std.proofs.Common.{◌≡◌, ◌∙◌, ℕ, true, false, List, Option, None, refl, sym, ap}
-use Rattle.lineage.specs.Lineage.{is_among}
+use Rattle.plain_data.specs.Numbers.{is_among}
 use Rattle.ex_subtypes.specs.declared.constraints.Constraint.{Constraint}
 use Rattle.ex_subtypes.specs.Legal.{graph, is_abstract}
 use Rattle.ex_subtypes.specs.Nodes.{all_kept, kept_at}

@@ -2,7 +2,8 @@ use Rattle.std.proofs.Common.{◌≡◌, true, false, List, Option, Some, None, 
 use Rattle.std.specs.Option.{option_map}
 use Rattle.std.specs.List.{find}
 use Rattle.sorted_tables.specs.Table.{with_row}
-use Rattle.rp_rows.specs.Rows.{text_cmp, grant_key, Key, key_cmp, is_row, GroupRow}
+use Rattle.rp_rows.specs.declared.rows.Key.{Key}
+use Rattle.rp_rows.specs.Rows.{text_cmp, grant_key, key_cmp, is_row, GroupRow, key_of}
 use Rattle.rp_rows.specs.Alterations.{grants_of, grant_for}
 use Rattle.rp_tables.specs.Entries.{entry_key}
 use Rattle.rp_tables.specs.Stored.{row_of}
@@ -35,14 +36,14 @@ invariant_of-self c =
       | then-is_some w ↦
           let there = row_there (find (is_row k) g.table.rows) (found ∙ w.if-is_some.true) in
           let under : Key = r.under in
-          let is_under : under ≡ (under.0, k.0) = λ i. (under.0, c.requires.1 i) in
-          let grants : r.grants ≡ with_row text_cmp grant_key under.0 (grant_for under.0 r.level) there.0.grants =
-          c.requires.0 ∙ ap (λ s. with_row text_cmp grant_key under.0 (grant_for under.0 r.level) (grants_of (find (is_row k) s.rows))) (sym c.self.view_is)
-          ∙ ap (λ o. with_row text_cmp grant_key under.0 (grant_for under.0 r.level) (grants_of o)) there.1 in
-          let names : r.names ≡ relisted k.1 r.level (names_at (under.0, k.0) g.granted.entries) =
-          c.requires.2 ∙ (λ i. relisted k.1 r.level (names_at (is_under i) (sym c.self.view_is i).names)) in
-          let kept = regrant_keeps k under.0 r.level r.grants r.names g.granted.entries g.table.rows there.0 there.1 grants names c.self.invariant in
-          let put : w.put.new.self.entries ≡ with_row key_cmp entry_key (under.0, k.0) (Some (record { key = (under.0, k.0); value = r.names })) g.granted.entries =
+          let is_under : under ≡ key_of under.owner k.owner = λ i. key_of under.owner (c.requires.1 i) in
+          let grants : r.grants ≡ with_row text_cmp grant_key under.owner (grant_for under.owner r.level) there.0.grants =
+          c.requires.0 ∙ ap (λ s. with_row text_cmp grant_key under.owner (grant_for under.owner r.level) (grants_of (find (is_row k) s.rows))) (sym c.self.view_is)
+          ∙ ap (λ o. with_row text_cmp grant_key under.owner (grant_for under.owner r.level) (grants_of o)) there.1 in
+          let names : r.names ≡ relisted k.name r.level (names_at (key_of under.owner k.owner) g.granted.entries) =
+          c.requires.2 ∙ (λ i. relisted k.name r.level (names_at (is_under i) (sym c.self.view_is i).names)) in
+          let kept = regrant_keeps k under.owner r.level r.grants r.names g.granted.entries g.table.rows there.0 there.1 grants names c.self.invariant in
+          let put : w.put.new.self.entries ≡ with_row key_cmp entry_key (key_of under.owner k.owner) (Some (record { key = key_of under.owner k.owner; value = r.names })) g.granted.entries =
           w.put.ensures ∙ ap (λ (j : Key). with_row key_cmp entry_key j (Some (record { key = j; value = r.names })) g.granted.entries) is_under in
           subst (λ (s : Inside). KeepsGranted s.granted.entries (regranted_rows k r.grants s.table.rows)) (sym w.self-inside-is)
           (subst (λ (es : List Names). KeepsGranted es (regranted_rows k r.grants g.table.rows)) (sym put) kept)

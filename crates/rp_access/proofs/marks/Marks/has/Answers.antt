@@ -1,6 +1,6 @@
 use Rattle.std.proofs.Common.{◌≡◌, ◌<◌, ◌+◌, Bool, List, false, length, get_or, sym, ◌∙◌, ap, subst, arith}
-use Rattle.lineage.specs.Lineage.{is_among}
-use Rattle.lineage.proofs.Sets.{contained}
+use Rattle.plain_data.specs.Numbers.{is_among}
+use Rattle.graphs.proofs.Sets.{contained}
 use Rattle.rp_access.proofs.Places.{length-marks, mark_at}
 use Rattle.rp_access.proofs.marks.Marks.has.Goals as goal
 

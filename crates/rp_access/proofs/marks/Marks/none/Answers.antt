@@ -1,5 +1,5 @@
 use Rattle.std.proofs.Common.{◌∙◌, ap}
-use Rattle.lineage.specs.Lineage.{is_among}
+use Rattle.plain_data.specs.Numbers.{is_among}
 use Rattle.rp_access.specs.Kept.{marks_from}
 use Rattle.rp_access.proofs.Places.{none_set}
 use Rattle.rp_access.proofs.marks.Marks.none.Goals as goal

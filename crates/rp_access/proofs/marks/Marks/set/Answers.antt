@@ -1,6 +1,6 @@
 use Rattle.std.proofs.Common.{◌<◌, Bool, List, true, length, set, ◌∙◌, ap, arith, subst, sym}
-use Rattle.lineage.specs.Lineage.{is_among}
-use Rattle.lineage.proofs.Sets.{inserted}
+use Rattle.plain_data.specs.Numbers.{is_among}
+use Rattle.graphs.proofs.Sets.{inserted}
 use Rattle.rp_access.proofs.Places.{length-marks, one_set}
 use Rattle.rp_access.proofs.marks.Marks.set.Goals as goal
 

@@ -1,4 +1,5 @@
 use Rattle.std.proofs.Common.{Some, None, ◌∙◌, ap, sym}
+use Rattle.rp_rows.specs.Rows.{key_of}
 use Rattle.rp_rows.specs.Sight.{sees}
 use Rattle.rp_plain.specs.Readers.{right_at}
 use Rattle.rp_tables.specs.Stored.{row_of}
@@ -14,11 +15,11 @@ returns-in-Some c =
     let m = row_of c.in-Some.model in
     c.level.ensures
     ∙ sym (right_there gs who m)
-    ∙ ap (right_at gs who) (seen_found (c.args.owner.now, c.args.name.now) (sees gs who) c.args.self.now.models.now.rows (Some m) c.find_for.ensures.ascending c.in-Some.ensures.found)
+    ∙ ap (right_at gs who) (seen_found (key_of c.args.owner.now c.args.name.now) (sees gs who) c.args.self.now.models.now.rows (Some m) c.find_for.ensures.ascending c.in-Some.ensures.found)
 
 pub returns-in-None : goal.returns-in-None
 unfolding told
 returns-in-None c =
     let gs = c.args.self.now.groups.now.rows in
     let who = c.args.self.now.caller.now in
-    ap (right_at gs who) (seen_found (c.args.owner.now, c.args.name.now) (sees gs who) c.args.self.now.models.now.rows None c.find_for.ensures.ascending c.in-None.ensures.found)
+    ap (right_at gs who) (seen_found (key_of c.args.owner.now c.args.name.now) (sees gs who) c.args.self.now.models.now.rows None c.find_for.ensures.ascending c.in-None.ensures.found)

@@ -1,4 +1,5 @@
 use Rattle.std.proofs.Common.{◌≡◌, get_or, sym, ◌∙◌, ap}
+use Rattle.rp_rows.specs.Rows.{key_of}
 use Rattle.rp_tables.specs.Entries.{without_name}
 use Rattle.rp_tables.proofs.Finding.{revalued_there, revalued_absent}
 use Rattle.rp_tables.proofs.keyed.Keyed+Rows+Text.drop_name.Goals as goal
@@ -8,14 +9,14 @@ invariant_of-self c =
     let x = c.index_mut.result.now in
     let same = ap (λ s. s.entries) c.self.view_is in
     let here : get_or c.args.self.now.entries c.in-Ok.place x ≡ x = ap (λ xs. get_or xs c.in-Ok.place x) (sym same) ∙ sym c.index_mut.ensures.value in
-    (revalued_there (c.args.owner.now, c.args.other.now) (without_name c.args.name.now) c.self.inside.entries.items c.args.self.now.entries c.in-Ok.place x c.drop_name.new.entry same c.in-Ok.ensures here c.drop_name.ensures).ascends
+    (revalued_there (key_of c.args.owner.now c.args.other.now) (without_name c.args.name.now) c.self.inside.entries.items c.args.self.now.entries c.in-Ok.place x c.drop_name.new.entry same c.in-Ok.ensures here c.drop_name.ensures).ascends
 
 pub returns-in-Ok : goal.returns-in-Ok
 returns-in-Ok c =
     let x = c.index_mut.result.now in
     let same = ap (λ s. s.entries) c.self.view_is in
     let here : get_or c.args.self.now.entries c.in-Ok.place x ≡ x = ap (λ xs. get_or xs c.in-Ok.place x) (sym same) ∙ sym c.index_mut.ensures.value in
-    (revalued_there (c.args.owner.now, c.args.other.now) (without_name c.args.name.now) c.self.inside.entries.items c.args.self.now.entries c.in-Ok.place x c.drop_name.new.entry same c.in-Ok.ensures here c.drop_name.ensures).are
+    (revalued_there (key_of c.args.owner.now c.args.other.now) (without_name c.args.name.now) c.self.inside.entries.items c.args.self.now.entries c.in-Ok.place x c.drop_name.new.entry same c.in-Ok.ensures here c.drop_name.ensures).are
 
 pub returns-in_default : goal.returns-in_default
-returns-in_default c = revalued_absent (c.args.owner.now, c.args.other.now) (without_name c.args.name.now) c.args.self.now.entries c.in_default.field-0 c.in_default.ensures
+returns-in_default c = revalued_absent (key_of c.args.owner.now c.args.other.now) (without_name c.args.name.now) c.args.self.now.entries c.in_default.field-0 c.in_default.ensures

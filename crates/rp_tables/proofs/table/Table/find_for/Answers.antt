@@ -2,7 +2,7 @@ use Rattle.std.proofs.Common.{Some, sym, ◌∙◌, ap, subst}
 use Rattle.std.specs.Prelude.{option_map}
 use Rattle.std.specs.List.{find}
 use Rattle.sorted_tables.specs.Table.{IsAscending}
-use Rattle.rp_rows.specs.Rows.{key_cmp, row_key, is_row}
+use Rattle.rp_rows.specs.Rows.{key_cmp, row_key, is_row, key_of}
 use Rattle.rp_tables.specs.Entries.{is_entry}
 use Rattle.rp_tables.specs.Stored.{row_of, joined_row}
 use Rattle.rp_tables.proofs.Joining.{both, find-joined, rows_ascend}
@@ -17,9 +17,9 @@ pub returns-in_err-entry-clause-found : goal.returns-in_err-entry-clause-found
 returns-in_err-entry-clause-found g c =
     let t = c.self.inside in
     ap (option_map row_of) c.from_residual.ensures
-    ∙ ap (λ o. both o (find (is_entry (c.args.owner.now, c.args.name.now)) t.rights.entries)) c.in_err-entry.ensures
-    ∙ sym (find-joined (c.args.owner.now, c.args.name.now) t.held.entries t.rights.entries c.self.invariant.same)
-    ∙ ap (λ s. find (is_row (c.args.owner.now, c.args.name.now)) s.rows) c.self.view_is
+    ∙ ap (λ o. both o (find (is_entry (key_of c.args.owner.now c.args.name.now)) t.rights.entries)) c.in_err-entry.ensures
+    ∙ sym (find-joined (key_of c.args.owner.now c.args.name.now) t.held.entries t.rights.entries c.self.invariant.same)
+    ∙ ap (λ s. find (is_row (key_of c.args.owner.now c.args.name.now)) s.rows) c.self.view_is
 
 pub returns-in_err-rights-clause-ascending : goal.returns-in_err-rights-clause-ascending
 returns-in_err-rights-clause-ascending g c =
@@ -31,8 +31,8 @@ returns-in_err-rights-clause-found g c =
     let t = c.self.inside in
     ap (option_map row_of) c.from_residual-in_err-rights.ensures
     ∙ (λ i. both (c.in_ok-entry.ensures i) (c.in_err-rights.ensures i))
-    ∙ sym (find-joined (c.args.owner.now, c.args.name.now) t.held.entries t.rights.entries c.self.invariant.same)
-    ∙ ap (λ s. find (is_row (c.args.owner.now, c.args.name.now)) s.rows) c.self.view_is
+    ∙ sym (find-joined (key_of c.args.owner.now c.args.name.now) t.held.entries t.rights.entries c.self.invariant.same)
+    ∙ ap (λ s. find (is_row (key_of c.args.owner.now c.args.name.now)) s.rows) c.self.view_is
 
 pub returns-clause-ascending : goal.returns-clause-ascending
 returns-clause-ascending g c =
@@ -46,5 +46,5 @@ returns-clause-found g c =
     let y = c.in_ok-rights.rights.now in
     ap (λ gs. Some (joined_row x (record y { value = gs }))) c.as_slice.ensures
     ∙ (λ i. both (c.in_ok-entry.ensures i) (c.in_ok-rights.ensures i))
-    ∙ sym (find-joined (c.args.owner.now, c.args.name.now) t.held.entries t.rights.entries c.self.invariant.same)
-    ∙ ap (λ s. find (is_row (c.args.owner.now, c.args.name.now)) s.rows) c.self.view_is
+    ∙ sym (find-joined (key_of c.args.owner.now c.args.name.now) t.held.entries t.rights.entries c.self.invariant.same)
+    ∙ ap (λ s. find (is_row (key_of c.args.owner.now c.args.name.now)) s.rows) c.self.view_is

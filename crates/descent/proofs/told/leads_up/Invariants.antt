@@ -1,6 +1,0 @@
-use Rattle.std.proofs.Common.{IsTrue}
-use Rattle.descent.specs.Labels as spec
-use Rattle.descent.proofs.told.leads_up.Given as goal
-
-abbrev pub invariant-loop : goal.invariant-loop
-invariant-loop l = IsTrue (spec.is_up l._graph l.from l.at)

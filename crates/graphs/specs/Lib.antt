@@ -1,0 +1,3 @@
+pub mod Graphs
+pub mod Traces
+pub mod Placed

@@ -1,9 +1,0 @@
-use Rattle.std.proofs.Common.{◌≡◌, ℕ, false, length}
-use Rattle.lineage.specs.Lineage as spec
-use Rattle.lineage.proofs.below.empty_lists.Given as goal
-
-abbrev pub invariant-loop : goal.invariant-loop
-invariant-loop l = record {
-  many : length l.lists.items ≡ l.counter;
-  empty : (d e : ℕ) → spec.is_among (spec.supertypes l.lists.items d) e ≡ false;
-}

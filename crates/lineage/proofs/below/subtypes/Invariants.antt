@@ -1,9 +1,0 @@
-use Rattle.std.proofs.Common.{◌≡◌, ℕ, ◌&&◌, nat_lt, length}
-use Rattle.lineage.specs.Lineage as spec
-use Rattle.lineage.proofs.below.subtypes.Given as goal
-
-abbrev pub invariant-loop-member : goal.invariant-loop-member
-invariant-loop-member l = record {
-  count : length l.below.items ≡ length l.graph;
-  turned : (d e : ℕ) → spec.is_among (spec.supertypes l.below.items d) e ≡ (nat_lt d (length l.graph) && (spec.is_among (spec.supertypes l.graph e) d && nat_lt e l.member));
-}

@@ -1,6 +1,0 @@
-use Rattle.std.proofs.Common.{◌≡◌, map}
-use Rattle.lineage.specs.Lineage as spec
-use Rattle.lineage.proofs.cycles.cyclic_marks.Given as goal
-
-abbrev pub invariant-loop-member : goal.invariant-loop-member
-invariant-loop-member l = l.marks.items ≡ map (λ k. spec.is_ancestor l.graph k k) (spec.numbers_from 0 l.member)

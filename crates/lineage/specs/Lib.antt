@@ -1,4 +1,0 @@
-pub mod Lineage
-pub mod Traces
-pub mod Numbered
-pub mod Placed

@@ -1,7 +1,0 @@
--- Marks of members that were placed.
-use Rattle.std.specs.Prelude.{◌≡◌, ℕ, Bool, List, IfSome, slice_get}
-use Rattle.lineage.specs.Lineage.{is_among}
-
--- each mark says whether its member is among those
-abbrev pub AreMarks : List Bool → List ℕ → Type 0
-AreMarks marks placed = (n : ℕ) → IfSome (slice_get marks n) (λ mark. mark ≡ is_among placed n)

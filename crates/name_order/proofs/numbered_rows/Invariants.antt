@@ -1,8 +1,0 @@
-use Rattle.std.proofs.Common.{◌≡◌, ◌++◌, map, drop}
-use Rattle.lineage.specs.Numbered.{numbered_from}
-use Rattle.name_order.specs.Order.{numbered_names}
-use Rattle.name_order.proofs.numbered_rows.Given as goal
-
-abbrev pub invariant-loop-number : goal.invariant-loop-number
-invariant-loop-number l =
-    l.rows.items ++ numbered_from (λ number n. (n, number)) l.number (map (λ n. n.now) (drop l.number l.names)) ≡ numbered_names (map (λ n. n.now) l.names)

@@ -1,0 +1,4 @@
+pub mod Disjunctions
+pub mod Numbers
+pub mod Orderings
+pub mod Runs
