@@ -7,7 +7,7 @@ use Rattle.rp_numbers.specs.Logical.{of_test}
 use Rattle.rp_numbers.specs.declared.Logical.{Logical}
 use Rattle.rp_numbers.specs.declared.Logical.TheVariants.{False, Unknown, True}
 use Rattle.rp_value.specs.Elements.{Elements}
-use Rattle.rp_value.specs.Operations.{value_membership}
+use Rattle.rp_operations.specs.Operations.{value_membership}
 use Rattle.rp_value.specs.declared.value.AggregateKind.{AggregateKind}
 use Rattle.rp_value.specs.declared.value.AggregateKind.TheVariants as k
 use Rattle.rp_value.specs.declared.value.Value.{Value, out-Value}

@@ -13,7 +13,7 @@ use Rattle.ex_tree.specs.declared.data_type.SimpleType.{SimpleType}
 use Rattle.ex_tree.specs.declared.data_type.SimpleType.TheVariants as s
 use Rattle.ex_tree.specs.declared.data_type.Width.{Width}
 use Rattle.rp_value.specs.Elements.{Elements}
-use Rattle.rp_value.specs.Operations.{set_union}
+use Rattle.rp_operations.specs.Operations.{set_union}
 use Rattle.rp_value.specs.declared.value.AggregateKind.{AggregateKind}
 use Rattle.rp_value.specs.declared.value.Value.{Value}
 use Rattle.rp_value.specs.declared.value.Value.TheFolds.{fold-Value, map-Value}

@@ -12,10 +12,10 @@ use Rattle.rp_numbers.specs.Logical.{conjunction, disjunction, negation, exclusi
 use Rattle.rp_numbers.specs.declared.Logical.{Logical}
 use Rattle.rp_numbers.specs.declared.Logical.TheVariants.{False, Unknown, True}
 use Rattle.rp_value.specs.Elements.{Elements}
-use Rattle.rp_value.specs.Operations.{compare, same, union, intersection, difference, membership, is_within}
-use Rattle.rp_value.specs.Seen.{Seen, Indeterminate, Number, Text, Bits, Truth, Instance, Aggregate, seen, same_kind}
-use Rattle.rp_value.specs.declared.compared.Compared.{Compared}
-use Rattle.rp_value.specs.declared.compared.Compared.TheVariants as c
+use Rattle.rp_operations.specs.Operations.{compare, same, union, intersection, difference, membership, is_within}
+use Rattle.rp_operations.specs.Seen.{Seen, Indeterminate, Number, Text, Bits, Truth, Instance, Aggregate, seen, same_kind}
+use Rattle.rp_operations.specs.declared.compared.Compared.{Compared}
+use Rattle.rp_operations.specs.declared.compared.Compared.TheVariants as c
 use Rattle.rp_value.specs.declared.value.AggregateKind.{AggregateKind}
 use Rattle.rp_value.specs.declared.value.Value.{Value}
 use Rattle.rp_value.specs.declared.value.Value.TheVariants as v

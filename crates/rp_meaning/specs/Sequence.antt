@@ -15,7 +15,7 @@ use Rattle.rp_meaning.specs.declared.rule.Rule.{Rule}
 use Rattle.rp_meaning.specs.Expressions.{World}
 use Rattle.rp_meaning.specs.Operators.{truth_in}
 use Rattle.rp_meaning.specs.Outcomes.{outcome}
-use Rattle.rp_value.specs.Seen.{seen}
+use Rattle.rp_operations.specs.Seen.{seen}
 
 -- How an evaluation ends that may not be begun.
 pub data Ended : Type 0 where

@@ -10,7 +10,7 @@ use Rattle.ex_named.specs.declared.expression.NamedDataType.TheVariants as d
 use Rattle.ex_named.specs.declared.reference.TypeName.{TypeName}
 use Rattle.ex_named.specs.declared.reference.TypeName.TheVariants as t
 use Rattle.rp_value.specs.Elements.{Elements}
-use Rattle.rp_value.specs.Operations.{set_union}
+use Rattle.rp_operations.specs.Operations.{set_union}
 use Rattle.rp_value.specs.declared.value.AggregateKind.{AggregateKind}
 use Rattle.rp_value.specs.declared.value.AggregateKind.TheVariants as k
 use Rattle.rp_value.specs.declared.value.Value.{Value, out-Value}
