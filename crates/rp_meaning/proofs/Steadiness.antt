@@ -308,7 +308,6 @@ module _ (world : World) (levels : ℕ) (below : ℕ → Body → Computation Va
   abbrev query_step : ℕ → Query-F Part QualifierPart IntervalPart OperationPart QueryPart → Meaning
   query_step l y = query_layer world (below l) (map-Query Expression Qualifier Interval Operation Query Meaning Operating Meaning Operating Meaning (expression world (below l)) (qualifier world (below l)) (interval world (below l)) (operation world (below l)) (query world (below l)) (query_parts y))
 
-
   expression-step : (y : Expression-F Part QualifierPart IntervalPart OperationPart QueryPart) (s : Scope) → Steady (λ l. step l y s) levels
   expression-step (Expression-F.Literal x) s = steady-after 1 _ levels (steady-same _ levels)
   expression-step Expression-F.Itself s = steady-after 1 _ levels (steady-same _ levels)

@@ -4,6 +4,7 @@ use Rattle.std.proofs.lemmas.Bool.Decides.{nat_tests}
 use Rattle.std.specs.List.{flat_map, AllByRecursion}
 use Rattle.ex_named.specs.declared.reference.AttributePlace.{AttributePlace}
 use Rattle.rp_value.specs.declared.value.Value.{Value}
+use Rattle.rp_value.specs.declared.value.Value.TheVariants as v
 use Rattle.rp_meaning.specs.declared.counter.Counter.{Counter}
 use Rattle.rp_meaning.specs.declared.outcome.Outcome.{Outcome}
 use Rattle.rp_meaning.specs.declared.outcome.Outcome.TheVariants as o
@@ -75,19 +76,19 @@ of-flat_map f (x ∷ xs) keep = of-append (f x) (flat_map f xs) (keep x) (of-fla
 
 module _ (schema : Schema) (population : List Instance) where
   type_check-within : (number place : ℕ) → KeepsWithin (spec.type_check schema population number place)
-  type_check-within number place used h = all-within (spec.world schema population) [] _ used h
+  type_check-within number place used h = all-within (spec.world schema population) [] (spec.type_candidates schema population number place) used h
 
   where_check-within : (entity place : ℕ) → KeepsWithin (spec.where_check schema population entity place)
-  where_check-within entity place used h = all-within (spec.world schema population) [] _ used h
+  where_check-within entity place used h = all-within (spec.world schema population) [] (spec.candidates_of schema population entity (r.Entity entity place ∷ [])) used h
 
   unique_check-within : (entity place : ℕ) (attributes : List AttributePlace) → KeepsWithin (spec.unique_check schema population entity place attributes)
-  unique_check-within entity place attributes used h = all-within (spec.world schema population) [] _ used h
+  unique_check-within entity place attributes used h = all-within (spec.world schema population) [] (spec.candidates_of schema population entity (map (r.Unique entity place) (spec.places (length attributes)))) used h
 
   inverse_check-within : (entity place : ℕ) → KeepsWithin (spec.inverse_check schema population entity place)
-  inverse_check-within entity place used h = all-within (spec.world schema population) [] _ used h
+  inverse_check-within entity place used h = all-within (spec.world schema population) [] (spec.candidates_of schema population entity (r.Inverse entity place ∷ [])) used h
 
   rule_check-within : (number place : ℕ) → KeepsWithin (spec.rule_check schema population number place)
-  rule_check-within number place used h = one-within (spec.world schema population) _ used h
+  rule_check-within number place used h = one-within (spec.world schema population) (r.Global number place, v.Indet) used h
 
   type-within : (number : ℕ) (o : Option DefinedType) → slice_get schema.types number ≡ o → AllByRecursion KeepsWithin (spec.type_checks schema population number)
   type-within number None e = rw e tt

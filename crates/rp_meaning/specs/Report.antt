@@ -50,7 +50,7 @@ is_whole values count = length values == count && not (list_any is_indeterminate
 -- A row with `?`, or with an attribute that has no value, isn't compared.
 abbrev pub row_of : Result → Option Row
 row_of result =
-  if is_whole (flat_map value_in result.1) (length result.1) then Some (record { culprit = result.0; values = flat_map value_in result.1 }) else None
+    if is_whole (flat_map value_in result.1) (length result.1) then Some (record { culprit = result.0; values = flat_map value_in result.1 }) else None
 
 -- in all attributes, by `:=:`
 abbrev pub agree : List Value → List Value → Bool
@@ -91,26 +91,38 @@ module _ (schema : Schema) (population : List Instance) where
   abbrev pub of_instance : List Rule → ℕ → Candidate
   of_instance rules place = (instance_culprit place, map (λ rule. (rule, v.Inst place)) rules)
 
+  abbrev pub type_candidates : ℕ → ℕ → List Candidate
+  type_candidates number place = map (of_attribute (r.Type number place) number) (checked_of schema population)
+
+  -- the instances of an entity
+  abbrev pub candidates_of : ℕ → List Rule → List Candidate
+  candidates_of entity rules = map (of_instance rules) (places_of population entity)
+
   abbrev pub type_check : ℕ → ℕ → Checking
-  type_check number place = checking (check_by (c.Type number place)) (map (of_attribute (r.Type number place) number) (checked_of schema population))
+  type_check number place = checking (check_by (c.Type number place)) (type_candidates number place)
 
   abbrev pub where_check : ℕ → ℕ → Checking
-  where_check entity place = checking (check_by (c.Where entity place)) (map (of_instance (r.Entity entity place ∷ [])) (places_of population entity))
+  where_check entity place = checking (check_by (c.Where entity place)) (candidates_of entity (r.Entity entity place ∷ []))
 
   abbrev pub unique_check : ℕ → ℕ → List AttributePlace → Checking
-  unique_check entity place attributes =
-      checking (unique_by entity place) (map (of_instance (map (r.Unique entity place) (places (length attributes)))) (places_of population entity))
+  unique_check entity place attributes = checking (unique_by entity place) (candidates_of entity (map (r.Unique entity place) (places (length attributes))))
 
   abbrev pub inverse_check : ℕ → ℕ → Checking
-  inverse_check entity place = checking (check_by (c.Inverse entity place)) (map (of_instance (r.Inverse entity place ∷ [])) (places_of population entity))
+  inverse_check entity place = checking (check_by (c.Inverse entity place)) (candidates_of entity (r.Inverse entity place ∷ []))
 
   -- its verdict is what is said of its condition, without culprits
   abbrev pub rule_check : ℕ → ℕ → Checking
-  rule_check number place used = (record {
-    constraint = c.Rule number place;
-    verdict = verdict_of (one world (r.Global number place, v.Indet) used).0;
-    violating = []; limited = []; not_run = []; unknown = [];
-  }, (one world (r.Global number place, v.Indet) used).1)
+  rule_check number place used = (
+    record {
+      constraint = c.Rule number place;
+      verdict = verdict_of (one world (r.Global number place, v.Indet) used).0;
+      violating = [];
+      limited = [];
+      not_run = [];
+      unknown = [];
+    },
+    (one world (r.Global number place, v.Indet) used).1,
+  )
 
   -- ---- all, by the names of what declares them and by their places there
 

@@ -88,11 +88,11 @@ is_empty (x ∷ xs) = false
 -- the first of FALSE, LIMIT, NOT_RUN and UNKNOWN that has a culprit
 abbrev pub first_verdict : List Culprit → List Culprit → List Culprit → List Culprit → Verdict
 first_verdict violating limited not_run unknown =
-  if not (is_empty violating) then v.False
-  else if not (is_empty limited) then v.Limit
-  else if not (is_empty not_run) then v.NotRun
-  else if not (is_empty unknown) then v.Unknown
-  else v.True
+    if not (is_empty violating) then v.False
+    else if not (is_empty limited) then v.Limit
+    else if not (is_empty not_run) then v.NotRun
+    else if not (is_empty unknown) then v.Unknown
+    else v.True
 
 abbrev pub check_of : Constraint → List Culprit → List Culprit → List Culprit → List Culprit → Check
 check_of constraint violating limited not_run unknown = record {

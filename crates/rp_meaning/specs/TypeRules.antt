@@ -88,8 +88,8 @@ module _ (types : List DefinedType) (population : List Instance) where
     -- from the left, an aggregate before its elements
     abbrev pub tried_in : List NamedDataType → Trying → Value → List Value
     tried_in declared x read =
-      if is_indeterminate read then []
-      else (if is_tried declared x.itself read then read ∷ [] else []) ++ x.inside (filter_map (element_type x.itself read) declared) (aggregate_of read)
+        if is_indeterminate read then []
+        else (if is_tried declared x.itself read then read ∷ [] else []) ++ x.inside (filter_map (element_type x.itself read) declared) (aggregate_of read)
 
     abbrev pub elements_tried : List NamedDataType → List Trying → List Value → List Value
     elements_tried declared (x ∷ written) (y ∷ read) = tried_in declared x y ++ elements_tried declared written read
