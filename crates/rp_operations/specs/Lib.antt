@@ -1,0 +1,4 @@
+pub mod Seen
+pub mod Order
+pub mod Equality
+pub mod Operations
