@@ -10,12 +10,12 @@ use Rattle.rp_content.specs.declared.instance.Entities.{Entities}
 use Rattle.rp_content.specs.declared.instance.Entities.TheVariants.{Leaf, Several}
 use Rattle.rp_population.specs.Found.{all_slots}
 
-pub entities_are : (schema : Checked) (entities : Entities) → (layout schema entities).entities ≡ entities_of schema entities
+pub entities_are : (schema : Checked) (all : Entities) → (layout schema all).entities ≡ entities_of schema all
 entities_are schema (Leaf entity) = refl
 entities_are schema (Several all) = refl
 
 -- the attributes of all records are those of the instance
-pub slots_are : (schema : Checked) (entities : Entities) → all_slots (layout schema entities).slots ≡ slots (entities schema) (entities_of schema entities)
+pub slots_are : (schema : Checked) (all : Entities) → all_slots (layout schema all).slots ≡ slots (entities schema) (entities_of schema all)
 unfolding slots slots_in
 slots_are schema (Leaf entity) = append-nil (leaf_slots schema entity)
 slots_are schema (Several all) = flat_map-map (λ (xs : List Slot). xs) (slots_of (entities schema) (is_derived (flat_map (derived_by (entities schema)) all))) all
