@@ -31,7 +31,7 @@ pub struct Regrant {
     pub level: Option<Level>,
     /// All the grants on the group.
     pub grants: Rows<Grant>,
-    /// The partner, and the owner of the group.
+    /// The partner as its owner, and the owner of the group as its name.
     pub under: Key,
     /// The names of the owner's groups that the partner is granted.
     pub names: Rows<Text>,
