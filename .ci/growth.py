@@ -11,9 +11,9 @@ crates that are read another name for a Global is refused. So is a growth each c
     another         function of these crates grows nothing in front of its last look at sight; and none looks into a table itself, by
                     `.models`, `.groups`, `.partners` or `.schemas`: what a plan knows is what readers tell
     the readers     what is called in front of these tests, and what that calls, grows nothing at all: functions of plans,
-                    rp_readers, rp_access and rp_tables, by their names
+                    rp_readers, rp_sight, rp_access and rp_tables, by their names
     the body        `prepare` of rp_core grows nothing in front of its call of `plan`
-    sizes           in rp_readers and rp_access nothing is made for a number of things at once: no `with_capacity`, `reserve`,
+    sizes           in rp_readers, rp_sight and rp_access nothing is made for a number of things at once: no `with_capacity`, `reserve`,
                     `resize`, `from_elem` and `vec![in ..]`
 
 LISTED has the places that stand all the same, each with its reason: what is read of a text, or counted, once the tests of sight
@@ -30,9 +30,10 @@ FILE_PLANS = "crates/rp_file_plans/src/"
 ITEM_PLANS = "crates/rp_item_plans/src/"
 PLANS = ("crates/rp_plans/src/", FILE_PLANS, ITEM_PLANS, "crates/rp_core/src/plans.rt")
 READERS = "crates/rp_readers/src/"
+SIGHT_OF = "crates/rp_sight/src/"
 ACCESS = "crates/rp_access/src/"
 BODY = "crates/rp_core/src/"
-READ = (*PLANS, READERS, ACCESS, BODY, "crates/rp_tables/src/")
+READ = (*PLANS, READERS, SIGHT_OF, ACCESS, BODY, "crates/rp_tables/src/")
 
 PLAN = re.compile(r"plan|plan_\w+")
 GROWS = re.compile(r"(try_)?(with_capacity|reserve|push|insert|append|extend|resize|copy|clone|collect|sort|split_off|from_elem|from_slice|"
@@ -63,9 +64,9 @@ LISTED = [
     Listed(f"{READERS}contents.rt", "listed_instances", "Vec::with_capacity(alloc, instances.len())?", "what a model has that the caller sees"),
     Listed(f"{READERS}schemas.rt", "names_of", "Vec::with_capacity(alloc, schemas.len())?", "everyone is told all schemas"),
     Listed(f"{READERS}kept.rt", "of", "Vec::with_capacity(alloc, schemas.len())?", "all schemas, at the opening"),
-    Listed(f"{ACCESS}members.rt", "members_of", "Vec::with_capacity(alloc, keys.len())?", "what a group lists that the caller sees"),
-    Listed(f"{ACCESS}groups.rt", "reserve", "self.table.reserve()", ONE_MORE),
-    Listed(f"{ACCESS}groups.rt", "reserve_names", "self.granted.reserve()", ONE_MORE),
+    Listed(f"{SIGHT_OF}members.rt", "members_of", "Vec::with_capacity(alloc, keys.len())?", "what a group lists that the caller sees"),
+    Listed(f"{SIGHT_OF}groups.rt", "reserve", "self.table.reserve()", ONE_MORE),
+    Listed(f"{SIGHT_OF}groups.rt", "reserve_names", "self.granted.reserve()", ONE_MORE),
     Listed(f"{ACCESS}steps.rt", "regrant_for", "groups.reserve_names()?", ONE_MORE),
     Listed(f"{ACCESS}steps.rt", "group_step", "groups.reserve()?", ONE_MORE),
     Listed(f"{ACCESS}steps.rt", "model_step", "models.reserve()?", ONE_MORE),
@@ -154,7 +155,7 @@ class Crates:
     def read(self):
         """Looks at all of them, and gives the faults."""
         asked = set()
-        for folder, name in ((PLANS[-1], "plan"), (BODY, "prepare"), (READERS, "model_right"), (ACCESS, "visible_models")):
+        for folder, name in ((PLANS[-1], "plan"), (BODY, "prepare"), (READERS, "model_right"), (SIGHT_OF, "visible_models")):
             if not any(file.startswith(folder) and it.name == name for file, it in self.functions):
                 self.fault(folder if folder.endswith(".rt") else f"{folder}lib.rt", Token(""), f"there is no function {name}")
         for file, function in self.functions:
@@ -163,7 +164,7 @@ class Crates:
                 self.read_tables(file, function)
             if file.startswith(BODY) and function.name == "prepare":
                 asked |= self.read_body(file, function)
-            if file.startswith((READERS, ACCESS)):
+            if file.startswith((READERS, SIGHT_OF, ACCESS)):
                 self.read_sizes(file, function)
         self.read_asked(asked)
         for file, text in self.texts.items():
@@ -250,12 +251,12 @@ STATEMENTS = [
     names.reserve_exact(4096)?; // found"""),
     ("a reader that takes memory of its own", READERS, "model_right", """
     let _key = (key.0.copy(self.alloc)?, name); // found // found"""),
-    ("a reader below it that does", ACCESS, "level", """
+    ("a reader below it that does", SIGHT_OF, "level", """
     let mut marks = Vec::new(groups.alloc); // found
     marks.push(caller)?; // found"""),
-    ("a mark for each model", ACCESS, "visible_models", """
+    ("a mark for each model", SIGHT_OF, "visible_models", """
     let marks = vec![in alloc; false; models.len()]?; // found"""),
-    ("room for each model", ACCESS, "visible_models", """
+    ("room for each model", SIGHT_OF, "visible_models", """
     let mut all: Vec<u64> = Vec::with_capacity(alloc, models.len())?; // found
     seen.reserve(models.len())?; // found
     let marks = Vec::from_elem(alloc, false, models.len())?; // found"""),

@@ -1,16 +1,16 @@
 -- Changes of models and groups and of who may do what with them: what each makes of the rows, and why it is refused.
-use Rattle.std.specs.Prelude.{Bool, nat_le, List, [], length, filter, Option, Some, None, is_some, ℕ, if◌then◌else◌}
+use Rattle.std.specs.Prelude.{nat_le, List, [], length, filter, Option, Some, None, is_some, ℕ, if◌then◌else◌}
 use Rattle.std.specs.List.{find}
 use Rattle.std.specs.Str.{bytes_eq}
 use Rattle.rp_rows.specs.declared.rows.Level.{Level}
 use Rattle.rp_rows.specs.declared.rows.Level.TheVariants.{Read}
 use Rattle.rp_rows.specs.declared.rows.Listing.{Listing}
 use Rattle.rp_rows.specs.declared.rows.Right.{Right}
-use Rattle.rp_rows.specs.declared.rows.Right.TheVariants.{Unseen, Owns}
+use Rattle.rp_rows.specs.declared.rows.Right.TheVariants.{Unseen}
 use Rattle.rp_rows.specs.declared.rows.Key.{Key}
 use Rattle.rp_rows.specs.Rows.{Text, Row, is_row, Model, GroupRow}
 use Rattle.rp_rows.specs.Listings.{max_models, max_groups, max_members, lists_key, with_member, without_member}
-use Rattle.rp_rows.specs.Sight.{owns, is_grant_to, granted_right, level, group_right}
+use Rattle.rp_rows.specs.Sight.{owns, level, group_right}
 use Rattle.rp_rows.specs.Alterations.{Holds, Grants, altered}
 use Rattle.rp_access.specs.declared.changes.Change.{Change}
 use Rattle.rp_access.specs.declared.changes.Change.TheVariants.{CreateModel, CreateGroup, RemoveModel, RemoveGroup, GrantModel, GrantGroup, RevokeModel, RevokeGroup, Include, Exclude}
@@ -82,14 +82,3 @@ right_on_model gs c (Some m) = level gs c m
 abbrev pub right_on_group : Text → Option GroupRow → Right
 right_on_group c None = Unseen
 right_on_group c (Some g) = group_right c g
-
--- where a model counts so in the groups that he is granted
-abbrev pub level_by : Text → Model → Bool → Right
-level_by c m counted = if owns c m then Owns else granted_right (find (is_grant_to c) m.grants) counted
-
--- what a partner sees, and what he may do with it
-abbrev pub seen_model : List GroupRow → Text → Model → Model × Right
-seen_model gs c m = (m, level gs c m)
-
-abbrev pub seen_group : Text → GroupRow → GroupRow × Right
-seen_group c g = (g, group_right c g)

@@ -1,34 +1,8 @@
--- What is kept of groups, and of all that rights are on.
-use Rattle.std.specs.Prelude.{ℕ, zero, suc, Bool, false, ◌||◌, List, [], ◌∷◌}
+-- What is kept of all that rights are on.
 use Rattle.rp_rows.specs.declared.rows.ModelContent.{ModelContent}
-use Rattle.rp_rows.specs.Rows.{Model, GroupRow}
 use Rattle.rp_tables.specs.Stored.{Stored}
-use Rattle.rp_access.specs.Granted.{Names}
-
--- groups, the names of those that partners are granted, and room for more of each
-pub record KeptGroups : Type 0 where
-  pub rows : List GroupRow
-  pub room : ℕ
-  pub right_room : ℕ
-  pub names : List Names
-  pub name_room : ℕ
+use Rattle.rp_sight.specs.Kept.{KeptGroups}
 
 pub record KeptAccess : Type 0 where
   pub models : Stored ModelContent
   pub groups : KeptGroups
-
--- the marks from a place on, of so many, where those at some places are set
-abbrev pub marks_from : (ℕ → Bool) → ℕ → ℕ → List Bool
-marks_from is_set place zero = []
-marks_from is_set place (suc n) = is_set place ∷ marks_from is_set (suc place) n
-
--- marks beside models, and a mark at each that passes as well
-abbrev pub marked : (Model → Bool) → List Bool → List Model → List Bool
-marked b [] ms = []
-marked b (t ∷ ts) [] = t ∷ ts
-marked b (t ∷ ts) (m ∷ ms) = (t || b m) ∷ marked b ts ms
-
--- no mark beside each model
-abbrev pub unmarked : List Model → List Bool
-unmarked [] = []
-unmarked (m ∷ ms) = false ∷ unmarked ms

@@ -3,10 +3,6 @@ use Rattle.std.specs.Prelude.{List}
 use Rattle.rp_rows.specs.Rows.{Model, GroupRow}
 use Rattle.rp_access.specs.declared.access.Prepared.{Prepared}
 use Rattle.rp_access.specs.declared.access.Prepared.TheVariants.{Nothing, OfModel, OfGroup}
-use Rattle.rp_access.specs.declared.visible.Seen.{Seen}
-use Rattle.rp_rows.specs.Rows.{Row}
-use Rattle.rp_rows.specs.declared.rows.Right.{Right}
-use Rattle.rp_tables.specs.Stored.{row_of}
 use Rattle.rp_access.specs.Kept.{KeptAccess}
 use Rattle.rp_access.specs.Steps.{model_stepped, group_stepped, ModelFits, GroupFits}
 
@@ -23,7 +19,3 @@ abbrev pub PreparedFits : KeptAccess → Prepared → Type 0
 PreparedFits kept Nothing = Unit {0}
 PreparedFits kept (OfModel k step) = ModelFits k step kept.models
 PreparedFits kept (OfGroup k step) = GroupFits k step kept.groups
-
--- a row that is seen, as it is looked at
-abbrev pub seen_of : {A : Type 0} → Seen A → Row A × Right
-seen_of s = (row_of s.row, s.right)

@@ -1,22 +1,19 @@
 -- Changes of models and groups with all the memory that they take.
 use Rattle.std.specs.Prelude.{◌≡◌, ◌<◌, List, Some, None}
-use Rattle.std.specs.List.{find}
-use Rattle.sorted_tables.specs.Table.{with_row}
 use Rattle.rp_rows.specs.declared.rows.Grant.{Grant}
 use Rattle.rp_rows.specs.declared.rows.Key.{Key}
-use Rattle.rp_rows.specs.Rows.{text_cmp, grant_key, Row, is_row, Model, GroupRow}
-use Rattle.rp_rows.specs.Alterations.{Alteration, Holds, Grants as GrantAltered, altered, grant_for, grants_of}
+use Rattle.rp_rows.specs.Rows.{Row, Model, GroupRow}
+use Rattle.rp_rows.specs.Alterations.{Alteration, Holds, Grants as GrantAltered, altered}
 use Rattle.rp_tables.specs.Stored.{Stored, rewritten, HasRoom}
 use Rattle.rp_access.specs.declared.steps.Altered.{Altered}
 use Rattle.rp_access.specs.declared.steps.Altered.TheVariants as altered_to
-use Rattle.rp_access.specs.declared.steps.Regrant.{Regrant}
 use Rattle.rp_access.specs.declared.steps.ModelStep.{ModelStep}
 use Rattle.rp_access.specs.declared.steps.ModelStep.TheVariants as model
 use Rattle.rp_access.specs.declared.steps.GroupStep.{GroupStep}
 use Rattle.rp_access.specs.declared.steps.GroupStep.TheVariants as group
-use Rattle.rp_access.specs.Granted.{names_at, relisted}
 use Rattle.rp_rows.specs.declared.rows.ModelContent.{ModelContent}
-use Rattle.rp_access.specs.Kept.{KeptGroups}
+use Rattle.rp_sight.specs.Kept.{KeptGroups}
+use Rattle.rp_sight.specs.Regrants.{RegrantFits}
 
 -- a change of what stands under a key, as definitions have it
 abbrev pub alteration_of : {A : Type 0} → Altered A → Alteration A
@@ -40,10 +37,6 @@ group_stepped k group.Remove gs = altered k (Holds None) gs
 group_stepped k (group.Regrant r) gs = regranted k r.grants gs
 
 -- ---- what a step asks
-
--- the grants on the group with one partner's as it is to be, and the names under him and the owner
-abbrev pub RegrantFits : Key → Regrant → KeptGroups → Type 0
-RegrantFits k r gs = (r.grants ≡ with_row text_cmp grant_key r.under.owner (grant_for r.under.owner r.level) (grants_of (find (is_row k) gs.rows))) × (r.under.name ≡ k.owner) × (r.names ≡ relisted k.name r.level (names_at r.under gs.names)) × (0 < gs.name_room)
 
 abbrev pub ModelFits : Key → ModelStep → Stored ModelContent → Type 0
 ModelFits k (model.Put again a) table = (again ≡ k) × HasRoom table

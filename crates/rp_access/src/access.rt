@@ -4,19 +4,17 @@ ghost use Rattle.std.specs.Prelude.{◌≡◌};
 
 use crate::changes::{AccessFault, Change};
 use crate::faults::{is_listable, is_new, is_there, is_unlistable};
-use crate::groups::Groups;
-use crate::levels::level;
-use crate::members::{Member, members_of};
 use crate::relisting::{excluding, including};
-use crate::sight::group_right;
 use crate::steps::{
     Altered, GroupStep, ModelStep, group_step, make_group_step, make_model_step, model_step,
 };
-use crate::visible::{Seen, visible_groups, visible_models};
 use plain_data::{Rows, Text};
 use rp_content::Instance;
 use rp_rows::limits::{MAX_GROUPS, MAX_MODELS};
 use rp_rows::rows::{Key, Level, Listing, ModelContent, Right};
+use rp_sight::{
+    Groups, Member, Seen, group_right, level, members_of, visible_groups, visible_models,
+};
 use rp_tables::Table;
 use std::alloc::{AllocError, Global};
 use std::marker::Model;
@@ -67,10 +65,11 @@ impl Access {
     ghost use Rattle.rp_rows.specs.Alterations.{altered};
     ghost use Rattle.rp_tables.specs.Named.{IsNamed, HasRoomIn};
     ghost use Rattle.rp_tables.specs.Stored.{rewritten, reheld, HasRowAt};
-    ghost use Rattle.rp_access.specs.Listed.{members_in, member_of};
-    ghost use Rattle.rp_access.specs.Changes.{models_after, groups_after, fault, granted, relisted_at, right_on_model, right_on_group, seen_model, seen_group};
+    ghost use Rattle.rp_sight.specs.Listed.{members_in, member_of};
+    ghost use Rattle.rp_sight.specs.Seen.{seen_model, seen_group, seen_of};
+    ghost use Rattle.rp_access.specs.Changes.{models_after, groups_after, fault, granted, relisted_at, right_on_model, right_on_group};
     ghost use Rattle.rp_access.specs.declared.changes.AccessFault.TheVariants.{NoMemory};
-    ghost use Rattle.rp_access.specs.Prepared.{prepared_models, prepared_groups, PreparedFits, seen_of};
+    ghost use Rattle.rp_access.specs.Prepared.{prepared_models, prepared_groups, PreparedFits};
     ghost use Rattle.rp_access.specs.Steps.{alteration_of, model_stepped, group_stepped, ModelFits, GroupFits};
 
     /// No model and no group.

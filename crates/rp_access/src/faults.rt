@@ -7,9 +7,9 @@ ghost use Rattle.rp_tables.specs.Stored.{row_of};
 ghost use Rattle.rp_access.specs.Changes as changes;
 
 use crate::changes::AccessFault;
-use crate::sight::has_key;
 use rp_rows::limits::MAX_MEMBERS;
 use rp_rows::rows::{Key, Listing};
+use rp_sight::has_key;
 use rp_tables::{RowRef, Table};
 
 /// Of an item that is there, or whose owner has as many as he may.

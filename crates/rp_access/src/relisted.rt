@@ -2,7 +2,7 @@
 
 ghost use Rattle.std.specs.Prelude.{◌≡◌, ◌++◌, filter, OnOk, IfOk};
 ghost use Rattle.rp_tables.specs.Entries.{without_name};
-ghost use Rattle.rp_access.specs.Granted.{relisted as Relisted};
+ghost use Rattle.rp_sight.specs.Granted.{relisted as Relisted};
 
 use plain_data::{Rows, Text};
 use rp_rows::rows::Level;

@@ -3,12 +3,13 @@
 ghost use Rattle.std.specs.Prelude.{◌≡◌, IfOk};
 ghost use Rattle.rp_rows.specs.Rows.{key_of};
 ghost use Rattle.rp_rows.specs.Alterations.{altered};
-ghost use Rattle.rp_access.specs.Steps.{alteration_of, model_stepped, group_stepped, RegrantFits, ModelFits, GroupFits};
+ghost use Rattle.rp_sight.specs.Regrants.{RegrantFits};
+ghost use Rattle.rp_access.specs.Steps.{alteration_of, model_stepped, group_stepped, ModelFits, GroupFits};
 
-use crate::groups::Groups;
 use crate::relisted::relisted;
 use plain_data::{Rows, Text};
 use rp_rows::rows::{Grant, Key, Level, Listing, ModelContent};
+use rp_sight::{Groups, Regrant};
 use rp_tables::{Table, regranted_for};
 use std::alloc::{AllocError, Global};
 
@@ -19,18 +20,6 @@ pub enum Altered<A> {
     Remove,
     /// One partner's grant.
     Grants(Text, Option<Level>),
-}
-
-/// One partner's grant on a group from now on.
-#[derive(Drop)]
-pub struct Regrant {
-    pub(crate) level: Option<Level>,
-    /// All the grants on the group.
-    pub(crate) grants: Rows<Grant>,
-    /// The partner as its owner, and the owner of the group as its name.
-    pub(crate) under: Key,
-    /// The names of the owner's groups that the partner is granted.
-    pub(crate) names: Rows<Text>,
 }
 
 /// A change of the model of a key, with all the memory that it takes.

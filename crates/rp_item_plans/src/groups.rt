@@ -5,12 +5,13 @@ ghost use Rattle.rp_plans.specs.Plans.{Plans};
 
 use crate::models::own;
 use plain_data::{Rows, Text};
-use rp_access::{Altered, at_least};
+use rp_access::Altered;
 use rp_plain::messages::{Refusal, Reply, Request};
 use rp_plans::{Edits, Plan, first, is_no_partner, name_fault, names_fault, unseen, when};
 use rp_readers::Readers;
 use rp_rows::limits::MAX_GROUPS;
 use rp_rows::rows::{Level, Listing, Right};
+use rp_sight::at_least;
 use std::alloc::Global;
 
 /// A group of the caller's, without members.

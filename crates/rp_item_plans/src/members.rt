@@ -8,13 +8,14 @@ ghost use Rattle.rp_plans.specs.Plans.{Plans};
 
 use crate::models::own;
 use plain_data::Text;
-use rp_access::{Altered, excluding, has_key, including};
+use rp_access::{Altered, excluding, including};
 use rp_plain::messages::{Refusal, Reply, Request};
 use rp_plans::{Edits, Plan, first, is_no_partner, key_fault, lacks, unseen, when};
 use rp_readers::Readers;
 use rp_rows::limits::MAX_MEMBERS;
 use rp_rows::names::is_valid_name;
 use rp_rows::rows::{Key, Listing, ModelContent, Right};
+use rp_sight::has_key;
 use std::alloc::Global;
 
 // ---- tests

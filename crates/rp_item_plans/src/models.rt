@@ -7,13 +7,14 @@ ghost use Rattle.rp_readers.specs.Told.{told};
 ghost use Rattle.rp_plans.specs.Plans.{Plans};
 
 use plain_data::Text;
-use rp_access::{Altered, at_least};
+use rp_access::Altered;
 use rp_content::Content;
 use rp_plain::messages::{Refusal, Reply, Request};
 use rp_plans::{Edits, Plan, first, name_fault, unseen, when};
 use rp_readers::Readers;
 use rp_rows::limits::MAX_MODELS;
 use rp_rows::rows::{Key, ModelContent, Right};
+use rp_sight::at_least;
 use std::alloc::{AllocError, Global};
 
 /// The key of the caller's own item of this name.

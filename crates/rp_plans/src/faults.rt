@@ -7,12 +7,12 @@ ghost use Rattle.rp_plain.specs.Files as of_files;
 ghost use Rattle.rp_readers.specs.Told.{told};
 
 use plain_data::Text;
-use rp_access::at_least;
 use rp_io::FILE_LIMIT;
 use rp_plain::messages::Refusal;
 use rp_readers::Readers;
 use rp_rows::names::is_valid_name;
 use rp_rows::rows::{Key, Right};
+use rp_sight::at_least;
 
 /// The first refusal, if any test gives one.
 pub fn first(tests: &[Option<Refusal>]) -> Option<Refusal>

@@ -11,7 +11,7 @@ use Rattle.rp_tables.specs.Stored.{row_of}
 use Rattle.rp_readers.specs.Listed.{counted_of}
 use Rattle.rp_plain.specs.Readers.{as_counted, counted_in}
 use Rattle.rp_plain.specs.Populations.{member, counts_among}
-use Rattle.rp_access.specs.Listed.{is_counting, member_in}
+use Rattle.rp_sight.specs.Listed.{is_counting, member_in}
 use Rattle.rp_readers.specs.Told.{member_told}
 use Rattle.rp_readers.proofs.Counts.{counts_found, counts_chosen}
 

@@ -6,8 +6,8 @@ ghost use Rattle.rp_readers.specs.Listed.{TellsListed, counted_of};
 ghost use Rattle.rp_readers.specs.Told.{told};
 
 use crate::readers::Readers;
-use rp_access::counted_models;
 use rp_rows::rows::{Key, ModelContent};
+use rp_sight::counted_models;
 use rp_tables::RowRef;
 use std::alloc::{AllocError, Global};
 

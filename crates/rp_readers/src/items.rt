@@ -3,15 +3,15 @@
 
 ghost use Rattle.std.specs.Prelude.{◌≡◌, map, IfOk};
 ghost use Rattle.rp_plain.specs.Lists.{schema_names};
-ghost use Rattle.rp_access.specs.Prepared.{seen_of};
+ghost use Rattle.rp_sight.specs.Seen.{seen_of};
 ghost use Rattle.rp_readers.specs.Told.{told, model_told, group_told};
 
 use crate::readers::Readers;
 use crate::schemas::sorted_names;
 use plain_data::{Rows, Text};
-use rp_access::{Seen, visible_groups, visible_models};
 use rp_plain::lists::Item;
 use rp_rows::rows::{Key, Listing, ModelContent, Right};
+use rp_sight::{Seen, visible_groups, visible_models};
 use std::alloc::{AllocError, Global};
 
 fn item(alloc: Global, key: &Key, schema: &Text, right: Right) -> Result<Item, AllocError>

@@ -6,15 +6,15 @@ ghost use Rattle.rp_rows.specs.Rows.{key_of};
 ghost use Rattle.rp_plain.specs.Plain.{group_at};
 ghost use Rattle.rp_plain.specs.Groups.{members_of as MembersOf};
 ghost use Rattle.rp_plain.specs.Populations.{member};
-ghost use Rattle.rp_access.specs.Listed.{member_of};
+ghost use Rattle.rp_sight.specs.Listed.{member_of};
 ghost use Rattle.rp_tables.specs.Stored.{row_of};
 ghost use Rattle.rp_readers.specs.Told.{plain_of, told, member_told};
 
 use crate::readers::Readers;
 use plain_data::{Rows, Text};
-use rp_access::{Member as Listed, group_right, members_of, sees_group};
 use rp_plain::lists::Member;
 use rp_rows::rows::{Key, Listing, Right};
+use rp_sight::{Member as Listed, group_right, members_of, sees_group};
 use rp_tables::RowRef;
 use std::alloc::{AllocError, Global};
 

@@ -14,10 +14,10 @@ ghost use Rattle.rp_readers.specs.Told.{told};
 use crate::readers::Readers;
 use ex_layouts::LoadedSchema;
 use plain_data::{Rows, Text};
-use rp_access::counts;
 use rp_content::Instance;
 use rp_population::{Extent, Place, Users};
 use rp_rows::rows::{Key, Listing, ModelContent};
+use rp_sight::counts;
 use rp_tables::RowRef;
 use std::alloc::{AllocError, Global};
 

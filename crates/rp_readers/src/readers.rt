@@ -10,8 +10,8 @@ ghost use Rattle.rp_readers.specs.Told.{plain_of, told};
 
 use ex_layouts::LoadedSchema;
 use plain_data::Text;
-use rp_access::{Groups, at_least, level};
 use rp_rows::rows::{Key, ModelContent, Right};
+use rp_sight::{Groups, at_least, level};
 use rp_tables::{RowRef, Table};
 
 /// What a repository holds, as one partner asks it.

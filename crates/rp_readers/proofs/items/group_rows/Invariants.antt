@@ -1,5 +1,5 @@
 use Rattle.std.proofs.Common.{◌≡◌, take, map}
-use Rattle.rp_access.specs.Prepared.{seen_of}
+use Rattle.rp_sight.specs.Seen.{seen_of}
 use Rattle.rp_readers.specs.Told.{group_told}
 use Rattle.rp_readers.proofs.items.group_rows.Given as goal
 

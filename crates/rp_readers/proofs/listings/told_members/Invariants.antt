@@ -1,5 +1,5 @@
 use Rattle.std.proofs.Common.{◌≡◌, take, map}
-use Rattle.rp_access.specs.Listed.{member_of}
+use Rattle.rp_sight.specs.Listed.{member_of}
 use Rattle.rp_readers.specs.Told.{member_told}
 use Rattle.rp_readers.proofs.listings.told_members.Given as goal
 

@@ -1,8 +1,8 @@
 use Rattle.std.proofs.Common.{◌≡◌, ◌∙◌, map, ap, subst}
 use Rattle.std.specs.Prelude.{filter, IfOk}
 use Rattle.rp_rows.specs.Sight.{sees_group}
-use Rattle.rp_access.specs.Changes.{seen_group}
-use Rattle.rp_access.specs.Prepared.{seen_of}
+use Rattle.rp_sight.specs.Seen.{seen_group}
+use Rattle.rp_sight.specs.Seen.{seen_of}
 use Rattle.rp_readers.specs.Told.{told, group_told}
 use Rattle.rp_readers.proofs.Telling.{told_by}
 use Rattle.rp_readers.proofs.readers.Readers.group_items.Goals as goal

@@ -4,7 +4,7 @@ use Rattle.rp_plain.specs.Readers.{held, counted_in}
 use Rattle.rp_plain.specs.Groups.{members_of}
 use Rattle.rp_plain.specs.Populations.{member}
 use Rattle.rp_tables.specs.Stored.{row_of}
-use Rattle.rp_access.specs.Listed.{member_in, member_of}
+use Rattle.rp_sight.specs.Listed.{member_in, member_of}
 use Rattle.rp_readers.specs.Told.{told, member_told}
 use Rattle.rp_readers.proofs.Telling.{told_by, members_told}
 use Rattle.rp_readers.proofs.readers.Readers.members.Goals as goal

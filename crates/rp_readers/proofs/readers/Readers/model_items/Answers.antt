@@ -1,8 +1,8 @@
 use Rattle.std.proofs.Common.{◌≡◌, ◌∙◌, map, ap, subst}
 use Rattle.std.specs.Prelude.{filter, IfOk}
 use Rattle.rp_rows.specs.Sight.{sees}
-use Rattle.rp_access.specs.Changes.{seen_model}
-use Rattle.rp_access.specs.Prepared.{seen_of}
+use Rattle.rp_sight.specs.Seen.{seen_model}
+use Rattle.rp_sight.specs.Seen.{seen_of}
 use Rattle.rp_readers.specs.Told.{told, model_told}
 use Rattle.rp_readers.proofs.Telling.{told_by}
 use Rattle.rp_readers.proofs.readers.Readers.model_items.Goals as goal

@@ -1,8 +1,0 @@
-use Rattle.std.proofs.Common.{drop}
-use Rattle.rp_rows.specs.Sight.{counts}
-use Rattle.rp_tables.specs.Stored.{row_of}
-use Rattle.rp_access.proofs.Marking.{IsMarking, at_key}
-use Rattle.rp_access.proofs.marks.mark_members.Given as goal
-
-abbrev pub invariant-loop-key : goal.invariant-loop-key
-invariant-loop-key l = IsMarking (λ k. at_key k (λ m. counts m (row_of l.group))) l.models.rows l.fn.marks l.marks l.key-items (drop l.key-index l.key-items)

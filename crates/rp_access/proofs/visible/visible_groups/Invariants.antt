@@ -1,9 +1,0 @@
-use Rattle.std.proofs.Common.{◌≡◌, take, map}
-use Rattle.std.specs.Prelude.{filter}
-use Rattle.rp_rows.specs.Sight.{sees_group}
-use Rattle.rp_access.specs.Changes.{seen_group}
-use Rattle.rp_access.specs.Prepared.{seen_of}
-use Rattle.rp_access.proofs.visible.visible_groups.Given as goal
-
-abbrev pub invariant-loop-place : goal.invariant-loop-place
-invariant-loop-place l = map seen_of l.seen.items ≡ map (seen_group l.caller) (filter (sees_group l.caller) (take l.place l.table.rows))

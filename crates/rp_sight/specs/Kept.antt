@@ -1,0 +1,28 @@
+-- What is kept of groups, and marks beside models.
+use Rattle.std.specs.Prelude.{ℕ, zero, suc, Bool, false, ◌||◌, List, [], ◌∷◌}
+use Rattle.rp_rows.specs.Rows.{Model, GroupRow}
+use Rattle.rp_sight.specs.Granted.{Names}
+
+-- groups, the names of those that partners are granted, and room for more of each
+pub record KeptGroups : Type 0 where
+  pub rows : List GroupRow
+  pub room : ℕ
+  pub right_room : ℕ
+  pub names : List Names
+  pub name_room : ℕ
+
+-- the marks from a place on, of so many, where those at some places are set
+abbrev pub marks_from : (ℕ → Bool) → ℕ → ℕ → List Bool
+marks_from is_set place zero = []
+marks_from is_set place (suc n) = is_set place ∷ marks_from is_set (suc place) n
+
+-- marks beside models, and a mark at each that passes as well
+abbrev pub marked : (Model → Bool) → List Bool → List Model → List Bool
+marked b [] ms = []
+marked b (t ∷ ts) [] = t ∷ ts
+marked b (t ∷ ts) (m ∷ ms) = (t || b m) ∷ marked b ts ms
+
+-- no mark beside each model
+abbrev pub unmarked : List Model → List Bool
+unmarked [] = []
+unmarked (m ∷ ms) = false ∷ unmarked ms

@@ -1,0 +1,5 @@
+pub mod Granted
+pub mod Kept
+pub mod Regrants
+pub mod Listed
+pub mod Seen

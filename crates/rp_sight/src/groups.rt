@@ -1,0 +1,162 @@
+//! Groups, and for each partner the names of those that he is granted.
+
+ghost use Rattle.std.specs.Prelude.{◌≡◌, true, false, ◌<◌, [], Some, None, OnOk};
+ghost use Rattle.std.specs.List.{find, list_any};
+ghost use Rattle.rp_rows.specs.declared.rows.Key.{Key as RowKey};
+ghost use Rattle.rp_rows.specs.Rows.{Text as Bytes, is_row, same_key, key_of};
+ghost use Rattle.rp_rows.specs.Alterations.{Holds, altered, grant_for};
+ghost use Rattle.rp_rows.specs.Sight.{is_grant_to};
+ghost use Rattle.rp_tables.specs.Stored.{rewritten};
+ghost use Rattle.rp_sight.specs.Granted.{granted_of, names_at, has_name, TellsGranted};
+ghost use Rattle.rp_sight.specs.Regrants.{RegrantFits};
+
+use plain_data::{Rows, Text};
+use rp_rows::rows::{Grant, Key, Level, Listing};
+use rp_tables::{Entry, Keyed, Table};
+use std::alloc::{AllocError, Global};
+use std::marker::Model;
+
+/// Groups with their grants, and under each partner and each owner the names of the owner's groups that the partner is
+/// granted.
+#[derive(Drop)]
+pub struct Groups {
+    alloc: Global,
+    table: Table<Listing>,
+    granted: Keyed<Rows<Text>>,
+}
+
+/// One partner's grant on a group from now on.
+#[derive(Drop)]
+pub struct Regrant {
+    pub level: Option<Level>,
+    /// All the grants on the group.
+    pub grants: Rows<Grant>,
+    /// The partner as its owner, and the owner of the group as its name.
+    pub under: Key,
+    /// The names of the owner's groups that the partner is granted.
+    pub names: Rows<Text>,
+}
+
+impl Model for Groups {
+    ghost use Rattle.rp_sight.specs.Kept.{KeptGroups};
+    ghost use Rattle.rp_sight.specs.Granted.{KeepsGranted};
+
+    ghost Value = { KeptGroups };
+
+    ghost view = { λ g. record {
+      rows = g.table.rows;
+      room = g.table.room;
+      right_room = g.table.right_room;
+      names = g.granted.entries;
+      name_room = g.granted.room;
+    } };
+
+    ghost invariant = { λ g. KeepsGranted g.granted.entries g.table.rows };
+}
+
+/// The name of the group is forgotten under all partners who have these grants.
+fn forget(alloc: Global, granted: &mut Keyed<Rows<Text>>, grants: &[Grant], key: &Key)
+    ensures others { (p : Bytes) (k : RowKey) → same_key key.now k ≡ false → has_name k.name (names_at (key_of p k.owner) granted.new.entries) ≡ has_name k.name (names_at (key_of p k.owner) granted.old.entries) }
+    ensures fewer { (p : Bytes) → has_name key.now.name (names_at (key_of p key.now.owner) granted.old.entries) ≡ false → has_name key.now.name (names_at (key_of p key.now.owner) granted.new.entries) ≡ false }
+    ensures gone { (p : Bytes) → list_any (is_grant_to p) grants.now ≡ true → has_name key.now.name (names_at (key_of p key.now.owner) granted.new.entries) ≡ false }
+{
+    for grant in grants {
+        granted.drop_name(alloc, &grant.partner, &key.owner, &key.name);
+    }
+}
+
+impl Groups {
+    pub fn new(alloc: Global) -> Groups
+        ensures { result.rows ≡ [] }
+    {
+        Groups {
+            alloc,
+            table: Table::new(alloc),
+            granted: Keyed::new(alloc),
+        }
+    }
+
+    /// The groups in the order of owner and name.
+    pub fn table(&self) -> &Table<Listing>
+        ensures { result.now.rows ≡ self.now.rows }
+    {
+        &self.table
+    }
+
+    /// The owners who grant groups to the partner, each with the names of those.
+    pub fn granted_to(&self, partner: &Text) -> &[Entry<Rows<Text>>]
+        ensures are { result.now ≡ granted_of partner.now self.now.names }
+        ensures whole { TellsGranted partner.now result.now self.now.rows }
+    {
+        self.granted.of_owner(partner)
+    }
+
+    /// The names of this owner's groups that the partner is granted.
+    pub fn names_for(&self, partner: &Text, owner: &Text) -> &[Text]
+        ensures { result.now ≡ names_at (key_of partner.now owner.now) self.now.names }
+    {
+        match self.granted.find_for(partner, owner) {
+            Some(entry) => entry.value.as_slice(),
+            None => &[],
+        }
+    }
+
+    /// Makes room for one more group.
+    pub fn reserve(&mut self) -> Result<(), AllocError>
+        ensures rows { self.new.rows ≡ self.old.rows }
+        ensures names { self.new.names ≡ self.old.names }
+        ensures room { OnOk result (0 < self.new.room) }
+        ensures right_room { OnOk result (0 < self.new.right_room) }
+    {
+        self.table.reserve()
+    }
+
+    /// Makes room for the names of one more partner and owner.
+    pub fn reserve_names(&mut self) -> Result<(), AllocError>
+        ensures rows { self.new.rows ≡ self.old.rows }
+        ensures names { self.new.names ≡ self.old.names }
+        ensures room { OnOk result (0 < self.new.name_room) }
+    {
+        self.granted.reserve()
+    }
+
+    /// From now on the group of the key lists this: its grants stay, or it is new and has none. It takes no memory.
+    pub fn put(&mut self, key: Key, again: Key, listing: Listing)
+        requires same { again ≡ key }
+        requires room { 0 < self.old.room }
+        requires right_room { 0 < self.old.right_room }
+        ensures { self.new.rows ≡ altered key (Holds (Some listing)) self.old.rows }
+    {
+        self.table.put(key, again, listing);
+    }
+
+    /// No group stands under the key from now on. It takes no memory.
+    pub fn remove(&mut self, key: &Key)
+        ensures { self.new.rows ≡ altered key.now (Holds None) self.old.rows }
+    {
+        forget(
+            self.alloc,
+            &mut self.granted,
+            self.table.grants_at(key),
+            key,
+        );
+        self.table.remove(key);
+    }
+
+    /// One partner's grant on the group of the key is this from now on. It takes no memory.
+    pub fn regrant(&mut self, key: &Key, regrant: Regrant)
+        requires { RegrantFits key.now regrant self.old }
+        ensures { self.new.rows ≡ rewritten key.now (λ x. record x { grants = regrant.grants }) self.old.rows }
+    {
+        let Regrant {
+            level: _,
+            grants,
+            under,
+            names,
+        } = regrant;
+        if self.table.find(key).is_some() {
+            self.granted.put(under, names);
+        }
+        self.table.regrant(key, grants);
+    }
+}
