@@ -143,13 +143,13 @@ def check_replies(lines, replies):
 Run = collections.namedtuple("Run", "status output errors allocations before_input refusals asked")
 
 
-def shim_in(folder):
-    """refuse.c, compiled."""
+def shim_in(folder, name="refuse"):
+    """The C file of this name, compiled."""
     compiler = shutil.which("gcc") or shutil.which("clang")
     if not compiler:
-        raise Failure("neither gcc nor clang is there to compile refuse.c")
-    shim = os.path.join(folder, "refuse.so")
-    source = os.path.join(TOOLS, "refuse.c")
+        raise Failure(f"neither gcc nor clang is there to compile {name}.c")
+    shim = os.path.join(folder, f"{name}.so")
+    source = os.path.join(TOOLS, f"{name}.c")
     subprocess.run([compiler, "-O2", "-shared", "-fPIC", "-o", shim, source, "-ldl"], check=True)
     return shim
 

@@ -108,7 +108,7 @@ module _ (schema : Declarations) (supertypes : List (List ℕ)) where
 
   -- an attribute that was redeclared before: its name, and an entity that declares it
   abbrev pub stands_before : List (List ℕ × ℕ) → Name × List ℕ → Bool
-  stands_before before r = list_any (is_among (named r.0.text before)) r.1
+  stands_before before r = list_any (λ e. is_among (named r.0.text before) e) r.1
 
   abbrev pub once_redeclared_after : List (List ℕ × ℕ) → Outcome (Unit {0}) → List (Name × List ℕ) → Outcome (Unit {0})
   once_redeclared_after before found [] = found

@@ -107,7 +107,7 @@ fn is_one_of(numbers: &[usize], number: usize) -> bool
 
 /// Whether one of the numbers is among the others.
 fn is_any_among(others: &[usize], numbers: &[usize]) -> bool
-    ensures { result ≡ list_any (is_among others.now) numbers.now }
+    ensures { result ≡ list_any (λ e. is_among others.now e) numbers.now }
 {
     numbers.iter().any(|number| is_one_of(others, *number))
 }

@@ -64,3 +64,10 @@ pub fn are_alike(mut bytes: &[u8], mut others: &[u8]) -> bool
     }
     are_alike_below_eight(bytes, others)
 }
+
+/// Whether the numbers are the same.
+pub fn are_same(numbers: &[usize], others: &[usize]) -> bool
+    ensures { IsTrue result → numbers.now ≡ others.now }
+{
+    numbers == others
+}

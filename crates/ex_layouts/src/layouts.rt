@@ -1,6 +1,6 @@
 //! What was found in a schema for some instances, kept for those that follow.
 
-use crate::alike::are_alike;
+use crate::alike::{are_alike, are_same};
 use crate::hints::Hints;
 use crate::layout::Layout;
 use crate::loaded::LoadedSchema;
@@ -220,7 +220,7 @@ impl<'s> Layouts<'s> {
     {
         let hint = hint_of_all(entities);
         match self.combinations.get(self.combination_hints.place(hint)) {
-            Some(layout) if layout.entities.as_slice() == entities => Some(layout),
+            Some(layout) if are_same(layout.entities.as_slice(), entities) => Some(layout),
             _ => None,
         }
     }

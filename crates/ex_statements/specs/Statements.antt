@@ -48,17 +48,15 @@ increment_control levels = do
   step ← optional (sees k.By) (increment levels)
   pure (record { variable = variable; first = bound_1; last = bound_2; step = step })
 
-unfoldable pub while_control : ℕ → Parser Expression
-while_control levels = expect k.While >> expression levels
-
-unfoldable pub until_control : ℕ → Parser Expression
-until_control levels = expect k.Until >> expression levels
+-- the condition after this word
+unfoldable pub condition : TokenKind → ℕ → Parser Expression
+condition word levels = expect word >> expression levels
 
 unfoldable pub repeat_control : ℕ → Parser RepeatControl
 repeat_control levels = do
   increment ← optional (sees k.Identifier) (increment_control levels)
-  while_condition ← optional (sees k.While) (while_control levels)
-  until_condition ← optional (sees k.Until) (until_control levels)
+  while_condition ← optional (sees k.While) (condition k.While levels)
+  until_condition ← optional (sees k.Until) (condition k.Until levels)
   pure (record { increment = increment; while_condition = while_condition; until_condition = until_condition })
 
 -- ---- statements that hold no others

@@ -3,9 +3,7 @@
 ghost use Rattle.std.specs.Prelude.{◌≡◌};
 ghost use Rattle.text_forms.specs.Reads.{Reads, Takes, Keeps};
 ghost use Rattle.ex_tree.specs.declared.kind.TokenKind.TheVariants as k;
-ghost use Rattle.text_forms.specs.Forms.{◌>>◌};
-ghost use Rattle.ex_forms.specs.Input.{expect, optional, sees};
-ghost use Rattle.ex_expressions.specs.Expressions as expressions;
+ghost use Rattle.ex_forms.specs.Input.{optional, sees};
 ghost use Rattle.ex_statements.specs.Statements as spec;
 
 use ex_expressions::{expression, simple_expression};
@@ -57,13 +55,14 @@ fn increment_option(alloc: Global, cursor: &mut Cursor<'_>, levels: u8) -> Read<
 }
 
 /// The condition after this word, if it stands next.
+#[tactic(auto, unfolding(crate::specs::Statements::condition))]
 fn condition(
     alloc: Global,
     cursor: &mut Cursor<'_>,
     word: TokenKind,
     levels: u8,
 ) -> Read<Option<Expression>>
-    ensures reads { Reads (optional (sees word) (expect word >> expressions.expression levels) cursor.old) result cursor.new }
+    ensures reads { Reads (optional (sees word) (spec.condition word levels) cursor.old) result cursor.new }
     ensures keeps { Keeps result cursor.old cursor.new }
 {
     if !cursor.sees(word) {
@@ -73,7 +72,7 @@ fn condition(
     Ok(Some(expression(alloc, cursor, levels)?))
 }
 
-#[tactic(auto, unfolding(crate::specs::Statements::repeat_control, crate::specs::Statements::while_control, crate::specs::Statements::until_control))]
+#[tactic(auto, unfolding(crate::specs::Statements::repeat_control))]
 pub fn repeat_control(alloc: Global, cursor: &mut Cursor<'_>, levels: u8) -> Read<RepeatControl>
     ensures reads { Reads (spec.repeat_control levels cursor.old) result cursor.new }
     ensures keeps { Keeps result cursor.old cursor.new }

@@ -35,7 +35,7 @@ pub fn are_four(a: u8, b: u8, c: u8, d: u8) -> bool
     is_digit(a) && is_digit(b) && is_digit(c) && is_digit(d)
 }
 
-/// The value of a digit.
+/// The value of a hexadecimal digit, in either case.
 pub fn digit_value(b: u8) -> u32
     ensures value { result ≡ spec.digit_value b }
     ensures small { result < 256 }

@@ -13,6 +13,7 @@ mod law;
 
 pub use check::string_fault;
 pub use decode::push_spelled;
+pub use digits::digit_value;
 pub use encode::push_all;
 pub use fault::StringFault;
 pub use kept_bytes::Kept;

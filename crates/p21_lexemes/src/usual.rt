@@ -143,7 +143,10 @@ fn number(z: &[u8]) -> Option<(TokenKind, usize)>
         return None;
     }
     if byte(z, end) == b'.' {
-        return of_kind(TokenKind::Real, real_len(end, z));
+        return match real_len(end, z) {
+            Some(len) => Some((TokenKind::Real, len)),
+            None => None,
+        };
     }
     if are_few(greatest(byte(z, 0)), &z[sign..end]) {
         Some((TokenKind::Integer, end))

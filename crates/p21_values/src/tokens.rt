@@ -3,10 +3,10 @@
 ghost use Rattle.std.specs.Prelude.{◌≡◌, ◌≤◌, ◌<◌, ◌-◌, ◌+◌, ◌^◌, ◌++◌, drop, nat_le, if◌then◌else◌, Some, None, true, IfOk, OnOk};
 ghost use Rattle.std.specs.List.{flat_map};
 ghost use Rattle.std.specs.Str.{str_to_ascii_uppercase};
-ghost use Rattle.p21_escapes.specs.Digits.{digit_value};
 ghost use Rattle.rp_numbers.specs.Whole.{value};
 ghost use Rattle.p21_values.specs.Tokens as spec;
 
+use p21_escapes::digit_value;
 use plain_data::Items;
 use rp_numbers::{after_sign, are_digits, is_negative, number_after};
 use rp_value::Logical;
@@ -46,19 +46,6 @@ pub fn integer(token: &[u8]) -> Option<i64>
     } else {
         magnitude as i64
     })
-}
-
-/// The value of a hexadecimal digit.
-fn digit_value(digit: u8) -> u8
-    ensures { result ≡ digit_value digit }
-{
-    if digit <= b'9' {
-        digit.saturating_sub(b'0')
-    } else if digit <= b'F' {
-        digit.saturating_sub(55)
-    } else {
-        digit.saturating_sub(87)
-    }
 }
 
 fn push_bits(bits: &mut Vec<bool>, digit: u8) -> Result<(), AllocError>

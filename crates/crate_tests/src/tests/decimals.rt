@@ -1,7 +1,6 @@
 //! Decimals by hand: the one that a real spells, and how two of them stand to each other.
 
 use rp_numbers::{Decimal, DecimalFault};
-use std::alloc::Global;
 use std::cmp::Ordering;
 use std::test::*;
 
@@ -79,70 +78,51 @@ static ORDERED: [(&[u8], Ordering, &[u8]); 11] = [
     (b"1.E35", Ordering::Less, NINES),
 ];
 
-/// A real, and the one spelling of its decimal.
-static WRITTEN: [(&[u8], &[u8]); 10] = [
-    (b"0.10", b"1.E-1"),
-    (b"-0.E7", b"0."),
-    (b"2.", b"2."),
-    (b"12.5", b"125.E-1"),
-    (b"+1000.", b"1.E3"),
-    (b"-5.", b"-5."),
-    (b"-1.E-1000", b"-1.E-1000"),
-    (b"1.E1000", b"1.E1000"),
-    (b"0.0000000001", b"1.E-10"),
-    (NINES, NINES),
-];
-
-/// A whole number, and the spelling of the decimal that it is.
-static WHOLE: [(i64, &[u8]); 5] = [
-    (0, b"0."),
-    (1200, b"12.E2"),
-    (-7, b"-7."),
-    (i64::MIN, b"-9223372036854775808."),
-    (i64::MAX, b"9223372036854775807."),
-];
-
-/// Whether each decimal is written as it must be, and is that of its parts.
-fn are_written(alloc: Global) -> Result<bool, Fail> {
-    for (spelling, written) in WRITTEN.iter() {
-        let decimal = Decimal::parse(spelling).ok().ok_or("no decimal")?;
-        let mut out = Vec::new(alloc);
-        decimal.write(&mut out)?;
-        let parts = Decimal::of_parts(decimal.coefficient(), decimal.exponent());
-        let parts = parts.ok_or("no normal form")?;
-        if out.as_slice() != *written || parts.cmp(&decimal) != Ordering::Equal {
-            return Ok(false);
-        }
+/// Whether the real has this coefficient and exponent.
+fn is_spelled(spelling: &[u8], coefficient: i128, exponent: i16) -> bool {
+    match Decimal::parse(spelling) {
+        Ok(decimal) => decimal.coefficient() == coefficient && decimal.exponent() == exponent,
+        Err(_) => false,
     }
-    for (number, written) in WHOLE.iter() {
-        let mut out = Vec::new(alloc);
-        Decimal::of_integer(*number).write(&mut out)?;
-        if out.as_slice() != *written {
-            return Ok(false);
-        }
+}
+
+fn is_refused(text: &[u8], fault: DecimalFault) -> bool {
+    match Decimal::parse(text) {
+        Ok(_) => false,
+        Err(why) => why == fault,
     }
-    Ok(Decimal::of_parts(10, 0).is_none() && Decimal::of_parts(0, 1).is_none())
+}
+
+/// Whether both are decimals, the first stands so to the second, and the second the other way to the first.
+fn is_ordered(left: &[u8], order: Ordering, right: &[u8]) -> bool {
+    match (Decimal::parse(left), Decimal::parse(right)) {
+        (Ok(left), Ok(right)) => left.cmp(&right) == order && right.cmp(&left) == order.reverse(),
+        _ => false,
+    }
+}
+
+fn are_spelled() -> bool {
+    SPELLED.iter().all(|(spelling, coefficient, exponent)| is_spelled(
+        spelling,
+        *coefficient,
+        *exponent,
+    ))
+}
+
+fn are_refused() -> bool {
+    REFUSED.iter().all(|(text, fault)| is_refused(text, *fault))
+}
+
+fn are_ordered() -> bool {
+    ORDERED
+        .iter()
+        .all(|(left, order, right)| is_ordered(left, *order, right))
 }
 
 #[test]
-fn reals_spell_decimals_which_are_ordered_and_written(rt: HostRuntime) -> Result<(), Fail> {
-    for (spelling, coefficient, exponent) in SPELLED.iter() {
-        let decimal = Decimal::parse(spelling).ok().ok_or("no decimal")?;
-        assert_eq!(rt; decimal.coefficient(), *coefficient);
-        assert_eq!(rt; decimal.exponent(), *exponent);
-        assert_eq!(rt; decimal.negate().coefficient(), coefficient.wrapping_neg());
-        assert_eq!(rt; decimal.negate().exponent(), *exponent);
-        assert!(rt; decimal.negate().negate().cmp(&decimal) == Ordering::Equal);
-    }
-    for (text, fault) in REFUSED.iter() {
-        assert!(rt; Decimal::parse(text).err() == Some(*fault));
-    }
-    for (left, order, right) in ORDERED.iter() {
-        let left = Decimal::parse(left).ok().ok_or("no decimal")?;
-        let right = Decimal::parse(right).ok().ok_or("no decimal")?;
-        assert!(rt; left.cmp(&right) == *order);
-        assert!(rt; right.cmp(&left) == order.reverse());
-    }
-    assert!(rt; are_written(rt.alloc())?);
+fn reals_spell_decimals_which_are_ordered(rt: HostRuntime) -> Result<(), Fail> {
+    assert!(rt; are_spelled());
+    assert!(rt; are_refused());
+    assert!(rt; are_ordered());
     Ok(())
 }
