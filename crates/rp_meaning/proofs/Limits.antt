@@ -1,13 +1,12 @@
 -- A limit of steps decides whether there is a value, and not which.
-use Rattle.std.proofs.Common.{◌≡◌, ℕ, ◌+◌, ◌-◌, ◌≤◌, max, Bool, true, false, ◌&&◌, Option, Some, None, refl, sym, ap, ◌∙◌, arith, cond, nat_le}
+use Rattle.std.proofs.Common.{◌≡◌, ℕ, ◌-◌, ◌≤◌, max, Bool, true, false, ◌&&◌, Option, Some, None, refl, sym, arith, cond, nat_le}
 use Rattle.std.proofs.lemmas.Bool.Decides.{nat_tests}
 use Rattle.rp_meaning.specs.Computations.{Computation}
-use Rattle.rp_meaning.specs.Laws.{Taken, Steady, kept}
+use Rattle.rp_meaning.specs.Laws.{Taken, Steady}
 use Rattle.rp_meaning.specs.Levels.{bodies, most_turns}
 use Rattle.rp_meaning.specs.Expressions.{World}
 use Rattle.rp_meaning.specs.Outcomes.{evaluation, outcome, outcome_of, within_limit}
 use Rattle.rp_meaning.specs.declared.counter.Counter.{Counter}
-use Rattle.rp_meaning.specs.declared.outcome.Outcome.{Outcome}
 use Rattle.rp_meaning.specs.declared.outcome.Outcome.TheVariants as o
 use Rattle.rp_meaning.specs.declared.rule.Rule.{Rule}
 use Rattle.rp_value.specs.declared.value.Value.{Value}

@@ -1,5 +1,5 @@
 -- What a computation takes doesn't depend on how much it may take.
-use Rattle.std.proofs.Common.{◌≡◌, ℕ, zero, suc, ◌+◌, ◌-◌, ◌≤◌, max, Bool, true, false, Option, Some, None, List, [], ◌∷◌, ◌++◌, map, length, refl, sym, ap, ◌∙◌, subst, arith, cond, nat_le, slice_get, add_assoc, zero-add}
+use Rattle.std.proofs.Common.{◌≡◌, ℕ, zero, suc, ◌+◌, ◌-◌, ◌≤◌, max, Bool, true, false, Option, Some, None, List, [], ◌∷◌, ◌++◌, map, refl, sym, ap, ◌∙◌, subst, arith, cond, nat_le, slice_get, add_assoc, zero-add}
 use Rattle.std.proofs.lemmas.Bool.Decides.{nat_tests}
 use Rattle.ex_named.specs.declared.reference.AttributePlace.{AttributePlace}
 use Rattle.ex_named.specs.declared.reference.AttributeSort.{AttributeSort}
@@ -36,12 +36,12 @@ use Rattle.rp_meaning.specs.declared.tree.Increment.{Increment}
 use Rattle.rp_meaning.specs.declared.tree.Statement.{Statement, map-Statement, roll-Statement}
 use Rattle.rp_meaning.specs.declared.tree.Statement.TheFolds.{fold-roll-Statement, fold-roll-CaseAction, ind-Statement}
 use Rattle.rp_meaning.specs.declared.tree.Statement.TheOpen.{Statement-F, CaseAction-F}
-use Rattle.rp_meaning.specs.Attributes.{chosen, stored_value, derivation_in, explicit_derivations, own_derivations, derivation, entity_at, inverse_at, role_by}
-use Rattle.rp_meaning.specs.Bare.{is_true, aggregate_of, place_of, text_of}
+use Rattle.rp_meaning.specs.Attributes.{chosen, derivation, inverse_at, role_by}
+use Rattle.rp_meaning.specs.Bare.{is_true, place_of, text_of}
 use Rattle.rp_meaning.specs.Computations.{Computation, pure, no_more, steps, around, in_body, and_then, ◌>>=◌, ◌>>◌}
-use Rattle.rp_meaning.specs.Expressions.{Scope, World, Meaning, Operating, expression, qualifier, interval, operation, query, expression_layer, qualifier_layer, interval_layer, operation_layer, query_layer, costing, each_after, in_turn, operated, tested, kept_after, kept_one, queried, derived_by, inverse_by, attribute_by, attribute_of, attribute_at, attribute_in, attribute, used_in_role, used_in_by, of_one, of_two, built_in}
+use Rattle.rp_meaning.specs.Expressions.{Scope, World, Meaning, Operating, expression, qualifier, interval, operation, query, expression_layer, qualifier_layer, interval_layer, operation_layer, query_layer, costing, each_after, in_turn, tested, kept_after, kept_one, queried, derived_by, inverse_by, attribute_by, attribute_of, attribute_at, attribute_in, attribute, used_in_role, used_in_by, of_one, of_two, built_in}
 use Rattle.rp_meaning.specs.Laws.{Taken, Steady}
-use Rattle.rp_meaning.specs.Levels.{alone, with_locals, parameters_given, given_by, called, body_with, level, most_turns}
+use Rattle.rp_meaning.specs.Levels.{alone, given_by, called, body_with, level, most_turns}
 use Rattle.rp_meaning.specs.Operators.{equal}
 use Rattle.rp_meaning.specs.Outcomes.{value_by, attribute_value, bounds_value, condition_after, rule_value, evaluation}
 use Rattle.rp_meaning.specs.Populations.{Instance, is_of}

@@ -1,5 +1,5 @@
 -- No validation takes more steps than it may.
-use Rattle.std.proofs.Common.{◌≡◌, ℕ, ◌+◌, ◌-◌, ◌≤◌, Bool, true, false, List, [], ◌∷◌, ◌++◌, map, length, Option, Some, None, slice_get, refl, sym, arith, cond, nat_le}
+use Rattle.std.proofs.Common.{◌≡◌, ℕ, ◌+◌, ◌-◌, ◌≤◌, Bool, true, false, List, [], ◌∷◌, ◌++◌, map, length, Option, Some, None, slice_get, refl, arith, nat_le}
 use Rattle.std.proofs.lemmas.Bool.Decides.{nat_tests}
 use Rattle.std.specs.List.{flat_map, AllByRecursion}
 use Rattle.ex_named.specs.declared.reference.AttributePlace.{AttributePlace}
@@ -20,7 +20,7 @@ use Rattle.rp_meaning.specs.Expressions.{World}
 use Rattle.rp_meaning.specs.Outcomes.{outcome, outcome_of}
 use Rattle.rp_meaning.specs.Populations.{Instance}
 use Rattle.rp_meaning.specs.Report as spec
-use Rattle.rp_meaning.specs.Sequence.{Candidate, Checking, Ended, Result, Trial, ended, one, each_after, all_after, tried, in_sequence_after, in_sequence}
+use Rattle.rp_meaning.specs.Sequence.{Candidate, Checking, Ended, Result, Trial, ended, one, each_after, all_after, in_sequence_after}
 
 within : (limit steps : ℕ) (x : Value) (p : Option (Value × Counter)) → outcome_of limit p ≡ o.Value x steps → steps ≤ limit
 within limit steps x None h = absurd (cc)
@@ -116,11 +116,12 @@ module _ (schema : Schema) (population : List Instance) where
 
   all-evaluated : AllByRecursion KeepsWithin (spec.all_evaluated schema population)
   all-evaluated =
-      of-append _ _ (of-flat_map _ schema.type_order (λ n. type-within n _ refl))
-      (of-append _ _ (of-flat_map _ schema.entity_order (λ n. where-within n _ refl))
-      (of-append _ _ (of-flat_map _ schema.entity_order (λ n. unique-within n _ refl))
-      (of-append _ _ (of-flat_map _ schema.entity_order (λ n. inverse-within n _ refl))
-      (of-flat_map _ schema.rule_order (λ n. rule-within n _ refl)))))
+      of-append _ _ (of-append _ _ (of-append _ _ (of-append _ _
+      (of-flat_map (spec.type_checks schema population) schema.type_order (λ n. type-within n _ refl))
+      (of-flat_map (spec.where_checks schema population) schema.entity_order (λ n. where-within n _ refl)))
+      (of-flat_map (spec.unique_checks schema population) schema.entity_order (λ n. unique-within n _ refl)))
+      (of-flat_map (spec.inverse_checks schema population) schema.entity_order (λ n. inverse-within n _ refl)))
+      (of-flat_map (spec.rule_checks schema population) schema.rule_order (λ n. rule-within n _ refl))
 
   pub report-within : (spec.report schema population).steps ≤ 20000000
   unfolding spec.report

@@ -1,17 +1,15 @@
 -- What attributes have as their values (ISO 10303-11:1994, 9.2.1 and 12.7.3), and which of several the name of one means.
-use Rattle.std.specs.Prelude.{ℕ, pos, Bool, true, false, List, [], ◌∷◌, ◌==◌, Option, Some, None, if◌then◌else◌, slice_get}
+use Rattle.std.specs.Prelude.{ℕ, pos, Bool, true, false, List, [], ◌∷◌, Option, Some, None, if◌then◌else◌, slice_get}
 use Rattle.std.specs.List.{find}
 use Rattle.std.specs.Option.{option_and_then, option_map, option_map_or, unwrap_or}
 use Rattle.std.specs.Str.{bytes_eq}
 use Rattle.ex_named.specs.declared.reference.AttributePlace.{AttributePlace}
 use Rattle.ex_tree.specs.declared.declaration.InverseAggregate.{InverseAggregate}
-use Rattle.ex_tree.specs.declared.declaration.SetOrBag.{SetOrBag}
 use Rattle.ex_tree.specs.declared.declaration.SetOrBag.TheVariants as a
 use Rattle.rp_value.specs.declared.value.AggregateKind.{AggregateKind}
 use Rattle.rp_value.specs.declared.value.AggregateKind.TheVariants as k
 use Rattle.rp_value.specs.declared.value.Value.{Value}
 use Rattle.rp_value.specs.declared.value.Value.TheVariants as v
-use Rattle.rp_meaning.specs.declared.role.NamedRole.{NamedRole}
 use Rattle.rp_meaning.specs.declared.role.Role.{Role}
 use Rattle.rp_meaning.specs.declared.role.Role.TheVariants as r
 use Rattle.rp_meaning.specs.declared.schema.Derivation.{Derivation}

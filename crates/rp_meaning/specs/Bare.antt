@@ -1,6 +1,5 @@
 -- Values without the defined types that they carry.
 use Rattle.std.specs.Prelude.{ℕ, ℤ, Bool, true, false, Option, Some, None, List}
-use Rattle.rp_numbers.specs.declared.Logical.{Logical}
 use Rattle.rp_numbers.specs.declared.Logical.TheVariants as l
 use Rattle.rp_value.specs.Elements.{Elements}
 use Rattle.rp_value.specs.declared.value.AggregateKind.{AggregateKind}

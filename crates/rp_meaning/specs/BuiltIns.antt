@@ -1,11 +1,9 @@
 -- What the functions of the language give of values (ISO 10303-11:1994, clause 15), and what qualifiers take of them (12.7).
-use Rattle.std.specs.Prelude.{ℕ, ℤ, pos, zero, suc, ◌+◌, ◌-◌, ◌%◌, ◌==◌, ◌&&◌, ◌||◌, ◌+ℤ◌, ◌-ℤ◌, nat_abs, int_le, not, Bool, true, false, List, [], ◌∷◌, ◌++◌, map, filter, length, take, drop, slice_get, Option, Some, None, if◌then◌else◌, codes}
-use Rattle.std.specs.List.{list_any, fold}
-use Rattle.std.specs.Option.{option_map, option_map_or, unwrap_or}
+use Rattle.std.specs.Prelude.{ℕ, ℤ, pos, ◌+◌, ◌-◌, ◌%◌, ◌==◌, ◌&&◌, ◌+ℤ◌, ◌-ℤ◌, nat_abs, int_le, not, Bool, List, length, take, drop, slice_get, Option, Some, None, if◌then◌else◌}
+use Rattle.std.specs.List.{fold}
+use Rattle.std.specs.Option.{option_map_or, unwrap_or}
 use Rattle.std.specs.Fmt.{char_count, take_chars}
 use Rattle.rp_numbers.specs.Logical.{of_test}
-use Rattle.rp_numbers.specs.declared.Logical.{Logical}
-use Rattle.rp_numbers.specs.declared.Logical.TheVariants.{False, Unknown, True}
 use Rattle.rp_value.specs.Elements.{Elements}
 use Rattle.rp_operations.specs.Operations.{value_membership}
 use Rattle.rp_value.specs.declared.value.AggregateKind.{AggregateKind}
@@ -14,7 +12,7 @@ use Rattle.rp_value.specs.declared.value.Value.{Value, out-Value}
 use Rattle.rp_value.specs.declared.value.Value.TheFolds.{fold-Value}
 use Rattle.rp_value.specs.declared.value.Value.TheOpen.{Value-F}
 use Rattle.rp_value.specs.declared.value.Value.TheVariants as v
-use Rattle.rp_meaning.specs.Bare.{bare, is_indeterminate, integer_of, text_of, bits_of, place_of, aggregate_of}
+use Rattle.rp_meaning.specs.Bare.{bare, is_indeterminate, integer_of, text_of, bits_of, aggregate_of}
 use Rattle.rp_meaning.specs.Operators.{integer, of_integer}
 
 -- ---- functions of values alone

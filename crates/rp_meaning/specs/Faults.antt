@@ -1,10 +1,9 @@
 -- Which values of attributes violate what their declarations ask for: that they are set, that bounds and widths hold and nothing
 -- stands twice where it may not (ISO 10303-11:1994, 8.1, 8.2), and that references lead to instances that are allowed.
-use Rattle.std.specs.Prelude.{ℕ, ◌+◌, ◌==◌, ◌&&◌, ◌||◌, not, nat_le, nat_lt, Bool, true, false, List, [], ◌∷◌, ◌++◌, map, filter, length, Option, Some, None, slice_get, if◌then◌else◌}
+use Rattle.std.specs.Prelude.{ℕ, ◌+◌, ◌==◌, ◌&&◌, ◌||◌, not, nat_lt, Bool, true, false, List, [], ◌∷◌, ◌++◌, map, filter, length, Option, Some, None, slice_get, if◌then◌else◌}
 use Rattle.std.specs.List.{list_any, flat_map}
-use Rattle.std.specs.Option.{is_some, option_and_then, option_map, option_map_or}
+use Rattle.std.specs.Option.{is_some, option_and_then, option_map_or}
 use Rattle.std.specs.Fmt.{char_count}
-use Rattle.plain_data.specs.Numbers.{is_among}
 use Rattle.ex_named.specs.declared.expression.NamedDataType.{NamedDataType, NamedDataType-F, out-NamedDataType}
 use Rattle.ex_named.specs.declared.reference.AttributePlace.{AttributePlace}
 use Rattle.ex_named.specs.declared.reference.TypeName.{TypeName}
@@ -14,16 +13,12 @@ use Rattle.ex_tree.specs.declared.data_type.SimpleType.TheVariants as s
 use Rattle.ex_tree.specs.declared.data_type.Width.{Width}
 use Rattle.rp_value.specs.Elements.{Elements}
 use Rattle.rp_operations.specs.Operations.{set_union}
-use Rattle.rp_value.specs.declared.value.AggregateKind.{AggregateKind}
 use Rattle.rp_value.specs.declared.value.Value.{Value}
 use Rattle.rp_value.specs.declared.value.Value.TheFolds.{fold-Value, map-Value}
 use Rattle.rp_value.specs.declared.value.Value.TheOpen.{Value-F}
-use Rattle.rp_value.specs.declared.value.Value.TheVariants as v
 use Rattle.rp_value.specs.declared.value.Value.TheViews.{roll-Value}
 use Rattle.rp_meaning.specs.declared.schema.DefinedType.{DefinedType}
-use Rattle.rp_meaning.specs.declared.schema.Entity.{Entity}
 use Rattle.rp_meaning.specs.declared.schema.Explicit.{Explicit}
-use Rattle.rp_meaning.specs.declared.schema.Redeclaration.{Redeclaration}
 use Rattle.rp_meaning.specs.declared.schema.Schema.{Schema}
 use Rattle.rp_meaning.specs.Attributes.{derivation_in, entity_at, explicit_derivations}
 use Rattle.rp_meaning.specs.Bare.{is_indeterminate}

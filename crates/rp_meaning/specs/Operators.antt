@@ -1,6 +1,6 @@
 -- What operators give of values (ISO 10303-11:1994, clause 12), and the steps that they cost beside their own. A kind that an
 -- operator doesn't take gives `?`.
-use Rattle.std.specs.Prelude.{ℕ, ℤ, pos, negsuc, ◌+◌, ◌-◌, ◌*◌, ◌^◌, ◌%◌, ◌+ℤ◌, ◌-ℤ◌, ◌*ℤ◌, neg_ℤ, nat_abs, int_lt, int_le, int_div, int_rem, nat_le, nat_lt, ◌==◌, ◌&&◌, ◌||◌, not, Bool, true, false, List, [], ◌∷◌, ◌++◌, length, take, drop, zero, suc, Option, Some, None, if◌then◌else◌}
+use Rattle.std.specs.Prelude.{ℕ, ℤ, pos, negsuc, ◌+◌, ◌-◌, ◌*◌, ◌^◌, ◌+ℤ◌, ◌-ℤ◌, ◌*ℤ◌, neg_ℤ, int_lt, int_le, int_div, int_rem, ◌&&◌, ◌||◌, not, Bool, true, false, ◌++◌, length, zero, suc, Option, Some, None, if◌then◌else◌}
 use Rattle.std.specs.Fmt.{char_count}
 use Rattle.ex_tree.specs.declared.expression.BinaryOperator.{BinaryOperator}
 use Rattle.ex_tree.specs.declared.expression.BinaryOperator.TheVariants as o
@@ -8,18 +8,18 @@ use Rattle.ex_tree.specs.declared.expression.IntervalOperator.{IntervalOperator}
 use Rattle.ex_tree.specs.declared.expression.IntervalOperator.TheVariants as i
 use Rattle.ex_tree.specs.declared.expression.UnaryOperator.{UnaryOperator}
 use Rattle.ex_tree.specs.declared.expression.UnaryOperator.TheVariants as n
-use Rattle.rp_numbers.specs.Logical.{conjunction, disjunction, negation, exclusive_disjunction, of_test}
+use Rattle.rp_numbers.specs.Logical.{conjunction, disjunction, negation, exclusive_disjunction}
 use Rattle.rp_numbers.specs.declared.Logical.{Logical}
 use Rattle.rp_numbers.specs.declared.Logical.TheVariants.{False, Unknown, True}
 use Rattle.rp_value.specs.Elements.{Elements}
 use Rattle.rp_operations.specs.Operations.{compare, same, union, intersection, difference, membership, is_within}
-use Rattle.rp_operations.specs.Seen.{Seen, Indeterminate, Number, Text, Bits, Truth, Instance, Aggregate, seen, same_kind}
+use Rattle.rp_operations.specs.Seen.{Seen, Indeterminate, Text, Bits, Truth, Instance, Aggregate, seen, same_kind}
 use Rattle.rp_operations.specs.declared.compared.Compared.{Compared}
 use Rattle.rp_operations.specs.declared.compared.Compared.TheVariants as c
 use Rattle.rp_value.specs.declared.value.AggregateKind.{AggregateKind}
 use Rattle.rp_value.specs.declared.value.Value.{Value}
 use Rattle.rp_value.specs.declared.value.Value.TheVariants as v
-use Rattle.rp_meaning.specs.Bare.{bare, integer_of, aggregate_of}
+use Rattle.rp_meaning.specs.Bare.{integer_of, aggregate_of}
 
 -- ---- whole numbers
 

@@ -1,6 +1,6 @@
 -- What comes of the evaluation of a rule: its value and the steps that it took, or the limit.
-use Rattle.std.specs.Prelude.{ℕ, ◌+◌, ◌-◌, nat_le, nat_lt, ◌&&◌, not, Bool, true, false, List, [], ◌∷◌, length, Option, Some, None, slice_get, if◌then◌else◌}
-use Rattle.std.specs.Option.{option_and_then, option_map_or}
+use Rattle.std.specs.Prelude.{ℕ, ◌+◌, ◌-◌, nat_le, ◌&&◌, Bool, true, [], ◌∷◌, length, Option, Some, None, slice_get}
+use Rattle.std.specs.Option.{option_and_then}
 use Rattle.ex_named.specs.declared.reference.AttributePlace.{AttributePlace}
 use Rattle.ex_tree.specs.declared.declaration.InverseAggregate.{InverseAggregate}
 use Rattle.ex_tree.specs.declared.data_type.Bounds.{Bounds}
@@ -21,7 +21,7 @@ use Rattle.rp_meaning.specs.Bare.{place_of}
 use Rattle.rp_meaning.specs.Computations.{Computation, pure, steps, ◌>>=◌, ◌>>◌}
 use Rattle.rp_meaning.specs.Expressions.{Scope, World, attribute, expression}
 use Rattle.rp_meaning.specs.Levels.{alone, bodies, most_turns, with_locals}
-use Rattle.rp_meaning.specs.Statements.{After, Next, Skipped, Escaped, Returned, algorithm}
+use Rattle.rp_meaning.specs.Statements.{After, Next, algorithm}
 
 -- ---- the bounds of inverse attributes (9.2.1.3)
 

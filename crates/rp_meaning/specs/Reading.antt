@@ -1,5 +1,5 @@
 -- How the values of instances are read in a population.
-use Rattle.std.specs.Prelude.{ℕ, nat_lt, List, [], map, length, Option, Some, None, slice_get, if◌then◌else◌}
+use Rattle.std.specs.Prelude.{ℕ, nat_lt, List, [], map, length, slice_get, if◌then◌else◌}
 use Rattle.std.specs.List.{flat_map, range_with_len, zip}
 use Rattle.std.specs.Option.{option_and_then, option_map_or}
 use Rattle.ex_named.specs.declared.reference.AttributePlace.{AttributePlace}
@@ -11,7 +11,7 @@ use Rattle.rp_value.specs.declared.value.Value.TheVariants as v
 use Rattle.rp_value.specs.declared.value.Value.TheViews.{roll-Value}
 use Rattle.rp_meaning.specs.declared.schema.Schema.{Schema}
 use Rattle.rp_meaning.specs.Attributes.{entity_at}
-use Rattle.rp_meaning.specs.Populations.{Instance, Stored, stored}
+use Rattle.rp_meaning.specs.Populations.{Instance, stored}
 use Rattle.rp_meaning.specs.Types.{given}
 
 abbrev pub present_in : ℕ → Value-F Value → Value

@@ -1,5 +1,5 @@
 -- The report of a validation: all checks of a population, each with its verdict and culprits, and the steps that they take.
-use Rattle.std.specs.Prelude.{ℕ, ◌+◌, ◌==◌, ◌&&◌, not, Bool, true, false, List, [], ◌∷◌, ◌++◌, map, filter, length, Option, Some, None, slice_get, if◌then◌else◌}
+use Rattle.std.specs.Prelude.{ℕ, ◌+◌, ◌==◌, ◌&&◌, not, Bool, true, List, [], ◌∷◌, ◌++◌, map, filter, length, Option, Some, None, slice_get, if◌then◌else◌}
 use Rattle.std.specs.List.{list_any, filter_map, flat_map, range_with_len}
 use Rattle.std.specs.Option.{option_map_or}
 use Rattle.ex_named.specs.declared.reference.AttributePlace.{AttributePlace}
@@ -20,7 +20,7 @@ use Rattle.rp_meaning.specs.Bare.{is_indeterminate}
 use Rattle.rp_meaning.specs.Expressions.{World}
 use Rattle.rp_meaning.specs.Faults.{Held, astray, checked_of, declarations, out_of_bounds, unset}
 use Rattle.rp_meaning.specs.Populations.{Instance, places_of}
-use Rattle.rp_meaning.specs.Sequence.{Candidate, Checking, Ended, Valued, Limited, NotRun, Result, Trial, check_by, check_of, culprits, in_sequence, one, tried, verdict_of}
+use Rattle.rp_meaning.specs.Sequence.{Candidate, Checking, Ended, Valued, Result, check_by, check_of, culprits, in_sequence, one, tried, verdict_of}
 use Rattle.rp_meaning.specs.TypeRules.{values_tried}
 
 abbrev pub instance_culprit : ℕ → Culprit

@@ -1,5 +1,5 @@
 -- Evaluations one after the other, within the steps that a validation may use.
-use Rattle.std.specs.Prelude.{ℕ, ◌+◌, not, Bool, true, false, List, [], ◌∷◌, ◌++◌, map, filter, Option, Some, None, nat_le, if◌then◌else◌}
+use Rattle.std.specs.Prelude.{ℕ, ◌+◌, not, Bool, true, false, List, [], ◌∷◌, ◌++◌, map, filter, Option, Some, nat_le, if◌then◌else◌}
 use Rattle.std.specs.List.{list_any}
 use Rattle.rp_numbers.specs.declared.Logical.{Logical}
 use Rattle.rp_numbers.specs.declared.Logical.TheVariants as l

@@ -1,7 +1,6 @@
 -- What statements mean, by recursion on the tree (ISO 10303-11:1994, clause 13).
 use Rattle.std.specs.Prelude.{ℕ, zero, suc, ◌+◌, ◌-◌, ◌||◌, ℤ, pos, int_lt, Bool, true, false, List, [], ◌∷◌, map, take, length, Option, Some, None, slice_set, if◌then◌else◌}
-use Rattle.rp_value.specs.declared.value.Value.{Value, out-Value}
-use Rattle.rp_value.specs.declared.value.Value.TheOpen.{Value-F}
+use Rattle.rp_value.specs.declared.value.Value.{Value}
 use Rattle.rp_value.specs.declared.value.Value.TheVariants as v
 use Rattle.rp_meaning.specs.declared.body.Body.{Body}
 use Rattle.rp_meaning.specs.declared.schema.Given.{Given}

@@ -1,21 +1,21 @@
 -- On which values the rules of a defined type are tried (ISO 10303-11:1994, 9.1 and 9.2.2): on what is declared, or written, as of
 -- the type, or of a type that renames it, or of a member of a SELECT.
-use Rattle.std.specs.Prelude.{ℕ, ◌==◌, ◌&&◌, ◌||◌, not, Bool, true, false, List, [], ◌∷◌, ◌++◌, map, filter, Option, Some, None, slice_get, if◌then◌else◌}
+use Rattle.std.specs.Prelude.{ℕ, ◌||◌, Bool, false, List, [], ◌∷◌, ◌++◌, filter, Option, Some, None, slice_get, if◌then◌else◌}
 use Rattle.std.specs.List.{list_any, filter_map}
-use Rattle.std.specs.Option.{is_some, option_and_then, option_map, option_map_or}
+use Rattle.std.specs.Option.{option_and_then, option_map, option_map_or}
 use Rattle.plain_data.specs.Numbers.{is_among}
 use Rattle.ex_named.specs.declared.expression.NamedDataType.{NamedDataType, NamedDataType-F, out-NamedDataType}
 use Rattle.ex_named.specs.declared.reference.TypeName.{TypeName}
 use Rattle.ex_named.specs.declared.reference.TypeName.TheVariants as t
 use Rattle.rp_value.specs.Elements.{Elements}
 use Rattle.rp_value.specs.declared.value.AggregateKind.{AggregateKind}
-use Rattle.rp_value.specs.declared.value.Value.{Value, out-Value}
+use Rattle.rp_value.specs.declared.value.Value.{Value}
 use Rattle.rp_value.specs.declared.value.Value.TheFolds.{fold-Value, map-Value}
 use Rattle.rp_value.specs.declared.value.Value.TheOpen.{Value-F}
 use Rattle.rp_value.specs.declared.value.Value.TheViews.{roll-Value}
 use Rattle.rp_meaning.specs.declared.schema.DefinedType.{DefinedType}
 use Rattle.rp_meaning.specs.Bare.{aggregate_of, carried, is_indeterminate, place_of}
-use Rattle.rp_meaning.specs.Faults.{Held, allows_choice, is_type}
+use Rattle.rp_meaning.specs.Faults.{allows_choice, is_type}
 use Rattle.rp_meaning.specs.Populations.{Instance}
 use Rattle.rp_meaning.specs.Types.{End, Select, aggregate_type, defined, end, fits}
 
