@@ -30,6 +30,7 @@ use Rattle.rp_value.specs.declared.value.Value.{Value}
 use Rattle.rp_value.specs.declared.value.Value.TheFolds.{fold-roll-Value, ind-Value, map-Value}
 use Rattle.rp_value.specs.declared.value.Value.TheOpen.{Value-F}
 use Rattle.sorted_tables.specs.Table.{IsAscending, is_after}
+use Rattle.rp_rows.specs.declared.rows.Key.{Key}
 use Rattle.rp_rows.specs.declared.rows.ModelContent.{ModelContent}
 use Rattle.rp_rows.specs.Contents.{greatest_name, instance_name, link_name, link_names, names, referred, references, references_of}
 use Rattle.rp_rows.specs.Instances.{max_name}
@@ -145,7 +146,7 @@ ascends (i ∷ is) order = (
   ascends is order.1,
 )
 
-module _ (schemas : List Checked) (partners : List (List ℕ)) (k : List ℕ × List ℕ) (h : ModelContent) (valid : IsValidContent schemas partners k h) where
+module _ (schemas : List Checked) (partners : List (List ℕ)) (k : Key) (h : ModelContent) (valid : IsValidContent schemas partners k h) where
   names_low : AllByRecursion (λ (i : Instance). i.name ≤ max_name) h.content.instances
   names_low =
       let in_use = valid.in_use in
