@@ -1,0 +1,5 @@
+mod Sights
+mod Depths
+mod Scales
+mod Sizes
+mod Taking
