@@ -3,3 +3,4 @@ mod Depths
 mod Scales
 mod Sizes
 mod Taking
+mod Passing

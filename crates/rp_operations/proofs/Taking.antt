@@ -17,31 +17,34 @@ further : (i n : ℕ) → nat_lt i n ≡ nat_lt (1 + i) (suc n)
 further i n = grind (arith, nat_tests)
 
 module _ (p : Value → Bool) where
+  found_by : (t : Bool) (xs : List Value) → list_any p xs ≡ nat_lt (position_or_len p xs) (length xs)
+      → (t || list_any p xs) ≡ nat_lt (cond (not t) (1 + position_or_len p xs) 0) (suc (length xs))
+  found_by true xs before = first (length xs)
+  found_by false xs before = before ∙ further (position_or_len p xs) (length xs)
+
   found : (xs : List Value) → list_any p xs ≡ nat_lt (position_or_len p xs) (length xs)
   found [] = refl
-  found (x ∷ xs) = by (p x)
-    where
-      by : (t : Bool) → (t || list_any p xs) ≡ nat_lt (cond (not t) (1 + position_or_len p xs) 0) (suc (length xs))
-      by true = first (length xs)
-      by false = found xs ∙ further (position_or_len p xs) (length xs)
+  found (x ∷ xs) = found_by (p x) xs (found xs)
+
+  rest_by : (t : Bool) (x : Value) (xs : List Value) → (t || list_any p xs) ≡ true → (list_any p xs ≡ true → remove xs (position_or_len p xs) ≡ without_first p xs)
+      → remove (x ∷ xs) (cond (not t) (1 + position_or_len p xs) 0) ≡ (if t then xs else x ∷ without_first p xs)
+  rest_by true x xs h before = refl
+  rest_by false x xs h before =
+      let next : 1 + position_or_len p xs ≡ suc (position_or_len p xs) = omega arith in
+      ap (remove (x ∷ xs)) next ∙ ap (λ ys. x ∷ ys) (before h)
 
   rest : (xs : List Value) → list_any p xs ≡ true → remove xs (position_or_len p xs) ≡ without_first p xs
   rest [] h = absurd (subst Yes (sym h) tt)
-  rest (x ∷ xs) h = by (p x) h
-    where
-      by : (t : Bool) → (t || list_any p xs) ≡ true → remove (x ∷ xs) (cond (not t) (1 + position_or_len p xs) 0) ≡ (if t then xs else x ∷ without_first p xs)
-      by true g = refl
-      by false g =
-          let next : 1 + position_or_len p xs ≡ suc (position_or_len p xs) = omega arith in
-          ap (remove (x ∷ xs)) next ∙ ap (λ ys. x ∷ ys) (rest xs g)
+  rest (x ∷ xs) h = rest_by (p x) x xs h (rest xs)
+
+  stays_by : (t : Bool) (x : Value) (xs : List Value) → (t || list_any p xs) ≡ false → (list_any p xs ≡ false → xs ≡ without_first p xs)
+      → x ∷ xs ≡ (if t then xs else x ∷ without_first p xs)
+  stays_by true x xs h before = absurd (subst Yes h tt)
+  stays_by false x xs h before = ap (λ ys. x ∷ ys) (before h)
 
   stays : (xs : List Value) → list_any p xs ≡ false → xs ≡ without_first p xs
   stays [] h = refl
-  stays (x ∷ xs) h = by (p x) h
-    where
-      by : (t : Bool) → (t || list_any p xs) ≡ false → x ∷ xs ≡ (if t then xs else x ∷ without_first p xs)
-      by true g = absurd (subst Yes g tt)
-      by false g = ap (λ ys. x ∷ ys) (stays xs g)
+  stays (x ∷ xs) h = stays_by (p x) x xs h (stays xs)
 
 abbrev value_or : Option ℕ → ℕ
 value_or None = 0
@@ -65,10 +68,13 @@ module _ (p : Value → Bool) (xs : List Value) where
       let at = settled (nat_lt (position_or_len p xs) (length xs)) (position_or_len p xs) i is in
       subst (λ k. remove xs k ≡ without_first p xs) at.1 (rest p xs (found p xs ∙ at.0))
 
+  pub some_found : (i : ℕ) → position p xs ≡ Some i → true ≡ list_any p xs
+  some_found i is = sym (found p xs ∙ (settled (nat_lt (position_or_len p xs) (length xs)) (position_or_len p xs) i is).0)
+
   pub none_found : position p xs ≡ None → false ≡ list_any p xs
   none_found is = sym (found p xs ∙ unsettled (nat_lt (position_or_len p xs) (length xs)) (position_or_len p xs) is)
 
   pub none_left : position p xs ≡ None → xs ≡ without_first p xs
   none_left is = stays p xs (sym (none_found is))
 
-pub ruleset takes = (some_left, none_found, none_left)
+pub ruleset takes = (some_left, some_found, none_found, none_left)

@@ -1,6 +1,6 @@
 //! Operators on aggregates.
 
-ghost use Rattle.std.specs.Prelude.{◌≡◌, ◌++◌, ◌∷◌, List, [], ◌||◌, if◌then◌else◌, IfOk, OnOk};
+ghost use Rattle.std.specs.Prelude.{◌≡◌, ◌++◌, ◌∷◌, List, [], ◌||◌, if◌then◌else◌, false, IfOk, OnOk};
 ghost use Rattle.std.specs.List.{list_any, position};
 ghost use Rattle.rp_numbers.specs.declared.Logical.TheVariants.{False, Unknown, True};
 ghost use Rattle.rp_operations.specs.Seen as sight;
@@ -60,6 +60,7 @@ fn place_of(values: &[Value], value: &Value) -> Option<usize>
 fn take_same(left: &mut Items<Value>, value: &Value) -> bool
     ensures found { result ≡ list_any (spec.is_same value.now) left.old }
     ensures left { left.new ≡ spec.without_first (spec.is_same value.now) left.old }
+    ensures kept { result ≡ false → left.new ≡ left.old }
 {
     match place_of(left.as_slice(), value) {
         Some(place) => {
@@ -281,6 +282,7 @@ fn difference(
 }
 
 /// `-` of an aggregate and an element.
+#[tactic(auto, using(crate::proofs::Taking::takes))]
 fn difference_with(
     alloc: Global,
     kind: AggregateKind,
@@ -289,12 +291,14 @@ fn difference_with(
 ) -> Result<Value, AllocError>
     ensures { IfOk result (λ x. x ≡ spec.aggregate kind xs.now.low (spec.less xs.now.items (element.now ∷ []))) }
 {
-    if !contains(xs.as_slice(), element) {
-        return with_elements(alloc, kind, xs.low(), xs);
+    match place_of(xs.as_slice(), element) {
+        Some(place) => {
+            let mut left = copies(alloc, xs.as_slice())?;
+            drop(left.remove(place));
+            Value::aggregate(alloc, kind, xs.low(), left)
+        }
+        None => with_elements(alloc, kind, xs.low(), xs),
     }
-    let mut left = copies(alloc, xs.as_slice())?;
-    take_same(&mut left, element);
-    Value::aggregate(alloc, kind, xs.low(), left)
 }
 
 /// Whether a value is among those of an aggregate, of which `is_among` tells whether an equal one is.

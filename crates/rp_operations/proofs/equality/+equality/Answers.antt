@@ -1,10 +1,11 @@
 use denote.Param.Weighed.{most}
-use Rattle.std.proofs.Common.{rules, ◌≡◌, ◌<◌, ◌∙◌, sym, subst, arith}
+use Rattle.std.proofs.Common.{rules, ◌≡◌, ◌<◌, ◌∙◌, sym, ap, subst, arith}
 use Rattle.rp_operations.specs.Seen.{Aggregate, seen}
-use Rattle.rp_operations.specs.Equality.{equal_seen}
+use Rattle.rp_operations.specs.Equality.{equal_seen, occurs_equally}
 use Rattle.rp_value.specs.declared.value.Value.{size-Value}
 use Rattle.rp_operations.specs.Relations.{scalars_by, equality_by}
 use Rattle.rp_operations.proofs.Depths.{equality-seen}
+use Rattle.rp_operations.proofs.Passing.{passed, failed}
 use Rattle.rp_operations.proofs.Sizes.{elements_smaller}
 use Rattle.rp_operations.proofs.equality.+equality.Goals as goal
 
@@ -30,3 +31,15 @@ equality-equal_elements-requires t c =
     (elements_smaller c.args.y.now c.in-Aggregate-Aggregate.other c.in-Aggregate-Aggregate.ys.now right) in
     let falls = c.decreases in
     (omega arith, tt)
+
+pub occur_equally-returns-then-not-occurs_equally : goal.occur_equally-returns-then-not-occurs_equally
+occur_equally-returns-then-not-occurs_equally t c =
+    let p = occurs_equally (equality_by c.args.relation) c.args.xs.now c.args.ys.now in
+    failed p c.args.values.now c.loop-value.value-index c.value-item.result c.loop-value-test.true
+    (sym c.if-not-occurs_equally.true ∙ c.occurs_equally.ensures ∙ ap p c.value-item.is) ∙ c.loop-value.invariant
+
+pub occur_equally-loop-value-preserved : goal.occur_equally-loop-value-preserved
+occur_equally-loop-value-preserved t c =
+    let p = occurs_equally (equality_by c.args.relation) c.args.xs.now c.args.ys.now in
+    passed p c.args.values.now c.loop-value.value-index c.value-item.result c.loop-value-test.true
+    (sym c.if-not-occurs_equally.false ∙ c.occurs_equally.ensures ∙ ap p c.value-item.is) ∙ c.loop-value.invariant
