@@ -4,3 +4,5 @@ mod Scales
 mod Sizes
 mod Taking
 mod Passing
+mod Swapped
+mod Counts

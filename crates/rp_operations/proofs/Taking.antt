@@ -6,7 +6,7 @@ use Rattle.std.specs.Prelude.{⊤}
 use Rattle.rp_operations.specs.Operations.{without_first}
 use Rattle.rp_value.specs.declared.value.Value.{Value}
 
-abbrev Yes : Bool → Type 0
+abbrev pub Yes : Bool → Type 0
 Yes true = ⊤
 Yes false = ⊥
 
@@ -42,7 +42,7 @@ module _ (p : Value → Bool) where
   stays_by true x xs h before = absurd (subst Yes h tt)
   stays_by false x xs h before = ap (λ ys. x ∷ ys) (before h)
 
-  stays : (xs : List Value) → list_any p xs ≡ false → xs ≡ without_first p xs
+  pub stays : (xs : List Value) → list_any p xs ≡ false → xs ≡ without_first p xs
   stays [] h = refl
   stays (x ∷ xs) h = stays_by (p x) x xs h (stays xs)
 

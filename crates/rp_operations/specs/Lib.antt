@@ -4,3 +4,4 @@ pub mod Order
 pub mod Equality
 pub mod Relations
 pub mod Operations
+pub mod Laws

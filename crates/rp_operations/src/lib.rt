@@ -5,9 +5,14 @@ mod bare;
 mod compared;
 mod comparisons;
 mod equality;
+mod laws;
 mod operations;
 
 pub use bare::{holds_instance, is_indeterminate};
 pub use compared::Compared;
 pub use comparisons::{compare, same};
+pub use laws::{
+    compared_exchanged, difference_counts, intersection_counts, same_of_exchanged, union_counts,
+    within_counts,
+};
 pub use operations::{aggregate_union, intersect, is_in, is_value_in, is_within, minus};
