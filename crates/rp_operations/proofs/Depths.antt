@@ -1,16 +1,14 @@
 -- How deep values are, and that an equality of values of some depth is that of all greater ones.
-use Rattle.std.proofs.Common.{◌≡◌, ℕ, zero, suc, ◌+◌, ◌≤◌, ◌<◌, Bool, true, false, not, ◌==◌, ◌||◌, ◌&&◌, if◌then◌else◌, cond, List, [], ◌∷◌, ◌++◌, map, length, refl, sym, ◌∙◌, ap, subst, arith}
+use Rattle.std.proofs.Common.{◌≡◌, ℕ, zero, suc, ◌+◌, ◌≤◌, Bool, not, ◌==◌, ◌||◌, ◌&&◌, if◌then◌else◌, cond, List, [], ◌∷◌, ◌++◌, map, length, refl, sym, ◌∙◌, ap, subst, arith}
 use Rattle.std.proofs.Math.Nat.{le-max_left, le-max_right}
 use Rattle.std.specs.List.{AllByRecursion, list_any, list_all, fold}
 use Rattle.rp_numbers.specs.Logical.{conjunction, of_test, is_true}
 use Rattle.rp_numbers.specs.declared.Logical.{Logical}
-use Rattle.rp_numbers.specs.declared.Logical.TheVariants.{False, Unknown, True}
-use Rattle.rp_value.specs.Elements.{Elements}
-use Rattle.rp_operations.specs.Seen.{Seen, Indeterminate, Number, Text, Bits, Truth, Item, Instance, Aggregate, with_seen, seen, is_indeterminate, greatest, depth_layer, depth}
-use Rattle.rp_operations.specs.Equality.{equal_in_places, occurrences, occur_equally, equal_elements, equal_seen, equal_within, equality, is_bag_or_set}
-use Rattle.rp_value.specs.declared.value.AggregateKind.{AggregateKind}
+use Rattle.rp_numbers.specs.declared.Logical.TheVariants.{False, Unknown}
+use Rattle.rp_operations.specs.Seen.{Seen, Aggregate, with_seen, seen, is_indeterminate, greatest, depth_layer, depth}
+use Rattle.rp_operations.specs.Equality.{equal_in_places, occurrences, equal_elements, equal_seen, equal_within, equality, is_bag_or_set}
 use Rattle.rp_value.specs.declared.value.Value.{Value}
-use Rattle.rp_value.specs.declared.value.Value.TheFolds.{fold-Value, fold-roll-Value, ind-Value, map-Value}
+use Rattle.rp_value.specs.declared.value.Value.TheFolds.{fold-roll-Value, ind-Value, map-Value}
 use Rattle.rp_value.specs.declared.value.Value.TheOpen.{Value-F}
 use Rattle.rp_value.specs.declared.value.Value.TheViews.{roll-Value}
 use Rattle.rp_operations.proofs.Sights.{both, all_itself, seen-rolls}

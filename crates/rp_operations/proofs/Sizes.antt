@@ -1,5 +1,5 @@
 -- The elements that are seen of a value are smaller than the value.
-use Rattle.std.proofs.Common.{◌≡◌, ℕ, suc, ◌+◌, ◌≤◌, ◌<◌, List, map, refl, sym, ◌∙◌, ap, subst, arith}
+use Rattle.std.proofs.Common.{◌≡◌, ℕ, suc, ◌+◌, ◌≤◌, ◌<◌, map, sym, ◌∙◌, ap, subst, arith}
 use denote.Param.Weighed.{most}
 use Rattle.rp_value.specs.Elements.{Elements}
 use Rattle.rp_operations.specs.Seen.{Seen, Aggregate, with_seen, seen}

@@ -4,7 +4,7 @@ use Rattle.std.proofs.lemmas.List.Folds.{list_any-append, list_all-append}
 use Rattle.std.specs.Cmp.{IsTotalOrder, bool_cmp_total}
 use Rattle.std.proofs.lemmas.Cmp.{nat_cmp_total, int_cmp_total, nat_list_cmp_total, lists_total}
 use Rattle.std.specs.List.{list_any, list_all}
-use Rattle.std.specs.Ordering.{ordering_reverse, nat_cmp, int_cmp, bool_cmp}
+use Rattle.std.specs.Ordering.{ordering_reverse, nat_cmp}
 use Rattle.std.specs.declared.cmp.Ordering.{Ordering}
 use Rattle.std.specs.declared.cmp.Ordering.TheVariants as o
 use Rattle.rp_numbers.specs.Logical.{conjunction, of_test, rank}

@@ -7,7 +7,7 @@ use Rattle.rp_numbers.specs.declared.Logical.TheVariants.{False, Unknown, True}
 use Rattle.rp_operations.specs.Seen.{Seen, Instance, Aggregate, seen, depth, is_indeterminate, same_kind}
 use Rattle.rp_operations.specs.Order.{compare_scalars, equals}
 use Rattle.rp_value.specs.declared.value.AggregateKind.{AggregateKind}
-use Rattle.rp_value.specs.declared.value.AggregateKind.TheVariants.{Array, List as Listed, Bag, Set, Initializer}
+use Rattle.rp_value.specs.declared.value.AggregateKind.TheVariants.{Bag, Set}
 use Rattle.rp_value.specs.declared.value.Value.{Value}
 
 abbrev pub is_bag_or_set : AggregateKind → Bool

@@ -1,6 +1,5 @@
 -- What laws of the operations speak of.
-use Rattle.std.specs.Prelude.{ℕ, ◌≡◌, Bool, true, List}
-use Rattle.std.specs.List.{count_by}
+use Rattle.std.specs.Prelude.{◌≡◌, Bool, true}
 use Rattle.rp_operations.specs.Operations.{is_same}
 use Rattle.rp_operations.specs.declared.compared.Compared.{Compared}
 use Rattle.rp_operations.specs.declared.compared.Compared.TheVariants as c
