@@ -7,7 +7,7 @@ use Rattle.rp_numbers.specs.declared.Logical.TheVariants.{False, Unknown, True}
 use Rattle.rp_operations.specs.Seen.{Seen, Instance, Aggregate, seen, depth, is_indeterminate, same_kind}
 use Rattle.rp_operations.specs.Order.{compare_scalars, equals}
 use Rattle.rp_value.specs.declared.value.AggregateKind.{AggregateKind}
-use Rattle.rp_value.specs.declared.value.AggregateKind.TheVariants.{Array, List as Listed, Bag, Set, Initializer}
+use Rattle.rp_value.specs.declared.value.AggregateKind.TheVariants.{Bag, Set}
 use Rattle.rp_value.specs.declared.value.Value.{Value}
 
 abbrev pub is_bag_or_set : AggregateKind → Bool
@@ -25,9 +25,12 @@ module _ (equal : Value → Value → Logical) where
   abbrev pub occurrences : Value → List Value → ℕ
   occurrences x = count_by (λ y. is_true (equal y x))
 
+  abbrev pub occurs_equally : List Value → List Value → Value → Bool
+  occurs_equally xs ys x = occurrences x xs == occurrences x ys
+
   -- each value of either side occurs equally often on both
   abbrev pub occur_equally : List Value → List Value → Bool
-  occur_equally xs ys = list_all (λ x. occurrences x xs == occurrences x ys) (xs ++ ys)
+  occur_equally xs ys = list_all (occurs_equally xs ys) (xs ++ ys)
 
   abbrev pub equal_elements : Bool → List Value → List Value → Logical
   equal_elements are_placed xs ys =

@@ -1,4 +1,7 @@
 pub mod Seen
+pub mod Bare
 pub mod Order
 pub mod Equality
+pub mod Relations
 pub mod Operations
+pub mod Laws

@@ -135,9 +135,13 @@ abbrev pub is_equal : Compared → Bool
 is_equal c.Equal = true
 is_equal o = false
 
+-- whether `x = y` is TRUE
+abbrev pub are_equal : Value → Value → Bool
+are_equal x y = is_equal (compare x y)
+
 -- VALUE_IN(a, x): the same by `=`
 unfoldable pub value_membership : Value → Value → Value
-value_membership x a = membership_by (λ x y. is_equal (compare x y)) x (seen a)
+value_membership x a = membership_by are_equal x (seen a)
 
 abbrev pub has_places : AggregateKind → Bool
 has_places k.Array = true

@@ -1,6 +1,6 @@
 -- Values as comparisons see them: without the names of defined types, and INTEGER, REAL and NUMBER alike.
-use Rattle.std.specs.Prelude.{ℕ, ℤ, suc, max, Bool, true, false, ◌==◌, List, map}
-use Rattle.std.specs.List.{list_any, fold}
+use Rattle.std.specs.Prelude.{ℕ, ℤ, suc, max, Bool, true, false, ◌==◌, List, [], ◌∷◌, map}
+use Rattle.std.specs.List.{list_any}
 use Rattle.rp_numbers.specs.Decimals.{scaled, scaled_whole}
 use Rattle.rp_numbers.specs.declared.Logical.{Logical}
 use Rattle.rp_value.specs.Elements.{Elements}
@@ -23,7 +23,7 @@ pub data Seen : Type 0 where
   Aggregate : AggregateKind → Elements Value → Seen
 
 -- of values, each beside what is seen of it
-abbrev seen_layer : Value-F (Value × Seen) → Seen
+abbrev pub seen_layer : Value-F (Value × Seen) → Seen
 seen_layer Value-F.Indet = Indeterminate
 seen_layer (Value-F.Int n) = Number (scaled_whole n)
 seen_layer (Value-F.Dec d) = Number (scaled d)
@@ -56,7 +56,7 @@ same_kind (Instance name) (Instance other) = true
 same_kind (Aggregate kind xs) (Aggregate other ys) = true
 same_kind s t = false
 
-abbrev instance_layer : Value-F Bool → Bool
+abbrev pub instance_layer : Value-F Bool → Bool
 instance_layer (Value-F.Inst name) = true
 instance_layer (Value-F.Agg kind found) = list_any (λ b. b) found.items
 instance_layer (Value-F.Named n found) = found
@@ -66,8 +66,12 @@ instance_layer x = false
 unfoldable pub holds_instance : Value → Bool
 holds_instance = fold-Value Bool instance_layer
 
-abbrev depth_layer : Value-F ℕ → ℕ
-depth_layer (Value-F.Agg kind depths) = suc (fold max 0 depths.items)
+abbrev pub greatest : List ℕ → ℕ
+greatest [] = 0
+greatest (n ∷ numbers) = max n (greatest numbers)
+
+abbrev pub depth_layer : Value-F ℕ → ℕ
+depth_layer (Value-F.Agg kind depths) = suc (greatest depths.items)
 depth_layer (Value-F.Named n depth) = depth
 depth_layer x = 0
 
