@@ -1,5 +1,6 @@
 //! The tests, by what they look at.
 
 mod decimals;
+mod operations;
 mod rights;
 mod values;
