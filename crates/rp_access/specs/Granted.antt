@@ -9,7 +9,7 @@ use Rattle.rp_rows.specs.Sight.{is_granted, counts}
 use Rattle.rp_tables.specs.declared.keyed.Entry.{Entry}
 use Rattle.rp_tables.specs.Entries.{is_entry, without_name}
 
--- names, under a partner and an owner
+-- names, under a key whose owner is the partner, and whose name is that of the groups' owner
 abbrev pub Names : Type 0
 Names = Entry (List Text)
 

@@ -27,7 +27,7 @@ pub struct Regrant {
     pub(crate) level: Option<Level>,
     /// All the grants on the group.
     pub(crate) grants: Rows<Grant>,
-    /// The partner, and the owner of the group.
+    /// The partner as its owner, and the owner of the group as its name.
     pub(crate) under: Key,
     /// The names of the owner's groups that the partner is granted.
     pub(crate) names: Rows<Text>,

@@ -44,7 +44,7 @@ use Rattle.rp_meaning.specs.declared.schema.Schema.{Schema}
 use Rattle.rp_meaning.specs.declared.tree.Expression.{Expression}
 use Rattle.rp_meaning.specs.CompiledExpressions as expressions
 use Rattle.rp_meaning.specs.CompiledExpressions.{Declared}
-use Rattle.rp_meaning.specs.CompiledNames.{in_order, joined, roles_of}
+use Rattle.rp_meaning.specs.CompiledNames.{in_order, joined, own_rows, roles_of}
 use Rattle.rp_meaning.specs.CompiledStatements.{statements}
 use Rattle.rp_meaning.specs.CompiledTypes.{underlying, beneath, selects, choices}
 
@@ -94,7 +94,7 @@ module _ (entities : List NamedEntity) (supertypes : List (List ℕ)) where
 
   -- the entities, those with most ancestors first, and of several such in the order of their names
   abbrev pub deepest_first : List ℕ
-  deepest_first = flat_map (λ above. filter (λ entity. depth entity + above == length entities) (in_order (entity_names entities))) (numbers_from zero (length entities))
+  deepest_first = flat_map (λ above. filter (λ entity. depth entity + above == length supertypes) (in_order (entity_names entities))) (numbers_from zero (length supertypes))
 
   abbrev pub rederived_by : ℕ → List Rederived
   rederived_by entity = option_map_or (λ x. filter_map (λ d. d) (numbered (rederived entity) x.derived)) (slice_get entities entity) []
@@ -127,11 +127,17 @@ module _ (schema : NamedSchema) where
   abbrev pub entity_name : NamedEntity → List ℕ
   entity_name x = joined schema.name.text x.name.text
 
+  abbrev pub supertypes : List (List ℕ)
+  supertypes = (known schema).attributes.supertypes
+
+  abbrev pub entity_order : List ℕ
+  entity_order = in_order (entity_names schema.entities)
+
   abbrev pub roles : List NamedRole
-  roles = flat_map (λ r. r) (numbered (λ number x. roles_of (known schema).attributes number (entity_name x)) schema.entities)
+  roles = flat_map (λ r. r) (numbered (λ number x. roles_of schema.entities supertypes number (entity_name x)) schema.entities)
 
   abbrev pub declared : Declared
-  declared = record { known = known schema; entity_order = in_order (entity_names schema.entities); roles = roles }
+  declared = record { known = known schema; attributes = flat_map (own_rows schema.entities) entity_order; roles = roles }
 
   abbrev pub expression : TypingScope → NamedExpression → Expression
   expression = expressions.expression declared
@@ -163,9 +169,9 @@ module _ (schema : NamedSchema) where
   abbrev pub entity : ℕ → NamedEntity → Entity
   entity number x = record {
     name = entity_name x;
-    explicit = numbered (λ place d. explicit schema.entities (known schema).attributes.supertypes number place d.1) (declared_by x);
+    explicit = numbered (λ place d. explicit schema.entities supertypes number place d.1) (declared_by x);
     redeclarations = flat_map redeclarations_in x.explicit;
-    derived = numbered (derived schema.entities (known schema).attributes.supertypes number) (own_derivations number x.derived);
+    derived = numbered (derived schema.entities supertypes number) (own_derivations number x.derived);
     derivations = map (λ d. given (of_entity number) d.data_type d.value) x.derived;
     inverse = map inverse x.inverse;
     unique_rules = map (λ rule. map declaration rule.attributes) x.unique_rules;
@@ -209,7 +215,7 @@ compiled_by schema = record {
   rules = map (rule schema) schema.rules;
   roles = roles schema;
   type_order = in_order (type_names schema.types);
-  entity_order = in_order (entity_names schema.entities);
+  entity_order = entity_order schema;
   rule_order = in_order (map (λ x. x.name.text) schema.rules);
 }
 

@@ -4,7 +4,6 @@ use Rattle.std.specs.Prelude.{ℕ, zero, pos, Bool, true, false, not, ◌==◌, 
 use Rattle.std.specs.List.{find, flat_map, list_any}
 use Rattle.std.specs.Option.{option_map}
 use Rattle.std.specs.Str.{bytes_eq}
-use Rattle.ex_attributes.specs.Attributes.{Attributes, named}
 use Rattle.ex_kinds.specs.declared.kind.Sort.{Sort}
 use Rattle.ex_kinds.specs.declared.kind.Sort.TheVariants as k
 use Rattle.ex_kinds.specs.declared.typed.Typed.{Typed}
@@ -28,6 +27,7 @@ use Rattle.ex_tree.specs.declared.expression.Literal.TheVariants as l
 use Rattle.ex_typing.specs.Expressions as typing
 use Rattle.ex_typing.specs.Expressions.{Known, TypingScope, within, TypedExpression, TypedQualifier, TypedOperation}
 use Rattle.graphs.specs.Graphs.{family}
+use Rattle.name_tables.specs.Names.{named}
 use Rattle.plain_data.specs.Numbers.{is_among}
 use Rattle.rp_value.specs.declared.value.Value.{Value, out-Value}
 use Rattle.rp_value.specs.declared.value.Value.TheOpen.{Value-F}
@@ -43,6 +43,7 @@ use Rattle.rp_meaning.specs.declared.tree.Operation.{Operation, roll-Operation}
 use Rattle.rp_meaning.specs.declared.tree.Qualifier.{Qualifier}
 use Rattle.rp_meaning.specs.declared.tree.Qualifier.TheVariants as q
 use Rattle.rp_meaning.specs.declared.tree.Query.{Query, roll-Query}
+use Rattle.rp_meaning.specs.CompiledNames.{Rows}
 
 -- What is said of the value, and the tree.
 pub record Both (Said Tree : Type 0) : Type 0 where
@@ -126,14 +127,6 @@ family_at supertypes _ _ = []
 abbrev pub near : List (List ℕ) → Kinds → List ℕ
 near supertypes kinds = if may_be_any kinds then [] else flat_map (λ kind. family_at supertypes kind.depth kind.sort) kinds
 
--- the attributes of this name that an entity declares of its own
-abbrev pub declared_in : Attributes → List ℕ → ℕ → List AttributePlace
-declared_in attributes name entity = map (λ a. a.place) (filter (λ a. a.place.entity == entity) (named name attributes.declared))
-
--- those that these entities declare, in their order
-abbrev pub attributes_named : Attributes → List ℕ → List ℕ → List AttributePlace
-attributes_named attributes entities name = flat_map (declared_in attributes name) entities
-
 -- those of near entities come first
 abbrev pub nearest_first : List ℕ → List AttributePlace → List AttributePlace
 nearest_first near places = filter (λ p. is_among near p.entity) places ++ filter (λ p. not (is_among near p.entity)) places
@@ -158,8 +151,8 @@ role_named roles (byte ∷ bytes) = option_map (λ x. x.role) (find (λ x. bytes
 -- What a schema declares, as expressions are compiled by it.
 pub record Declared : Type 0 where
   pub known : Known
-  -- the entities in the order of their names
-  pub entity_order : List ℕ
+  -- the attributes of entities, in the order of the names of these
+  pub attributes : Rows
   pub roles : List NamedRole
 
 module _ (schema : Declared) where
@@ -173,8 +166,7 @@ module _ (schema : Declared) where
 
   -- the attributes that a name may mean behind a value of these kinds
   abbrev pub meant : List ℕ → Kinds → List AttributePlace
-  meant name kinds = nearest_first (near schema.known.attributes.supertypes (plain schema.known.types kinds))
-      (attributes_named schema.known.attributes schema.entity_order name)
+  meant name kinds = nearest_first (near schema.known.attributes.supertypes (plain schema.known.types kinds)) (named name schema.attributes)
 
   -- ---- one layer of each tree, given its parts
 
