@@ -10,7 +10,7 @@ use Rattle.rp_value.specs.declared.value.Value.{Value, out-Value}
 use Rattle.rp_value.specs.declared.value.Value.TheFolds.{fold-Value, fold-roll-Value, ind-Value, map-Value}
 use Rattle.rp_value.specs.declared.value.Value.TheOpen.{Value-F}
 use Rattle.rp_value.specs.declared.value.Value.TheVariants as v
-use Rattle.rp_value.specs.declared.value.Value.TheViews.{roll-Value}
+use Rattle.rp_value.specs.declared.value.Value.TheViews.{roll-Value, out-roll-Value}
 
 -- ---- a value beside what is made of it is the value itself
 
@@ -120,32 +120,33 @@ module _ (x : Value) where
   sees-Named n y is = seen-rolls (Value-F.Named n y) ∙ ap seen (v.rolls-Named n y ∙ sym is)
 
   pub bare-Indet : x ≡ v.Indet → Value-F.Indet ≡ out-Value (bare x)
-  bare-Indet is = ap out-Value (bare-rolls Value-F.Indet ∙ ap bare (v.rolls-Indet ∙ sym is))
+  bare-Indet is = sym (out-roll-Value Value-F.Indet) ∙ ap out-Value (bare-rolls Value-F.Indet ∙ ap bare (v.rolls-Indet ∙ sym is))
 
   pub bare-Int : (n : ℤ) → x ≡ v.Int n → Value-F.Int n ≡ out-Value (bare x)
-  bare-Int n is = ap out-Value (bare-rolls (Value-F.Int n) ∙ ap bare (v.rolls-Int n ∙ sym is))
+  bare-Int n is = sym (out-roll-Value (Value-F.Int n)) ∙ ap out-Value (bare-rolls (Value-F.Int n) ∙ ap bare (v.rolls-Int n ∙ sym is))
 
   pub bare-Dec : (d : Decimal) → x ≡ v.Dec d → Value-F.Dec d ≡ out-Value (bare x)
-  bare-Dec d is = ap out-Value (bare-rolls (Value-F.Dec d) ∙ ap bare (v.rolls-Dec d ∙ sym is))
+  bare-Dec d is = sym (out-roll-Value (Value-F.Dec d)) ∙ ap out-Value (bare-rolls (Value-F.Dec d) ∙ ap bare (v.rolls-Dec d ∙ sym is))
 
   pub bare-Str : (text : List ℕ) → x ≡ v.Str text → Value-F.Str text ≡ out-Value (bare x)
-  bare-Str text is = ap out-Value (bare-rolls (Value-F.Str text) ∙ ap bare (v.rolls-Str text ∙ sym is))
+  bare-Str text is = sym (out-roll-Value (Value-F.Str text)) ∙ ap out-Value (bare-rolls (Value-F.Str text) ∙ ap bare (v.rolls-Str text ∙ sym is))
 
   pub bare-Bin : (bits : List Bool) → x ≡ v.Bin bits → Value-F.Bin bits ≡ out-Value (bare x)
-  bare-Bin bits is = ap out-Value (bare-rolls (Value-F.Bin bits) ∙ ap bare (v.rolls-Bin bits ∙ sym is))
+  bare-Bin bits is = sym (out-roll-Value (Value-F.Bin bits)) ∙ ap out-Value (bare-rolls (Value-F.Bin bits) ∙ ap bare (v.rolls-Bin bits ∙ sym is))
 
   pub bare-Log : (l : Logical) → x ≡ v.Log l → Value-F.Log l ≡ out-Value (bare x)
-  bare-Log l is = ap out-Value (bare-rolls (Value-F.Log l) ∙ ap bare (v.rolls-Log l ∙ sym is))
+  bare-Log l is = sym (out-roll-Value (Value-F.Log l)) ∙ ap out-Value (bare-rolls (Value-F.Log l) ∙ ap bare (v.rolls-Log l ∙ sym is))
 
   pub bare-Item : (n place : ℕ) → x ≡ v.Item n place → Value-F.Item n place ≡ out-Value (bare x)
-  bare-Item n place is = ap out-Value (bare-rolls (Value-F.Item n place) ∙ ap bare (v.rolls-Item n place ∙ sym is))
+  bare-Item n place is = sym (out-roll-Value (Value-F.Item n place)) ∙ ap out-Value (bare-rolls (Value-F.Item n place) ∙ ap bare (v.rolls-Item n place ∙ sym is))
 
   pub bare-Inst : (name : ℕ) → x ≡ v.Inst name → Value-F.Inst name ≡ out-Value (bare x)
-  bare-Inst name is = ap out-Value (bare-rolls (Value-F.Inst name) ∙ ap bare (v.rolls-Inst name ∙ sym is))
+  bare-Inst name is = sym (out-roll-Value (Value-F.Inst name)) ∙ ap out-Value (bare-rolls (Value-F.Inst name) ∙ ap bare (v.rolls-Inst name ∙ sym is))
 
   pub bare-Agg : (kind : AggregateKind) (elements : Elements Value) → x ≡ v.Agg kind elements → Value-F.Agg kind elements ≡ out-Value (bare x)
   bare-Agg kind elements is =
       (λ i. Value-F.Agg kind (record { low = elements.low; items = sym (all_itself itself_and_bare name_keeps elements.items) i }))
+      ∙ sym (out-roll-Value (Value-F.Agg kind (record { low = elements.low; items = map (λ p. p.0) (map named elements.items) })))
       ∙ ap out-Value (bare-rolls (Value-F.Agg kind elements) ∙ ap bare (v.rolls-Agg kind elements ∙ sym is))
 
   pub bare-Named : (n : ℕ) (y : Value) → x ≡ v.Named n y → out-Value (bare y) ≡ out-Value (bare x)

@@ -26,7 +26,7 @@ pub(crate) enum Bare<'v> {
 
 /// What is beneath the names of a value.
 #[tactic(auto, using(crate::proofs::Sights::bares))]
-pub(crate) fn bare(value: &Value) -> Bare<'_>
+pub(crate) fn beneath_names(value: &Value) -> Bare<'_>
     ensures value { opened result ≡ out-Value (spec.bare value.now) }
     ensures sight { seen_by result ≡ seen value.now }
 {
@@ -43,7 +43,7 @@ pub(crate) fn bare(value: &Value) -> Bare<'_>
         Value::Named {
             defined_type: _,
             value,
-        } => bare(value.get()),
+        } => beneath_names(value.get()),
     }
 }
 
@@ -63,7 +63,7 @@ pub(crate) fn carried(value: &Value) -> Option<usize>
 pub(crate) fn is_indeterminate(value: &Value) -> bool
     ensures { result ≡ spec.is_indeterminate value.now }
 {
-    match bare(value) {
+    match beneath_names(value) {
         Bare::Indeterminate => true,
         _ => false,
     }
@@ -73,7 +73,7 @@ pub(crate) fn is_indeterminate(value: &Value) -> bool
 pub(crate) fn integer_of(value: &Value) -> Option<i64>
     ensures { result ≡ spec.integer_of value.now }
 {
-    match bare(value) {
+    match beneath_names(value) {
         Bare::Integer(number) => Some(number),
         _ => None,
     }
@@ -83,7 +83,7 @@ pub(crate) fn integer_of(value: &Value) -> Option<i64>
 pub(crate) fn truth_of(value: &Value) -> Option<Logical>
     ensures { result ≡ truth_in (seen value.now) }
 {
-    match bare(value) {
+    match beneath_names(value) {
         Bare::Truth(logical) => Some(logical),
         Bare::Indeterminate => Some(Logical::Unknown),
         _ => None,
@@ -94,7 +94,7 @@ pub(crate) fn truth_of(value: &Value) -> Option<Logical>
 pub fn text_of(value: &Value) -> Option<&Characters>
     ensures { option_copied result ≡ spec.text_of value.now }
 {
-    match bare(value) {
+    match beneath_names(value) {
         Bare::Text(text) => Some(text),
         _ => None,
     }
@@ -104,7 +104,7 @@ pub fn text_of(value: &Value) -> Option<&Characters>
 pub(crate) fn bits_of(value: &Value) -> Option<&Bits>
     ensures { option_copied result ≡ spec.bits_of value.now }
 {
-    match bare(value) {
+    match beneath_names(value) {
         Bare::Bits(bits) => Some(bits),
         _ => None,
     }
@@ -114,7 +114,7 @@ pub(crate) fn bits_of(value: &Value) -> Option<&Bits>
 pub fn place_of(value: &Value) -> Option<u64>
     ensures { result ≡ spec.place_of value.now }
 {
-    match bare(value) {
+    match beneath_names(value) {
         Bare::Instance(place) => Some(place),
         _ => None,
     }
@@ -124,7 +124,7 @@ pub fn place_of(value: &Value) -> Option<u64>
 pub fn aggregate_of(value: &Value) -> Option<(AggregateKind, &Elements<Value>)>
     ensures { option_map aggregate_behind result ≡ spec.aggregate_of value.now }
 {
-    match bare(value) {
+    match beneath_names(value) {
         Bare::Aggregate(kind, elements) => Some((kind, elements)),
         _ => None,
     }
@@ -134,7 +134,7 @@ pub fn aggregate_of(value: &Value) -> Option<(AggregateKind, &Elements<Value>)>
 pub fn is_true(value: &Value) -> bool
     ensures { result ≡ spec.is_true value.now }
 {
-    match bare(value) {
+    match beneath_names(value) {
         Bare::Truth(logical) => logical.is_true(),
         _ => false,
     }

@@ -31,6 +31,7 @@ pub fn odd(value: &Value) -> Value
 }
 
 /// LENGTH, in characters.
+#[tactic(auto, using(crate::proofs::Characters::counts))]
 pub fn text_length(value: &Value) -> Value
     ensures { result ≡ spec.text_length value.now }
 {

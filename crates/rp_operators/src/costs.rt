@@ -8,7 +8,7 @@ ghost use Rattle.rp_meaning.specs.Operators as spec;
 ghost use Rattle.rp_operations.specs.Seen.{seen};
 ghost use Rattle.rp_operators.specs.Amounts.{unless_more};
 
-use crate::bare::{Bare, aggregate_of, bare};
+use crate::bare::{Bare, aggregate_of, beneath_names};
 use ex_tree::BinaryOperator;
 use rp_value::Value;
 
@@ -51,7 +51,7 @@ fn of_two(most: usize, x: &Value, y: &Value) -> Option<usize>
 fn of_sum(most: usize, x: &Value, y: &Value) -> Option<usize>
     ensures { result ≡ unless_more most (spec.cost_of_two x.now y.now + spec.length_seen (seen (spec.sum x.now y.now))) }
 {
-    match (bare(x), bare(y)) {
+    match (beneath_names(x), beneath_names(y)) {
         (Bare::Text(s), Bare::Text(t)) => unless_more(most, s.count().checked_add(t.count())?),
         (Bare::Bits(s), Bare::Bits(t)) => {
             unless_more(most, s.as_slice().len().checked_add(t.as_slice().len())?)
@@ -83,7 +83,7 @@ pub fn interval_cost(most: usize, low: &Value, item: &Value, high: &Value) -> Op
 
 /// How many steps an initialiser costs that gives this value, unless it is more than `most`.
 #[cycle(sizes)]
-#[tactic(auto, using(crate::proofs::Sizes::sized), unfolding(rp_meaning::specs::BuiltIns::size))]
+#[tactic(auto, unfolding(rp_meaning::specs::BuiltIns::size))]
 pub fn size(most: usize, value: &Value) -> Option<usize>
     ensures { result ≡ unless_more most (size_of_initialiser value.now) }
 {

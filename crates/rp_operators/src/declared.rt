@@ -99,7 +99,7 @@ fn inside(
     types: &[DefinedType],
     declared: Option<AggregateType<'_>>,
 ) -> Result<Value, AllocError>
-    ensures { IfOk result (λ x. x ≡ inside types.now (option_map aggregate_type_behind declared) value.now) }
+    ensures { IfOk result (λ x. x ≡ inside types.now (option_map aggregate_type_behind declared.entry) value.now) }
 {
     match value {
         Value::Agg { kind, elements } => aggregate_under(elements, *kind, alloc, types, declared),

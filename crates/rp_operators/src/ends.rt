@@ -7,7 +7,7 @@ ghost use Rattle.rp_meaning.specs.Types as spec;
 ghost use Rattle.rp_operators.specs.Ends.{aggregate_type_behind, end_behind, inner_aggregate};
 ghost use Rattle.rp_operators.specs.Sights.{opened};
 
-use crate::bare::{Bare, bare, carried};
+use crate::bare::{Bare, beneath_names, carried};
 use ex_named::{NamedDataType, TypeName};
 use ex_tree::SimpleType;
 use rp_meaning::{DefinedType, Underlying};
@@ -45,7 +45,7 @@ pub(crate) fn end_of(types: &[DefinedType], number: usize) -> End<'_>
     }
 }
 
-pub(crate) fn end<'t>(types: &'t [DefinedType], data_type: &'t NamedDataType) -> End<'t>
+pub(crate) fn behind_names<'t>(types: &'t [DefinedType], data_type: &'t NamedDataType) -> End<'t>
     ensures { end_behind result ≡ spec.end types.now data_type.now }
 {
     match data_type {
@@ -140,7 +140,7 @@ fn is_of_kind(types: &[DefinedType], end: End<'_>, x: Bare<'_>) -> bool
 pub(crate) fn fits(types: &[DefinedType], data_type: &NamedDataType, value: &Value) -> bool
     ensures { result ≡ spec.fits types.now data_type.now value.now }
 {
-    is_of_kind(types, end(types, data_type), bare(value))
+    is_of_kind(types, behind_names(types, data_type), beneath_names(value))
 }
 
 /// The defined type that a value carries once it is declared with a type.
@@ -215,7 +215,7 @@ pub(crate) fn inner_type<'t>(
 ) -> Option<AggregateType<'t>>
     ensures { option_map aggregate_type_behind result ≡ inner_aggregate types.now (spec.inner_type types.now data_type.now value.now) }
 {
-    match end(types, data_type) {
+    match behind_names(types, data_type) {
         End::Select(_) => aggregate_type(end_of(types, carried(value)?)),
         end => aggregate_type(end),
     }

@@ -6,12 +6,12 @@ mod built_ins;
 mod costs;
 mod declared;
 mod ends;
+mod naming;
 mod numbers;
 mod operations;
 mod operators;
 mod qualifiers;
 mod relations;
-mod type_names;
 
 pub use bare::{aggregate_of, is_true, place_of, text_of};
 pub use built_ins::{
@@ -22,4 +22,4 @@ pub use costs::{cost, count, interval_cost, size};
 pub use declared::given;
 pub use operators::{applied, applied_to, within};
 pub use qualifiers::{index, range};
-pub use type_names::type_names;
+pub use naming::type_names;

@@ -2,6 +2,7 @@
 
 ghost use Rattle.std.specs.Prelude.{◌≡◌, ◌≤◌, ℤ, pos, negsuc, ◌+ℤ◌, ◌-ℤ◌, ◌*ℤ◌, neg_ℤ, nat_abs, int_div, int_rem, SomeIff, FitsSigned, IsTrue, int_le};
 ghost use Rattle.std.specs.Int.{w64};
+ghost use Rattle.rp_meaning.specs.Bare.{integer_of};
 ghost use Rattle.rp_meaning.specs.Operators as spec;
 ghost use Rattle.rp_value.specs.declared.value.Value.TheVariants as v;
 
@@ -107,7 +108,7 @@ pub(crate) fn power(x: &Value, y: &Value) -> Value
 
 /// The same number, if it is one of INTEGER.
 pub(crate) fn plain(x: &Value) -> Value
-    ensures { result ≡ spec.of_integer spec.integer (spec.integer_of x.now) }
+    ensures { result ≡ spec.of_integer spec.integer (integer_of x.now) }
 {
     match integer_of(x) {
         Some(number) => integer(i128::from(number)),
@@ -116,7 +117,7 @@ pub(crate) fn plain(x: &Value) -> Value
 }
 
 pub(crate) fn negated(x: &Value) -> Value
-    ensures { result ≡ spec.of_integer (λ a. spec.integer (neg_ℤ a)) (spec.integer_of x.now) }
+    ensures { result ≡ spec.of_integer (λ a. spec.integer (neg_ℤ a)) (integer_of x.now) }
 {
     match integer_of(x) {
         Some(number) => checked(number.checked_neg()),

@@ -7,7 +7,7 @@ ghost use Rattle.rp_numbers.specs.Logical as logical;
 ghost use Rattle.rp_operators.specs.Sights.{seen_by};
 ghost use Rattle.rp_value.specs.declared.value.Value.TheVariants as v;
 
-use crate::bare::{Bare, bare, truth_of};
+use crate::bare::{Bare, beneath_names, truth_of};
 use crate::numbers::{minus, negated, plain, plus, power, quotient, rest, times};
 use crate::operations::{aggregate_union, intersect, membership, minus as less_elements, same};
 use crate::relations::{at_least, at_most, equal, greater, less, unequal};
@@ -38,7 +38,7 @@ fn joined_bits(alloc: Global, s: &Bits, t: &Bits) -> Result<Value, AllocError>
 fn sum(alloc: Global, x: &Value, y: &Value) -> Result<Value, AllocError>
     ensures { IfOk result (λ a. a ≡ spec.sum x.now y.now) }
 {
-    match (bare(x), bare(y)) {
+    match (beneath_names(x), beneath_names(y)) {
         (Bare::Text(s), Bare::Text(t)) => joined_texts(alloc, s, t),
         (Bare::Bits(s), Bare::Bits(t)) => joined_bits(alloc, s, t),
         (Bare::Aggregate(_, _), _) | (_, Bare::Aggregate(_, _)) => aggregate_union(alloc, x, y),
@@ -50,7 +50,7 @@ fn sum(alloc: Global, x: &Value, y: &Value) -> Result<Value, AllocError>
 fn product(alloc: Global, x: &Value, y: &Value) -> Result<Value, AllocError>
     ensures { IfOk result (λ a. a ≡ spec.product x.now y.now) }
 {
-    match (bare(x), bare(y)) {
+    match (beneath_names(x), beneath_names(y)) {
         (Bare::Aggregate(_, _), Bare::Aggregate(_, _)) => intersect(alloc, x, y),
         _ => Ok(times(x, y)),
     }
@@ -60,7 +60,7 @@ fn product(alloc: Global, x: &Value, y: &Value) -> Result<Value, AllocError>
 fn remainder(alloc: Global, x: &Value, y: &Value) -> Result<Value, AllocError>
     ensures { IfOk result (λ a. a ≡ spec.remainder x.now y.now) }
 {
-    match bare(x) {
+    match beneath_names(x) {
         Bare::Aggregate(_, _) => less_elements(alloc, x, y),
         _ => Ok(minus(x, y)),
     }

@@ -7,7 +7,7 @@ ghost use Rattle.rp_meaning.specs.BuiltIns as spec;
 ghost use Rattle.rp_operators.specs.Places.{between};
 ghost use Rattle.rp_value.specs.declared.value.Value.TheOpen.{Value-F};
 
-use crate::bare::{Bare, bare, integer_of};
+use crate::bare::{Bare, beneath_names, integer_of};
 use plain_data::{Items, Text};
 use rp_value::{Bits, Characters, Elements, Value};
 use std::alloc::{AllocError, Global};
@@ -74,7 +74,7 @@ fn binary_range(alloc: Global, bits: &Bits, first: i64, last: i64) -> Result<Val
 fn range_in(alloc: Global, value: &Value, first: i64, last: i64) -> Result<Value, AllocError>
     ensures { IfOk result (λ x. x ≡ spec.range_by value.now (Some first) (Some last)) }
 {
-    match bare(value) {
+    match beneath_names(value) {
         Bare::Text(text) => text_range(alloc, text, first, last),
         Bare::Bits(bits) => binary_range(alloc, bits, first, last),
         _ => Ok(Value::Indet),
@@ -110,7 +110,7 @@ fn element_at(elements: &Elements<Value>, at: i64) -> Result<Value, AllocError>
 fn index_in(alloc: Global, value: &Value, at: i64) -> Result<Value, AllocError>
     ensures { IfOk result (λ x. x ≡ spec.index_by value.now (Some at)) }
 {
-    match bare(value) {
+    match beneath_names(value) {
         Bare::Aggregate(_, elements) => element_at(elements, at),
         _ => range_in(alloc, value, at, at),
     }

@@ -8,7 +8,7 @@ ghost use Rattle.rp_operators.specs.Sights.{seen_by};
 ghost use Rattle.rp_operators.specs.Standing.{of_sides, undecided};
 ghost use Rattle.rp_value.specs.declared.value.Value.{Value};
 
-use crate::bare::{Bare, bare};
+use crate::bare::{Bare, beneath_names};
 use crate::operations::{compare, is_within};
 use rp_operations::Compared;
 use rp_value::{Logical, Value};
@@ -68,12 +68,12 @@ fn are_aggregates(s: Bare<'_>, t: Bare<'_>) -> bool
     }
 }
 
-#[tactic(auto, using(crate::proofs::Standing::stands))]
-fn sides(x: &Value, y: &Value) -> Sides
+
+fn sides_of(x: &Value, y: &Value) -> Sides
     ensures by_value { (found : Value) → of_sides result found found ≡ spec.by_value found x.now y.now }
     ensures in_order { (of_aggregates found : Value) → of_sides result of_aggregates found ≡ spec.in_order of_aggregates found x.now y.now }
 {
-    let (s, t) = (bare(x), bare(y));
+    let (s, t) = (beneath_names(x), beneath_names(y));
     if is_unknown(s) || is_unknown(t) {
         Sides::Indeterminate
     } else if is_instance(s) || is_instance(t) || !are_of_one_kind(s, t) {
@@ -129,7 +129,7 @@ fn is_greater(compared: Compared) -> Logical
 pub(crate) fn equal(x: &Value, y: &Value) -> Value
     ensures { result ≡ spec.equal x.now y.now }
 {
-    match sides(x, y) {
+    match sides_of(x, y) {
         Sides::Aggregates | Sides::Ordered => Value::Log(is_equal(compare(x, y))),
         sides => undecided(sides),
     }
@@ -139,7 +139,7 @@ pub(crate) fn equal(x: &Value, y: &Value) -> Value
 pub(crate) fn unequal(x: &Value, y: &Value) -> Value
     ensures { result ≡ spec.applied o.NotEqual x.now y.now }
 {
-    match sides(x, y) {
+    match sides_of(x, y) {
         Sides::Aggregates | Sides::Ordered => Value::Log(is_equal(compare(x, y)).not()),
         sides => undecided(sides),
     }
@@ -149,7 +149,7 @@ pub(crate) fn unequal(x: &Value, y: &Value) -> Value
 pub(crate) fn less(x: &Value, y: &Value) -> Value
     ensures { result ≡ spec.less x.now y.now }
 {
-    match sides(x, y) {
+    match sides_of(x, y) {
         Sides::Ordered => Value::Log(is_less(compare(x, y))),
         sides => undecided(sides),
     }
@@ -159,7 +159,7 @@ pub(crate) fn less(x: &Value, y: &Value) -> Value
 pub(crate) fn greater(x: &Value, y: &Value) -> Value
     ensures { result ≡ spec.greater x.now y.now }
 {
-    match sides(x, y) {
+    match sides_of(x, y) {
         Sides::Ordered => Value::Log(is_greater(compare(x, y))),
         sides => undecided(sides),
     }
@@ -169,7 +169,7 @@ pub(crate) fn greater(x: &Value, y: &Value) -> Value
 pub(crate) fn at_most(alloc: Global, x: &Value, y: &Value) -> Result<Value, AllocError>
     ensures { IfOk result (λ a. a ≡ spec.at_most x.now y.now) }
 {
-    match sides(x, y) {
+    match sides_of(x, y) {
         Sides::Ordered => Ok(Value::Log(is_greater(compare(x, y)).not())),
         Sides::Aggregates => is_within(alloc, x, y),
         sides => Ok(undecided(sides)),
@@ -180,7 +180,7 @@ pub(crate) fn at_most(alloc: Global, x: &Value, y: &Value) -> Result<Value, Allo
 pub(crate) fn at_least(alloc: Global, x: &Value, y: &Value) -> Result<Value, AllocError>
     ensures { IfOk result (λ a. a ≡ spec.at_least x.now y.now) }
 {
-    match sides(x, y) {
+    match sides_of(x, y) {
         Sides::Ordered => Ok(Value::Log(is_less(compare(x, y)).not())),
         Sides::Aggregates => is_within(alloc, y, x),
         sides => Ok(undecided(sides)),

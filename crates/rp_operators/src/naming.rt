@@ -1,12 +1,12 @@
 //! TYPEOF: the names of the types of a value.
 
-ghost use Rattle.std.specs.Prelude.{◌≡◌, ◌∷◌, ◌++◌, List, map, IfOk, OnOk};
+ghost use Rattle.std.specs.Prelude.{◌≡◌, [], ◌∷◌, ◌++◌, List, map, IfOk, OnOk};
 ghost use Rattle.std.specs.List.{filter_map};
 ghost use Rattle.rp_meaning.specs.TypeNames as spec;
 ghost use Rattle.rp_operators.specs.Sights.{opened};
 ghost use Rattle.rp_value.specs.declared.value.Value.TheVariants as v;
 
-use crate::bare::{Bare, bare, carried};
+use crate::bare::{Bare, beneath_names, carried};
 use plain_data::{Items, Text};
 use rp_meaning::{DefinedType, Domain, Entity, Schema, Seen};
 use rp_value::{AggregateKind, Logical, Value};
@@ -106,7 +106,7 @@ pub fn type_names<D: Domain>(
 ) -> Result<Items<Value>, AllocError>
     ensures { IfOk result (λ found. found ≡ spec.texts schema.now (D.population domain.now) (spec.type_names schema.now (D.population domain.now) value.now)) }
 {
-    let x = bare(value);
+    let x = beneath_names(value);
     let numbers = type_numbers(alloc, schema.types.as_slice(), carried(value), x)?;
     let mut found = Items::new(alloc);
     push_types(
