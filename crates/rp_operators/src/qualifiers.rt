@@ -1,7 +1,7 @@
 //! Elements, and parts of texts and binaries.
 
 ghost use Rattle.std.specs.Prelude.{◌≡◌, ◌≤◌, ◌-◌, ◌+◌, ℤ, pos, nat_abs, IfOk, length, take, drop, Some};
-ghost use Rattle.std.specs.Fmt.{char_count, take_chars};
+ghost use Rattle.std.specs.Fmt.{is_char_start, take_chars};
 ghost use Rattle.std.specs.Str.{IsCharBoundary};
 ghost use Rattle.rp_meaning.specs.BuiltIns as spec;
 ghost use Rattle.rp_operators.specs.Places.{between};
@@ -23,16 +23,22 @@ fn places(first: i64, last: i64, count: usize) -> Option<(usize, usize)>
     }
 }
 
+/// Whether a character begins with this byte of a text.
+fn begins_character(byte: u8) -> bool
+    ensures { result ≡ is_char_start byte }
+{
+    byte < 0x80 || 0xC0 <= byte
+}
+
 /// Where so many characters of a text end.
-fn end_of_characters(text: &str, count: usize) -> usize
-    ensures bound { result ≤ length text.now }
+#[tactic(auto, using(crate::proofs::Characters::boundary))]
+fn end_of_characters(text: &[u8], count: usize) -> usize
     ensures boundary { IsCharBoundary text.now result }
     ensures value { take result text.now ≡ take_chars count text.now }
 {
-    let bytes = text.as_bytes();
     let mut left = count;
-    for (place, byte) in bytes.iter().enumerate() {
-        if *byte < 0x80 || 0xC0 <= *byte {
+    for place in 0..text.len() {
+        if begins_character(text[place]) {
             if left == 0 {
                 return place;
             }
@@ -47,8 +53,8 @@ fn characters(text: &str, from: usize, to: usize) -> &str
     requires { from ≤ to }
     ensures { result.now ≡ take_chars (to - from) (drop (length (take_chars from text.now)) text.now) }
 {
-    let rest = &text[end_of_characters(text, from)..];
-    &rest[..end_of_characters(rest, to - from)]
+    let rest = &text[end_of_characters(text.as_bytes(), from)..];
+    &rest[..end_of_characters(rest.as_bytes(), to - from)]
 }
 
 fn text_range(alloc: Global, text: &Characters, first: i64, last: i64) -> Result<Value, AllocError>
