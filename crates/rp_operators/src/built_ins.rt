@@ -5,7 +5,6 @@ ghost use Rattle.rp_meaning.specs.BuiltIns as spec;
 
 use crate::bare::{aggregate_of, bits_of, integer_of, is_indeterminate, text_of};
 use crate::numbers::{integer, natural};
-use crate::operations::value_membership;
 use plain_data::Items;
 use rp_value::{AggregateKind, Logical, Value};
 use std::alloc::{AllocError, Global};
@@ -100,13 +99,6 @@ pub fn high_index(value: &Value) -> Value
         }
         None => Value::Indet,
     }
-}
-
-/// VALUE_IN
-pub fn value_in(aggregate: &Value, value: &Value) -> Value
-    ensures { result ≡ spec.value_in aggregate.now value.now }
-{
-    value_membership(value, aggregate)
 }
 
 /// `[ .. ]`

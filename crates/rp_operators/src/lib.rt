@@ -1,25 +1,18 @@
-//! The operators and the built-in functions of EXPRESS over values, and what values become by declared types.
+//! The operators and the built-in functions of EXPRESS over values.
 #![tactic(auto)]
 
 mod bare;
 mod built_ins;
 mod costs;
-mod declared;
-mod ends;
-mod naming;
 mod numbers;
-mod operations;
 mod operators;
 mod qualifiers;
-mod relations;
 
 pub use bare::{aggregate_of, is_true, place_of, text_of};
 pub use built_ins::{
     absolute, binary_length, exists, high_index, initializer, low_index, null_value, odd, size_of,
-    text_length, value_in,
+    text_length,
 };
-pub use costs::{cost, count, interval_cost, size};
-pub use declared::given;
-pub use operators::{applied, applied_to, within};
+pub use costs::{count, interval_cost};
+pub use operators::applied_to;
 pub use qualifiers::{index, range};
-pub use naming::type_names;

@@ -57,6 +57,7 @@ fn characters(text: &str, from: usize, to: usize) -> &str
     &rest[..end_of_characters(rest.as_bytes(), to - from)]
 }
 
+#[tactic(auto, using(crate::proofs::Characters::counts))]
 fn text_range(alloc: Global, text: &Characters, first: i64, last: i64) -> Result<Value, AllocError>
     ensures { IfOk result (λ x. x ≡ spec.range_in (Value-F.Str text.now) first last) }
 {
