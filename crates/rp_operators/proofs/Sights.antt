@@ -1,0 +1,177 @@
+-- What is beneath the names of a value, variant by variant.
+use Rattle.std.proofs.Common.{◌≡◌, ℕ, ℤ, Bool, List, [], ◌∷◌, map, refl, sym, ◌∙◌, ap, subst}
+use Rattle.rp_numbers.specs.Decimals.{Decimal, scaled, scaled_whole}
+use Rattle.rp_numbers.specs.declared.Logical.{Logical}
+use Rattle.rp_meaning.specs.Bare.{bare, itself_and_bare}
+use Rattle.rp_operations.specs.Seen.{Seen, Indeterminate, Number, Text, Bits, Truth, Item, Instance, Aggregate, with_seen, seen}
+use Rattle.rp_value.specs.Elements.{Elements}
+use Rattle.rp_value.specs.declared.value.AggregateKind.{AggregateKind}
+use Rattle.rp_value.specs.declared.value.Value.{Value, out-Value}
+use Rattle.rp_value.specs.declared.value.Value.TheFolds.{fold-Value, fold-roll-Value, ind-Value, map-Value}
+use Rattle.rp_value.specs.declared.value.Value.TheOpen.{Value-F}
+use Rattle.rp_value.specs.declared.value.Value.TheVariants as v
+use Rattle.rp_value.specs.declared.value.Value.TheViews.{roll-Value, out-roll-Value}
+
+-- ---- a value beside what is made of it is the value itself
+
+module _ {B : Type 0} (with : Value-F (Value × B) → Value × B) (keeps : (y : Value-F (Value × B)) → (with y).0 ≡ roll-Value (map-Value (Value × B) Value (λ p. p.0) y)) where
+  abbrev both : Value → Value × B
+  both = fold-Value (Value × B) with
+
+  abbrev IsItself : Value → Type 0
+  IsItself x = (both x).0 ≡ x
+
+  abbrev Kept : Type 0
+  Kept = (x : Value) × IsItself x
+
+  each_itself : (ps : List Kept) → map (λ p. p.0) (map both (map (λ p. p.0) ps)) ≡ map (λ p. p.0) ps
+  each_itself [] = refl
+  each_itself (p ∷ ps) = λ i. p.1 i ∷ each_itself ps i
+
+  layer_itself : (y : Value-F Kept) → map-Value (Value × B) Value (λ p. p.0) (map-Value Value (Value × B) both (map-Value Kept Value (λ p. p.0) y)) ≡ map-Value Kept Value (λ p. p.0) y
+  layer_itself Value-F.Indet = refl
+  layer_itself (Value-F.Int n) = refl
+  layer_itself (Value-F.Dec d) = refl
+  layer_itself (Value-F.Str text) = refl
+  layer_itself (Value-F.Bin bits) = refl
+  layer_itself (Value-F.Log x) = refl
+  layer_itself (Value-F.Item n place) = refl
+  layer_itself (Value-F.Inst name) = refl
+  layer_itself (Value-F.Agg kind elements) = λ i. Value-F.Agg kind (record { low = elements.low; items = each_itself elements.items i })
+  layer_itself (Value-F.Named n p) = λ i. Value-F.Named n (p.1 i)
+
+  pub itself : (x : Value) → IsItself x
+  itself = ind-Value IsItself (λ x y is.
+      ap (λ p. p.0) (fold-roll-Value (Value × B) with x)
+      ∙ keeps (map-Value Value (Value × B) both x)
+      ∙ ap roll-Value (subst (λ z. map-Value (Value × B) Value (λ p. p.0) (map-Value Value (Value × B) both z) ≡ z) is (layer_itself y)))
+
+  pub all_itself : (xs : List Value) → map (λ p. p.0) (map both xs) ≡ xs
+  all_itself [] = refl
+  all_itself (x ∷ xs) = λ i. itself x i ∷ all_itself xs i
+
+-- ---- what is seen
+
+sight_keeps : (y : Value-F (Value × Seen)) → (with_seen y).0 ≡ roll-Value (map-Value (Value × Seen) Value (λ p. p.0) y)
+sight_keeps y = refl
+
+abbrev sight : Value → Value × Seen
+sight = fold-Value (Value × Seen) with_seen
+
+seen-rolls : (y : Value-F Value) → (with_seen (map-Value Value (Value × Seen) sight y)).1 ≡ seen (roll-Value y)
+unfolding seen
+seen-rolls y = ap (λ p. p.1) (sym (fold-roll-Value (Value × Seen) with_seen y))
+
+-- ---- what is bare
+
+name_keeps : (y : Value-F (Value × Value)) → (itself_and_bare y).0 ≡ roll-Value (map-Value (Value × Value) Value (λ p. p.0) y)
+name_keeps Value-F.Indet = refl
+name_keeps (Value-F.Int n) = refl
+name_keeps (Value-F.Dec d) = refl
+name_keeps (Value-F.Str text) = refl
+name_keeps (Value-F.Bin bits) = refl
+name_keeps (Value-F.Log x) = refl
+name_keeps (Value-F.Item n place) = refl
+name_keeps (Value-F.Inst name) = refl
+name_keeps (Value-F.Agg kind elements) = refl
+name_keeps (Value-F.Named n p) = refl
+
+abbrev named : Value → Value × Value
+named = fold-Value (Value × Value) itself_and_bare
+
+bare-rolls : (y : Value-F Value) → (itself_and_bare (map-Value Value (Value × Value) named y)).1 ≡ bare (roll-Value y)
+unfolding bare
+bare-rolls y = ap (λ p. p.1) (sym (fold-roll-Value (Value × Value) itself_and_bare y))
+
+-- ---- variant by variant
+
+module _ (x : Value) where
+  pub sees-Indet : x ≡ v.Indet → Indeterminate ≡ seen x
+  sees-Indet is = seen-rolls Value-F.Indet ∙ ap seen (v.rolls-Indet ∙ sym is)
+
+  pub sees-Int : (n : ℤ) → x ≡ v.Int n → Number (scaled_whole n) ≡ seen x
+  sees-Int n is = seen-rolls (Value-F.Int n) ∙ ap seen (v.rolls-Int n ∙ sym is)
+
+  pub sees-Dec : (d : Decimal) → x ≡ v.Dec d → Number (scaled d) ≡ seen x
+  sees-Dec d is = seen-rolls (Value-F.Dec d) ∙ ap seen (v.rolls-Dec d ∙ sym is)
+
+  pub sees-Str : (text : List ℕ) → x ≡ v.Str text → Text text ≡ seen x
+  sees-Str text is = seen-rolls (Value-F.Str text) ∙ ap seen (v.rolls-Str text ∙ sym is)
+
+  pub sees-Bin : (bits : List Bool) → x ≡ v.Bin bits → Bits bits ≡ seen x
+  sees-Bin bits is = seen-rolls (Value-F.Bin bits) ∙ ap seen (v.rolls-Bin bits ∙ sym is)
+
+  pub sees-Log : (l : Logical) → x ≡ v.Log l → Truth l ≡ seen x
+  sees-Log l is = seen-rolls (Value-F.Log l) ∙ ap seen (v.rolls-Log l ∙ sym is)
+
+  pub sees-Item : (n place : ℕ) → x ≡ v.Item n place → Item n place ≡ seen x
+  sees-Item n place is = seen-rolls (Value-F.Item n place) ∙ ap seen (v.rolls-Item n place ∙ sym is)
+
+  pub sees-Inst : (name : ℕ) → x ≡ v.Inst name → Instance name ≡ seen x
+  sees-Inst name is = seen-rolls (Value-F.Inst name) ∙ ap seen (v.rolls-Inst name ∙ sym is)
+
+  pub sees-Agg : (kind : AggregateKind) (elements : Elements Value) → x ≡ v.Agg kind elements → Aggregate kind elements ≡ seen x
+  sees-Agg kind elements is =
+      (λ i. Aggregate kind (record { low = elements.low; items = sym (all_itself with_seen sight_keeps elements.items) i }))
+      ∙ seen-rolls (Value-F.Agg kind elements) ∙ ap seen (v.rolls-Agg kind elements ∙ sym is)
+
+  pub sees-Named : (n : ℕ) (y : Value) → x ≡ v.Named n y → seen y ≡ seen x
+  unfolding seen
+  sees-Named n y is = seen-rolls (Value-F.Named n y) ∙ ap seen (v.rolls-Named n y ∙ sym is)
+
+  pub bare-Indet : x ≡ v.Indet → Value-F.Indet ≡ out-Value (bare x)
+  bare-Indet is = sym (out-roll-Value Value-F.Indet) ∙ ap out-Value (bare-rolls Value-F.Indet ∙ ap bare (v.rolls-Indet ∙ sym is))
+
+  pub bare-Int : (n : ℤ) → x ≡ v.Int n → Value-F.Int n ≡ out-Value (bare x)
+  bare-Int n is = sym (out-roll-Value (Value-F.Int n)) ∙ ap out-Value (bare-rolls (Value-F.Int n) ∙ ap bare (v.rolls-Int n ∙ sym is))
+
+  pub bare-Dec : (d : Decimal) → x ≡ v.Dec d → Value-F.Dec d ≡ out-Value (bare x)
+  bare-Dec d is = sym (out-roll-Value (Value-F.Dec d)) ∙ ap out-Value (bare-rolls (Value-F.Dec d) ∙ ap bare (v.rolls-Dec d ∙ sym is))
+
+  pub bare-Str : (text : List ℕ) → x ≡ v.Str text → Value-F.Str text ≡ out-Value (bare x)
+  bare-Str text is = sym (out-roll-Value (Value-F.Str text)) ∙ ap out-Value (bare-rolls (Value-F.Str text) ∙ ap bare (v.rolls-Str text ∙ sym is))
+
+  pub bare-Bin : (bits : List Bool) → x ≡ v.Bin bits → Value-F.Bin bits ≡ out-Value (bare x)
+  bare-Bin bits is = sym (out-roll-Value (Value-F.Bin bits)) ∙ ap out-Value (bare-rolls (Value-F.Bin bits) ∙ ap bare (v.rolls-Bin bits ∙ sym is))
+
+  pub bare-Log : (l : Logical) → x ≡ v.Log l → Value-F.Log l ≡ out-Value (bare x)
+  bare-Log l is = sym (out-roll-Value (Value-F.Log l)) ∙ ap out-Value (bare-rolls (Value-F.Log l) ∙ ap bare (v.rolls-Log l ∙ sym is))
+
+  pub bare-Item : (n place : ℕ) → x ≡ v.Item n place → Value-F.Item n place ≡ out-Value (bare x)
+  bare-Item n place is = sym (out-roll-Value (Value-F.Item n place)) ∙ ap out-Value (bare-rolls (Value-F.Item n place) ∙ ap bare (v.rolls-Item n place ∙ sym is))
+
+  pub bare-Inst : (name : ℕ) → x ≡ v.Inst name → Value-F.Inst name ≡ out-Value (bare x)
+  bare-Inst name is = sym (out-roll-Value (Value-F.Inst name)) ∙ ap out-Value (bare-rolls (Value-F.Inst name) ∙ ap bare (v.rolls-Inst name ∙ sym is))
+
+  pub bare-Agg : (kind : AggregateKind) (elements : Elements Value) → x ≡ v.Agg kind elements → Value-F.Agg kind elements ≡ out-Value (bare x)
+  bare-Agg kind elements is =
+      (λ i. Value-F.Agg kind (record { low = elements.low; items = sym (all_itself itself_and_bare name_keeps elements.items) i }))
+      ∙ sym (out-roll-Value (Value-F.Agg kind (record { low = elements.low; items = map (λ p. p.0) (map named elements.items) })))
+      ∙ ap out-Value (bare-rolls (Value-F.Agg kind elements) ∙ ap bare (v.rolls-Agg kind elements ∙ sym is))
+
+  pub bare-Named : (n : ℕ) (y : Value) → x ≡ v.Named n y → out-Value (bare y) ≡ out-Value (bare x)
+  unfolding bare
+  bare-Named n y is = ap out-Value (bare-rolls (Value-F.Named n y) ∙ ap bare (v.rolls-Named n y ∙ sym is))
+
+pub ruleset bares = (
+  sees-Indet,
+  sees-Int,
+  sees-Dec,
+  sees-Str,
+  sees-Bin,
+  sees-Log,
+  sees-Item,
+  sees-Inst,
+  sees-Agg,
+  sees-Named,
+  bare-Indet,
+  bare-Int,
+  bare-Dec,
+  bare-Str,
+  bare-Bin,
+  bare-Log,
+  bare-Item,
+  bare-Inst,
+  bare-Agg,
+  bare-Named,
+)
