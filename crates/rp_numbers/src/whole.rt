@@ -11,6 +11,7 @@ const MAX_WHOLE: u128 = 9_223_372_036_854_775_807;
 const MAX_SHORT: u64 = 1_844_674_407_370_955_140;
 
 /// The number that `digits` write after those that write `start`, or nothing where 64 bits may be too few for it.
+#[inline(always)]
 fn short_after(start: u64, digits: &[u8]) -> Option<u64>
     ensures { IfSome result (λ n. n ≡ spec.value_after start digits.now) }
 {
@@ -19,12 +20,13 @@ fn short_after(start: u64, digits: &[u8]) -> Option<u64>
         if value > MAX_SHORT {
             return None;
         }
-        value = 10 * value + u64::from(digit.saturating_sub(b'0'));
+        value = 10 * value + u64::from(*digit).saturating_sub(u64::from(b'0'));
     }
     Some(value)
 }
 
 /// The number that `digits` write after those that write `start`, where it is at most `most`, whatever it takes.
+#[inline(never)]
 fn long_after(start: u128, digits: &[u8], most: u128) -> Option<u128>
     ensures { result ≡ (if nat_le (spec.value_after start digits.now) most then Some (spec.value_after start digits.now) else None) }
 {
@@ -42,6 +44,7 @@ fn long_after(start: u128, digits: &[u8], most: u128) -> Option<u128>
 }
 
 /// The number that `digits` write after those that write `start`, where it is at most `most`.
+#[inline(always)]
 pub fn number_after(start: u128, digits: &[u8], most: u128) -> Option<u128>
     ensures { result ≡ (if nat_le (spec.value_after start digits.now) most then Some (spec.value_after start digits.now) else None) }
 {

@@ -4,6 +4,7 @@ ghost use Rattle.std.specs.Prelude.{◌≡◌, ◌≢◌, ◌<◌, length, slice
 ghost use Rattle.text_forms.specs.Words as spec;
 
 /// The byte there, or 0 past the end.
+#[inline(always)]
 pub fn byte(text: &[u8], at: usize) -> u8
     ensures value { result ≡ slice_index text.now at }
     ensures within { result ≢ 0 → at < length text.now }
@@ -23,6 +24,7 @@ static WORD_BYTES: [u8; 256] = *b"\
     ................................";
 
 /// Whether a word may have this byte behind its first.
+#[inline(always)]
 pub fn is_word_byte(b: u8) -> bool
     ensures { result ≡ spec.is_word_byte b }
 {
