@@ -1,8 +1,8 @@
 use Rattle.std.proofs.Common.{◌≡◌, ◌∙◌, true, not, is_some, Option, sym, ap}
 use Rattle.ex_layouts.specs.Entities.{ascending, is_legal}
 use Rattle.ex_layouts.proofs.Ascending.{ascending_has, ascending_rises}
-use Rattle.ex_types.specs.Checked.{Checked}
-use Rattle.ex_layouts.proofs.loaded.LoadedSchema.is_legal_line.Goals as goal
+use Rattle.ex_schemas.specs.Schemas.{Checked}
+use Rattle.ex_layouts.proofs.dictionary.Dictionary.is_legal_line.Goals as goal
 
 pub returns-then-is_unconstrained : goal.returns-then-is_unconstrained
 returns-then-is_unconstrained c =
