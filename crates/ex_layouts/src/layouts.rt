@@ -1,9 +1,9 @@
 //! What was found in a schema for some instances, kept for those that follow.
 
 use crate::alike::{are_alike, are_same};
+use crate::dictionary::Dictionary;
 use crate::hints::Hints;
 use crate::layout::Layout;
-use crate::dictionary::Dictionary;
 use plain_data::Text;
 use rp_content::Entities;
 use std::alloc::{AllocError, Global};

@@ -80,7 +80,15 @@ fn by_entity<N: DefinedNames>(
         return Err(Failure::Fault(InstanceFaultKind::UnknownEntity));
     };
     match layouts.leaf(entity) {
-        Some(layout) => by_leaf(alloc, layouts.dictionary(), names, name, part, entity, layout),
+        Some(layout) => by_leaf(
+            alloc,
+            layouts.dictionary(),
+            names,
+            name,
+            part,
+            entity,
+            layout,
+        ),
         None => by_new_leaf(alloc, layouts, names, name, part, entity),
     }
 }

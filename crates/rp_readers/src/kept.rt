@@ -45,7 +45,9 @@ fn place_named(layouts: &[Layouts<'_>], name: &Text) -> Option<usize>
     ensures place { result ≡ position (λ schema. bytes_eq name.now (schema_name schema)) layouts.now }
     ensures within { IfSome result (λ place. place < length layouts.now) }
 {
-    layouts.iter().position(|layouts| name.as_str() == layouts.dictionary().name())
+    layouts
+        .iter()
+        .position(|layouts| name.as_str() == layouts.dictionary().name())
 }
 
 /// The instance of this name that the mapping is by the schema, or its first fault.

@@ -1,4 +1,4 @@
-use Rattle.std.proofs.Common.{◌≡◌, ◌∙◌, true, not, is_some, List, sym, ap}
+use Rattle.std.proofs.Common.{◌∙◌, not, is_some, List, sym, ap}
 use Rattle.ex_layouts.specs.Entities.{ascending}
 use Rattle.ex_layouts.proofs.Ascending.{ascending_has, ascending_rises}
 use Rattle.ex_named.specs.declared.declaration.NamedEntity.{NamedEntity}
