@@ -129,9 +129,12 @@ impl<'s> Model for Layouts<'s> {
     } };
 
     ghost use Rattle.std.specs.Coded.{codes};
-    ghost use Rattle.ex_layouts.specs.contracts.dictionary.Dictionary as dictionary;
+    ghost use Rattle.ex_named.specs.contracts.expression.NamedDataType as data_type;
+    ghost use Rattle.ex_named.specs.contracts.expression.NamedExpression as expression;
+    ghost use Rattle.ex_named.specs.contracts.statement.NamedStatement as statement;
+    ghost use Rattle.ex_named.specs.contracts.declaration.NamedSupertype as supertype;
 
-    ghost coded = { Prim.hlevel (codes, dictionary.the_row.coded) };
+    ghost coded = { Prim.hlevel (codes, data_type.the_row.coded, expression.the_row.coded, statement.the_row.coded, supertype.the_row.coded) };
 }
 
 impl<'s> Layouts<'s> {

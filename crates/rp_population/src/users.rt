@@ -98,9 +98,12 @@ impl<'s> Model for Users<'s> {
     ghost invariant = { λ u. u.line ≡ spec.line_by u.layouts u.role };
 
     ghost use Rattle.std.specs.Coded.{codes};
-    ghost use Rattle.ex_layouts.specs.contracts.dictionary.Dictionary as dictionary;
+    ghost use Rattle.ex_named.specs.contracts.expression.NamedDataType as data_type;
+    ghost use Rattle.ex_named.specs.contracts.expression.NamedExpression as expression;
+    ghost use Rattle.ex_named.specs.contracts.statement.NamedStatement as statement;
+    ghost use Rattle.ex_named.specs.contracts.declaration.NamedSupertype as supertype;
 
-    ghost coded = { Prim.hlevel (codes, dictionary.the_row.coded) };
+    ghost coded = { Prim.hlevel (codes, data_type.the_row.coded, expression.the_row.coded, statement.the_row.coded, supertype.the_row.coded) };
 }
 
 impl<'s> Users<'s> {
