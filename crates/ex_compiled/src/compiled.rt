@@ -1,11 +1,9 @@
 //! A checked schema whose supertype expressions can be read.
 
-ghost use Rattle.std.specs.Prelude.{◌≡◌, ℕ, List, Some, None, IfOk, IsTrue};
-ghost use Rattle.std.specs.List.Sorted.{IsStrictlyIncreasing};
-ghost use Rattle.plain_data.specs.Numbers.{is_among};
-ghost use Rattle.graphs.specs.Graphs.{line as line_of};
+ghost use Rattle.std.specs.Prelude.{◌≡◌, IfOk};
 ghost use Rattle.plain_data.specs.Gives.{Gives};
 ghost use Rattle.ex_subtypes.specs.Legal as legal;
+ghost use Rattle.ex_subtypes.specs.Nodes.{all_kept};
 ghost use Rattle.ex_compiled.specs.Compiling as spec;
 
 use ex_subtypes::{Constraints, EntitySet, Illegal, SubtypeFault};
@@ -76,15 +74,10 @@ impl Compiled {
         self.constraints.legal(alloc, self.schema.entities(), set)
     }
 
-    /// Whether nothing speaks against an instance of an entity and all above it, of which this is the line: the entity isn't
-    /// abstract, and none of them has an expression. It takes no set and no steps between its members. Where it isn't so,
-    /// `legal` tells.
-    pub fn is_unconstrained(&self, entity: usize, line: &[usize]) -> bool
-        requires { line_of self.now.named.supertypes entity ≡ Some line.now }
-        ensures { IsTrue result → (set : List ℕ) → IsStrictlyIncreasing set → ((n : ℕ) → is_among set n ≡ is_among line.now n) → legal.refusal self.now.named.schema.entities set ≡ None }
+    /// What is kept of its supertype expressions.
+    pub fn constraints(&self) -> &Constraints
+        ensures { result.now ≡ all_kept self.now.named.schema.entities }
     {
-        self.schema.resolved().proved();
-        self.constraints
-            .is_unconstrained(self.schema.entities(), entity, line)
+        &self.constraints
     }
 }

@@ -6,7 +6,7 @@ use Rattle.std.specs.Str.{str_to_ascii_uppercase}
 use Rattle.plain_data.specs.Numbers.{is_among}
 use Rattle.ex_named.specs.declared.declaration.NamedEntity.{NamedEntity}
 use Rattle.ex_subtypes.specs.Legal.{refusal}
-use Rattle.ex_types.specs.Checked.{Checked, entity_names}
+use Rattle.ex_schemas.specs.Schemas.{Checked, entity_names}
 use Rattle.graphs.specs.Graphs.{line, numbers_from}
 use Rattle.name_tables.specs.Order.{rank}
 use Rattle.name_tables.specs.Names.{place_of}

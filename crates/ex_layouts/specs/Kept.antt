@@ -1,6 +1,6 @@
 -- What was found for some instances, and is kept for those that follow.
 use Rattle.std.specs.Prelude.{◌≡◌, ◌≤◌, ℕ, List, Some, IfSome, slice_get}
-use Rattle.ex_types.specs.Checked.{Checked}
+use Rattle.ex_schemas.specs.Schemas.{Checked}
 use Rattle.ex_layouts.specs.declared.layout.Layout.{Layout}
 use Rattle.ex_layouts.specs.declared.layouts.KeptLeaf.{KeptLeaf}
 use Rattle.ex_layouts.specs.declared.layouts.Spelling.{Spelling}

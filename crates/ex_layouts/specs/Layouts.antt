@@ -8,7 +8,7 @@ use Rattle.ex_layouts.specs.declared.layout.Layout.{Layout}
 use Rattle.ex_layouts.specs.declared.read_slot.ReadSlot.{ReadSlot}
 use Rattle.ex_selects.specs.Ends.{target}
 use Rattle.ex_slots.specs.Slots.{Slot, slots, slots_of, is_derived, derived_by}
-use Rattle.ex_types.specs.Checked.{Checked}
+use Rattle.ex_schemas.specs.Schemas.{Checked}
 use Rattle.p21_instances.specs.Instances.{in_order}
 use Rattle.rp_content.specs.declared.instance.Entities.{Entities}
 use Rattle.rp_content.specs.declared.instance.Entities.TheVariants.{Leaf, Several}

@@ -10,7 +10,7 @@ ghost use Rattle.ex_layouts.specs.Entities as entities_spec;
 ghost use Rattle.ex_layouts.specs.Entities.{line_of};
 ghost use Rattle.ex_layouts.specs.Layouts as spec;
 
-use crate::loaded::LoadedSchema;
+use crate::dictionary::Dictionary;
 use crate::read_slot::{ReadSlot, all_read, read_slots};
 use ex_slots::{Slot, slots, slots_of_each};
 use ex_subtypes::EntitySet;
@@ -85,7 +85,7 @@ impl<'s> Drop for Layout<'s> {
 /// What an instance of the entity has values of, of which this is the line.
 fn of_line<'s>(
     alloc: Global,
-    schema: &LoadedSchema<'s>,
+    schema: &Dictionary<'s>,
     entity: usize,
     line: Rows<usize>,
     is_legal: bool,
@@ -110,7 +110,7 @@ fn of_line<'s>(
 /// none.
 pub fn legal_leaf<'s>(
     alloc: Global,
-    schema: &LoadedSchema<'s>,
+    schema: &Dictionary<'s>,
     entity: usize,
 ) -> Result<Option<Layout<'s>>, AllocError>
     ensures legal { IfOk result (λ found. found ≡ spec.legal (spec.of_leaf schema.now entity)) }
@@ -135,7 +135,7 @@ fn only<T: Drop>(alloc: Global, row: T) -> Result<Rows<T>, AllocError>
 /// The entities in the order of their names.
 fn in_name_order(
     alloc: Global,
-    schema: &LoadedSchema<'_>,
+    schema: &Dictionary<'_>,
     numbers: &[usize],
 ) -> Result<Items<usize>, AllocError>
     ensures { IfOk result (λ order. order ≡ spec.in_name_order schema.now numbers.now) }
@@ -148,7 +148,7 @@ fn in_name_order(
 /// Whether all of the entities are one or above it.
 fn is_leaf(
     alloc: Global,
-    schema: &LoadedSchema<'_>,
+    schema: &Dictionary<'_>,
     entity: usize,
     numbers: &[usize],
 ) -> Result<bool, AllocError>
@@ -163,7 +163,7 @@ fn is_leaf(
 #[tactic(auto, unfolding(crate::specs::Layouts::leaf))]
 fn leaf_of(
     alloc: Global,
-    schema: &LoadedSchema<'_>,
+    schema: &Dictionary<'_>,
     numbers: &[usize],
 ) -> Result<Option<usize>, AllocError>
     ensures { IfOk result (λ found. found ≡ spec.leaf schema.now numbers.now) }
@@ -230,7 +230,7 @@ fn places_in(alloc: Global, numbers: &[usize], order: &[usize]) -> Result<Rows<u
 /// These entities as an instance keeps them, and where their parts stand in the order in which values are kept.
 fn arranged(
     alloc: Global,
-    schema: &LoadedSchema<'_>,
+    schema: &Dictionary<'_>,
     numbers: &[usize],
 ) -> Result<(Entities, Rows<usize>), AllocError>
     ensures entities { IfOk result (λ found. found.0 ≡ spec.entities_by schema.now numbers.now (spec.leaf schema.now numbers.now)) }
@@ -253,7 +253,7 @@ fn arranged(
 /// The slots of each part.
 fn slots_in<'s>(
     alloc: Global,
-    schema: &LoadedSchema<'s>,
+    schema: &Dictionary<'s>,
     numbers: &[usize],
 ) -> Result<Rows<Rows<Slot<'s>>>, AllocError>
     ensures { IfOk result (λ slots. slots ≡ spec.slots_in schema.now numbers.now) }
@@ -265,7 +265,7 @@ fn slots_in<'s>(
 /// What an instance of these entities has values of.
 fn of_list<'s>(
     alloc: Global,
-    schema: &LoadedSchema<'s>,
+    schema: &Dictionary<'s>,
     numbers: &[usize],
     is_legal: bool,
 ) -> Result<Layout<'s>, AllocError>
@@ -289,7 +289,7 @@ fn of_list<'s>(
 /// can be none.
 pub fn legal_several<'s>(
     alloc: Global,
-    schema: &LoadedSchema<'s>,
+    schema: &Dictionary<'s>,
     numbers: &[usize],
 ) -> Result<Option<Layout<'s>>, AllocError>
     ensures legal { IfOk result (λ found. found ≡ spec.legal (spec.of_several schema.now numbers.now)) }
@@ -305,7 +305,7 @@ pub fn legal_several<'s>(
 /// What an instance of these entities has values of, whether there can be one or not.
 pub fn layout_of<'s>(
     alloc: Global,
-    schema: &LoadedSchema<'s>,
+    schema: &Dictionary<'s>,
     entities: &Entities,
 ) -> Result<Layout<'s>, AllocError>
     ensures { IfOk result (λ layout. layout ≡ spec.layout schema.now entities.now) }

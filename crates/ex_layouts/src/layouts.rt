@@ -1,9 +1,9 @@
 //! What was found in a schema for some instances, kept for those that follow.
 
 use crate::alike::{are_alike, are_same};
+use crate::dictionary::Dictionary;
 use crate::hints::Hints;
 use crate::layout::Layout;
-use crate::loaded::LoadedSchema;
 use plain_data::Text;
 use rp_content::Entities;
 use std::alloc::{AllocError, Global};
@@ -79,7 +79,7 @@ fn size_of(layout: &Layout<'_>) -> usize {
 ///
 /// Nothing tells what is kept: it costs time alone where it isn't.
 pub struct Layouts<'s> {
-    schema: &'s LoadedSchema<'s>,
+    schema: &'s Dictionary<'s>,
     spellings: Vec<Spelling>,
     leaves: Vec<KeptLeaf<'s>>,
     combinations: Vec<Layout<'s>>,
@@ -114,7 +114,7 @@ impl<'s> Drop for Layouts<'s> {
 
 impl<'s> Model for Layouts<'s> {
     ghost use Rattle.std.specs.Prelude.{length};
-    ghost use Rattle.ex_types.specs.Checked.{Checked};
+    ghost use Rattle.ex_schemas.specs.Schemas.{Checked};
     ghost use Rattle.ex_layouts.specs.Kept as kept;
 
     ghost Value = { Checked };
@@ -129,9 +129,12 @@ impl<'s> Model for Layouts<'s> {
     } };
 
     ghost use Rattle.std.specs.Coded.{codes};
-    ghost use Rattle.ex_types.specs.contracts.schema.CheckedSchema as checked;
+    ghost use Rattle.ex_named.specs.contracts.expression.NamedDataType as data_type;
+    ghost use Rattle.ex_named.specs.contracts.expression.NamedExpression as expression;
+    ghost use Rattle.ex_named.specs.contracts.statement.NamedStatement as statement;
+    ghost use Rattle.ex_named.specs.contracts.declaration.NamedSupertype as supertype;
 
-    ghost coded = { Prim.hlevel (codes, checked.the_row.coded) };
+    ghost coded = { Prim.hlevel (codes, data_type.the_row.coded, expression.the_row.coded, statement.the_row.coded, supertype.the_row.coded) };
 }
 
 impl<'s> Layouts<'s> {
@@ -140,7 +143,7 @@ impl<'s> Layouts<'s> {
     ghost use Rattle.ex_layouts.specs.Layouts as spec;
 
     /// Nothing is found yet.
-    pub fn of(alloc: Global, schema: &'s LoadedSchema<'s>) -> Result<Layouts<'s>, AllocError>
+    pub fn of(alloc: Global, schema: &'s Dictionary<'s>) -> Result<Layouts<'s>, AllocError>
         ensures { IfOk result (λ l. l ≡ schema.now) }
     {
         let spelling_hints = Hints::new(alloc, SPELLINGS)?;
@@ -159,7 +162,7 @@ impl<'s> Layouts<'s> {
     }
 
     /// The schema that they are of.
-    pub fn loaded(&self) -> &'s LoadedSchema<'s>
+    pub fn dictionary(&self) -> &'s Dictionary<'s>
         ensures { result.now ≡ self.now }
     {
         self.schema

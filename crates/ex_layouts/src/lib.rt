@@ -3,13 +3,13 @@
 #![tactic(auto)]
 
 mod alike;
+mod dictionary;
 mod hints;
 mod layout;
 mod layouts;
-mod loaded;
 mod read_slot;
 
+pub use dictionary::Dictionary;
 pub use layout::{Layout, layout_of, legal_leaf, legal_several};
 pub use layouts::Layouts;
-pub use loaded::LoadedSchema;
 pub use read_slot::ReadSlot;

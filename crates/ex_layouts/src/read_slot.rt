@@ -3,7 +3,7 @@
 ghost use Rattle.std.specs.Prelude.{◌≡◌, map, IfOk};
 ghost use Rattle.ex_layouts.specs.Layouts as spec;
 
-use crate::loaded::LoadedSchema;
+use crate::dictionary::Dictionary;
 use ex_selects::Expected;
 use ex_slots::Slot;
 use plain_data::Rows;
@@ -17,7 +17,7 @@ pub struct ReadSlot<'s> {
     pub expected: Expected<'s>,
 }
 
-fn read_slot<'s>(schema: &LoadedSchema<'s>, slot: &Slot<'s>) -> ReadSlot<'s>
+fn read_slot<'s>(schema: &Dictionary<'s>, slot: &Slot<'s>) -> ReadSlot<'s>
     ensures { result ≡ spec.read_slot schema.now slot.now }
 {
     ReadSlot {
@@ -29,7 +29,7 @@ fn read_slot<'s>(schema: &LoadedSchema<'s>, slot: &Slot<'s>) -> ReadSlot<'s>
 /// The slots as their values are read.
 pub fn read_slots<'s>(
     alloc: Global,
-    schema: &LoadedSchema<'s>,
+    schema: &Dictionary<'s>,
     slots: &[Slot<'s>],
 ) -> Result<Rows<ReadSlot<'s>>, AllocError>
     ensures { IfOk result (λ found. found ≡ map (spec.read_slot schema.now) slots.now) }
@@ -44,7 +44,7 @@ pub fn read_slots<'s>(
 /// The slots of each record as their values are read.
 pub fn all_read<'s>(
     alloc: Global,
-    schema: &LoadedSchema<'s>,
+    schema: &Dictionary<'s>,
     slots: &[Rows<Slot<'s>>],
 ) -> Result<Rows<Rows<ReadSlot<'s>>>, AllocError>
     ensures { IfOk result (λ found. found ≡ map (map (spec.read_slot schema.now)) slots.now) }

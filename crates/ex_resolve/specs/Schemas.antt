@@ -20,6 +20,7 @@ use Rattle.ex_named.specs.declared.reference.AttributeSort.TheVariants.{Explicit
 use Rattle.ex_named.specs.Outcomes.{Outcome, given, both, each}
 use Rattle.ex_named.specs.Scopes.{Declarations}
 use Rattle.ex_declarations.specs.Declared.{declarations, declared_names, entity_of, type_of, function_of, rule_of, entities, types, functions, rules, once, supertype_graph, type_graph, each_numbered}
+pub use Rattle.ex_schemas.specs.Schemas.{Resolved}
 use Rattle.graphs.specs.Graphs.{line}
 use Rattle.ex_bind_entities.specs.Entities.{named_entity, named_type}
 use Rattle.ex_bind_algorithms.specs.Algorithms.{constant, named_function, named_rule}
@@ -68,10 +69,6 @@ named_schema schema = given (make_schema schema) (schema_parts schema)
 -- ---- what is kept of a schema
 
 -- the schema, and of each of its entities the entities that SUBTYPE OF lists
-pub record Resolved : Type 0 where
-  pub schema : NamedSchema
-  pub supertypes : List (List ℕ)
-
 unfoldable pub resolved : Schema → Outcome Resolved
 resolved schema = given (λ found. record { schema = found; supertypes = supertype_graph (declarations schema) (entities schema) }) (named_schema schema)
 

@@ -80,6 +80,13 @@ impl Named {
         &self.schema
     }
 
+    /// Of each entity the entities that SUBTYPE OF lists.
+    pub fn supertypes(&self) -> &[Rows<usize>]
+        ensures { result.now ≡ self.now.supertypes }
+    {
+        self.supertypes.as_slice()
+    }
+
     /// The entities above one, by their numbers in ascending order: the least set that holds its supertypes and those of
     /// each of its members.
     pub fn ancestors(&self, alloc: Global, entity: usize) -> Result<Rows<usize>, AllocError>

@@ -5,7 +5,7 @@ ghost use Rattle.std.specs.List.Sorted.{IsStrictlyIncreasing};
 ghost use Rattle.plain_data.specs.Numbers.{is_among};
 ghost use Rattle.plain_data.specs.Gives.{Gives};
 ghost use Rattle.graphs.specs.Graphs as graphs;
-ghost use Rattle.name_tables.specs.Order.{rank};
+ghost use Rattle.name_tables.specs.Order.{IsOrderOf, rank};
 ghost use Rattle.name_tables.specs.Names.{place_of};
 ghost use Rattle.ex_resolve.specs.Schemas as schemas;
 ghost use Rattle.ex_types.specs.Checked as spec;
@@ -157,6 +157,13 @@ impl CheckedSchema {
         ensures { result ≡ rank (spec.entity_names self.now.named.schema.entities) name.now }
     {
         self.entity_order.rank(name)
+    }
+
+    /// The names of its entities, in the order of their bytes.
+    pub fn entity_order(&self) -> &NameOrder
+        ensures { IsOrderOf (spec.entity_names self.now.named.schema.entities) result.now }
+    {
+        &self.entity_order
     }
 
     /// The number of the type of this name, which is in upper case.

@@ -7,7 +7,7 @@ use Rattle.std.proofs.lemmas.Bool.Decides.{nat_tests}
 use Rattle.plain_data.specs.Numbers.{is_among}
 use Rattle.plain_data.specs.declared.failure.Failure.{Failure}
 use Rattle.plain_data.specs.Gives.{Gives}
-use Rattle.ex_types.specs.Checked.{Checked}
+use Rattle.ex_schemas.specs.Schemas.{Checked}
 use Rattle.p21_instances.specs.Instances as spelled
 use Rattle.p21_instances.specs.Instances.{in_order}
 use Rattle.p21_instances.proofs.ByName.{below, AreOnce, once-in_order}

@@ -4,7 +4,7 @@ use Rattle.std.proofs.lemmas.Bool.{cases_Bool, eq-eqb, eqb-true}
 use Rattle.std.proofs.lemmas.List.{reverse-append, append_assoc}
 use Rattle.std.specs.List.{list_any}
 use Rattle.plain_data.specs.Numbers.{is_among}
-use Rattle.ex_types.specs.Checked.{Checked}
+use Rattle.ex_schemas.specs.Schemas.{Checked}
 use Rattle.graphs.proofs.Sets.{or_right}
 use Rattle.p21_instances.specs.Instances.{has_twice, names}
 use Rattle.p21_instances.proofs.SortedNames.{is_one}

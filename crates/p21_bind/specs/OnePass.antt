@@ -2,7 +2,7 @@
 -- and none stood before.
 use Rattle.std.specs.Prelude.{◌≡◌, ℕ, Bool, true, false, if◌then◌else◌, List, [], ◌∷◌, Option, Some, None, Result, Ok, Err}
 use Rattle.std.specs.List.{flat_map}
-use Rattle.ex_types.specs.Checked.{Checked}
+use Rattle.ex_schemas.specs.Schemas.{Checked}
 use Rattle.p21_instances.specs.Instances.{names}
 use Rattle.p21_grammar.specs.Schemas.{is_of_schema}
 use Rattle.p21_tree.specs.declared.fault.FileFault.{FileFault}

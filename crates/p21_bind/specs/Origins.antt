@@ -1,6 +1,6 @@
 -- Where a header or an instance of a model came from: a file, or the text of one instance.
 use Rattle.std.specs.Prelude.{◌≡◌, ◌⊎◌, ℕ, Bool, List, ◌∷◌, ◌++◌, Ok}
-use Rattle.ex_types.specs.Checked.{Checked}
+use Rattle.ex_schemas.specs.Schemas.{Checked}
 use Rattle.p21_grammar.specs.File.{file_of}
 use Rattle.p21_mappings.specs.Contents.{header}
 use Rattle.p21_read.specs.Single.{mapping_of}

@@ -1,6 +1,6 @@
 -- One instance by itself, as a request brings it (ISO 10303-21:2002, 10.2).
 use Rattle.std.specs.Prelude.{ℕ, Bool, false, Result}
-use Rattle.ex_types.specs.Checked.{Checked}
+use Rattle.ex_schemas.specs.Schemas.{Checked}
 use Rattle.p21_tree.specs.declared.fault.InstanceFault.{InstanceFault}
 use Rattle.p21_tree.specs.declared.instance.Mapping.{Mapping}
 use Rattle.rp_content.specs.declared.instance.Instance.{Instance}

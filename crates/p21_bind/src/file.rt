@@ -9,7 +9,7 @@ ghost use Rattle.p21_bind.specs.Files as spec;
 ghost use Rattle.p21_mappings.specs.Instances as instances;
 
 use crate::mapped::instance;
-use ex_layouts::{Layouts, LoadedSchema};
+use ex_layouts::{Dictionary, Layouts};
 use p21_mappings::{Defined, DefinedNames, Names, header_of, in_name_order};
 use p21_tree::{Header, Instance as SpelledInstance, InstanceFault, Raw};
 use plain_data::{Failure, Items, Rows};
@@ -137,7 +137,7 @@ fn content(
 #[tactic(auto, unfolding(crate::specs::Files::bound_file))]
 pub fn bind<'s>(
     alloc: Global,
-    schema: &'s LoadedSchema<'s>,
+    schema: &'s Dictionary<'s>,
     linked: &[u64],
     raw: Raw<'_>,
 ) -> Result<Content, Failure<InstanceFault>>

@@ -5,7 +5,7 @@ ghost use Rattle.p21_grammar.specs.File.{file_of};
 ghost use Rattle.p21_bind.specs.OnePass as spec;
 
 use crate::file::one;
-use ex_layouts::{Layouts, LoadedSchema};
+use ex_layouts::{Dictionary, Layouts};
 use p21_mappings::{AnyName, put_references_of, whole};
 use p21_read::{Visitor, is_of_schema, read_visited};
 use p21_tree::{Header, Instance as SpelledInstance};
@@ -65,7 +65,7 @@ impl<'s> Loading<'s> {
     /// stands around it 16, the lists seldom grow, and of the room that is left over no page is touched.
     fn new(
         alloc: Global,
-        schema: &'s LoadedSchema<'s>,
+        schema: &'s Dictionary<'s>,
         bytes: usize,
     ) -> Result<Loading<'s>, AllocError>
         ensures layouts { IfOk result (λ l. l.layouts ≡ schema.now) }
@@ -113,7 +113,7 @@ impl<'s> Loading<'s> {
 /// Want of memory.
 pub fn load<'s>(
     alloc: Global,
-    schema: &'s LoadedSchema<'s>,
+    schema: &'s Dictionary<'s>,
     name: &[u8],
     linked: &[u64],
     text: &[u8],

@@ -7,7 +7,7 @@ ghost use Rattle.plain_data.specs.Gives.{Gives};
 ghost use Rattle.p21_mappings.specs.Instances as spec;
 ghost use Rattle.p21_mappings.specs.Layouts.{internal};
 
-use ex_layouts::{Layout, Layouts, LoadedSchema, legal_leaf};
+use ex_layouts::{Dictionary, Layout, Layouts, legal_leaf};
 use p21_mappings::{DefinedNames, Mapped, by_parts, entity_named, values_of_leaf};
 use p21_tree::{Instance as SpelledInstance, InstanceFaultKind, Mapping, Record};
 use plain_data::Failure;
@@ -18,7 +18,7 @@ use std::alloc::Global;
 #[tactic(auto, unfolding(p21_mappings::specs::Layouts::internal))]
 fn by_leaf<N: DefinedNames>(
     alloc: Global,
-    schema: &LoadedSchema<'_>,
+    schema: &Dictionary<'_>,
     names: &N,
     name: u64,
     part: &Record<'_>,
@@ -57,7 +57,7 @@ fn by_new_leaf<N: DefinedNames>(
     ensures layouts { layouts.new ≡ layouts.old }
     ensures made { Gives (λ x. x) result (spec.by_layout layouts.old (N.is_defined names.now) name (part.now ∷ []) (internal layouts.old entity)) }
 {
-    let schema = layouts.loaded();
+    let schema = layouts.dictionary();
     let Some(layout) = legal_leaf(alloc, schema, entity)? else {
         return Err(Failure::Fault(InstanceFaultKind::IllegalCombination));
     };
@@ -80,7 +80,15 @@ fn by_entity<N: DefinedNames>(
         return Err(Failure::Fault(InstanceFaultKind::UnknownEntity));
     };
     match layouts.leaf(entity) {
-        Some(layout) => by_leaf(alloc, layouts.loaded(), names, name, part, entity, layout),
+        Some(layout) => by_leaf(
+            alloc,
+            layouts.dictionary(),
+            names,
+            name,
+            part,
+            entity,
+            layout,
+        ),
         None => by_new_leaf(alloc, layouts, names, name, part, entity),
     }
 }

@@ -13,7 +13,7 @@ use Rattle.ex_layouts.specs.Entities.{entities}
 use Rattle.ex_layouts.specs.Layouts.{leaf_slots, slots_in}
 use Rattle.ex_slots.specs.Slots.{Slot}
 use Rattle.ex_tree.specs.declared.expression.Name.{Name}
-use Rattle.ex_types.specs.Checked.{Checked}
+use Rattle.ex_schemas.specs.Schemas.{Checked}
 use Rattle.p21_escapes.specs.Encoding.{encoded}
 use Rattle.p21_tree.specs.declared.header.Header as spelled_header
 use Rattle.p21_tree.specs.declared.header.HeaderValue.{HeaderValue}

@@ -2,7 +2,7 @@
 use Rattle.std.specs.Prelude.{ℕ, List, codes}
 use Rattle.std.specs.List.{join_by}
 use Rattle.ex_layouts.specs.Entities.{entities}
-use Rattle.ex_types.specs.Checked.{Checked}
+use Rattle.ex_schemas.specs.Schemas.{Checked}
 use Rattle.rp_content.specs.declared.instance.Entities.{Entities}
 use Rattle.rp_content.specs.declared.instance.Entities.TheVariants.{Leaf, Several}
 use Rattle.p21_canonical.specs.Trees.{entity_name}

@@ -11,10 +11,9 @@ ghost use Rattle.p21_canonical.specs.Trees as spec;
 use crate::output::Output;
 use crate::tokens::write_name;
 use crate::value::write_attributes;
-use ex_layouts::{Layout, Layouts, LoadedSchema, layout_of};
+use ex_layouts::{Dictionary, Layout, Layouts, layout_of};
 use ex_named::NamedEntity;
 use ex_slots::Slot;
-use ex_types::CheckedSchema;
 use rp_content::{Entities, Instance};
 use rp_value::Value;
 use std::alloc::{AllocError, Global};
@@ -32,7 +31,7 @@ pub(crate) fn entity_name(entities: &[NamedEntity], number: usize) -> &str
 /// `KEYWORD(values)`
 fn write_record(
     out: &mut Output,
-    schema: &CheckedSchema,
+    schema: &Dictionary<'_>,
     entity: usize,
     slots: &[Slot<'_>],
     values: &[Value],
@@ -60,7 +59,7 @@ fn parted<'v>(values: &'v [Value], slots: &[Slot<'_>]) -> (&'v [Value], &'v [Val
 /// A record of each entity with the values of its own attributes.
 fn write_records(
     out: &mut Output,
-    schema: &CheckedSchema,
+    schema: &Dictionary<'_>,
     all: &[usize],
     layout: &Layout<'_>,
     values: &[Value],
@@ -80,7 +79,7 @@ fn write_records(
 /// The records of several entities in parentheses.
 fn write_several(
     out: &mut Output,
-    schema: &CheckedSchema,
+    schema: &Dictionary<'_>,
     all: &[usize],
     layout: &Layout<'_>,
     values: &[Value],
@@ -95,7 +94,7 @@ fn write_several(
 /// The records of an instance, by what the instances of its entities have values of.
 fn write_laid_out(
     out: &mut Output,
-    schema: &CheckedSchema,
+    schema: &Dictionary<'_>,
     entities: &Entities,
     layout: &Layout<'_>,
     values: &[Value],
@@ -120,12 +119,12 @@ fn write_mapping(
     ensures layouts { layouts.new ≡ layouts.old }
     ensures text { OnOk result (out.new ≡ out.old ++ spelled.mapping_text (spec.mapping layouts.old entities.now values.now)) }
 {
-    let schema = layouts.loaded();
+    let schema = layouts.dictionary();
     if let Some(layout) = layouts.known(entities) {
-        return write_laid_out(out, schema.checked(), entities, layout, values);
+        return write_laid_out(out, schema, entities, layout, values);
     }
     let layout = layout_of(alloc, schema, entities)?;
-    write_laid_out(out, schema.checked(), entities, &layout, values)?;
+    write_laid_out(out, schema, entities, &layout, values)?;
     layouts.keep(entities, layout)
 }
 
@@ -169,7 +168,7 @@ fn write_line(
 pub fn write_lines<'s>(
     alloc: Global,
     out: &mut Output,
-    schema: &'s LoadedSchema<'s>,
+    schema: &'s Dictionary<'s>,
     instances: &[Instance],
 ) -> Result<(), AllocError>
     ensures { OnOk result (out.new ≡ out.old ++ spelled.lines (map (spec.instance_tree schema.now) instances.now)) }

@@ -6,7 +6,7 @@ ghost use Rattle.p21_canonical.specs.Trees as tree;
 ghost use Rattle.p21_canonical.specs.TypeNames as spec;
 
 use crate::instance::entity_name;
-use ex_layouts::LoadedSchema;
+use ex_layouts::Dictionary;
 use ex_named::NamedEntity;
 use itertools::Itertools;
 use plain_data::Text;
@@ -24,7 +24,7 @@ fn joined(alloc: Global, entities: &[NamedEntity], all: &[usize]) -> Result<Text
 /// The type of an instance: the name of its leaf, or the names of all its entities in the order in which they stand, joined by `+`.
 pub fn type_text(
     alloc: Global,
-    schema: &LoadedSchema<'_>,
+    schema: &Dictionary<'_>,
     entities: &Entities,
 ) -> Result<Text, AllocError>
     ensures { IfOk result (λ text. text ≡ spec.type_text schema.now entities.now) }

@@ -19,7 +19,7 @@ ghost use Rattle.p21_canonical.specs.Trees.{canonical, content_tree, instance_tr
 ghost use Rattle.rp_content.specs.declared.content.Content.{Content};
 ghost use Rattle.rp_content.specs.declared.instance.Instance.{Instance};
 
-use ex_layouts::LoadedSchema;
+use ex_loaded::LoadedSchema;
 
 /// A schema whose names are bound is one that the laws below speak of: its premises are what is proved of each.
 pub fn accepted_schema()

@@ -3,7 +3,7 @@ use Rattle.std.proofs.Common.{◌≡◌, ℕ, Bool, List, [], ◌∷◌, map, Ok
 use Rattle.std.specs.List.{zip}
 use Rattle.ex_layouts.specs.Layouts.{read_slot}
 use Rattle.ex_slots.specs.Slots.{Slot}
-use Rattle.ex_types.specs.Checked.{Checked}
+use Rattle.ex_schemas.specs.Schemas.{Checked}
 use Rattle.p21_tree.specs.declared.instance.Record.{Record}
 use Rattle.p21_tree.specs.declared.value.Value.{Value as SpelledValue}
 use Rattle.p21_values.specs.Taking.{bound}

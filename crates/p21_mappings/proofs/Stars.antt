@@ -5,7 +5,7 @@ use Rattle.std.specs.List.{filter_map, list_all, list_any}
 use Rattle.plain_data.specs.Numbers.{is_among}
 use Rattle.ex_named.specs.declared.declaration.NamedType.{NamedType}
 use Rattle.ex_layouts.specs.declared.read_slot.ReadSlot.{ReadSlot}
-use Rattle.ex_types.specs.Checked.{Checked}
+use Rattle.ex_schemas.specs.Schemas.{Checked}
 use Rattle.p21_instances.specs.Instances.{references}
 use Rattle.p21_tree.specs.declared.fault.InstanceFaultKind.TheVariants.{Undefined}
 use Rattle.p21_tree.specs.declared.value.Value as tree

@@ -7,7 +7,7 @@ use Rattle.std.specs.Str.{str_to_ascii_uppercase}
 use Rattle.ex_slots.specs.Slots.{Slot}
 use Rattle.ex_layouts.specs.declared.layout.Layout.{Layout}
 use Rattle.ex_layouts.specs.Entities.{entity_spelled}
-use Rattle.ex_types.specs.Checked.{Checked}
+use Rattle.ex_schemas.specs.Schemas.{Checked}
 use Rattle.name_tables.specs.Names.{place_of}
 use Rattle.p21_instances.specs.Instances.{references}
 use Rattle.p21_tree.specs.declared.fault.InstanceFaultKind.{InstanceFaultKind}

@@ -2,7 +2,7 @@
 use Rattle.std.specs.Prelude.{ℕ, List, Option}
 use Rattle.ex_layouts.specs.declared.layout.Layout.{Layout}
 use Rattle.ex_layouts.specs.Layouts.{legal, of_leaf, of_several}
-use Rattle.ex_types.specs.Checked.{Checked}
+use Rattle.ex_schemas.specs.Schemas.{Checked}
 
 module _ (schema : Checked) where
   -- internal mapping: one record, of this entity and all above it

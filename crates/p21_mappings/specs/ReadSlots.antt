@@ -2,7 +2,7 @@
 use Rattle.std.specs.Prelude.{ℕ, Bool, if◌then◌else◌, List, Err}
 use Rattle.std.specs.List.{list_all, zip}
 use Rattle.ex_layouts.specs.declared.read_slot.ReadSlot.{ReadSlot}
-use Rattle.ex_types.specs.Checked.{Checked}
+use Rattle.ex_schemas.specs.Schemas.{Checked}
 use Rattle.p21_instances.specs.Instances.{references}
 use Rattle.p21_tree.specs.declared.fault.InstanceFaultKind.TheVariants.{NotDerived}
 use Rattle.p21_tree.specs.declared.instance.Record.{Record}

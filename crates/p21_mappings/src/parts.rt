@@ -16,7 +16,7 @@ ghost use Rattle.p21_mappings.specs.ReadSlots as read_spec;
 
 use crate::names::DefinedNames;
 use crate::value::{Mapped, part_values};
-use ex_layouts::{Layout, Layouts, LoadedSchema, ReadSlot, legal_several};
+use ex_layouts::{Dictionary, Layout, Layouts, ReadSlot, legal_several};
 use ex_slots::Slot;
 use name_tables::NameTable;
 use p21_tree::{InstanceFaultKind, Keyword, Record};
@@ -122,7 +122,7 @@ fn same_counts(mut slots: &[Rows<Slot<'_>>], mut parts: &[Record<'_>]) -> bool
 /// The values of all parts, or what is wrong with the first that is faulty.
 fn all_values<N: DefinedNames>(
     alloc: Global,
-    schema: &LoadedSchema<'_>,
+    schema: &Dictionary<'_>,
     names: &N,
     mut slots: &[Rows<ReadSlot<'_>>],
     mut parts: &[Record<'_>],
@@ -145,7 +145,7 @@ fn all_values<N: DefinedNames>(
 /// The same, by what the instances of these entities have values of.
 fn values_by<N: DefinedNames>(
     alloc: Global,
-    schema: &LoadedSchema<'_>,
+    schema: &Dictionary<'_>,
     names: &N,
     layout: &Layout<'_>,
     parts: &[Record<'_>],
@@ -210,7 +210,7 @@ fn made(
 /// The instance of these parts, by what the instances of their entities have values of.
 fn by_layout<N: DefinedNames>(
     alloc: Global,
-    schema: &LoadedSchema<'_>,
+    schema: &Dictionary<'_>,
     names: &N,
     name: u64,
     parts: &[Record<'_>],
@@ -242,7 +242,7 @@ fn by_new_layout<N: DefinedNames>(
     ensures same { layouts.new ≡ layouts.old }
     ensures made { Gives (λ x. x) result (spec.by_layout layouts.old (N.is_defined names.now) name parts.now (external layouts.old entities.now)) }
 {
-    let schema = layouts.loaded();
+    let schema = layouts.dictionary();
     let Some(layout) = legal_several(alloc, schema, entities)? else {
         return Err(Failure::Fault(InstanceFaultKind::IllegalCombination));
     };
@@ -266,7 +266,7 @@ fn by_entities<N: DefinedNames>(
         return Err(Failure::Fault(InstanceFaultKind::UnknownEntity));
     };
     match layouts.several(&entities) {
-        Some(layout) => by_layout(alloc, layouts.loaded(), names, name, parts, layout),
+        Some(layout) => by_layout(alloc, layouts.dictionary(), names, name, parts, layout),
         None => by_new_layout(alloc, layouts, names, name, parts, &entities),
     }
 }
@@ -292,7 +292,7 @@ pub fn by_parts<N: DefinedNames>(
 /// first that is faulty.
 pub fn values_of_leaf<N: DefinedNames>(
     alloc: Global,
-    schema: &LoadedSchema<'_>,
+    schema: &Dictionary<'_>,
     names: &N,
     entity: usize,
     slots: &[ReadSlot<'_>],

@@ -3,14 +3,14 @@
 ghost use Rattle.std.specs.Prelude.{◌≡◌, ◌++◌, ℕ, length, map, IfOk, OnOk};
 ghost use Rattle.std.specs.List.{flat_map, list_all, list_any, zip};
 ghost use Rattle.plain_data.specs.Numbers.{is_among};
-ghost use Rattle.ex_types.specs.Checked.{Checked};
+ghost use Rattle.ex_schemas.specs.Schemas.{Checked};
 ghost use Rattle.p21_instances.specs.Instances.{references};
 ghost use Rattle.plain_data.specs.Gives.{Gives};
 ghost use Rattle.p21_mappings.specs.Instances as spec;
 ghost use Rattle.p21_mappings.specs.ReadSlots as read_spec;
 
 use crate::names::DefinedNames;
-use ex_layouts::{LoadedSchema, ReadSlot};
+use ex_layouts::{Dictionary, ReadSlot};
 use p21_tree::{InstanceFaultKind, Value as SpelledValue};
 use p21_values::bound_by;
 use plain_data::{Failure, Items};
@@ -116,7 +116,7 @@ fn derived_value(value: &SpelledValue<'_>) -> Mapped<Value>
 /// The value of a slot, or the first that holds of what is wrong with it.
 fn slot_value<N: DefinedNames>(
     alloc: Global,
-    schema: &LoadedSchema<'_>,
+    schema: &Dictionary<'_>,
     names: &N,
     slot: &ReadSlot<'_>,
     value: &SpelledValue<'_>,
@@ -140,7 +140,7 @@ fn slot_value<N: DefinedNames>(
 /// The values of a part of a mapping, or what is wrong with the first that is faulty.
 pub fn part_values<N: DefinedNames>(
     alloc: Global,
-    schema: &LoadedSchema<'_>,
+    schema: &Dictionary<'_>,
     names: &N,
     mut slots: &[ReadSlot<'_>],
     mut values: &[SpelledValue<'_>],

@@ -5,7 +5,7 @@ ghost use Rattle.p21_spelling.specs.Files as spelled;
 ghost use Rattle.p21_escapes.specs.Encoding.{encoded};
 ghost use Rattle.p21_canonical.specs.Trees as spec;
 
-use ex_layouts::LoadedSchema;
+use ex_layouts::Dictionary;
 use p21_canonical::{Output, write_lines, write_string, write_values};
 use plain_data::Text;
 use rp_content::{Content, Header, Instance};
@@ -53,7 +53,7 @@ fn write_header(out: &mut Output, header: &Header, schema: &str) -> Result<(), A
 fn write_data<'s>(
     alloc: Global,
     out: &mut Output,
-    schema: &'s LoadedSchema<'s>,
+    schema: &'s Dictionary<'s>,
     instances: &[Instance],
 ) -> Result<(), AllocError>
     ensures { OnOk result (out.new ≡ out.old ++ spelled.data_text None (map (spec.instance_tree schema.now) instances.now)) }
@@ -69,14 +69,14 @@ fn write_data<'s>(
 #[tactic(auto, unfolding(p21_canonical::specs::Trees::canonical))]
 pub fn write<'s>(
     alloc: Global,
-    schema: &'s LoadedSchema<'s>,
+    schema: &'s Dictionary<'s>,
     content: &Content,
 ) -> Result<Text, AllocError>
     ensures { IfOk result (λ text. text ≡ spec.canonical schema.now content.now) }
 {
     let mut out = Output::new(alloc);
     write_word(&mut out, "ISO-10303-21")?;
-    write_header(&mut out, &content.header, schema.checked().name())?;
+    write_header(&mut out, &content.header, schema.name())?;
     write_data(alloc, &mut out, schema, content.instances.as_slice())?;
     write_word(&mut out, "END-ISO-10303-21")?;
     Ok(out.into_text())

@@ -4,7 +4,7 @@
 use crate::opening::may_open;
 use crate::plans::plan;
 use crate::steps::{Pending, make_steps};
-use ex_layouts::LoadedSchema;
+use ex_loaded::LoadedSchema;
 use plain_data::Text;
 use rp_access::Access;
 use rp_plain::messages::{NewFault, Reply, Request};

@@ -5,7 +5,7 @@ ghost use Rattle.std.specs.List.{list_all};
 ghost use Rattle.rp_rows.specs.Names.{is_name};
 ghost use Rattle.rp_plain.specs.Opening.{new_fault, has_twice as IsTwice};
 
-use ex_layouts::LoadedSchema;
+use ex_loaded::LoadedSchema;
 use plain_data::Text;
 use rp_plain::messages::NewFault;
 use rp_readers::schemas::names_of;

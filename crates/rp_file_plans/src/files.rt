@@ -12,7 +12,7 @@ ghost use Rattle.rp_file_plans.specs.Files.{cheap_tests, Reads, Fits, Refills};
 ghost use Rattle.rp_plans.specs.Plans.{Plans};
 
 use crate::links::{in_order, link_refusal, names_of, no_request};
-use ex_layouts::LoadedSchema;
+use ex_loaded::LoadedSchema;
 use p21_bind::{bind, load};
 use p21_read::{is_of_schema, read_raw};
 use p21_tree::Raw;
@@ -51,7 +51,7 @@ fn bound<'s>(
     let Some(schema) = schema else {
         return Err(Refusal::UnknownSchema);
     };
-    match bind(alloc, schema, linked, raw) {
+    match bind(alloc, schema.dictionary(), linked, raw) {
         Ok(content) => Ok(content),
         Err(Failure::Fault(fault)) => Err(Refusal::InstanceFault(fault)),
         Err(Failure::NoMemory) => Err(AllocError.into()),
@@ -72,7 +72,7 @@ fn loaded(
     match asked.schema_named(&model.schema) {
         Some(schema) => load(
             alloc,
-            schema,
+            schema.dictionary(),
             model.schema.as_bytes(),
             linked,
             file.as_bytes(),

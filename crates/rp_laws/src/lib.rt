@@ -5,7 +5,7 @@
 
 ghost use Rattle.rp_laws.specs.Laws.{KeepsOrder, KeepsValid, OpensValid, EditsAreSaid, ChangesOnlyNamed, RefusedChangesNothing, OwnTurnReply, OwnTurnPart, OutsideTurnPart, OutsideTurnReach, KeepingOffIsOutside, KeepingOffPart, KeepingOffReach, OneRunReplies, OneRunPart, TwoRuns, TextAgain};
 
-use ex_layouts::LoadedSchema;
+use ex_loaded::LoadedSchema;
 use p21_laws::accepted_schemas;
 
 /// A step keeps models and groups in order.

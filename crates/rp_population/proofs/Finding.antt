@@ -2,7 +2,7 @@
 use Rattle.std.proofs.Common.{◌≡◌, ℕ, Bool, true, false, List, [], ◌∷◌, map, filter, Option, Some, None, if◌then◌else◌, refl, ap}
 use Rattle.plain_data.specs.Numbers.{is_among}
 use Rattle.ex_layouts.specs.Entities.{entities_of}
-use Rattle.ex_types.specs.Checked.{Checked}
+use Rattle.ex_schemas.specs.Schemas.{Checked}
 use Rattle.rp_content.specs.declared.instance.Instance.{Instance}
 use Rattle.rp_population.specs.Populations.{Counted, Placed, placed, places}
 use Rattle.rp_population.specs.Entities.{extent_of}

@@ -5,7 +5,7 @@ use Rattle.std.proofs.lemmas.List.Folds.{flat_map-map}
 use Rattle.ex_layouts.specs.Entities.{entities, entities_of}
 use Rattle.ex_layouts.specs.Layouts.{layout, leaf_slots, slots_in}
 use Rattle.ex_slots.specs.Slots.{Slot, slots, slots_of, is_derived, derived_by}
-use Rattle.ex_types.specs.Checked.{Checked}
+use Rattle.ex_schemas.specs.Schemas.{Checked}
 use Rattle.rp_content.specs.declared.instance.Entities.{Entities}
 use Rattle.rp_content.specs.declared.instance.Entities.TheVariants.{Leaf, Several}
 use Rattle.rp_population.specs.Found.{all_slots}

@@ -3,7 +3,7 @@ use Rattle.std.proofs.Common.{◌≡◌, ℕ, List, ◌++◌, Option, Some, None
 use Rattle.std.proofs.lemmas.List.{map-append}
 use Rattle.std.proofs.lemmas.List.Concat.{flat_map-append}
 use Rattle.std.proofs.lemmas.List.Elements.{filter-append}
-use Rattle.ex_types.specs.Checked.{Checked}
+use Rattle.ex_schemas.specs.Schemas.{Checked}
 use Rattle.rp_population.specs.declared.place.Place.{Place}
 use Rattle.rp_population.specs.declared.roles.Role.{Role}
 use Rattle.rp_population.specs.Populations.{Placed, places}

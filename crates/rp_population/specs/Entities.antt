@@ -2,7 +2,7 @@
 use Rattle.std.specs.Prelude.{ℕ, Bool, List, [], filter, Option, Some, None}
 use Rattle.plain_data.specs.Numbers.{is_among}
 use Rattle.ex_layouts.specs.Entities.{entities_of, entity_spelled}
-use Rattle.ex_types.specs.Checked.{Checked}
+use Rattle.ex_schemas.specs.Schemas.{Checked}
 use Rattle.rp_content.specs.declared.instance.Instance.{Instance}
 use Rattle.rp_population.specs.Populations.{Placed}
 

@@ -6,7 +6,7 @@ use Rattle.ex_layouts.specs.Entities.{entities_of, line_of}
 use Rattle.ex_layouts.specs.Layouts.{layout}
 use Rattle.ex_layouts.specs.declared.layout.Layout.{Layout}
 use Rattle.ex_slots.specs.Slots.{Slot}
-use Rattle.ex_types.specs.Checked.{Checked}
+use Rattle.ex_schemas.specs.Schemas.{Checked}
 use Rattle.rp_content.specs.declared.instance.Instance.{Instance}
 use Rattle.rp_content.specs.declared.link.Link.{Link}
 use Rattle.rp_value.specs.declared.value.Value.{Value}

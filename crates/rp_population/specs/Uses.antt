@@ -5,7 +5,7 @@ use Rattle.std.specs.Str.{bytes_eq}
 use Rattle.plain_data.specs.Numbers.{is_among}
 use Rattle.ex_layouts.specs.Entities.{entities_of, entity_named, line_of}
 use Rattle.ex_slots.specs.Slots.{Slot, slots}
-use Rattle.ex_types.specs.Checked.{Checked}
+use Rattle.ex_schemas.specs.Schemas.{Checked}
 use Rattle.rp_content.specs.declared.instance.Instance.{Instance}
 use Rattle.rp_value.specs.declared.value.Value.{Value}
 use Rattle.rp_rows.specs.Contents.{references}

@@ -146,7 +146,7 @@ pub fn push_in_attribute(
     if let Some(layout) = layouts.known(&instance.entities) {
         return push_by_layout(alloc, found, user, attribute, layout, values);
     }
-    let layout = layout_of(alloc, layouts.loaded(), &instance.entities)?;
+    let layout = layout_of(alloc, layouts.dictionary(), &instance.entities)?;
     push_by_layout(alloc, found, user, attribute, &layout, values)?;
     layouts.keep(&instance.entities, layout)
 }

@@ -5,7 +5,7 @@ ghost use Rattle.rp_population.specs.Found as spec;
 
 use crate::attribute::has_number;
 use crate::place::{Place, push_place};
-use ex_layouts::{Layouts, LoadedSchema, layout_of};
+use ex_layouts::{Dictionary, Layouts, layout_of};
 use plain_data::Text;
 use rp_content::{Content, Entities, Instance};
 use rp_rows::rows::Key;
@@ -37,9 +37,12 @@ impl<'s> Model for Extent<'s> {
     ghost view = { λ e. record { schema = e.layouts; entity = e.entity } };
 
     ghost use Rattle.std.specs.Coded.{codes};
-    ghost use Rattle.ex_types.specs.contracts.schema.CheckedSchema as checked;
+    ghost use Rattle.ex_named.specs.contracts.expression.NamedDataType as data_type;
+    ghost use Rattle.ex_named.specs.contracts.expression.NamedExpression as expression;
+    ghost use Rattle.ex_named.specs.contracts.statement.NamedStatement as statement;
+    ghost use Rattle.ex_named.specs.contracts.declaration.NamedSupertype as supertype;
 
-    ghost coded = { Prim.hlevel (codes, checked.the_row.coded) };
+    ghost coded = { Prim.hlevel (codes, data_type.the_row.coded, expression.the_row.coded, statement.the_row.coded, supertype.the_row.coded) };
 }
 
 impl<'s> Extent<'s> {
@@ -52,7 +55,7 @@ impl<'s> Extent<'s> {
     /// The instances of the entity of this name, in either case; none where the schema has no such entity.
     pub fn of(
         alloc: Global,
-        schema: &'s LoadedSchema<'s>,
+        schema: &'s Dictionary<'s>,
         name: &Text,
     ) -> Result<Extent<'s>, AllocError>
         ensures { IfOk result (λ e. e ≡ record { schema = schema.now; entity = entity_spelled schema.now name.now }) }
@@ -71,7 +74,7 @@ impl<'s> Extent<'s> {
         if let Some(layout) = self.layouts.known(entities) {
             return Ok(is_sought(self.entity, layout.entities.as_slice()));
         }
-        let layout = layout_of(alloc, self.layouts.loaded(), entities)?;
+        let layout = layout_of(alloc, self.layouts.dictionary(), entities)?;
         let is_of = is_sought(self.entity, layout.entities.as_slice());
         self.layouts.keep(entities, layout)?;
         Ok(is_of)

@@ -5,7 +5,7 @@ ghost use Rattle.std.specs.List.{slice_split};
 ghost use Rattle.std.specs.Borrow.{Bor};
 ghost use Rattle.rp_population.specs.Uses as spec;
 
-use ex_types::CheckedSchema;
+use ex_layouts::Dictionary;
 use plain_data::Text;
 use std::alloc::{AllocError, Global};
 
@@ -36,7 +36,7 @@ fn parts_of(alloc: Global, text: &str) -> Result<Vec<&str>, AllocError>
 /// The role of an entity's attribute, if the schema has the entity.
 fn attribute_role(
     alloc: Global,
-    schema: &CheckedSchema,
+    schema: &Dictionary<'_>,
     entity: &str,
     attribute: &str,
 ) -> Result<Option<Role>, AllocError>
@@ -55,7 +55,7 @@ fn attribute_role(
 /// The role of these three names.
 fn role_of_parts(
     alloc: Global,
-    schema: &CheckedSchema,
+    schema: &Dictionary<'_>,
     parts: &[&str],
 ) -> Result<Option<Role>, AllocError>
     ensures { IfOk result (λ role. role ≡ spec.role_of_parts schema.now (map (λ (x : Bor (List ℕ)). x.now) parts.now)) }
@@ -71,7 +71,7 @@ fn role_of_parts(
 /// The role of this name: `SCHEMA.ENTITY.ATTRIBUTE`, or nothing for all.
 pub(crate) fn role_of(
     alloc: Global,
-    schema: &CheckedSchema,
+    schema: &Dictionary<'_>,
     text: &Text,
 ) -> Result<Option<Role>, AllocError>
     ensures { IfOk result (λ role. role ≡ spec.role_of schema.now text.now) }

@@ -9,7 +9,7 @@ use crate::names::names_of;
 use crate::place::Place;
 use crate::roles::{Role, role_of};
 use crate::uses::{User, push_values};
-use ex_layouts::{Layouts, LoadedSchema};
+use ex_layouts::{Dictionary, Layouts};
 use plain_data::{Rows, Text};
 use rp_content::{Content, Instance};
 use rp_rows::rows::Key;
@@ -20,7 +20,7 @@ use std::marker::Model;
 /// The entities above that of a role and itself.
 fn line_by(
     alloc: Global,
-    schema: &LoadedSchema<'_>,
+    schema: &Dictionary<'_>,
     role: Option<&Role>,
 ) -> Result<Rows<usize>, AllocError>
     ensures { IfOk result (λ line. line ≡ spec.line_by schema.now (option_copied role.entry)) }
@@ -98,9 +98,12 @@ impl<'s> Model for Users<'s> {
     ghost invariant = { λ u. u.line ≡ spec.line_by u.layouts u.role };
 
     ghost use Rattle.std.specs.Coded.{codes};
-    ghost use Rattle.ex_types.specs.contracts.schema.CheckedSchema as checked;
+    ghost use Rattle.ex_named.specs.contracts.expression.NamedDataType as data_type;
+    ghost use Rattle.ex_named.specs.contracts.expression.NamedExpression as expression;
+    ghost use Rattle.ex_named.specs.contracts.statement.NamedStatement as statement;
+    ghost use Rattle.ex_named.specs.contracts.declaration.NamedSupertype as supertype;
 
-    ghost coded = { Prim.hlevel (codes, checked.the_row.coded) };
+    ghost coded = { Prim.hlevel (codes, data_type.the_row.coded, expression.the_row.coded, statement.the_row.coded, supertype.the_row.coded) };
 }
 
 impl<'s> Users<'s> {
@@ -111,13 +114,13 @@ impl<'s> Users<'s> {
     /// The users of what stands at the place, in the role of this name; none in what is no role.
     pub fn of(
         alloc: Global,
-        schema: &'s LoadedSchema<'s>,
+        schema: &'s Dictionary<'s>,
         role: &Text,
         of: &Place,
     ) -> Result<Users<'s>, AllocError>
         ensures { IfOk result (λ u. u ≡ record { schema = schema.now; role = uses.role_of schema.now role.now; of = of.now }) }
     {
-        let role = role_of(alloc, schema.checked(), role)?;
+        let role = role_of(alloc, schema, role)?;
         let line = line_by(alloc, schema, role.as_ref())?;
         let model = of.model.copy(alloc)?;
         let instance = of.instance;

@@ -7,7 +7,7 @@ ghost use Rattle.rp_plain.specs.Lists.{named, names_by};
 ghost use Rattle.rp_readers.specs.Told.{told};
 
 use crate::readers::Readers;
-use ex_layouts::LoadedSchema;
+use ex_loaded::LoadedSchema;
 use p21_write::{type_text, write};
 use plain_data::{Rows, Text};
 use rp_content::{Instance, Link};
@@ -25,7 +25,7 @@ pub fn text_of(alloc: Global, asked: &Readers<'_, '_>, key: &Key) -> Result<Text
     let Some(schema) = asked.schema_named(&model.schema) else {
         return Text::from_str(alloc, "");
     };
-    write(alloc, schema, &model.content)
+    write(alloc, schema.dictionary(), &model.content)
 }
 
 /// The links of the model, if the partner sees it.
@@ -59,7 +59,7 @@ fn listed_instances(
 {
     let mut rows = Vec::with_capacity(alloc, instances.len())?;
     for instance in instances {
-        let type_name = type_text(alloc, schema, &instance.entities)?;
+        let type_name = type_text(alloc, schema.dictionary(), &instance.entities)?;
         rows.push(ListedInstance {
             name: instance.name,
             type_name,

@@ -8,7 +8,8 @@ ghost use Rattle.rp_plain.specs.Meaning.{schema_name};
 ghost use Rattle.rp_readers.specs.Single.{Says};
 
 use crate::model_names::ModelNames;
-use ex_layouts::{Layouts, LoadedSchema};
+use ex_layouts::Layouts;
+use ex_loaded::LoadedSchema;
 use p21_bind::bind_instance;
 use p21_read::Mapping;
 use p21_write::write_instance;
@@ -44,7 +45,9 @@ fn place_named(layouts: &[Layouts<'_>], name: &Text) -> Option<usize>
     ensures place { result ≡ position (λ schema. bytes_eq name.now (schema_name schema)) layouts.now }
     ensures within { IfSome result (λ place. place < length layouts.now) }
 {
-    layouts.iter().position(|layouts| name.as_str() == layouts.loaded().checked().name())
+    layouts
+        .iter()
+        .position(|layouts| name.as_str() == layouts.dictionary().name())
 }
 
 /// The instance of this name that the mapping is by the schema, or its first fault.
@@ -89,7 +92,7 @@ impl<'s> KeptLayouts<'s> {
     {
         let mut layouts = Vec::with_capacity(alloc, schemas.len())?;
         for schema in schemas {
-            layouts.push(Layouts::of(alloc, schema)?)?;
+            layouts.push(Layouts::of(alloc, schema.dictionary())?)?;
         }
         Ok(KeptLayouts { layouts })
     }

@@ -12,7 +12,7 @@ ghost use Rattle.rp_readers.specs.Listed.{counted_of};
 ghost use Rattle.rp_readers.specs.Told.{told};
 
 use crate::readers::Readers;
-use ex_layouts::LoadedSchema;
+use ex_loaded::LoadedSchema;
 use plain_data::{Rows, Text};
 use rp_content::Instance;
 use rp_population::{Extent, Place, Users};
@@ -61,7 +61,7 @@ pub fn extent_by<'s>(
     let Some(schema) = schema else {
         return Ok(Rows::new(alloc));
     };
-    let extent = Extent::of(alloc, schema, entity)?;
+    let extent = Extent::of(alloc, schema.dictionary(), entity)?;
     extent_in(alloc, extent, counted)
 }
 
@@ -123,6 +123,6 @@ pub fn users_by<'s>(
     let Some(schema) = schema else {
         return Ok(Rows::new(alloc));
     };
-    let users = Users::of(alloc, schema, role, place)?;
+    let users = Users::of(alloc, schema.dictionary(), role, place)?;
     users_in(alloc, users, counted)
 }

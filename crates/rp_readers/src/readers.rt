@@ -8,7 +8,7 @@ ghost use Rattle.rp_plain.specs.Meaning.{has_text, has_schema as HasSchema, sche
 ghost use Rattle.rp_tables.specs.Stored.{row_of};
 ghost use Rattle.rp_readers.specs.Told.{plain_of, told};
 
-use ex_layouts::LoadedSchema;
+use ex_loaded::LoadedSchema;
 use plain_data::Text;
 use rp_rows::rows::{Key, ModelContent, Right};
 use rp_sight::{Groups, at_least, level};

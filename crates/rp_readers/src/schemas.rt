@@ -4,7 +4,7 @@ ghost use Rattle.std.specs.Prelude.{◌≡◌, map, IfOk};
 ghost use Rattle.rp_plain.specs.Meaning.{schema_name};
 ghost use Rattle.rp_plain.specs.Lists.{schema_names};
 
-use ex_layouts::LoadedSchema;
+use ex_loaded::LoadedSchema;
 use itertools::Itertools;
 use plain_data::{Rows, Text};
 use std::alloc::{AllocError, Global};

@@ -9,7 +9,7 @@ pub mod run;
 
 pub use ex_check::SchemaFault;
 pub use ex_compiled::Compiled;
-pub use ex_layouts::LoadedSchema;
+pub use ex_loaded::LoadedSchema;
 pub use plain_data::{Rows, Text};
 pub use repository::{Call, Caller, Repository};
 pub use rp_core::Pending;

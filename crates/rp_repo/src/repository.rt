@@ -1,6 +1,6 @@
 //! The repository, whose requests are turns of its partners.
 
-use ex_layouts::LoadedSchema;
+use ex_loaded::LoadedSchema;
 use plain_data::Text;
 use rp_core::{Holdings, Pending};
 use rp_laws::{model_text_again, one_run, step_keeps_validity};

@@ -8,4 +8,4 @@ loop-schema-preserved c =
     let i = c.loop-schema.schema-index in
     let within : i < length schemas = omega arith in
     let more = take_more schemas i c.schema-item.result within in
-    grind (arith, more, c.in_ok-push.ensures.items, c.in_ok-of.ensures, c.loop-schema.invariant, c.schema-item.is)
+    grind (arith, more, c.in_ok-push.ensures.items, c.in_ok-of.ensures, c.dictionary.ensures, c.loop-schema.invariant, c.schema-item.is)

@@ -1,6 +1,6 @@
 use Rattle.std.proofs.Common.{◌<◌, length, arith}
 use Rattle.std.proofs.lemmas.List.{take_more}
-use Rattle.ex_layouts.proofs.loaded.LoadedSchema.all.Goals as goal
+use Rattle.ex_loaded.proofs.loaded.LoadedSchema.all.Goals as goal
 
 pub loop-schema-preserved : goal.loop-schema-preserved
 loop-schema-preserved c =
