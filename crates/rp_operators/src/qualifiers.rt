@@ -1,8 +1,6 @@
 //! Elements, and parts of texts and binaries.
 
-ghost use Rattle.std.specs.Prelude.{◌≡◌, ◌≤◌, ◌-◌, ◌+◌, ℤ, pos, nat_abs, IfOk, length, take, drop, Some};
-ghost use Rattle.std.specs.Fmt.{is_char_start, take_chars};
-ghost use Rattle.std.specs.Str.{IsCharBoundary};
+ghost use Rattle.std.specs.Prelude.{◌≡◌, IfOk, Some};
 ghost use Rattle.rp_meaning.specs.BuiltIns as spec;
 ghost use Rattle.rp_operators.specs.Places.{between};
 ghost use Rattle.rp_value.specs.declared.value.Value.TheOpen.{Value-F};
@@ -23,40 +21,6 @@ fn places(first: i64, last: i64, count: usize) -> Option<(usize, usize)>
     }
 }
 
-/// Whether a character begins with this byte of a text.
-fn begins_character(byte: u8) -> bool
-    ensures { result ≡ is_char_start byte }
-{
-    byte < 0x80 || 0xC0 <= byte
-}
-
-/// Where so many characters of a text end.
-#[tactic(auto, using(crate::proofs::Characters::boundary))]
-fn end_of_characters(text: &[u8], count: usize) -> usize
-    ensures boundary { IsCharBoundary text.now result }
-    ensures value { take result text.now ≡ take_chars count text.now }
-{
-    let mut left = count;
-    for place in 0..text.len() {
-        if begins_character(text[place]) {
-            if left == 0 {
-                return place;
-            }
-            left -= 1;
-        }
-    }
-    text.len()
-}
-
-/// From a character to another.
-fn characters(text: &str, from: usize, to: usize) -> &str
-    requires { from ≤ to }
-    ensures { result.now ≡ take_chars (to - from) (drop (length (take_chars from text.now)) text.now) }
-{
-    let rest = &text[end_of_characters(text.as_bytes(), from)..];
-    &rest[..end_of_characters(rest.as_bytes(), to - from)]
-}
-
 #[tactic(auto, using(crate::proofs::Characters::counts))]
 fn text_range(alloc: Global, text: &Characters, first: i64, last: i64) -> Result<Value, AllocError>
     ensures { IfOk result (λ x. x ≡ spec.range_in (Value-F.Str text.now) first last) }
@@ -64,8 +28,7 @@ fn text_range(alloc: Global, text: &Characters, first: i64, last: i64) -> Result
     let Some((from, to)) = places(first, last, text.count()) else {
         return Ok(Value::Indet);
     };
-    let part = characters(text.as_str(), from, to);
-    Value::text(alloc, Text::from_str(alloc, part)?)
+    Value::text(alloc, Text::from_str(alloc, text.slice(from, to))?)
 }
 
 fn binary_range(alloc: Global, bits: &Bits, first: i64, last: i64) -> Result<Value, AllocError>

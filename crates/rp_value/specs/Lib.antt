@@ -1,3 +1,4 @@
+pub mod Blocks
 pub mod Elements
 pub mod Held
 pub mod Values
