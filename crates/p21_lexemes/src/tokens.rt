@@ -13,7 +13,7 @@ ghost use Rattle.p21_lexemes.specs.declared.front.Start.TheVariants as start;
 use crate::front::{Start, front};
 use crate::kinds::same_kind;
 use crate::token::{Token, TokenKind};
-use crate::usual::{usual, usual_number, usual_or_word};
+use crate::usual::{may_be_number, usual, usual_number, usual_or_word};
 use p21_tree::{FaultKind, FileFault};
 use plain_data::Failure;
 use std::marker::Model;
@@ -171,7 +171,8 @@ impl<'a> Tokens<'a> {
         !same_kind(kind, TokenKind::End) && same_kind(self.kind, kind)
     }
 
-    /// Goes on to the token that follows. A token that is neither a word nor a number, nor stands behind a blank, is cut here.
+    /// Goes on to the token that follows. A token that is neither a word nor a number, nor stands behind a blank, is cut
+    /// here, and of a number nothing else is asked.
     #[inline(never)]
     fn advance(&mut self)
         requires { 0 < turns self.old }
@@ -181,6 +182,7 @@ impl<'a> Tokens<'a> {
         let end = self.end;
         match usual(left) {
             Some((kind, len)) => *self = with_token(kind, len, left, end),
+            None if may_be_number(left) => self.go_to_number(left, end),
             None => self.go_to(left, end),
         }
     }

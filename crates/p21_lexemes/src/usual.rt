@@ -1,6 +1,6 @@
 //! The tokens that most of a file consists of, found without calls.
 
-ghost use Rattle.std.specs.Prelude.{◌≡◌, ◌<◌, ◌≤◌, ◌+◌, length, drop, slice_index, true, IfSome};
+ghost use Rattle.std.specs.Prelude.{◌≡◌, ◌<◌, ◌≤◌, ◌+◌, ◌&&◌, nat_le, length, drop, slice_index, true, IfSome};
 ghost use Rattle.std.specs.List.{list_all};
 ghost use Rattle.std.specs.Char.{is_ascii_digit};
 ghost use Rattle.std.specs.Option.{option_map};
@@ -198,6 +198,15 @@ pub fn usual_or_word(z: &[u8]) -> Option<(TokenKind, usize)>
     } else {
         usual(z)
     }
+}
+
+/// Whether a text may begin with a number. It may begin with `.` or `/` as well, so that one comparison tells.
+#[inline(always)]
+pub fn may_be_number(z: &[u8]) -> bool
+    ensures { result ≡ (nat_le 45 (slice_index z.now 0) && nat_le (slice_index z.now 0) 57) }
+{
+    let b = byte(z, 0);
+    b'-' <= b && b <= b'9'
 }
 
 /// The kind and the length of the number in front of a text, where it is a usual one.

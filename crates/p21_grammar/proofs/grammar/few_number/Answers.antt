@@ -1,4 +1,4 @@
-use Rattle.std.proofs.Common.{rules, arith, ◌≡◌, ◌<◌, ◌≤◌, length, drop, [], min, sym, ◌∙◌, ap}
+use Rattle.std.proofs.Common.{rules, arith, ◌≡◌, ◌<◌, ◌≤◌, drop, [], min, sym, ◌∙◌, ap}
 use Rattle.std.proofs.lemmas.Grind.{common_steps}
 use Rattle.std.proofs.lemmas.List.{drop_all}
 use Rattle.std.proofs.Math.Nat.{min-eq_left}
@@ -16,16 +16,16 @@ overflow_mul-number c =
 pub overflow_add-number : goal.overflow_add-number
 overflow_add-number c =
     let l = c.digits in
-    let byte : c.from.result < 256 = rw c.from.ensures c.saturating_sub.type_inv in
-    let all = next_below l.digit-index l.number c.from.result (omega arith) l.invariant.0 byte in
+    let byte : c.saturating_sub.result < 256 = search rules in
+    let all = next_below l.digit-index l.number c.saturating_sub.result (omega arith) l.invariant.0 byte in
     omega arith
 
 pub digits-preserved : goal.digits-preserved
 digits-preserved c =
     let l = c.digits in
-    let byte : c.from.result < 256 = rw c.from.ensures c.saturating_sub.type_inv in
-    let all = next_below l.digit-index l.number c.from.result (omega arith) l.invariant.0 byte in
-    (next_most l.digit-index l.number c.from.result l.invariant.0 byte, first_of (search rules, grind (arith, common_steps)))
+    let byte : c.saturating_sub.result < 256 = search rules in
+    let all = next_below l.digit-index l.number c.saturating_sub.result (omega arith) l.invariant.0 byte in
+    (next_most l.digit-index l.number c.saturating_sub.result l.invariant.0 byte, first_of (search rules, grind (arith, common_steps)))
 
 pub returns : goal.returns
 returns c =
