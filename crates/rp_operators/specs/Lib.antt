@@ -1,3 +1,5 @@
 pub mod Amounts
+pub mod Ends
 pub mod Places
 pub mod Sights
+pub mod Standing

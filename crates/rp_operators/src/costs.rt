@@ -1,11 +1,15 @@
-//! The steps that operators cost beside their own. Each is asked with how many are left: none is told where it is more, so
-//! that nobody counts further than that.
+//! The steps that operators and initialisers cost beside their own. Each is asked with how many are left: none is told
+//! where it is more, so that nobody counts further than that.
 
-ghost use Rattle.std.specs.Prelude.{◌≡◌, ◌+◌, ◌*◌};
+ghost use Rattle.std.specs.Prelude.{◌≡◌, ◌+◌, ◌*◌, length, map, zero};
+ghost use Rattle.std.specs.List.{fold};
+ghost use Rattle.rp_meaning.specs.BuiltIns.{size as size_of_initialiser};
 ghost use Rattle.rp_meaning.specs.Operators as spec;
+ghost use Rattle.rp_operations.specs.Seen.{seen};
 ghost use Rattle.rp_operators.specs.Amounts.{unless_more};
 
-use crate::bare::aggregate_of;
+use crate::bare::{Bare, aggregate_of, beneath_names};
+use ex_tree::BinaryOperator;
 use rp_value::Value;
 
 /// How many elements an aggregate has.
@@ -43,6 +47,31 @@ fn of_two(most: usize, x: &Value, y: &Value) -> Option<usize>
     }
 }
 
+/// What `+` costs.
+fn of_sum(most: usize, x: &Value, y: &Value) -> Option<usize>
+    ensures { result ≡ unless_more most (spec.cost_of_two x.now y.now + spec.length_seen (seen (spec.sum x.now y.now))) }
+{
+    match (beneath_names(x), beneath_names(y)) {
+        (Bare::Text(s), Bare::Text(t)) => unless_more(most, s.count().checked_add(t.count())?),
+        (Bare::Bits(s), Bare::Bits(t)) => {
+            unless_more(most, s.as_slice().len().checked_add(t.as_slice().len())?)
+        }
+        _ => of_two(most, x, y),
+    }
+}
+
+/// How many steps a binary operator costs on two values, unless it is more than `most`.
+pub fn cost(most: usize, operator: BinaryOperator, x: &Value, y: &Value) -> Option<usize>
+    ensures { result ≡ unless_more most (spec.cost operator x.now y.now) }
+{
+    match operator {
+        BinaryOperator::In => unless_more(most, count(y)),
+        BinaryOperator::And | BinaryOperator::Or | BinaryOperator::Xor => Some(0),
+        BinaryOperator::Add => of_sum(most, x, y),
+        _ => of_two(most, x, y),
+    }
+}
+
 /// How many steps the comparisons of an interval cost, unless it is more than `most`.
 pub fn interval_cost(most: usize, low: &Value, item: &Value, high: &Value) -> Option<usize>
     ensures { result ≡ unless_more most (spec.interval_cost low.now item.now high.now) }
@@ -50,4 +79,32 @@ pub fn interval_cost(most: usize, low: &Value, item: &Value, high: &Value) -> Op
     let above = of_two(most, low, item)?;
     let below = of_two(most - above, item, high)?;
     Some(above + below)
+}
+
+/// How many steps an initialiser costs that gives this value, unless it is more than `most`.
+#[cycle(sizes)]
+#[tactic(auto, unfolding(rp_meaning::specs::BuiltIns::size))]
+pub fn size(most: usize, value: &Value) -> Option<usize>
+    ensures { result ≡ unless_more most (size_of_initialiser value.now) }
+{
+    match value {
+        Value::Agg { kind: _, elements } => size_of_elements(most, elements.as_slice()),
+        Value::Named {
+            defined_type: _,
+            value,
+        } => size(most, value.get()),
+        _ => unless_more(most, 1),
+    }
+}
+
+/// One step, and those of the values.
+#[cycle(sizes)]
+fn size_of_elements(most: usize, values: &[Value]) -> Option<usize>
+    ensures { result ≡ unless_more most (fold (λ sum x. sum + size_of_initialiser x) 1 values.now) }
+{
+    let mut left = most.checked_sub(1)?;
+    for value in values {
+        left -= size(left, value)?;
+    }
+    Some(most - left)
 }
