@@ -70,7 +70,7 @@ pub(crate) fn is_indeterminate(value: &Value) -> bool
 }
 
 /// Of a value of INTEGER.
-pub(crate) fn integer_of(value: &Value) -> Option<i64>
+pub fn integer_of(value: &Value) -> Option<i64>
     ensures { result ≡ spec.integer_of value.now }
 {
     match beneath_names(value) {

@@ -12,7 +12,7 @@ mod operators;
 mod qualifiers;
 mod relations;
 
-pub use bare::{aggregate_of, is_true, place_of, text_of};
+pub use bare::{aggregate_of, integer_of, is_true, place_of, text_of};
 pub use built_ins::{
     absolute, binary_length, exists, high_index, initializer, low_index, null_value, odd, size_of,
     text_length, value_in,
