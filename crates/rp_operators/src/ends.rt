@@ -1,11 +1,14 @@
 //! Declared types behind all names, and which values are of their kind.
 
-ghost use Rattle.std.specs.Prelude.{◌≡◌};
+ghost use Rattle.std.specs.Prelude.{◌≡◌, true};
+ghost use Rattle.std.specs.List.{list_any};
 ghost use Rattle.std.specs.Option.{option_map};
 ghost use Rattle.ex_named.specs.declared.expression.NamedDataType.{out-NamedDataType};
+ghost use Rattle.rp_meaning.specs.Bare.{carried as spec_carried};
 ghost use Rattle.rp_meaning.specs.Types as spec;
-ghost use Rattle.rp_operators.specs.Ends.{aggregate_type_behind, end_behind, inner_aggregate};
+ghost use Rattle.rp_operators.specs.Ends.{aggregate_type_behind, an_aggregate, element_under, end_behind};
 ghost use Rattle.rp_operators.specs.Sights.{opened};
+ghost use Rattle.rp_value.specs.declared.value.Value.{Value};
 
 use crate::bare::{Bare, beneath_names, carried};
 use ex_named::{NamedDataType, TypeName};
@@ -143,26 +146,10 @@ pub(crate) fn fits(types: &[DefinedType], data_type: &NamedDataType, value: &Val
     is_of_kind(types, behind_names(types, data_type), beneath_names(value))
 }
 
-/// The defined type that a value carries once it is declared with a type.
-pub(crate) fn name_under(
-    types: &[DefinedType],
-    data_type: &NamedDataType,
-    value: &Value,
-) -> Option<usize>
-    ensures { result ≡ spec.name_under types.now data_type.now value.now }
+/// An index is a value of INTEGER.
+fn array_from(low: u64, element: &NamedDataType) -> Option<AggregateType<'_>>
+    ensures { option_map aggregate_type_behind result ≡ spec.array_from low element.now }
 {
-    let own = carried(value);
-    let NamedDataType::Named(TypeName::Defined(number)) = data_type else {
-        return own;
-    };
-    match end_of(types, *number) {
-        End::Enumeration(declaring) if declaring == *number => None,
-        End::Select(_) => own,
-        _ => Some(*number),
-    }
-}
-
-fn array_from(low: u64, element: &NamedDataType) -> Option<AggregateType<'_>> {
     let low = i64::try_from(low).ok()?;
     Some(AggregateType {
         kind: Some((AggregateKind::Array, low)),
@@ -207,16 +194,62 @@ pub(crate) fn aggregate_type(end: End<'_>) -> Option<AggregateType<'_>>
     }
 }
 
-/// What the type says of aggregates that says what stands in a value: in a SELECT the one that the value carries.
+/// What says the type of the elements in a value: in a SELECT the defined type that the value carries.
 pub(crate) fn inner_type<'t>(
     types: &'t [DefinedType],
     data_type: &'t NamedDataType,
     value: &Value,
 ) -> Option<AggregateType<'t>>
-    ensures { option_map aggregate_type_behind result ≡ inner_aggregate types.now (spec.inner_type types.now data_type.now value.now) }
+    ensures { option_map aggregate_type_behind result ≡ spec.inner_by types.now (spec.end types.now data_type.now) (spec_carried value.now) }
 {
     match behind_names(types, data_type) {
         End::Select(_) => aggregate_type(end_of(types, carried(value)?)),
         end => aggregate_type(end),
+    }
+}
+
+/// Whether a type that is no SELECT takes aggregates.
+fn takes_aggregates(types: &[DefinedType], end: End<'_>) -> bool
+    ensures { result ≡ spec.is_of_end types.now (end_behind end.entry) an_aggregate }
+{
+    match end {
+        End::Written(data_type) => match data_type {
+            NamedDataType::Simple(_) | NamedDataType::Named(_) => false,
+            _ => true,
+        },
+        End::Enumeration(_) | End::Select(_) | End::Absent(_) => false,
+    }
+}
+
+fn is_choice_of_aggregates(types: &[DefinedType], choice: TypeName) -> bool
+    ensures { result ≡ spec.is_of_choice types.now an_aggregate choice }
+{
+    match choice {
+        TypeName::Entity(_) => false,
+        TypeName::Defined(number) => takes_aggregates(types, end_of(types, number)),
+    }
+}
+
+fn chooses_aggregates(types: &[DefinedType], choices: &[TypeName]) -> bool
+    ensures { result ≡ list_any (spec.is_of_choice types.now an_aggregate) choices.now }
+{
+    choices
+        .iter()
+        .any(|choice| is_choice_of_aggregates(types, *choice))
+}
+
+/// Whether elements of a type stay as they are, whatever they are.
+#[tactic(auto, using(crate::proofs::Staying::elements_stay))]
+pub(crate) fn changes_nothing(types: &[DefinedType], data_type: &NamedDataType) -> bool
+    ensures { result ≡ true → (x : Value) → element_under types.now data_type.now x ≡ x }
+{
+    match data_type {
+        NamedDataType::Simple(_) | NamedDataType::Named(TypeName::Entity(_)) => true,
+        NamedDataType::Generic => true,
+        NamedDataType::Named(TypeName::Defined(number)) => match end_of(types, *number) {
+            End::Select(choices) => !chooses_aggregates(types, choices),
+            End::Enumeration(_) | End::Written(_) | End::Absent(_) => false,
+        },
+        _ => false,
     }
 }
