@@ -3,3 +3,5 @@ pub mod Integers
 pub mod Sights
 pub mod Parts
 pub mod Staying
+pub mod Powers
+pub mod Sizes

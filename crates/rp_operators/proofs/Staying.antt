@@ -1,6 +1,7 @@
 -- What declared types leave as it is.
 use Rattle.std.proofs.Common.{◌≡◌, ℕ, Bool, true, false, not, ◌||◌, List, [], ◌∷◌, map, Option, Some, None, if◌then◌else◌, absurd, refl, sym, ◌∙◌, ap, subst}
 use Rattle.std.specs.List.{list_any}
+use Rattle.std.proofs.lemmas.Bool.{true≢false}
 use Rattle.ex_named.specs.declared.expression.NamedDataType.{NamedDataType, NamedDataType-F, out-NamedDataType}
 use Rattle.ex_named.specs.declared.expression.NamedDataType.TheVariants as d
 use Rattle.ex_named.specs.declared.reference.TypeName.{TypeName}
@@ -106,8 +107,30 @@ module _ (defined : List DefinedType) where
     of_choices [] = refl
     of_choices (choice ∷ choices) = λ i. of_choice choice i || of_choices choices i
 
+  module _ (choices : List TypeName) (none : list_any (is_of_choice defined an_aggregate) choices ≡ false) where
+    -- no aggregate fits it
+    unlike : (e : End) (x : Value) → Select choices ≡ e → types.is_of_kind defined e (out-Value (bare x)) ≡ true → (kind : AggregateKind) (xs : Elements Value) → Value-F.Agg kind xs ≡ out-Value (bare x) → ⊥
+    unlike e x chosen holds kind xs is =
+        let among : types.is_of_kind defined (Select choices) (out-Value (bare x)) ≡ true = subst (λ z. types.is_of_kind defined z (out-Value (bare x)) ≡ true) (sym chosen) holds in
+        let aggregate : list_any (is_of_choice defined (Value-F.Agg kind xs)) choices ≡ true = subst (λ z. types.is_of_kind defined (Select choices) z ≡ true) (sym is) among in
+        true≢false (sym aggregate ∙ of_choices kind xs choices ∙ none)
+
+    named_chosen : (number : ℕ) (e : End) (x : Value) → Select choices ≡ e → types.named_by defined number e x ≡ x
+    named_chosen number e x chosen = subst (λ z. types.named_by defined number z x ≡ x) chosen refl
+
+    fitting : (is_unset is_fit : Bool) → (is_unset || not is_fit) ≡ false → is_fit ≡ true
+    fitting false true h = refl
+    fitting false false h = absurd (true≢false h)
+    fitting true is_fit h = absurd (true≢false h)
+
+    chosen_stays : (number : ℕ) (x : Value) → Select choices ≡ end_of defined number → element_under defined (d.Named (t.Defined number)) x ≡ x
+    unfolding fits
+    chosen_stays number x chosen = when (is_indeterminate x || not (fits defined (d.Named (t.Defined number)) x)) x _ (λ fit.
+        named_chosen number (end_of defined number) _ chosen
+        ∙ stays _ x (λ kind xs is. absurd (unlike (end_of defined number) x chosen (fitting (is_indeterminate x) _ fit) kind xs is)))
+
   pub stays-Select : (data_type : NamedDataType) (number : ℕ) (choices : List TypeName) (x : Value) → data_type ≡ d.Named (t.Defined number) → Select choices ≡ end_of defined number
       → list_any (is_of_choice defined an_aggregate) choices ≡ false → element_under defined data_type x ≡ x
-  stays-Select data_type number choices x is chosen none = ?
+  stays-Select data_type number choices x is chosen none = rw is (chosen_stays choices none number x chosen)
 
 pub ruleset elements_stay = (stays-Simple, stays-Entity, stays-Generic, stays-Select)

@@ -1,8 +1,8 @@
 //! The steps that operators and initialisers cost beside their own. Each is asked with how many are left: none is told
 //! where it is more, so that nobody counts further than that.
 
-ghost use Rattle.std.specs.Prelude.{◌≡◌, ◌+◌, ◌*◌, length, map, zero};
-ghost use Rattle.std.specs.List.{fold};
+ghost use Rattle.std.specs.Prelude.{◌≡◌, ◌+◌, ◌*◌, length, map};
+ghost use Rattle.std.specs.List.{sum};
 ghost use Rattle.rp_meaning.specs.BuiltIns.{size as size_of_initialiser};
 ghost use Rattle.rp_meaning.specs.Operators as spec;
 ghost use Rattle.rp_operations.specs.Seen.{seen};
@@ -83,7 +83,7 @@ pub fn interval_cost(most: usize, low: &Value, item: &Value, high: &Value) -> Op
 
 /// How many steps an initialiser costs that gives this value, unless it is more than `most`.
 #[cycle(sizes)]
-#[tactic(auto, unfolding(rp_meaning::specs::BuiltIns::size))]
+#[tactic(auto, using(crate::proofs::Sizes::sizes))]
 pub fn size(most: usize, value: &Value) -> Option<usize>
     ensures { result ≡ unless_more most (size_of_initialiser value.now) }
 {
@@ -100,7 +100,7 @@ pub fn size(most: usize, value: &Value) -> Option<usize>
 /// One step, and those of the values.
 #[cycle(sizes)]
 fn size_of_elements(most: usize, values: &[Value]) -> Option<usize>
-    ensures { result ≡ unless_more most (fold (λ sum x. sum + size_of_initialiser x) 1 values.now) }
+    ensures { result ≡ unless_more most (1 + sum (map size_of_initialiser values.now)) }
 {
     let mut left = most.checked_sub(1)?;
     for value in values {

@@ -86,7 +86,10 @@ pub(crate) fn rest(x: &Value, y: &Value) -> Value
 }
 
 /// Whether a power of this exponent is out of 64 bits, or a number that a less exponent of the same parity gives too.
-fn reduced(exponent: u64) -> u32 {
+#[tactic(auto, using(crate::proofs::Powers::powers))]
+fn reduced(exponent: u64) -> u32
+    ensures { (x : ℤ) → spec.integer (spec.power_of x result) ≡ spec.integer (spec.power_of x exponent) }
+{
     if exponent < 64 {
         exponent as u32
     } else if exponent % 2 == 0 {
@@ -97,6 +100,7 @@ fn reduced(exponent: u64) -> u32 {
 }
 
 /// `**`
+#[tactic(auto, using(crate::proofs::Powers::powers))]
 pub(crate) fn power(x: &Value, y: &Value) -> Value
     ensures { result ≡ spec.on_integers spec.power x.now y.now }
 {
