@@ -5,3 +5,5 @@ pub mod Parts
 pub mod Staying
 pub mod Powers
 pub mod Sizes
+pub mod Sums
+pub mod Texts
