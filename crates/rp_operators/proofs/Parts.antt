@@ -1,21 +1,19 @@
 -- What values become by declared types, variant by variant.
-use Rattle.std.proofs.Common.{◌≡◌, ℕ, ℤ, Bool, true, false, not, ◌||◌, List, [], ◌∷◌, map, Option, Some, None, if◌then◌else◌, refl, sym, ◌∙◌, ap, subst}
+use Rattle.std.proofs.Common.{◌≡◌, ℕ, not, ◌||◌, List, [], ◌∷◌, map, Option, Some, None, if◌then◌else◌, refl, sym, ◌∙◌, ap, subst}
 use Rattle.ex_named.specs.declared.expression.NamedDataType.{NamedDataType, out-NamedDataType}
 use Rattle.rp_meaning.specs.Bare.{carried, is_indeterminate}
 use Rattle.rp_meaning.specs.Types as types
 use Rattle.rp_meaning.specs.Types.{part, part_by, part_under, inside_by, named_in, inner_by, end, fits}
 use Rattle.rp_meaning.specs.declared.schema.DefinedType.{DefinedType}
-use Rattle.rp_numbers.specs.Decimals.{Decimal}
-use Rattle.rp_numbers.specs.declared.Logical.{Logical}
 use Rattle.rp_operators.specs.Ends.{inside, under, element_under, elements_under}
 use Rattle.rp_operators.proofs.Sights as sights
 use Rattle.rp_value.specs.Elements.{Elements}
 use Rattle.rp_value.specs.declared.value.AggregateKind.{AggregateKind}
-use Rattle.rp_value.specs.declared.value.Value.{Value}
+use Rattle.rp_value.specs.declared.value.Value.{Value, out-Value}
 use Rattle.rp_value.specs.declared.value.Value.TheFolds.{fold-Value, fold-roll-Value, map-Value}
 use Rattle.rp_value.specs.declared.value.Value.TheOpen.{Value-F}
 use Rattle.rp_value.specs.declared.value.Value.TheVariants as v
-use Rattle.rp_value.specs.declared.value.Value.TheViews.{roll-Value}
+use Rattle.rp_value.specs.declared.value.Value.TheViews.{roll-Value, roll-out-Value}
 
 module _ (defined : List DefinedType) where
   abbrev Part : Type 0
@@ -57,34 +55,29 @@ module _ (defined : List DefinedType) where
 
   -- ---- variant by variant
 
-  inside-rolls : (declared : Option types.AggregateType) (y : Value-F Value) → inside defined declared (roll-Value y) ≡ inside_by defined (map-Value Value Part parted y) declared
+  pub inside-rolls : (declared : Option types.AggregateType) (y : Value-F Value) → inside defined declared (roll-Value y) ≡ inside_by defined (map-Value Value Part parted y) declared
   unfolding part
   inside-rolls declared y = ap (λ p. p.inside declared) (fold-roll-Value Part (part_by defined) y)
 
+  -- what is neither an aggregate nor named
+  scalar : (declared : Option types.AggregateType) (y : Value-F Value) → ((kind : AggregateKind) (xs : Elements Value) → roll-Value y ≡ v.Agg kind xs → ⊥) → ((n : ℕ) (z : Value) → roll-Value y ≡ v.Named n z → ⊥)
+      → inside defined declared (roll-Value y) ≡ roll-Value y
+  scalar declared Value-F.Indet other never = inside-rolls declared Value-F.Indet
+  scalar declared (Value-F.Int n) other never = inside-rolls declared (Value-F.Int n)
+  scalar declared (Value-F.Dec d) other never = inside-rolls declared (Value-F.Dec d)
+  scalar declared (Value-F.Str text) other never = inside-rolls declared (Value-F.Str text)
+  scalar declared (Value-F.Bin bits) other never = inside-rolls declared (Value-F.Bin bits)
+  scalar declared (Value-F.Log x) other never = inside-rolls declared (Value-F.Log x)
+  scalar declared (Value-F.Item n place) other never = inside-rolls declared (Value-F.Item n place)
+  scalar declared (Value-F.Inst name) other never = inside-rolls declared (Value-F.Inst name)
+  scalar declared (Value-F.Agg kind xs) other never = absurd (other kind xs (v.rolls-Agg kind xs))
+  scalar declared (Value-F.Named n x) other never = absurd (never n x (v.rolls-Named n x))
+
   module _ (declared : Option types.AggregateType) (x : Value) where
-    pub inside-Indet : x ≡ v.Indet → inside defined declared x ≡ x
-    inside-Indet is = subst (λ z. inside defined declared z ≡ z) (v.rolls-Indet ∙ sym is) (inside-rolls declared Value-F.Indet)
-
-    pub inside-Int : (n : ℤ) → x ≡ v.Int n → inside defined declared x ≡ x
-    inside-Int n is = subst (λ z. inside defined declared z ≡ z) (v.rolls-Int n ∙ sym is) (inside-rolls declared (Value-F.Int n))
-
-    pub inside-Dec : (d : Decimal) → x ≡ v.Dec d → inside defined declared x ≡ x
-    inside-Dec d is = subst (λ z. inside defined declared z ≡ z) (v.rolls-Dec d ∙ sym is) (inside-rolls declared (Value-F.Dec d))
-
-    pub inside-Str : (text : List ℕ) → x ≡ v.Str text → inside defined declared x ≡ x
-    inside-Str text is = subst (λ z. inside defined declared z ≡ z) (v.rolls-Str text ∙ sym is) (inside-rolls declared (Value-F.Str text))
-
-    pub inside-Bin : (bits : List Bool) → x ≡ v.Bin bits → inside defined declared x ≡ x
-    inside-Bin bits is = subst (λ z. inside defined declared z ≡ z) (v.rolls-Bin bits ∙ sym is) (inside-rolls declared (Value-F.Bin bits))
-
-    pub inside-Log : (l : Logical) → x ≡ v.Log l → inside defined declared x ≡ x
-    inside-Log l is = subst (λ z. inside defined declared z ≡ z) (v.rolls-Log l ∙ sym is) (inside-rolls declared (Value-F.Log l))
-
-    pub inside-Item : (n place : ℕ) → x ≡ v.Item n place → inside defined declared x ≡ x
-    inside-Item n place is = subst (λ z. inside defined declared z ≡ z) (v.rolls-Item n place ∙ sym is) (inside-rolls declared (Value-F.Item n place))
-
-    pub inside-Inst : (name : ℕ) → x ≡ v.Inst name → inside defined declared x ≡ x
-    inside-Inst name is = subst (λ z. inside defined declared z ≡ z) (v.rolls-Inst name ∙ sym is) (inside-rolls declared (Value-F.Inst name))
+    pub inside-scalar : ((kind : AggregateKind) (xs : Elements Value) → x ≡ v.Agg kind xs → ⊥) → ((n : ℕ) (y : Value) → x ≡ v.Named n y → ⊥) → inside defined declared x ≡ x
+    inside-scalar other never =
+        subst (λ z. inside defined declared z ≡ z) (roll-out-Value x)
+          (scalar declared (out-Value x) (λ kind xs is. other kind xs (sym (roll-out-Value x) ∙ is)) (λ n y is. never n y (sym (roll-out-Value x) ∙ is)))
 
     pub inside-Agg : (kind : AggregateKind) (xs : Elements Value) → x ≡ v.Agg kind xs → inside defined declared x ≡ elements_under defined declared kind xs
     inside-Agg kind xs is = ap (inside defined declared) (is ∙ sym (v.rolls-Agg kind xs)) ∙ inside-rolls declared (Value-F.Agg kind xs) ∙ of_elements declared kind xs
@@ -93,17 +86,6 @@ module _ (defined : List DefinedType) where
     unfolding part
     inside-Named n y is = ap (inside defined declared) (is ∙ sym (v.rolls-Named n y)) ∙ inside-rolls declared (Value-F.Named n y)
 
-pub ruleset parts = (
-  inside-Indet,
-  inside-Int,
-  inside-Dec,
-  inside-Str,
-  inside-Bin,
-  inside-Log,
-  inside-Item,
-  inside-Inst,
-  inside-Agg,
-  inside-Named,
-)
+pub ruleset parts = (inside-Agg, inside-Named)
 
 pub ruleset under_part = (under-part)

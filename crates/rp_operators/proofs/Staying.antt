@@ -1,5 +1,5 @@
 -- What declared types leave as it is.
-use Rattle.std.proofs.Common.{◌≡◌, ℕ, Bool, true, false, not, ◌||◌, List, [], ◌∷◌, map, Option, Some, None, if◌then◌else◌, absurd, refl, sym, ◌∙◌, ap, subst}
+use Rattle.std.proofs.Common.{◌≡◌, ℕ, Bool, true, false, not, ◌||◌, List, [], ◌∷◌, map, Option, Some, None, if◌then◌else◌, refl, sym, ◌∙◌, ap, subst}
 use Rattle.std.specs.List.{list_any}
 use Rattle.std.proofs.lemmas.Bool.{true≢false}
 use Rattle.ex_named.specs.declared.expression.NamedDataType.{NamedDataType, NamedDataType-F, out-NamedDataType}
@@ -14,7 +14,7 @@ use Rattle.rp_meaning.specs.Types.{End, Select, is_of_end, is_of_choice, is_of_w
 use Rattle.rp_meaning.specs.declared.schema.DefinedType.{DefinedType}
 use Rattle.rp_operators.specs.Ends.{inside, under, element_under, elements_under, an_aggregate}
 use Rattle.rp_operators.proofs.Sights.{bare-Agg, bare-Named}
-use Rattle.rp_operators.proofs.Parts.{inside-Indet, inside-Int, inside-Dec, inside-Str, inside-Bin, inside-Log, inside-Item, inside-Inst, inside-Agg, inside-Named}
+use Rattle.rp_operators.proofs.Parts.{inside-rolls, inside-Agg, inside-Named}
 use Rattle.rp_value.specs.Elements.{Elements}
 use Rattle.rp_value.specs.declared.value.AggregateKind.{AggregateKind}
 use Rattle.rp_value.specs.declared.value.Value.{Value, out-Value}
@@ -34,14 +34,14 @@ module _ (defined : List DefinedType) where
     Kept = (x : Value) × Stays x
 
     layer_stays : (y : Value-F Kept) → Stays (roll-Value (map-Value Kept Value (λ p. p.0) y))
-    layer_stays Value-F.Indet h = inside-Indet defined declared _ v.rolls-Indet
-    layer_stays (Value-F.Int n) h = inside-Int defined declared _ n (v.rolls-Int n)
-    layer_stays (Value-F.Dec x) h = inside-Dec defined declared _ x (v.rolls-Dec x)
-    layer_stays (Value-F.Str text) h = inside-Str defined declared _ text (v.rolls-Str text)
-    layer_stays (Value-F.Bin bits) h = inside-Bin defined declared _ bits (v.rolls-Bin bits)
-    layer_stays (Value-F.Log x) h = inside-Log defined declared _ x (v.rolls-Log x)
-    layer_stays (Value-F.Item n place) h = inside-Item defined declared _ n place (v.rolls-Item n place)
-    layer_stays (Value-F.Inst name) h = inside-Inst defined declared _ name (v.rolls-Inst name)
+    layer_stays Value-F.Indet h = inside-rolls defined declared Value-F.Indet
+    layer_stays (Value-F.Int n) h = inside-rolls defined declared (Value-F.Int n)
+    layer_stays (Value-F.Dec x) h = inside-rolls defined declared (Value-F.Dec x)
+    layer_stays (Value-F.Str text) h = inside-rolls defined declared (Value-F.Str text)
+    layer_stays (Value-F.Bin bits) h = inside-rolls defined declared (Value-F.Bin bits)
+    layer_stays (Value-F.Log x) h = inside-rolls defined declared (Value-F.Log x)
+    layer_stays (Value-F.Item n place) h = inside-rolls defined declared (Value-F.Item n place)
+    layer_stays (Value-F.Inst name) h = inside-rolls defined declared (Value-F.Inst name)
     layer_stays (Value-F.Agg kind ps) h =
         let xs : Elements Value = record { low = ps.low; items = map (λ p. p.0) ps.items } in
         inside-Agg defined declared _ kind xs (v.rolls-Agg kind xs) ∙ h kind xs (bare-Agg _ kind xs (v.rolls-Agg kind xs)) ∙ sym (v.rolls-Agg kind xs)
