@@ -7,3 +7,4 @@ pub mod Powers
 pub mod Sizes
 pub mod Sums
 pub mod Texts
+pub mod Sets

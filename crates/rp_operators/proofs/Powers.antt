@@ -1,13 +1,13 @@
 -- Powers of INTEGER.
 use Rattle.std.proofs.Common.{◌≡◌, ◌⊎◌, inl, inr, ℕ, ℤ, pos, negsuc, zero, suc, ◌*◌, ◌%◌, ◌^◌, ◌<◌, ◌≤◌, ◌==◌, Bool, true, false, cond, if◌then◌else◌, refl, sym, ◌∙◌, ap, ap₂, subst, le_trans, pow-suc, mul-zero, arith, FitsSigned}
-use Rattle.std.specs.Prelude.{◌*ℤ◌, neg_ℤ, unsigned_abs}
+use Rattle.std.specs.Prelude.{◌*ℤ◌, ◌≤ℤ◌, neg_ℤ, unsigned_abs}
 use Rattle.std.specs.Int.{int_pow}
 use mir.Syntax.{w64}
 use Rattle.std.proofs.lemmas.Int.{ints}
 use Rattle.std.proofs.Math.IntN.{pos-*ℤ-pos, negsuc-*ℤ-pos, negsuc-*ℤ-negsuc}
 use Rattle.std.proofs.Math.Nat.{mul-one, mul_comm, pow-le-pow_left}
 use Rattle.std.proofs.Math.Pow.{pow_mono}
-use Rattle.rp_meaning.specs.Operators.{integer, power_of}
+use Rattle.rp_meaning.specs.Operators.{integer, power, power_of}
 use Rattle.rp_operators.proofs.Integers.{integer_beyond}
 
 -- ---- powers by multiplication
@@ -81,4 +81,6 @@ same_power (negsuc (suc n)) e k g h p = both_wide _ _
 pub reduces : (x : ℤ) (e k : ℕ) → 64 ≤ e → 64 ≤ k → e % 2 ≡ k % 2 → integer (power_of x e) ≡ integer (power_of x k)
 reduces x e k g h p = ap integer (sym (power_is x e)) ∙ same_power x e k g h p ∙ ap integer (power_is x k)
 
-pub ruleset powers = (power_is, reduces)
+pub power_by_size : (x y : ℤ) → pos 0 ≤ℤ y → integer (power_of x (unsigned_abs y)) ≡ power x y
+power_by_size x (pos n) h = refl
+power_by_size x (negsuc n) h = absurd (omega (arith, ints, h))

@@ -121,6 +121,9 @@ pub bare-under : (x : Value) (n : ℕ) (y : Value) → x ≡ v.Named n y → bar
 unfolding bare
 bare-under x n y is = bare-rolls (Value-F.Named n y) ∙ ap bare (v.rolls-Named n y ∙ sym is)
 
+pub named-alone : (x : Value) (n m : ℕ) (y : Value) → x ≡ v.Named n y → n ≡ m → carried y ≡ None → v.Named m (bare x) ≡ x
+named-alone x n m y is same none = ap (v.Named m) (sym (bare-under x n y is) ∙ bare-itself y none) ∙ ap (λ k. v.Named k y) (sym same) ∙ sym is
+
 -- ---- variant by variant
 
 module _ (x : Value) where
@@ -216,6 +219,6 @@ pub ruleset bares = (
 
 pub ruleset bare_itself = (bare-itself)
 
-pub ruleset named_alone = (bare-itself, bare-under)
+pub ruleset named_alone = (named-alone)
 
 pub ruleset bare_values = (bare-itself, bare-under)

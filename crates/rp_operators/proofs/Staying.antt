@@ -62,14 +62,33 @@ module _ (defined : List DefinedType) where
   nothing : (x : Value) → inside defined None x ≡ x
   nothing x = stays None x (λ kind xs is. refl)
 
+  under-Simple : (simple : SimpleType) (x : Value) → under defined (d.Simple simple) x ≡ inside defined None x
+  unfolding out-NamedDataType denote.Hole.Carrier.out
+  under-Simple simple x = refl
+
+  under-Entity : (entity : ℕ) (x : Value) → under defined (d.Named (t.Entity entity)) x ≡ inside defined None x
+  unfolding out-NamedDataType denote.Hole.Carrier.out
+  under-Entity entity x = refl
+
+  under-Generic : (x : Value) → under defined d.Generic x ≡ inside defined None x
+  unfolding out-NamedDataType denote.Hole.Carrier.out
+  under-Generic x = refl
+
+  stays_under : (data_type : NamedDataType) (x : Value) → under defined data_type x ≡ inside defined None x → element_under defined data_type x ≡ x
+  stays_under data_type x is = when (is_indeterminate x || not (fits defined data_type x)) x (under defined data_type x) (λ _. is ∙ nothing x)
+
   pub stays-Simple : (data_type : NamedDataType) (simple : SimpleType) (x : Value) → data_type ≡ d.Simple simple → element_under defined data_type x ≡ x
-  stays-Simple data_type simple x is = rw is (when _ x _ (λ _. nothing x))
+  stays-Simple data_type simple x is = subst (λ z. element_under defined z x ≡ x) (sym is) (stays_under (d.Simple simple) x (under-Simple simple x))
 
   pub stays-Entity : (data_type : NamedDataType) (entity : ℕ) (x : Value) → data_type ≡ d.Named (t.Entity entity) → element_under defined data_type x ≡ x
-  stays-Entity data_type entity x is = rw is (when _ x _ (λ _. nothing x))
+  stays-Entity data_type entity x is = subst (λ z. element_under defined z x ≡ x) (sym is) (stays_under (d.Named (t.Entity entity)) x (under-Entity entity x))
 
   pub stays-Generic : (data_type : NamedDataType) (x : Value) → data_type ≡ d.Generic → element_under defined data_type x ≡ x
-  stays-Generic data_type x is = rw is (when _ x _ (λ _. nothing x))
+  stays-Generic data_type x is = subst (λ z. element_under defined z x ≡ x) (sym is) (stays_under d.Generic x (under-Generic x))
+
+  pub all_stay : (data_type : NamedDataType) → ((x : Value) → element_under defined data_type x ≡ x) → (xs : List Value) → map (element_under defined data_type) xs ≡ xs
+  all_stay data_type each [] = refl
+  all_stay data_type each (x ∷ xs) = λ i. each x i ∷ all_stay data_type each xs i
 
   -- ---- a SELECT that takes no aggregates
 
@@ -123,14 +142,25 @@ module _ (defined : List DefinedType) where
     fitting false false h = absurd (true≢false h)
     fitting true is_fit h = absurd (true≢false h)
 
+    under-Defined : (number : ℕ) (x : Value) → under defined (d.Named (t.Defined number)) x ≡ types.named_by defined number (end_of defined number) (inside defined (types.inner_by defined (end_of defined number) (carried x)) x)
+    unfolding out-NamedDataType denote.Hole.Carrier.out
+    under-Defined number x = refl
+
+    fits-Defined : (number : ℕ) (x : Value) → fits defined (d.Named (t.Defined number)) x ≡ types.is_of_kind defined (end_of defined number) (out-Value (bare x))
+    unfolding fits out-NamedDataType denote.Hole.Carrier.out
+    fits-Defined number x = refl
+
     chosen_stays : (number : ℕ) (x : Value) → Select choices ≡ end_of defined number → element_under defined (d.Named (t.Defined number)) x ≡ x
-    unfolding fits
-    chosen_stays number x chosen = when (is_indeterminate x || not (fits defined (d.Named (t.Defined number)) x)) x _ (λ fit.
-        named_chosen number (end_of defined number) _ chosen
-        ∙ stays _ x (λ kind xs is. absurd (unlike (end_of defined number) x chosen (fitting (is_indeterminate x) _ fit) kind xs is)))
+    chosen_stays number x chosen =
+        let declared = types.inner_by defined (end_of defined number) (carried x) in
+        let is_fit = fits defined (d.Named (t.Defined number)) x in
+        when (is_indeterminate x || not is_fit) x (under defined (d.Named (t.Defined number)) x) (λ fit.
+          under-Defined number x
+          ∙ named_chosen number (end_of defined number) (inside defined declared x) chosen
+          ∙ stays declared x (λ kind xs is. absurd (unlike (end_of defined number) x chosen (sym (fits-Defined number x) ∙ fitting (is_indeterminate x) is_fit fit) kind xs is)))
 
   pub stays-Select : (data_type : NamedDataType) (number : ℕ) (choices : List TypeName) (x : Value) → data_type ≡ d.Named (t.Defined number) → Select choices ≡ end_of defined number
       → list_any (is_of_choice defined an_aggregate) choices ≡ false → element_under defined data_type x ≡ x
-  stays-Select data_type number choices x is chosen none = rw is (chosen_stays choices none number x chosen)
+  stays-Select data_type number choices x is chosen none = subst (λ z. element_under defined z x ≡ x) (sym is) (chosen_stays choices none number x chosen)
 
-pub ruleset elements_stay = (stays-Simple, stays-Entity, stays-Generic, stays-Select)
+pub ruleset elements_stay = (stays-Simple, stays-Entity, stays-Generic)

@@ -1,11 +1,19 @@
 -- Names of types as texts. They hang on the schema alone, but for those of instances.
-use Rattle.std.specs.Prelude.{ℕ, List, [], Bool, map, filter, Option}
+use Rattle.std.specs.Prelude.{ℕ, List, [], ◌∷◌, Bool, map, filter, Option, if◌then◌else◌}
 use Rattle.std.specs.List.{filter_map}
 use Rattle.plain_data.specs.Numbers.{is_among}
 use Rattle.rp_meaning.specs.TypeNames as names
 use Rattle.rp_meaning.specs.declared.schema.Schema.{Schema}
 use Rattle.rp_value.specs.declared.value.Value.{Value}
 use Rattle.rp_value.specs.declared.value.Value.TheOpen.{Value-F}
+
+-- the type of an enumeration, unless it is among these
+abbrev pub unless_named : List ℕ → ℕ → List ℕ
+unless_named numbers enumeration = if is_among numbers enumeration then [] else enumeration ∷ []
+
+abbrev pub unnamed : List ℕ → Value-F Value → List ℕ
+unnamed numbers (Value-F.Item enumeration place) = unless_named numbers enumeration
+unnamed numbers _ = []
 
 module _ (schema : Schema) where
   abbrev pub texts : List (List ℕ) → List Value

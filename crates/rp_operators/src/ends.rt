@@ -35,6 +35,7 @@ pub(crate) struct AggregateType<'t> {
     pub(crate) element: &'t NamedDataType,
 }
 
+#[tactic(auto, unfolding(rp_meaning::specs::Types::end_of))]
 pub(crate) fn end_of(types: &[DefinedType], number: usize) -> End<'_>
     ensures { end_behind result ≡ spec.end_of types.now number }
 {
@@ -129,11 +130,17 @@ fn is_of_choice(types: &[DefinedType], x: Bare<'_>, choice: TypeName) -> bool
     }
 }
 
+fn is_of_some_choice(types: &[DefinedType], choices: &[TypeName], x: Bare<'_>) -> bool
+    ensures { result ≡ list_any (spec.is_of_choice types.now (opened x.entry)) choices.now }
+{
+    choices.iter().any(|choice| is_of_choice(types, x, *choice))
+}
+
 fn is_of_kind(types: &[DefinedType], end: End<'_>, x: Bare<'_>) -> bool
     ensures { result ≡ spec.is_of_kind types.now (end_behind end.entry) (opened x.entry) }
 {
     match end {
-        End::Select(choices) => choices.iter().any(|choice| is_of_choice(types, x, *choice)),
+        End::Select(choices) => is_of_some_choice(types, choices, x),
         _ => is_of_end(end, x, types),
     }
 }
@@ -244,8 +251,9 @@ pub(crate) fn changes_nothing(types: &[DefinedType], data_type: &NamedDataType) 
     ensures { result ≡ true → (x : Value) → element_under types.now data_type.now x ≡ x }
 {
     match data_type {
-        NamedDataType::Simple(_) | NamedDataType::Named(TypeName::Entity(_)) => true,
         NamedDataType::Generic => true,
+        NamedDataType::Simple(_) => true,
+        NamedDataType::Named(TypeName::Entity(_)) => true,
         NamedDataType::Named(TypeName::Defined(number)) => match end_of(types, *number) {
             End::Select(choices) => !chooses_aggregates(types, choices),
             End::Enumeration(_) | End::Written(_) | End::Absent(_) => false,

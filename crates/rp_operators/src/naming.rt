@@ -1,7 +1,6 @@
 //! TYPEOF: the names of the types of a value.
 
 ghost use Rattle.std.specs.Prelude.{◌≡◌, [], ◌∷◌, ◌++◌, map, slice_get, Some, IfOk, OnOk};
-ghost use Rattle.std.specs.List.{filter_map};
 ghost use Rattle.plain_data.specs.Numbers.{is_among};
 ghost use Rattle.rp_meaning.specs.TypeNames as spec;
 ghost use Rattle.rp_operators.specs.Naming as names;
@@ -61,6 +60,19 @@ fn beneath(schema: &Schema, number: usize) -> &[usize]
     }
 }
 
+/// Adds a defined type and those beneath it.
+fn push_named(
+    alloc: Global,
+    found: &mut Items<Value>,
+    schema: &Schema,
+    number: usize,
+) -> Result<(), AllocError>
+    ensures { OnOk result (found.new ≡ found.old ++ names.type_texts schema.now (names.defined_types schema.now (Some number))) }
+{
+    push_type(alloc, found, schema, number)?;
+    push_types(alloc, found, schema, beneath(schema, number))
+}
+
 /// Adds the defined type that a value carries, and those beneath it.
 fn push_carried(
     alloc: Global,
@@ -70,11 +82,10 @@ fn push_carried(
 ) -> Result<(), AllocError>
     ensures { OnOk result (found.new ≡ found.old ++ names.type_texts schema.now (names.defined_types schema.now carried)) }
 {
-    let Some(number) = carried else {
-        return Ok(());
-    };
-    push_type(alloc, found, schema, number)?;
-    push_types(alloc, found, schema, beneath(schema, number))
+    match carried {
+        None => Ok(()),
+        Some(number) => push_named(alloc, found, schema, number),
+    }
 }
 
 /// Whether a value that carries a defined type is of this one.
@@ -87,7 +98,40 @@ fn is_named(schema: &Schema, carried: Option<usize>, number: usize) -> bool
     }
 }
 
-/// Adds the defined types of a value: those that it carries, and the type of an enumeration where it isn't among them.
+/// Adds the type of an enumeration, where the value of it isn't of that already.
+fn push_enumeration(
+    alloc: Global,
+    found: &mut Items<Value>,
+    schema: &Schema,
+    carried: Option<usize>,
+    number: usize,
+) -> Result<(), AllocError>
+    ensures { OnOk result (found.new ≡ found.old ++ names.type_texts schema.now (names.unless_named (names.defined_types schema.now carried) number)) }
+{
+    if is_named(schema, carried, number) {
+        Ok(())
+    } else {
+        push_type(alloc, found, schema, number)
+    }
+}
+
+/// Adds the type of the enumeration that a value is of, where it isn't of that already.
+fn push_unnamed(
+    alloc: Global,
+    found: &mut Items<Value>,
+    schema: &Schema,
+    carried: Option<usize>,
+    x: Bare<'_>,
+) -> Result<(), AllocError>
+    ensures { OnOk result (found.new ≡ found.old ++ names.type_texts schema.now (names.unnamed (names.defined_types schema.now carried) (opened x.entry))) }
+{
+    match x {
+        Bare::Item(enumeration, _) => push_enumeration(alloc, found, schema, carried, enumeration),
+        _ => Ok(()),
+    }
+}
+
+/// Adds the defined types of a value: those that it carries, and the type of its enumeration where it isn't among them.
 fn push_defined(
     alloc: Global,
     found: &mut Items<Value>,
@@ -98,23 +142,22 @@ fn push_defined(
     ensures { OnOk result (found.new ≡ found.old ++ names.type_texts schema.now (names.with_enumeration schema.now (names.defined_types schema.now carried) (opened x.entry))) }
 {
     push_carried(alloc, found, schema, carried)?;
-    match x {
-        Bare::Item(enumeration, _) if !is_named(schema, carried, enumeration) => {
-            push_type(alloc, found, schema, enumeration)
-        }
-        _ => Ok(()),
-    }
+    push_unnamed(alloc, found, schema, carried, x)
 }
 
-/// Adds the name of an entity, if there is one of this number.
+/// Adds the name of an entity, if it is one of these and there is one of its number.
 fn push_entity(
     alloc: Global,
     found: &mut Items<Value>,
     schema: &Schema,
+    entities: &[usize],
     number: usize,
 ) -> Result<(), AllocError>
-    ensures { OnOk result (found.new ≡ found.old ++ names.texts schema.now (filter_map (spec.entity_name schema.now []) (number ∷ []))) }
+    ensures { OnOk result (found.new ≡ found.old ++ names.entity_texts schema.now entities.now (number ∷ [])) }
 {
+    if !entities.iter().any(|entity| *entity == number) {
+        return Ok(());
+    }
     match schema.entities.as_slice().get(number) {
         Some(entity) => push_text(alloc, found, entity.name.as_str()),
         None => Ok(()),
@@ -131,9 +174,7 @@ fn push_entities(
     ensures { OnOk result (found.new ≡ found.old ++ names.entity_texts schema.now entities.now schema.now.entity_order) }
 {
     for number in schema.entity_order.as_slice() {
-        if entities.iter().any(|entity| *entity == *number) {
-            push_entity(alloc, found, schema, *number)?;
-        }
+        push_entity(alloc, found, schema, entities, *number)?;
     }
     Ok(())
 }

@@ -86,7 +86,7 @@ pub(crate) fn rest(x: &Value, y: &Value) -> Value
 }
 
 /// Whether a power of this exponent is out of 64 bits, or a number that a less exponent of the same parity gives too.
-#[tactic(auto, using(crate::proofs::Powers::powers))]
+#[tactic(auto, using(crate::proofs::Powers::reduces))]
 fn reduced(exponent: u64) -> u32
     ensures { (x : ℤ) → spec.integer (spec.power_of x result) ≡ spec.integer (spec.power_of x exponent) }
 {
@@ -99,13 +99,20 @@ fn reduced(exponent: u64) -> u32
     }
 }
 
+/// A number to a power; `?` out of 64 bits.
+fn raised(number: i64, exponent: u64) -> Value
+    ensures { result ≡ spec.integer (spec.power_of number exponent) }
+{
+    checked(number.checked_pow(reduced(exponent)))
+}
+
 /// `**`
-#[tactic(auto, using(crate::proofs::Powers::powers))]
+#[tactic(auto, using(crate::proofs::Powers::power_by_size))]
 pub(crate) fn power(x: &Value, y: &Value) -> Value
     ensures { result ≡ spec.on_integers spec.power x.now y.now }
 {
     match (integer_of(x), integer_of(y)) {
-        (Some(x), Some(y)) if 0 <= y => checked(x.checked_pow(reduced(y.unsigned_abs()))),
+        (Some(x), Some(y)) if 0 <= y => raised(x, y.unsigned_abs()),
         _ => Value::Indet,
     }
 }
