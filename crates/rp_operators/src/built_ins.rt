@@ -6,6 +6,7 @@ ghost use Rattle.rp_meaning.specs.BuiltIns as spec;
 use crate::bare::{aggregate_of, bits_of, integer_of, is_indeterminate, text_of};
 use crate::numbers::{integer, natural};
 use plain_data::Items;
+use rp_operations::is_value_in;
 use rp_value::{AggregateKind, Logical, Value};
 use std::alloc::{AllocError, Global};
 
@@ -99,6 +100,13 @@ pub fn high_index(value: &Value) -> Value
         }
         None => Value::Indet,
     }
+}
+
+/// VALUE_IN
+pub fn value_in(aggregate: &Value, value: &Value) -> Value
+    ensures { result ≡ spec.value_in aggregate.now value.now }
+{
+    is_value_in(value, aggregate)
 }
 
 /// `[ .. ]`

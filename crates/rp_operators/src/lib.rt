@@ -1,18 +1,24 @@
-//! The operators and the built-in functions of EXPRESS over values.
+//! The operators and the built-in functions of EXPRESS over values, and what values become by declared types.
 #![tactic(auto)]
 
 mod bare;
 mod built_ins;
 mod costs;
+mod declared;
+mod ends;
+mod naming;
 mod numbers;
 mod operators;
 mod qualifiers;
+mod relations;
 
-pub use bare::{aggregate_of, is_true, place_of, text_of};
+pub use bare::{aggregate_of, integer_of, is_true, place_of, text_of};
 pub use built_ins::{
     absolute, binary_length, exists, high_index, initializer, low_index, null_value, odd, size_of,
-    text_length,
+    text_length, value_in,
 };
-pub use costs::{count, interval_cost};
-pub use operators::applied_to;
+pub use costs::{cost, count, interval_cost, size};
+pub use declared::given;
+pub use operators::{applied, applied_to, within};
 pub use qualifiers::{index, range};
+pub use naming::type_names;

@@ -1,0 +1,228 @@
+//! Statements.
+#![tactic(auto, unfolding(rp_meaning::specs::CompiledStatements::compiled_statement, rp_meaning::specs::CompiledTrees::compiled_case, rp_meaning::specs::CompiledTrees::compiled_case_action))]
+
+ghost use Rattle.std.specs.Prelude.{◌≡◌, map, Some, IfOk, slice_index_or};
+ghost use Rattle.ex_named.specs.declared.expression.NamedDataType.TheVariants as types_of;
+ghost use Rattle.ex_typing_statements.specs.Statements.{in_turn};
+ghost use Rattle.rp_meaning.specs.CompiledExpressions as expressions_spec;
+ghost use Rattle.rp_meaning.specs.CompiledStatements as spec;
+ghost use Rattle.rp_meaning.specs.CompiledTrees as trees;
+ghost use Rattle.rp_meaning.specs.declared.tree.Statement.TheVariants as statement_of;
+
+use crate::control::control;
+use crate::declared::Declared;
+use crate::trees::{expression, expressions};
+use crate::types::copied_type;
+use ex_kinds::{Sort, ValueKind};
+use ex_named::{
+    NamedCase, NamedCaseAction, NamedDataType, NamedExpression, NamedRepeatControl, NamedStatement,
+};
+use ex_typing::TypingScope;
+use plain_data::{Boxed, Items};
+use rp_meaning::{CaseAction, Statement};
+use std::alloc::{AllocError, Global};
+
+/// What the variable of a REPEAT may be.
+static VARIABLE: [ValueKind; 1] = [ValueKind {
+    depth: 0,
+    sort: Sort::Integer,
+}];
+
+/// The declared type of the variable of a slot.
+fn type_at(
+    alloc: Global,
+    types: &[&NamedDataType],
+    slot: usize,
+) -> Result<NamedDataType, AllocError>
+    ensures { IfOk result (λ found. found ≡ slice_index_or (map (λ t. t.now) types.now) slot types_of.Generic) }
+{
+    match types.get(slot) {
+        Some(found) => copied_type(alloc, found),
+        None => Ok(NamedDataType::Generic),
+    }
+}
+
+fn assignment(
+    alloc: Global,
+    schema: &Declared<'_>,
+    types: &[&NamedDataType],
+    scope: &TypingScope<'_>,
+    slot: usize,
+    value: &NamedExpression,
+) -> Result<Statement, AllocError>
+    ensures { IfOk result (λ found. found ≡ statement_of.Assignment slot (slice_index_or (map (λ t. t.now) types.now) slot types_of.Generic) (expressions_spec.expression schema.now scope.now value.now)) }
+{
+    let data_type = type_at(alloc, types, slot)?;
+    let value = expression(alloc, schema, scope, value)?;
+    Ok(Statement::Assignment(slot, data_type, value))
+}
+
+/// Statements as they are executed, where variables are declared with these types.
+#[cycle(statements)]
+pub fn statements(
+    alloc: Global,
+    schema: &Declared<'_>,
+    types: &[&NamedDataType],
+    scope: &TypingScope<'_>,
+    list: &[NamedStatement],
+) -> Result<Items<Statement>, AllocError>
+    ensures { IfOk result (λ found. found ≡ spec.statements schema.now (map (λ t. t.now) types.now) scope.now list.now) }
+{
+    let mut found = Items::new(alloc);
+    for tree in list {
+        found.push(statement(alloc, schema, types, scope, tree)?)?;
+    }
+    Ok(found)
+}
+
+#[cycle(statements)]
+fn statement(
+    alloc: Global,
+    schema: &Declared<'_>,
+    types: &[&NamedDataType],
+    scope: &TypingScope<'_>,
+    tree: &NamedStatement,
+) -> Result<Statement, AllocError>
+    ensures { IfOk result (λ found. found ≡ spec.compiled_statement schema.now (map (λ t. t.now) types.now) tree.now scope.now) }
+{
+    match tree {
+        NamedStatement::Null => Ok(Statement::Null),
+        NamedStatement::Assignment(slot, _, value) => {
+            assignment(alloc, schema, types, scope, *slot, value)
+        }
+        NamedStatement::Case(case) => case_statement(alloc, schema, types, scope, case.get()),
+        NamedStatement::Compound(body) => {
+            let body = statements(alloc, schema, types, scope, body.as_slice())?;
+            Ok(Statement::Compound(body))
+        }
+        NamedStatement::Escape => Ok(Statement::Escape),
+        NamedStatement::If(condition, then_part, else_part) => {
+            let condition = expression(alloc, schema, scope, condition)?;
+            let then_part = statements(alloc, schema, types, scope, then_part.as_slice())?;
+            let else_part = statements(alloc, schema, types, scope, else_part.as_slice())?;
+            Ok(Statement::If(condition, then_part, else_part))
+        }
+        NamedStatement::Repeat(control, body) => {
+            repeat(alloc, schema, types, scope, control.get(), body)
+        }
+        NamedStatement::Return(_, value) => {
+            let value = expression(alloc, schema, scope, value)?;
+            Ok(Statement::Return(value))
+        }
+        NamedStatement::Skip => Ok(Statement::Skip),
+    }
+}
+
+#[cycle(statements)]
+fn case_statement(
+    alloc: Global,
+    schema: &Declared<'_>,
+    types: &[&NamedDataType],
+    scope: &TypingScope<'_>,
+    tree: &NamedCase,
+) -> Result<Statement, AllocError>
+    ensures { IfOk result (λ found. found ≡ trees.compiled_case schema.now (map (λ t. t.now) types.now) tree.now scope.now) }
+{
+    let selector = expression(alloc, schema, scope, &tree.selector)?;
+    let mut actions = case_actions(alloc, schema, types, scope, tree.actions.as_slice())?;
+    actions.append(otherwise(alloc, schema, types, scope, &tree.otherwise)?)?;
+    Ok(Statement::Case(selector, actions))
+}
+
+/// The actions of a CASE, in order.
+#[cycle(statements)]
+fn case_actions(
+    alloc: Global,
+    schema: &Declared<'_>,
+    types: &[&NamedDataType],
+    scope: &TypingScope<'_>,
+    list: &[NamedCaseAction],
+) -> Result<Items<CaseAction>, AllocError>
+    ensures { IfOk result (λ found. found ≡ trees.case_actions schema.now (map (λ t. t.now) types.now) scope.now list.now) }
+{
+    let mut found = Items::new(alloc);
+    for tree in list {
+        found.push(case_action(alloc, schema, types, scope, tree)?)?;
+    }
+    Ok(found)
+}
+
+#[cycle(statements)]
+fn case_action(
+    alloc: Global,
+    schema: &Declared<'_>,
+    types: &[&NamedDataType],
+    scope: &TypingScope<'_>,
+    tree: &NamedCaseAction,
+) -> Result<CaseAction, AllocError>
+    ensures { IfOk result (λ found. found ≡ trees.compiled_case_action schema.now (map (λ t. t.now) types.now) tree.now scope.now) }
+{
+    let labels = expressions(alloc, schema, scope, tree.labels.as_slice())?;
+    let statement = statement(alloc, schema, types, scope, &tree.statement)?;
+    Ok(CaseAction {
+        labels: Some(labels),
+        statement,
+    })
+}
+
+/// What follows OTHERWISE, if it is there.
+#[cycle(statements)]
+fn otherwise(
+    alloc: Global,
+    schema: &Declared<'_>,
+    types: &[&NamedDataType],
+    scope: &TypingScope<'_>,
+    tree: &Option<Boxed<NamedStatement>>,
+) -> Result<Items<CaseAction>, AllocError>
+    ensures { IfOk result (λ found. found ≡ trees.otherwise schema.now (map (λ t. t.now) types.now) scope.now tree.now) }
+{
+    let mut found = Items::new(alloc);
+    if let Some(tree) = tree {
+        let statement = statement(alloc, schema, types, scope, tree.get())?;
+        found.push(CaseAction {
+            labels: None,
+            statement,
+        })?;
+    }
+    Ok(found)
+}
+
+#[cycle(statements)]
+fn repeat(
+    alloc: Global,
+    schema: &Declared<'_>,
+    types: &[&NamedDataType],
+    scope: &TypingScope<'_>,
+    tree: &NamedRepeatControl,
+    body: &Items<NamedStatement>,
+) -> Result<Statement, AllocError>
+    ensures { IfOk result (λ found. found ≡ trees.repeat schema.now (map (λ t. t.now) types.now) scope.now tree.now body.now) }
+{
+    match &tree.increment {
+        Some(_) => {
+            let turn = scope.within(alloc, &VARIABLE)?;
+            repeat_in(alloc, schema, types, scope, &turn, tree, body)
+        }
+        None => repeat_in(alloc, schema, types, scope, scope, tree, body),
+    }
+}
+
+/// A REPEAT in this scope, whose turns stand in the second one.
+#[cycle(statements)]
+fn repeat_in<'a>(
+    alloc: Global,
+    schema: &Declared<'_>,
+    types: &[&NamedDataType],
+    scope: &TypingScope<'a>,
+    turn: &TypingScope<'a>,
+    tree: &NamedRepeatControl,
+    body: &Items<NamedStatement>,
+) -> Result<Statement, AllocError>
+    requires { turn.now ≡ in_turn scope.now tree.now.increment }
+    ensures { IfOk result (λ found. found ≡ trees.repeat schema.now (map (λ t. t.now) types.now) scope.now tree.now body.now) }
+{
+    let control = control(alloc, schema, scope, turn, tree)?;
+    let control = Boxed::new(alloc, control)?;
+    let body = statements(alloc, schema, types, turn, body.as_slice())?;
+    Ok(Statement::Repeat(control, body))
+}

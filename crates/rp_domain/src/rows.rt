@@ -1,0 +1,32 @@
+//! Rows of things by a number.
+
+ghost use Rattle.std.specs.Prelude.{◌≡◌, [], replicate, IfOk, OnOk};
+ghost use Rattle.rp_domain.specs.Rows as spec;
+
+use plain_data::Items;
+use std::alloc::{AllocError, Global};
+
+/// So many rows with nothing in them.
+pub(crate) fn empty_rows<T: Drop>(alloc: Global, count: usize) -> Result<Vec<Items<T>>, AllocError>
+    ensures { IfOk result (λ rows. rows.items ≡ replicate count []) }
+{
+    let mut rows = Vec::with_capacity(alloc, count)?;
+    for _row in 0..count {
+        rows.push(Items::new(alloc))?;
+    }
+    Ok(rows)
+}
+
+/// Puts something behind the others of a number, if that has a row.
+pub(crate) fn put<T: Drop>(
+    rows: &mut Vec<Items<T>>,
+    number: usize,
+    item: T,
+) -> Result<(), AllocError>
+    ensures { OnOk result (rows.new.items ≡ spec.put rows.old.items number item) }
+{
+    if number < rows.len() {
+        rows[number].push(item)?;
+    }
+    Ok(())
+}

@@ -1,0 +1,103 @@
+-- What is found in lists.
+use Rattle.std.proofs.Common.{◌≡◌, ℕ, zero, suc, ◌+◌, ◌<◌, ◌≤◌, Bool, true, false, Option, Some, None, List, [], ◌∷◌, ◌++◌, length, map, drop, get_or, set, replicate, refl, sym, ap, ◌∙◌, add-one, arith, cond, slice_get, ◌==◌}
+use Rattle.std.specs.List.{find}
+use Rattle.std.specs.Option.{option_map_or}
+use Rattle.std.proofs.Math.ListN.{drop_of_length-le}
+use Rattle.ex_named.specs.declared.reference.AttributePlace.{AttributePlace}
+use Rattle.rp_value.specs.declared.value.Value.{Value, out-Value}
+use Rattle.rp_value.specs.declared.value.Value.TheVariants as v
+use Rattle.std.proofs.lemmas.List.{length-map}
+use Rattle.ex_tree.specs.declared.declaration.InverseAggregate.{InverseAggregate}
+use Rattle.rp_meaning.specs.declared.schema.Inverse.{Inverse}
+use Rattle.rp_meaning.specs.declared.schema.Schema.{Schema}
+use Rattle.rp_meaning.specs.Attributes as spec
+use Rattle.rp_meaning.specs.TypeNames.{texts}
+use Rattle.rp_meaning.specs.Bare.{place_in}
+use Rattle.rp_meaning.specs.Populations.{Instance, Stored, stored, instances}
+use Rattle.rp_meaning.specs.Uses.{same_attribute}
+use Rattle.rp_meaning.specs.Uses as uses
+use Rattle.rp_eval.specs.Counts as counts
+use Rattle.rp_eval.specs.Counts.{read_at, read_in, once_after, value_in}
+
+-- ---- stored values
+
+stored-unwritten : (xs : List AttributePlace) (read : List Value) → stored xs [] read ≡ []
+stored-unwritten [] read = refl
+stored-unwritten (x ∷ xs) read = refl
+
+stored-unread : (xs : List AttributePlace) (written : List Value) → stored xs written [] ≡ []
+stored-unread [] written = refl
+stored-unread (x ∷ xs) [] = refl
+stored-unread (x ∷ xs) (y ∷ written) = refl
+
+read-none : (written : Option Value) → read_in written None ≡ v.Indet
+read-none None = refl
+read-none (Some w) = refl
+
+-- the first of which the attribute is the one
+pub value-hit : (a : AttributePlace) (xs : List AttributePlace) (written read : List Value) (k : ℕ) (x : AttributePlace) → k < length xs → x ≡ get_or xs k x → same_attribute x a ≡ true
+    → value_in a (drop k xs) (drop k written) (drop k read) ≡ read_at written read k
+value-hit a [] written read k x h is same = absurd (omega (arith, h))
+value-hit a (y ∷ xs) [] read zero x h is same = refl
+value-hit a (y ∷ xs) (w ∷ written) [] zero x h is same = refl
+value-hit a (y ∷ xs) (w ∷ written) (r ∷ read) zero x h is same = let e : same_attribute y a ≡ true = rw is at same in rw e refl
+value-hit a (y ∷ xs) [] [] (suc k) x h is same = rw (stored-unwritten (drop k xs) []) refl
+value-hit a (y ∷ xs) [] (r ∷ read) (suc k) x h is same = rw (stored-unwritten (drop k xs) (drop k read)) refl
+value-hit a (y ∷ xs) (w ∷ written) [] (suc k) x h is same = rw (stored-unread (drop k xs) (drop k written)) (sym (read-none (slice_get written k)))
+value-hit a (y ∷ xs) (w ∷ written) (r ∷ read) (suc k) x h is same = value-hit a xs written read k x (omega (arith, h)) is same
+
+-- what is no such attribute is passed by
+pub value-miss : (a : AttributePlace) (xs : List AttributePlace) (written read : List Value) (k : ℕ) (x : AttributePlace) → k < length xs → x ≡ get_or xs k x → same_attribute x a ≡ false
+    → value_in a (drop k xs) (drop k written) (drop k read) ≡ value_in a (drop (suc k) xs) (drop (suc k) written) (drop (suc k) read)
+value-miss a [] written read k x h is same = absurd (omega (arith, h))
+value-miss a (y ∷ xs) [] read zero x h is same = rw (stored-unwritten xs (drop 1 read)) refl
+value-miss a (y ∷ xs) (w ∷ written) [] zero x h is same = rw (stored-unread xs written) refl
+value-miss a (y ∷ xs) (w ∷ written) (r ∷ read) zero x h is same = let e : same_attribute y a ≡ false = rw is at same in rw e refl
+value-miss a (y ∷ xs) [] read (suc k) x h is same = rw (stored-unwritten (drop k xs) (drop (suc k) read), stored-unwritten (drop (suc k) xs) (drop (suc (suc k)) read)) refl
+value-miss a (y ∷ xs) (w ∷ written) [] (suc k) x h is same = rw (stored-unread (drop k xs) (drop k written), stored-unread (drop (suc k) xs) (drop (suc k) written)) refl
+value-miss a (y ∷ xs) (w ∷ written) (r ∷ read) (suc k) x h is same = value-miss a xs written read k x (omega (arith, h)) is same
+
+-- past the end there is none
+pub value-none : (a : AttributePlace) (xs : List AttributePlace) (written read : List Value) (k : ℕ) → length xs ≤ k → value_in a (drop k xs) (drop k written) (drop k read) ≡ v.Indet
+value-none a xs written read k h = let e : drop k xs ≡ [] = drop_of_length-le xs h in rw e refl
+
+-- ---- instances that stand together
+
+once-by : (same : Bool) (last x : ℕ) (xs : List ℕ) → once_after (Some last) (instances xs) ≡ instances (uses.once_after last xs) → once_after (Some x) (instances xs) ≡ instances (uses.once_after x xs)
+    → cond same (once_after (Some last) (instances xs)) (v.Inst x ∷ once_after (Some x) (instances xs)) ≡ instances (cond same (uses.once_after last xs) (x ∷ uses.once_after x xs))
+once-by true last x xs h k = h
+once-by false last x xs h k = ap (λ ys. v.Inst x ∷ ys) k
+
+once-after : (last : ℕ) (places : List ℕ) → once_after (Some last) (instances places) ≡ instances (uses.once_after last places)
+unfolding out-Value denote.Hole.Carrier.out
+once-after last [] = refl
+once-after last (x ∷ xs) = once-by (x == last) last x xs (once-after last xs) (once-after x xs)
+
+pub once : (places : List ℕ) → once_after None (instances places) ≡ instances (uses.each_once places)
+unfolding out-Value denote.Hole.Carrier.out
+once [] = refl
+once (x ∷ xs) = ap (λ ys. v.Inst x ∷ ys) (once-after x xs)
+
+pub instances_count : (places : List ℕ) → length (instances places) ≡ length places
+instances_count places = length-map places (λ place. v.Inst place)
+
+-- what users come to by their places
+pub users_give : (kind : Option InverseAggregate) (places : List ℕ) → counts.of_users kind (instances places) ≡ spec.of_users kind places
+users_give None [] = refl
+users_give None (x ∷ []) = refl
+users_give None (x ∷ y ∷ xs) = refl
+users_give (Some a) places = refl
+
+-- ---- names
+
+pub texts_count : (schema : Schema) (population : List Instance) (names : List (List ℕ)) → length (texts schema population names) ≡ length names
+texts_count schema population names = length-map names (λ text. v.Str text)
+
+pub role_of_name : (schema : Schema) (name : List ℕ) → ¬ (name ≡ []) → spec.role_named schema.roles name ≡ counts.named_role schema.roles name
+role_of_name schema [] h = absurd (h refl)
+role_of_name schema (x ∷ xs) h = refl
+
+-- each user once
+pub inverse_set : (population : List Instance) (x : Inverse) (place : ℕ) (all found : List Value) → spec.is_bag x.aggregate ≡ false → all ≡ uses.users population (spec.inverse_role x) place → found ≡ once_after None all
+    → found ≡ instances (spec.inverse_places population x place)
+inverse_set population x place all found set from each = rw (each, from, set) (once (uses.user_places population (spec.inverse_role x) place))

@@ -1,0 +1,10 @@
+use Rattle.std.proofs.Common.{sym, ◌∙◌}
+use Rattle.rp_meaning.specs.Operators as operators
+use Rattle.rp_eval.proofs.Told.{told-more, told-same}
+use Rattle.rp_eval.proofs.steps.charge_operator.Goals as goal
+
+pub returns-in-None : goal.returns-in-None
+returns-in-None c = told-more (operators.cost c.args.operator c.args.left.now c.args.right.now) c.args.counter.now (sym c.in-None.is ∙ c.cost.ensures)
+
+pub returns-in-Some : goal.returns-in-Some
+returns-in-Some c = rw (told-same (operators.cost c.args.operator c.args.left.now c.args.right.now) c.in-Some.steps c.args.counter.now.left (sym c.in-Some.is ∙ c.cost.ensures)) at c.charge.ensures

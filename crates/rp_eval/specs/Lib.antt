@@ -1,0 +1,6 @@
+pub mod Bodies
+pub mod Endings
+pub mod Callings
+pub mod Counts
+pub mod Limits
+pub mod Charges

@@ -1,0 +1,161 @@
+//! Attributes of instances: which are meant, what gives their values, and what is stored of them.
+
+ghost use Rattle.std.specs.Prelude.{◌≡◌, IfOk};
+ghost use Rattle.std.specs.List.{find};
+ghost use Rattle.std.specs.Option.{option_copied};
+ghost use Rattle.rp_meaning.specs.Attributes as spec;
+ghost use Rattle.rp_meaning.specs.Populations as populations;
+ghost use Rattle.rp_meaning.specs.Uses as uses;
+ghost use Rattle.rp_eval.specs.Counts as counts;
+
+use ex_named::{AttributePlace, AttributeSort};
+use rp_meaning::{Derivation, Given, Inverse, NamedRole, Role, Schema, Seen};
+use rp_value::Value;
+use std::alloc::AllocError;
+
+/// Whether an instance has an entity.
+pub(crate) fn is_of(instance: &Seen<'_>, entity: usize) -> bool
+    ensures { result ≡ populations.is_of instance.now entity }
+{
+    instance.entities.iter().any(|other| *other == entity)
+}
+
+/// Which of these attributes is meant in an instance: the first of which it has the entity.
+pub(crate) fn chosen(attributes: &[AttributePlace], instance: &Seen<'_>) -> Option<AttributePlace>
+    ensures { result ≡ spec.chosen attributes.now instance.now }
+{
+    for attribute in attributes {
+        if is_of(instance, attribute.entity) {
+            return Some(*attribute);
+        }
+    }
+    None
+}
+
+fn same_sort(first: AttributeSort, second: AttributeSort) -> bool
+    ensures { result ≡ uses.same_sort first second }
+{
+    match (first, second) {
+        (AttributeSort::Explicit, AttributeSort::Explicit)
+        | (AttributeSort::Derived, AttributeSort::Derived)
+        | (AttributeSort::Inverse, AttributeSort::Inverse) => true,
+        _ => false,
+    }
+}
+
+fn same_attribute(first: AttributePlace, second: AttributePlace) -> bool
+    ensures { result ≡ uses.same_attribute first second }
+{
+    first.entity == second.entity
+        && same_sort(first.sort, second.sort)
+        && first.place == second.place
+}
+
+/// The value that is read, where one is written.
+fn read_at(written: &[Value], read: &[Value], place: usize) -> Result<Value, AllocError>
+    ensures { IfOk result (λ value. value ≡ counts.read_at written.now read.now place) }
+{
+    match (written.get(place), read.get(place)) {
+        (Some(_), Some(value)) => value.copy(),
+        _ => Ok(Value::Indet),
+    }
+}
+
+/// The value of the first of these attributes that is the one.
+fn value_in(
+    attributes: &[AttributePlace],
+    written: &[Value],
+    read: &[Value],
+    attribute: AttributePlace,
+) -> Result<Value, AllocError>
+    ensures { IfOk result (λ value. value ≡ counts.value_in attribute attributes.now written.now read.now) }
+{
+    for place in 0..attributes.len() {
+        if same_attribute(attributes[place], attribute) {
+            return read_at(written, read, place);
+        }
+    }
+    Ok(Value::Indet)
+}
+
+/// The value that is stored in an instance, as it is read.
+pub(crate) fn stored_value(
+    instance: &Seen<'_>,
+    attribute: AttributePlace,
+) -> Result<Value, AllocError>
+    ensures { IfOk result (λ value. value ≡ spec.stored_value instance.now attribute) }
+{
+    value_in(
+        instance.attributes,
+        instance.written,
+        instance.read,
+        attribute,
+    )
+}
+
+/// What redeclares an explicit attribute in DERIVE.
+pub(crate) fn explicit_derivations(schema: &Schema, attribute: AttributePlace) -> &[Derivation]
+    ensures { result.now ≡ spec.explicit_derivations schema.now attribute }
+{
+    let Some(entity) = schema.entities.get(attribute.entity) else {
+        return &[];
+    };
+    match entity.explicit.get(attribute.place) {
+        Some(explicit) => explicit.derivations.as_slice(),
+        None => &[],
+    }
+}
+
+/// What gives a derived attribute.
+pub(crate) fn own_derivations(schema: &Schema, attribute: AttributePlace) -> &[Derivation]
+    ensures { result.now ≡ spec.own_derivations schema.now attribute }
+{
+    let Some(entity) = schema.entities.get(attribute.entity) else {
+        return &[];
+    };
+    match entity.derived.get(attribute.place) {
+        Some(derivations) => derivations.as_slice(),
+        None => &[],
+    }
+}
+
+/// Which of several gives an attribute in an instance: the first of which it has the entity.
+pub(crate) fn derivation_in(
+    derivations: &[Derivation],
+    instance: &Seen<'_>,
+) -> Option<Derivation>
+    ensures { result ≡ find (λ x. populations.is_of instance.now x.entity) derivations.now }
+{
+    for derivation in derivations {
+        if is_of(instance, derivation.entity) {
+            return Some(*derivation);
+        }
+    }
+    None
+}
+
+/// What a place in the DERIVE clause of an entity gives.
+pub(crate) fn derivation(schema: &Schema, entity: usize, place: usize) -> Option<&Given>
+    ensures { option_copied result ≡ spec.derivation schema.now entity place }
+{
+    schema.entities.get(entity)?.derivations.get(place)
+}
+
+/// An inverse attribute of an entity.
+pub(crate) fn inverse_at(schema: &Schema, entity: usize, place: usize) -> Option<&Inverse>
+    ensures { option_copied result ≡ spec.inverse_at schema.now entity place }
+{
+    schema.entities.get(entity)?.inverse.get(place)
+}
+
+/// The first role of a name.
+pub(crate) fn named_role<'s>(roles: &'s [NamedRole], name: &str) -> Option<&'s Role>
+    ensures { option_copied result ≡ counts.named_role roles.now name.now }
+{
+    for role in roles {
+        if role.name.as_str() == name {
+            return Some(&role.role);
+        }
+    }
+    None
+}

@@ -1,0 +1,264 @@
+//! Rules, and whole evaluations.
+
+ghost use Rattle.std.specs.Prelude.{◌≡◌, IfOk, slice_get};
+ghost use Rattle.std.specs.Option.{option_copied, option_and_then};
+ghost use Rattle.rp_meaning.specs.Attributes.{entity_at};
+ghost use Rattle.rp_meaning.specs.Computations.{Runs};
+ghost use Rattle.rp_meaning.specs.Levels.{alone};
+ghost use Rattle.rp_meaning.specs.Outcomes as spec;
+ghost use Rattle.rp_eval.specs.Limits.{IsWithin};
+ghost use Rattle.rp_eval.specs.Bodies.{RunsBodies, bodies_at, world};
+ghost use Rattle.rp_eval.specs.Endings.{after};
+
+use crate::attributes::inverse_at;
+use crate::bodies::run_body;
+use crate::frame::Frame;
+use crate::statements::Ending;
+use crate::steps::charge;
+use crate::users::inverse_users;
+use crate::walk::Walk;
+use ex_named::AttributePlace;
+use ex_tree::{Bounds, InverseAggregate};
+use plain_data::Items;
+use rp_meaning::{
+    Body, Counter, Domain, Expression, GlobalRule, Inverse, Outcome, Rule, Schema, Stop,
+};
+use rp_operators::place_of;
+use rp_value::{Logical, Value};
+use std::alloc::{AllocError, Global};
+
+/// How many bodies may nest.
+const MOST_BODIES: u8 = 200;
+
+/// A rule of a schema, to be evaluated.
+#[derive(Clone, Copy)]
+pub struct Code<'s> {
+    pub schema: &'s Schema,
+    pub rule: Rule,
+}
+
+fn holds_count(bounds: Bounds, count: usize) -> bool
+    ensures { result ≡ spec.holds_count bounds count }
+{
+    let count = count as u64;
+    bounds.low <= count
+        && match bounds.high {
+            Some(high) => count <= high,
+            None => true,
+        }
+}
+
+/// Whether an inverse attribute may have so many users.
+fn is_count_of(aggregate: Option<InverseAggregate>, count: usize) -> bool
+    ensures { result ≡ spec.is_count_of aggregate count }
+{
+    match aggregate {
+        None => count == 1,
+        Some(aggregate) => holds_count(aggregate.bounds, count),
+    }
+}
+
+/// A condition of the WHERE clause of a defined type.
+fn type_condition(schema: &Schema, number: usize, place: usize) -> Option<&Expression>
+    ensures { option_copied result ≡ option_and_then (λ x. slice_get x.domain_rules place) (slice_get schema.now.types number) }
+{
+    schema.types.get(number)?.domain_rules.get(place)
+}
+
+/// A condition of the WHERE clause of an entity.
+fn entity_condition(schema: &Schema, number: usize, place: usize) -> Option<&Expression>
+    ensures { option_copied result ≡ option_and_then (λ x. slice_get x.domain_rules place) (entity_at schema.now number) }
+{
+    schema.entities.get(number)?.domain_rules.get(place)
+}
+
+/// An attribute of a rule of a UNIQUE clause.
+fn unique_attribute(
+    schema: &Schema,
+    number: usize,
+    place: usize,
+    at: usize,
+) -> Option<AttributePlace>
+    ensures { result ≡ option_and_then (λ rule. slice_get rule at) (option_and_then (λ x. slice_get x.unique_rules place) (entity_at schema.now number)) }
+{
+    schema
+        .entities
+        .get(number)?
+        .unique_rules
+        .get(place)?
+        .get(at)
+        .copied()
+}
+
+impl<'a, D: Domain, B: Fn(Global, &Schema, &D, u8, &mut Counter, Body) -> Result<Value, Stop>> Walk<
+    'a,
+    D,
+    B,
+> {
+    /// The value of a condition.
+    fn value_by(
+        &self,
+        condition: Option<&Expression>,
+        frame: &mut Frame,
+        counter: &mut Counter,
+    ) -> Result<Value, Stop>
+        requires { RunsBodies D.population self.now.alloc self.now.schema self.now.domain self.now.levels (B.pre self.now.below) (B.post self.now.below) }
+        ensures { Runs (spec.value_by (world self.now.schema.now (D.population self.now.domain.now)) (bodies_at self.now.schema.now (D.population self.now.domain.now) self.now.levels) (option_copied condition.entry) frame.old counter.old) result counter.new }
+    {
+        match condition {
+            Some(condition) => self.expression(condition, frame, counter),
+            None => Ok(Value::Indet),
+        }
+    }
+
+    /// What a condition says of SELF.
+    fn condition(
+        &self,
+        condition: Option<&Expression>,
+        itself: Value,
+        counter: &mut Counter,
+    ) -> Result<Value, Stop>
+        requires { RunsBodies D.population self.now.alloc self.now.schema self.now.domain self.now.levels (B.pre self.now.below) (B.post self.now.below) }
+        ensures { Runs (spec.value_by (world self.now.schema.now (D.population self.now.domain.now)) (bodies_at self.now.schema.now (D.population self.now.domain.now) self.now.levels) (option_copied condition.entry) (alone itself) counter.old) result counter.new }
+    {
+        let mut frame = Frame::alone(self.alloc, itself);
+        self.value_by(condition, &mut frame, counter)
+    }
+
+    /// The value of an attribute that is to be unique.
+    fn unique_value(
+        &self,
+        attribute: Option<AttributePlace>,
+        itself: Value,
+        counter: &mut Counter,
+    ) -> Result<Value, Stop>
+        requires { RunsBodies D.population self.now.alloc self.now.schema self.now.domain self.now.levels (B.pre self.now.below) (B.post self.now.below) }
+        ensures { Runs (spec.attribute_value (world self.now.schema.now (D.population self.now.domain.now)) (bodies_at self.now.schema.now (D.population self.now.domain.now) self.now.levels) attribute itself counter.old) result counter.new }
+    {
+        match attribute {
+            Some(attribute) => {
+                let frame = Frame::alone(self.alloc, itself);
+                self.own_attribute(attribute, &frame, counter)
+            }
+            None => Ok(Value::Indet),
+        }
+    }
+
+    /// Whether an inverse attribute has as many users as it may.
+    #[tactic(auto, using(crate::proofs::Found::instances_count))]
+    fn bounds_value(
+        &self,
+        inverse: Option<&Inverse>,
+        place: Option<u64>,
+        counter: &mut Counter,
+    ) -> Result<Value, Stop>
+        ensures { Runs (spec.bounds_value (world self.now.schema.now (D.population self.now.domain.now)) (bodies_at self.now.schema.now (D.population self.now.domain.now) self.now.levels) (option_copied inverse.entry) place counter.old) result counter.new }
+    {
+        let (Some(inverse), Some(place)) = (inverse, place) else {
+            return Ok(Value::Indet);
+        };
+        let users = inverse_users(self.alloc, self.domain, inverse, place as usize)?;
+        charge(counter, 1 + users.as_slice().len())?;
+        Ok(Value::Log(Logical::of(is_count_of(
+            inverse.aggregate,
+            users.len(),
+        ))))
+    }
+
+    /// What a condition gives behind statements.
+    fn condition_after(
+        &self,
+        condition: Option<&Expression>,
+        ending: Ending,
+        frame: &mut Frame,
+        counter: &mut Counter,
+    ) -> Result<Value, Stop>
+        requires { RunsBodies D.population self.now.alloc self.now.schema self.now.domain self.now.levels (B.pre self.now.below) (B.post self.now.below) }
+        ensures { Runs (spec.condition_after (world self.now.schema.now (D.population self.now.domain.now)) (bodies_at self.now.schema.now (D.population self.now.domain.now) self.now.levels) (option_copied condition.entry) (after ending frame.old) counter.old) result counter.new }
+    {
+        match ending {
+            Ending::Next => self.value_by(condition, frame, counter),
+            _ => Ok(Value::Indet),
+        }
+    }
+
+    /// What a condition of a global rule gives.
+    fn rule_value(
+        &self,
+        rule: Option<&GlobalRule>,
+        place: usize,
+        counter: &mut Counter,
+    ) -> Result<Value, Stop>
+        requires { RunsBodies D.population self.now.alloc self.now.schema self.now.domain self.now.levels (B.pre self.now.below) (B.post self.now.below) }
+        ensures { Runs (spec.rule_value (world self.now.schema.now (D.population self.now.domain.now)) (bodies_at self.now.schema.now (D.population self.now.domain.now) self.now.levels) (option_copied rule.entry) place counter.old) result counter.new }
+    {
+        let Some(rule) = rule else {
+            return Ok(Value::Indet);
+        };
+        let mut frame = Frame::of_locals(Items::new(self.alloc), rule.algorithm.locals)?;
+        let ending = self.algorithm(&rule.algorithm, &mut frame, counter)?;
+        self.condition_after(rule.domain_rules.get(place), ending, &mut frame, counter)
+    }
+
+    /// What a rule says of SELF.
+    fn evaluation(
+        &self,
+        rule: Rule,
+        itself: Value,
+        counter: &mut Counter,
+    ) -> Result<Value, Stop>
+        requires { RunsBodies D.population self.now.alloc self.now.schema self.now.domain self.now.levels (B.pre self.now.below) (B.post self.now.below) }
+        ensures { Runs (spec.evaluation (world self.now.schema.now (D.population self.now.domain.now)) (bodies_at self.now.schema.now (D.population self.now.domain.now) self.now.levels) rule itself counter.old) result counter.new }
+    {
+        match rule {
+            Rule::Type(number, place) => {
+                self.condition(type_condition(self.schema, number, place), itself, counter)
+            }
+            Rule::Entity(number, place) => {
+                self.condition(entity_condition(self.schema, number, place), itself, counter)
+            }
+            Rule::Global(number, place) => {
+                self.rule_value(self.schema.rules.get(number), place, counter)
+            }
+            Rule::Unique(number, place, at) => {
+                let attribute = unique_attribute(self.schema, number, place, at);
+                self.unique_value(attribute, itself, counter)
+            }
+            Rule::Inverse(number, place) => {
+                let inverse = inverse_at(self.schema, number, place);
+                self.bounds_value(inverse, place_of(&itself), counter)
+            }
+        }
+    }
+}
+
+/// What comes of a rule for SELF over the population of a domain, with at most so many steps: its value and the steps that it
+/// took, or the limit, where it takes more of them or more than 200 bodies nest. Err where memory runs out.
+#[tactic(auto, unfolding(rp_meaning::specs::Outcomes::outcome))]
+pub fn eval<D: Domain>(
+    alloc: Global,
+    code: &Code<'_>,
+    domain: &D,
+    itself: Value,
+    limit: usize,
+) -> Result<Outcome, AllocError>
+    ensures steps { IfOk result (λ found. IsWithin limit found) }
+    ensures value { IfOk result (λ found. found ≡ spec.outcome (world code.now.schema.now (D.population domain.now)) code.now.rule itself limit) }
+{
+    let walk = Walk {
+        alloc,
+        schema: code.schema,
+        domain,
+        levels: MOST_BODIES,
+        below: run_body::<D>,
+    };
+    let mut counter = Counter {
+        left: limit,
+        nesting: 0,
+    };
+    match walk.evaluation(code.rule, itself, &mut counter) {
+        Ok(value) => Ok(Outcome::Value(value, limit - counter.left)),
+        Err(Stop::Limit) => Ok(Outcome::Limit),
+        Err(Stop::NoMemory) => Err(AllocError),
+    }
+}

@@ -1,0 +1,86 @@
+//! Steps that are taken.
+
+ghost use Rattle.std.specs.Prelude.{◌≡◌, slice_index_or};
+ghost use Rattle.rp_meaning.specs.Computations as computations;
+ghost use Rattle.rp_meaning.specs.Computations.{Runs, pure};
+ghost use Rattle.rp_eval.specs.Charges.{charged};
+ghost use Rattle.rp_meaning.specs.BuiltIns as built_ins;
+ghost use Rattle.rp_meaning.specs.Operators as operators;
+ghost use Rattle.rp_value.specs.declared.value.Value.TheVariants as v;
+
+use crate::frame::Frame;
+use ex_tree::BinaryOperator;
+use rp_meaning::{Counter, Stop};
+use rp_operators::{cost, interval_cost, size};
+use rp_value::Value;
+
+/// Takes so many steps of those that are left.
+pub(crate) fn charge(counter: &mut Counter, steps: usize) -> Result<(), Stop>
+    ensures { Runs (computations.steps steps counter.old) result counter.new }
+{
+    if counter.left < steps {
+        return Err(Stop::Limit);
+    }
+    counter.left -= steps;
+    Ok(())
+}
+
+/// Takes what an operator costs on two values.
+pub(crate) fn charge_operator(
+    counter: &mut Counter,
+    operator: BinaryOperator,
+    left: &Value,
+    right: &Value,
+) -> Result<(), Stop>
+    ensures { Runs (computations.steps (operators.cost operator left.now right.now) counter.old) result counter.new }
+{
+    match cost(counter.left, operator, left, right) {
+        None => Err(Stop::Limit),
+        Some(steps) => charge(counter, steps),
+    }
+}
+
+/// Takes what an interval costs.
+pub(crate) fn charge_interval(
+    counter: &mut Counter,
+    low: &Value,
+    item: &Value,
+    high: &Value,
+) -> Result<(), Stop>
+    ensures { Runs (computations.steps (operators.interval_cost low.now item.now high.now) counter.old) result counter.new }
+{
+    match interval_cost(counter.left, low, item, high) {
+        None => Err(Stop::Limit),
+        Some(steps) => charge(counter, steps),
+    }
+}
+
+/// Takes what an initialiser costs that gives this value.
+pub(crate) fn charge_initializer(counter: &mut Counter, value: &Value) -> Result<(), Stop>
+    ensures { Runs (computations.steps (built_ins.size value.now) counter.old) result counter.new }
+{
+    match size(counter.left, value) {
+        None => Err(Stop::Limit),
+        Some(steps) => charge(counter, steps),
+    }
+}
+
+/// A value that is there, for a step.
+pub(crate) fn known(value: &Value, counter: &mut Counter) -> Result<Value, Stop>
+    ensures { Runs (charged 1 (pure value.now) counter.old) result counter.new }
+{
+    charge(counter, 1)?;
+    Ok(value.copy()?)
+}
+
+/// The variable of a slot, for a step.
+pub(crate) fn variable(
+    frame: &Frame,
+    slot: usize,
+    counter: &mut Counter,
+) -> Result<Value, Stop>
+    ensures { Runs (charged 1 (pure (slice_index_or frame.now.variables slot v.Indet)) counter.old) result counter.new }
+{
+    charge(counter, 1)?;
+    Ok(frame.variable(slot)?)
+}
