@@ -2,6 +2,8 @@
 #![tactic(auto)]
 
 mod attributes;
+mod combination;
+mod combinations;
 mod domain;
 mod extents;
 mod given;
@@ -9,6 +11,7 @@ mod instance;
 mod read;
 mod references;
 mod rows;
+mod sameness;
 mod users;
 
 pub use domain::ListDomain;

@@ -17,6 +17,13 @@ pub(crate) fn empty_rows<T: Drop>(alloc: Global, count: usize) -> Result<Vec<Ite
     Ok(rows)
 }
 
+/// An empty list with room for so many.
+pub(crate) fn with_room<T>(alloc: Global, room: usize) -> Result<Items<T>, AllocError>
+    ensures { IfOk result (λ items. items ≡ []) }
+{
+    Ok(Items::from_vec(Vec::with_capacity(alloc, room)?))
+}
+
 /// Puts something behind the others of a number, if that has a row.
 pub(crate) fn put<T: Drop>(
     rows: &mut Vec<Items<T>>,
