@@ -7,6 +7,7 @@ ghost use Rattle.rp_domain.specs.Rows.{put_all};
 ghost use Rattle.rp_domain.specs.Standing as spec;
 
 use crate::instance::KeptInstance;
+use crate::room::room_of_extents;
 use crate::rows::{empty_rows, put, with_room};
 use plain_data::Items;
 use rp_value::Value;
@@ -35,7 +36,8 @@ pub(crate) fn extents_of(
 ) -> Result<Vec<Items<usize>>, AllocError>
     ensures { IfOk result (λ rows. rows.items ≡ put_all (replicate count []) (spec.standing_from 0 instances.now)) }
 {
-    let mut rows = empty_rows(alloc, count)?;
+    let room = room_of_extents(alloc, count, instances)?;
+    let mut rows = empty_rows(alloc, room.as_slice())?;
     for (place, instance) in instances.iter().enumerate() {
         put_place(&mut rows, place, instance.entities())?;
     }

@@ -77,7 +77,7 @@ impl KeptInstance {
     ghost use Rattle.rp_meaning.specs.Populations.{is_of};
     ghost use Rattle.rp_domain.specs.Combinations.{used_of, values_of};
 
-    pub(crate) fn of(
+    pub(crate) fn new(
         combination: Shared<Combination>,
         written: Items<Value>,
         read: Option<Items<Value>>,

@@ -10,6 +10,7 @@ mod given;
 mod instance;
 mod read;
 mod references;
+mod room;
 mod rows;
 mod sameness;
 mod users;

@@ -134,7 +134,7 @@ fn kept(
         combination.get().attributes.as_slice(),
         written.as_slice(),
     )?;
-    Ok(KeptInstance::of(combination, written, read))
+    Ok(KeptInstance::new(combination, written, read))
 }
 
 /// The instances of a population, in their order.

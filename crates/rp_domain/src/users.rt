@@ -9,6 +9,7 @@ ghost use Rattle.rp_domain.specs.Rows as spec;
 
 use crate::combination::AttributeOf;
 use crate::instance::{KeptInstance, value_at};
+use crate::room::room_of_users;
 use crate::rows::{empty_rows, put, with_room};
 use ex_named::{AttributePlace, AttributeSort};
 use plain_data::Items;
@@ -146,7 +147,8 @@ pub(crate) fn users_of(
 ) -> Result<Vec<Items<User>>, AllocError>
     ensures { IfOk result (λ rows. rows.items ≡ spec.put_all (replicate (length instances.now) []) (uses.uses_from 0 instances.now)) }
 {
-    let mut rows = empty_rows(alloc, instances.len())?;
+    let room = room_of_users(alloc, instances)?;
+    let mut rows = empty_rows(alloc, room.as_slice())?;
     for (place, instance) in instances.iter().enumerate() {
         put_instance(&mut rows, place, instance)?;
     }
