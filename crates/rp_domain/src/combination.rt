@@ -118,7 +118,7 @@ fn uses_of(
 
 /// What instances of these entities share.
 #[tactic(auto, unfolding(crate::specs::Combinations::combination))]
-pub(crate) fn combination(
+pub(crate) fn shared_by(
     alloc: Global,
     schema: &Schema,
     entities: Items<usize>,

@@ -2,7 +2,7 @@
 
 ghost use Rattle.std.specs.Prelude.{◌≡◌, IsTrue};
 
-use crate::combination::{Combination, combination};
+use crate::combination::{Combination, shared_by};
 use plain_data::Items;
 use rp_meaning::Schema;
 use shared::Shared;
@@ -37,11 +37,11 @@ impl<'s> Model for Combinations<'s> {
     ghost use Rattle.rp_meaning.specs.declared.schema.Schema.{Schema};
     ghost use Rattle.rp_domain.specs.Combinations.{AreCombinations};
     ghost use Rattle.std.specs.Coded.{codes};
-    ghost use Rattle.rp_meaning.specs.contracts.schema.Schema as schema;
+    ghost use Rattle.rp_meaning.specs.contracts.schema.Schema as declared;
 
     ghost Value = { Schema };
 
-    ghost coded = { Prim.hlevel (codes, schema.the_row.coded) };
+    ghost coded = { Prim.hlevel (codes, declared.the_row.coded) };
 
     ghost view = { λ c. c.schema.now };
 
@@ -98,7 +98,7 @@ impl<'s> Combinations<'s> {
         ensures found { IfOk result (λ found. found ≡ spec.combination self.old entities) }
     {
         let key = Vec::from_slice(alloc, entities.as_slice())?;
-        let combination = combination(alloc, self.schema, entities)?;
+        let combination = shared_by(alloc, self.schema, entities)?;
         self.places.insert(key, self.found.len())?;
         self.found.push(combination.share()?)?;
         Ok(combination)
