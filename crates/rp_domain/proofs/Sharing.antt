@@ -1,5 +1,5 @@
 -- What is shared by instances of the same entities, and their values.
-use Rattle.std.proofs.Common.{◌≡◌, ℕ, zero, suc, ◌+◌, ◌<◌, ◌&&◌, Bool, true, false, List, [], ◌∷◌, ◌++◌, map, take, drop, length, get_or, drop-cons, add-one, nat_lt, if◌then◌else◌, IfSome, slice_get, slice_set, refl, sym, ◌∙◌, ap}
+use Rattle.std.proofs.Common.{◌≡◌, ℕ, zero, suc, ◌+◌, ◌<◌, Bool, true, false, List, [], ◌∷◌, ◌++◌, map, take, drop, length, get_or, drop-cons, add-one, if◌then◌else◌, IfSome, slice_get, slice_set, refl, sym, ◌∙◌, ap}
 use Rattle.std.specs.List.{zip}
 use Rattle.ex_named.specs.declared.reference.AttributePlace.{AttributePlace}
 use Rattle.rp_value.specs.declared.value.Value.{Value}
@@ -7,7 +7,8 @@ use Rattle.rp_value.specs.declared.value.Value.TheVariants as v
 use Rattle.rp_meaning.specs.declared.schema.Schema.{Schema}
 use Rattle.rp_meaning.specs.Populations.{stored}
 use Rattle.rp_meaning.specs.Reading.{is_derived, stored_as}
-use Rattle.rp_domain.specs.Combinations.{attribute_of, used_of, without_derived}
+use Rattle.rp_domain.specs.declared.combination.Combination.{Combination}
+use Rattle.rp_domain.specs.Combinations.{attribute_of, combination, used_of, without_derived, without_one}
 use Rattle.rp_domain.specs.Rows.{read_all, read_value}
 
 -- what holds of each that is kept holds still where one more is kept of which it holds
@@ -16,6 +17,10 @@ kept_more P [] x all here zero = here
 kept_more P [] x all here (suc k) = tt
 kept_more P (y ∷ ys) x all here zero = all zero
 kept_more P (y ∷ ys) x all here (suc k) = kept_more P ys x (λ k. all (suc k)) here k
+
+pub itself_is : (schema : Schema) (entities : List ℕ) (x : Combination) → x ≡ combination schema entities → x ≡ combination schema x.entities
+unfolding combination
+itself_is schema entities x is = is ∙ ap (combination schema) (sym (ap (λ (y : Combination). y.entities) is))
 
 module _ (schema : Schema) (count : ℕ) where
   -- attributes with their values as uses tell them
@@ -42,9 +47,6 @@ module _ (schema : Schema) (count : ℕ) where
 
 -- ---- values that are derived
 
-abbrev pub unless : Bool → List Value → ℕ → List Value
-unless derived values at = if derived && nat_lt at (length values) then slice_set values at v.Indet else values
-
 none-derived : (derived : List Bool) → without_derived derived [] ≡ []
 none-derived [] = refl
 none-derived (d ∷ derived) = refl
@@ -54,7 +56,7 @@ behind-first x xs ys true = refl
 behind-first x xs ys false = refl
 
 derived-at : (values : List Value) (at : ℕ) (d : Bool) (derived : List Bool)
-    → take at values ++ without_derived (d ∷ derived) (drop at values) ≡ take (suc at) (unless d values at) ++ without_derived derived (drop (suc at) (unless d values at))
+    → take at values ++ without_derived (d ∷ derived) (drop at values) ≡ take (suc at) (without_one d values at) ++ without_derived derived (drop (suc at) (without_one d values at))
 derived-at [] zero true derived = sym (none-derived derived)
 derived-at [] zero false derived = sym (none-derived derived)
 derived-at [] (suc at) true derived = sym (none-derived derived)
@@ -63,10 +65,10 @@ derived-at (x ∷ values) zero true derived = refl
 derived-at (x ∷ values) zero false derived = refl
 derived-at (x ∷ values) (suc at) d derived =
     ap (λ xs. x ∷ xs) (derived-at values at d derived)
-    ∙ ap (λ xs. take (suc (suc at)) xs ++ without_derived derived (drop (suc (suc at)) xs)) (sym (behind-first x (slice_set values at v.Indet) values (d && nat_lt at (length values))))
+    ∙ ap (λ xs. take (suc (suc at)) xs ++ without_derived derived (drop (suc (suc at)) xs)) (sym (behind-first x (slice_set values at v.Indet) values d))
 
 pub derived_step : (values : List Value) (at : ℕ) (d : Bool) (derived : List Bool) → at < length derived → d ≡ get_or derived at d
-    → take at values ++ without_derived (drop at derived) (drop at values) ≡ take (at + 1) (unless d values at) ++ without_derived (drop (at + 1) derived) (drop (at + 1) (unless d values at))
+    → take at values ++ without_derived (drop at derived) (drop at values) ≡ take (at + 1) (without_one d values at) ++ without_derived (drop (at + 1) derived) (drop (at + 1) (without_one d values at))
 derived_step values at d derived h is =
     ap (λ ds. take at values ++ without_derived ds (drop at values)) (drop-cons derived at d h ∙ ap (λ e. e ∷ drop (suc at) derived) (sym is))
     ∙ rw (add-one) (derived-at values at d (drop (suc at) derived))

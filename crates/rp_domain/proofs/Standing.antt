@@ -65,8 +65,7 @@ after-standing entity last place (x ∷ entities) rest is =
     ∙ or-then (x == entity) (is_among entities entity) (place ∷ once_after place (of_number entity rest)) (once_after last (of_number entity rest))
 
 after-all : (entity last at : ℕ) (population : List Instance) → last < at → once_after last (of_number entity (standing_from at population)) ≡ places_from entity at population
-unfolding standing_from
-unfolding places_from
+unfolding standing_from places_from
 after-all entity last at [] h = refl
 after-all entity last at (i ∷ others) h =
     let rest = standing_from (at + 1) others in
@@ -75,8 +74,7 @@ after-all entity last at (i ∷ others) h =
     ∙ either (is_among i.entities entity) (at ∷ once_after at (of_number entity rest)) (once_after last (of_number entity rest)) (at ∷ places_from entity (at + 1) others) (places_from entity (at + 1) others) (ap (λ (ps : List ℕ). at ∷ ps) (after-all entity at (at + 1) others (omega arith))) (after-all entity last (at + 1) others (omega arith))
 
 pub extent_is : (entity at : ℕ) (population : List Instance) → each_once (of_number entity (standing_from at population)) ≡ places_from entity at population
-unfolding standing_from
-unfolding places_from
+unfolding standing_from places_from
 extent_is entity at [] = refl
 extent_is entity at (i ∷ others) =
     let rest = standing_from (at + 1) others in

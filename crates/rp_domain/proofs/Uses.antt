@@ -1,5 +1,5 @@
 -- Who uses whom, turn by turn.
-use Rattle.std.proofs.Common.{◌≡◌, ℕ, zero, suc, slice_get, append_assoc, ◌+◌, ◌<◌, ◌≤◌, nat_lt, Bool, true, false, List, [], ◌∷◌, ◌++◌, map, length, drop, drop-cons, add-one, if◌then◌else◌, get_or, refl, sym, ◌∙◌, ap, arith}
+use Rattle.std.proofs.Common.{◌≡◌, ℕ, zero, suc, slice_get, append_assoc, ◌+◌, ◌<◌, ◌≤◌, ◌||◌, IsFalse, nat_lt, Bool, true, false, List, [], ◌∷◌, ◌++◌, map, length, drop, drop-cons, add-one, if◌then◌else◌, get_or, refl, sym, ◌∙◌, ap, arith}
 use Rattle.std.proofs.lemmas.List.{map-append}
 use Rattle.std.proofs.lemmas.Simd.{map-map}
 use Rattle.std.proofs.lemmas.List.Concat.{flat_map-append}
@@ -95,3 +95,24 @@ users_at role place population h = let is : nat_lt place (length population) ≡
 
 pub no_users : (role : Role) (place : ℕ) (population : List Instance) → length population ≤ place → users population role place ≡ []
 no_users role place population h = let is : nat_lt place (length population) ≡ false = grind (arith, nat_tests, h) in ap (λ (t : Bool). instances (if t then places_among role (uses_at place (uses_from 0 population)) else [])) is
+
+-- ---- where values are read as they are written
+
+seconds-of : (x : AttributePlace) (ys : List Value) → map (λ (p : AttributePlace × Value). p.1) (map (λ y. (x, y)) ys) ≡ ys
+seconds-of x [] = refl
+seconds-of x (y ∷ ys) = ap (λ zs. y ∷ zs) (seconds-of x ys)
+
+pub writes_step : (found : List Value) (xs : List AttributePlace) (ys : List Value) (i : ℕ) (x : AttributePlace) → i < length xs → x ≡ get_or xs i x
+    → found ++ map (λ (p : AttributePlace × Value). p.1) (zip (drop i xs) (drop i ys))
+    ≡ (found ++ option_to_list (slice_get ys i)) ++ map (λ (p : AttributePlace × Value). p.1) (zip (drop (i + 1) xs) (drop (i + 1) ys))
+writes_step found xs ys i x h is =
+    let here = option_to_list (slice_get ys i) in
+    let others = zip (drop (i + 1) xs) (drop (i + 1) ys) in
+    ap (λ zs. found ++ map (λ (p : AttributePlace × Value). p.1) zs) (zip_step xs ys i x h is)
+    ∙ ap (λ zs. found ++ zs) (map-append (λ (p : AttributePlace × Value). p.1) (map (λ y. (x, y)) here) others)
+    ∙ ap (λ zs. found ++ (zs ++ map (λ (p : AttributePlace × Value). p.1) others)) (seconds-of x here)
+    ∙ sym (append_assoc found here (map (λ (p : AttributePlace × Value). p.1) others))
+
+pub neither : (a b : Bool) → IsFalse (a || b) → IsFalse a × IsFalse b
+neither true b h = (h, cc)
+neither false b h = (refl, h)

@@ -1,5 +1,5 @@
 -- What instances of the same entities share, and their values.
-use Rattle.std.specs.Prelude.{◌≡◌, ℕ, Bool, List, [], ◌∷◌, map, Option, if◌then◌else◌, slice_get, IfSome}
+use Rattle.std.specs.Prelude.{◌≡◌, ℕ, Bool, List, [], ◌∷◌, map, Option, if◌then◌else◌, slice_get, slice_set, IfSome}
 use Rattle.std.specs.Option.{unwrap_or}
 use Rattle.std.specs.List.{zip}
 use Rattle.ex_named.specs.declared.reference.AttributePlace.{AttributePlace}
@@ -35,6 +35,10 @@ abbrev pub without_derived : List Bool → List Value → List Value
 without_derived [] xs = xs
 without_derived (d ∷ ds) [] = []
 without_derived (d ∷ ds) (x ∷ xs) = (if d then v.Indet else x) ∷ without_derived ds xs
+
+-- without the value at a place, if it is derived
+abbrev pub without_one : Bool → List Value → ℕ → List Value
+without_one derived xs at = if derived then slice_set xs at v.Indet else xs
 
 -- attributes with their values, which are read as they are written unless others are said
 abbrev pub values_of : List AttributePlace → List Value → Option (List Value) → List Stored

@@ -1,6 +1,6 @@
 //! Instances as they are kept, with their values as they are read.
 
-ghost use Rattle.std.specs.Prelude.{◌≡◌, [], ◌∷◌, IfOk, IsFalse, ◌++◌, map, length, slice_get};
+ghost use Rattle.std.specs.Prelude.{◌≡◌, ◌||◌, [], ◌∷◌, IfOk, IsFalse, ◌++◌, map, length, slice_get};
 ghost use Rattle.std.specs.List.{zip};
 ghost use Rattle.std.specs.Option.{option_to_list, unwrap_or};
 ghost use Rattle.rp_meaning.specs.Populations.{stored};
@@ -80,6 +80,12 @@ fn push_read(
     }
 }
 
+fn either(one: bool, other: bool) -> bool
+    ensures { result ≡ (one || other) }
+{
+    one || other
+}
+
 /// The values of attributes as they are read, if one of them is another than is written.
 fn read_values(
     alloc: Global,
@@ -93,11 +99,19 @@ fn read_values(
     let mut found = with_room(alloc, written.len())?;
     let mut differs = false;
     for (at, attribute) in attributes.iter().enumerate() {
-        if push_read(&mut found, alloc, schema, count, attribute, written, at)? {
-            differs = true;
-        }
+        let other = push_read(&mut found, alloc, schema, count, attribute, written, at)?;
+        differs = either(differs, other);
     }
     Ok(if differs { Some(found) } else { None })
+}
+
+/// Makes the value at a place `?` if it is derived, and if there is one.
+fn forget(values: &mut Items<Value>, at: usize, is_derived: bool)
+    ensures { values.new ≡ combinations_spec.without_one is_derived values.old at }
+{
+    if is_derived && at < values.len() {
+        values.set(at, Value::Indet);
+    }
 }
 
 /// The values, without those of which it is said that they are derived.
@@ -105,9 +119,7 @@ fn without_derived(mut values: Items<Value>, derived: &[bool]) -> Items<Value>
     ensures { result ≡ combinations_spec.without_derived derived.now values }
 {
     for (at, is_derived) in derived.iter().enumerate() {
-        if *is_derived && at < values.len() {
-            values.set(at, Value::Indet);
-        }
+        forget(&mut values, at, *is_derived);
     }
     values
 }

@@ -5,6 +5,26 @@ ghost use Rattle.rp_value.specs.declared.value.Value.TheVariants as v;
 
 use rp_value::{AggregateKind, Elements, HeldDecimal, Value};
 
+fn is_same_kind(kind: AggregateKind, other: AggregateKind) -> bool
+    ensures { IsTrue result → kind ≡ other }
+{
+    kind == other
+}
+
+fn are_same_bits(bits: &[bool], others: &[bool]) -> bool
+    ensures { IsTrue result → bits.now ≡ others.now }
+{
+    if bits.len() != others.len() {
+        return false;
+    }
+    for (at, bit) in bits.iter().enumerate() {
+        if *bit != others[at] {
+            return false;
+        }
+    }
+    true
+}
+
 fn is_same_decimal(decimal: &HeldDecimal, other: &HeldDecimal) -> bool
     ensures { IsTrue result → decimal.now ≡ other.now }
 {
@@ -20,7 +40,7 @@ fn is_same_scalar(value: &Value, other: &Value) -> bool
         (Value::Int(number), Value::Int(other)) => *number == *other,
         (Value::Dec(decimal), Value::Dec(other)) => is_same_decimal(decimal, other),
         (Value::Str(text), Value::Str(other)) => text.as_bytes() == other.as_bytes(),
-        (Value::Bin(bits), Value::Bin(other)) => bits.as_slice() == other.as_slice(),
+        (Value::Bin(bits), Value::Bin(other)) => are_same_bits(bits.as_slice(), other.as_slice()),
         (Value::Log(logical), Value::Log(other)) => *logical == *other,
         (Value::Inst(place), Value::Inst(other)) => *place == *other,
         (
@@ -59,17 +79,20 @@ pub(crate) fn is_same(value: &Value, other: &Value) -> bool
 fn is_same_aggregate(elements: &Elements<Value>, kind: AggregateKind, other: &Value) -> bool
     ensures { IsTrue result → v.Agg kind elements.now ≡ other.now }
 {
-    match other {
-        Value::Agg {
-            kind: other_kind,
-            elements: others,
-        } => {
-            kind == *other_kind
-                && elements.low() == others.low()
-                && are_same(elements.as_slice(), others.as_slice())
-        }
-        _ => false,
+    let Value::Agg {
+        kind: other_kind,
+        elements: others,
+    } = other
+    else {
+        return false;
+    };
+    if !is_same_kind(kind, *other_kind) {
+        return false;
     }
+    if elements.low() != others.low() {
+        return false;
+    }
+    are_same(elements.as_slice(), others.as_slice())
 }
 
 #[cycle(sameness)]
