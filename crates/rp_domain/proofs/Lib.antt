@@ -1,3 +1,5 @@
 pub mod Put
 pub mod Uses
 pub mod Reading
+pub mod Sharing
+pub mod Standing

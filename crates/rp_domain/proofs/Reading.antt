@@ -1,5 +1,5 @@
 -- References that leave a population, turn by turn.
-use Rattle.std.proofs.Common.{◌≡◌, ℕ, map, sym, ◌∙◌, ap}
+use Rattle.std.proofs.Common.{◌≡◌, ℕ, ℤ, List, map, sym, ◌∙◌, ap}
 use Rattle.rp_value.specs.Elements.{Elements}
 use Rattle.rp_value.specs.declared.value.AggregateKind.{AggregateKind}
 use Rattle.rp_value.specs.declared.value.Value.{Value}
@@ -14,3 +14,12 @@ unfolding present
 present-aggregate count x kind elements is =
     ap (present count) is ∙ ap (present count) (sym (v.rolls-Agg kind elements)) ∙ fold-roll-Value Value (present_in count) (Value-F.Agg kind elements)
     ∙ v.rolls-Agg kind (record { low = elements.low; items = map (present count) elements.items })
+
+elements_same : (xs ys : Elements Value) → xs.low ≡ ys.low → xs.items ≡ ys.items → xs ≡ ys
+elements_same xs ys low items =
+    ap (λ (n : ℤ). let e : Elements Value = record { low = n; items = xs.items } in e) low ∙ ap (λ (is : List Value). let e : Elements Value = record { low = ys.low; items = is } in e) items
+
+-- aggregates of the same parts
+pub agg_same : (kind other : AggregateKind) (xs ys : Elements Value) → kind ≡ other → xs.low ≡ ys.low → xs.items ≡ ys.items → v.Agg kind xs ≡ v.Agg other ys
+agg_same kind other xs ys k low items =
+    ap (λ e. v.Agg kind e) (elements_same xs ys low items) ∙ ap (λ k. v.Agg k ys) k

@@ -1,5 +1,5 @@
 -- Who uses whom, turn by turn.
-use Rattle.std.proofs.Common.{◌≡◌, ℕ, zero, suc, slice_get, append_assoc, ◌+◌, ◌<◌, ◌≤◌, nat_lt, Bool, true, false, List, [], ◌∷◌, ◌++◌, map, length, drop, drop-cons, add-one, if◌then◌else◌, get_or, refl, sym, ◌∙◌, ap, arith}
+use Rattle.std.proofs.Common.{◌≡◌, ℕ, zero, suc, slice_get, append_assoc, ◌+◌, ◌<◌, ◌≤◌, ◌||◌, IsFalse, nat_lt, Bool, true, false, List, [], ◌∷◌, ◌++◌, map, length, drop, drop-cons, add-one, if◌then◌else◌, get_or, refl, sym, ◌∙◌, ap, arith}
 use Rattle.std.proofs.lemmas.List.{map-append}
 use Rattle.std.proofs.lemmas.Simd.{map-map}
 use Rattle.std.proofs.lemmas.List.Concat.{flat_map-append}
@@ -15,8 +15,10 @@ use Rattle.rp_value.specs.declared.value.Value.TheFolds.{fold-roll-Value}
 use Rattle.rp_value.specs.declared.value.Value.TheOpen.{Value-F}
 use Rattle.rp_value.specs.declared.value.Value.TheVariants as v
 use Rattle.rp_meaning.specs.declared.role.Role.{Role}
-use Rattle.rp_meaning.specs.Populations.{Instance, instances, stored}
+use Rattle.rp_meaning.specs.Populations.{Instance, instances}
 use Rattle.rp_meaning.specs.Uses.{User, Use, references, referred, uses_of, uses_from, uses_at, users, places_among}
+use Rattle.rp_domain.specs.declared.combination.AttributeOf.{AttributeOf}
+use Rattle.rp_domain.specs.Combinations.{used_of}
 use Rattle.rp_domain.specs.Rows.{put_all, used_by, uses_by, uses_in, read_all, read_value}
 use Rattle.rp_meaning.specs.declared.schema.Schema.{Schema}
 use Rattle.rp_domain.proofs.Put.{put_all-append}
@@ -29,7 +31,7 @@ references-elements x kind elements is =
 used-append : (user : User) (xs ys : List ℕ) → used_by user (xs ++ ys) ≡ used_by user xs ++ used_by user ys
 used-append user xs ys = map-append (λ place. (place, user)) xs ys
 
-drop-read : {A : Type 0} (xs : List A) (i : ℕ) (x : A) → i < length xs → x ≡ get_or xs i x → drop i xs ≡ x ∷ drop (i + 1) xs
+pub drop-read : {A : Type 0} (xs : List A) (i : ℕ) (x : A) → i < length xs → x ≡ get_or xs i x → drop i xs ≡ x ∷ drop (i + 1) xs
 drop-read xs i x h is = rw (add-one) (drop-cons xs i x h ∙ ap (λ y. y ∷ drop (suc i) xs) (sym is))
 
 pub values_step : (rows : List (List User)) (user : User) (xs : List Value) (i : ℕ) (x : Value) → i < length xs → x ≡ get_or xs i x
@@ -46,8 +48,8 @@ unfolding uses_from
 population_step rows xs i x h is = rw (drop-read xs i x h is) (put_all-append rows (uses_in_instance i x) (uses_from (i + 1) (drop (i + 1) xs)))
 
 -- the uses of an instance are those by its attributes and their values
-pub uses-in : (place : ℕ) (i : Instance) → uses_in place i.entities (map (λ x. (x.attribute, x.written)) i.values) ≡ uses_in_instance place i
-uses-in place i = flat_map-map (λ (a : AttributePlace × Value). uses_by place i.entities a.0 a.1) (λ x. (x.attribute, x.written)) i.values
+pub uses-in : (place : ℕ) (i : Instance) → uses_in place (map (used_of i.entities) i.values) ≡ uses_in_instance place i
+uses-in place i = flat_map-map (λ (a : AttributeOf × Value). uses_by place a.0 a.1) (used_of i.entities) i.values
 
 zip-none : {A B : Type 0} (xs : List A) → zip {K = A} {X = B} xs [] ≡ []
 zip-none [] = refl
@@ -64,16 +66,16 @@ pub zip_step : {A B : Type 0} (xs : List A) (ys : List B) (i : ℕ) (x : A) → 
     → zip (drop i xs) (drop i ys) ≡ map (λ y. (x, y)) (option_to_list (slice_get ys i)) ++ zip (drop (i + 1) xs) (drop (i + 1) ys)
 zip_step xs ys i x h is = rw (drop-read xs i x h is) (rw (add-one) (zip-at x (drop (suc i) xs) ys i))
 
-pub attributes_step : (rows : List (List User)) (place : ℕ) (entities : List ℕ) (xs : List AttributePlace) (ys : List Value) (i : ℕ) (x : AttributePlace) → i < length xs → x ≡ get_or xs i x
-    → put_all rows (uses_in place entities (zip (drop i xs) (drop i ys)))
-    ≡ put_all (put_all rows (flat_map (λ y. uses_by place entities x y) (option_to_list (slice_get ys i)))) (uses_in place entities (zip (drop (i + 1) xs) (drop (i + 1) ys)))
-attributes_step rows place entities xs ys i x h is =
+pub attributes_step : (rows : List (List User)) (place : ℕ) (xs : List AttributeOf) (ys : List Value) (i : ℕ) (x : AttributeOf) → i < length xs → x ≡ get_or xs i x
+    → put_all rows (uses_in place (zip (drop i xs) (drop i ys)))
+    ≡ put_all (put_all rows (flat_map (λ y. uses_by place x y) (option_to_list (slice_get ys i)))) (uses_in place (zip (drop (i + 1) xs) (drop (i + 1) ys)))
+attributes_step rows place xs ys i x h is =
     let here = option_to_list (slice_get ys i) in
     let others = zip (drop (i + 1) xs) (drop (i + 1) ys) in
-    ap (λ zs. put_all rows (uses_in place entities zs)) (zip_step xs ys i x h is)
-    ∙ ap (put_all rows) (flat_map-append (λ a. uses_by place entities a.0 a.1) (map (λ y. (x, y)) here) others)
-    ∙ ap (λ us. put_all rows (us ++ uses_in place entities others)) (flat_map-map (λ (a : AttributePlace × Value). uses_by place entities a.0 a.1) (λ y. (x, y)) here)
-    ∙ put_all-append rows (flat_map (λ y. uses_by place entities x y) here) (uses_in place entities others)
+    ap (λ zs. put_all rows (uses_in place zs)) (zip_step xs ys i x h is)
+    ∙ ap (put_all rows) (flat_map-append (λ a. uses_by place a.0 a.1) (map (λ y. (x, y)) here) others)
+    ∙ ap (λ us. put_all rows (us ++ uses_in place others)) (flat_map-map (λ (a : AttributeOf × Value). uses_by place a.0 a.1) (λ y. (x, y)) here)
+    ∙ put_all-append rows (flat_map (λ y. uses_by place x y) here) (uses_in place others)
 
 pub reads_step : (schema : Schema) (count : ℕ) (found : List Value) (xs : List AttributePlace) (ys : List Value) (i : ℕ) (x : AttributePlace) → i < length xs → x ≡ get_or xs i x
     → found ++ read_all schema count (zip (drop i xs) (drop i ys))
@@ -94,11 +96,23 @@ users_at role place population h = let is : nat_lt place (length population) ≡
 pub no_users : (role : Role) (place : ℕ) (population : List Instance) → length population ≤ place → users population role place ≡ []
 no_users role place population h = let is : nat_lt place (length population) ≡ false = grind (arith, nat_tests, h) in ap (λ (t : Bool). instances (if t then places_among role (uses_at place (uses_from 0 population)) else [])) is
 
--- ---- attributes with their values
+-- ---- where values are read as they are written
 
-pub written_are : (attributes : List AttributePlace) (written read : List Value) → length read ≡ length (zip attributes written)
-    → zip attributes written ≡ map (λ x. (x.attribute, x.written)) (stored attributes written read)
-written_are [] written read same = refl
-written_are (a ∷ attributes) [] read same = refl
-written_are (a ∷ attributes) (x ∷ written) [] same = absurd (omega (arith, same))
-written_are (a ∷ attributes) (x ∷ written) (y ∷ read) same = ap (λ xs. (a, x) ∷ xs) (written_are attributes written read (omega (arith, same)))
+seconds-of : (x : AttributePlace) (ys : List Value) → map (λ (p : AttributePlace × Value). p.1) (map (λ y. (x, y)) ys) ≡ ys
+seconds-of x [] = refl
+seconds-of x (y ∷ ys) = ap (λ zs. y ∷ zs) (seconds-of x ys)
+
+pub writes_step : (found : List Value) (xs : List AttributePlace) (ys : List Value) (i : ℕ) (x : AttributePlace) → i < length xs → x ≡ get_or xs i x
+    → found ++ map (λ (p : AttributePlace × Value). p.1) (zip (drop i xs) (drop i ys))
+    ≡ (found ++ option_to_list (slice_get ys i)) ++ map (λ (p : AttributePlace × Value). p.1) (zip (drop (i + 1) xs) (drop (i + 1) ys))
+writes_step found xs ys i x h is =
+    let here = option_to_list (slice_get ys i) in
+    let others = zip (drop (i + 1) xs) (drop (i + 1) ys) in
+    ap (λ zs. found ++ map (λ (p : AttributePlace × Value). p.1) zs) (zip_step xs ys i x h is)
+    ∙ ap (λ zs. found ++ zs) (map-append (λ (p : AttributePlace × Value). p.1) (map (λ y. (x, y)) here) others)
+    ∙ ap (λ zs. found ++ (zs ++ map (λ (p : AttributePlace × Value). p.1) others)) (seconds-of x here)
+    ∙ sym (append_assoc found here (map (λ (p : AttributePlace × Value). p.1) others))
+
+pub neither : (a b : Bool) → IsFalse (a || b) → IsFalse a × IsFalse b
+neither true b h = (h, cc)
+neither false b h = (refl, h)

@@ -6,6 +6,7 @@ use Rattle.rp_value.specs.declared.value.Value.{Value}
 use Rattle.rp_meaning.specs.declared.schema.Schema.{Schema}
 use Rattle.rp_meaning.specs.Reading.{read_as}
 use Rattle.rp_meaning.specs.Uses.{User, Use, references}
+use Rattle.rp_domain.specs.declared.combination.AttributeOf.{AttributeOf}
 
 abbrev pub row : {A : Type 0} → List (List A) → ℕ → List A
 row rows number = slice_index_or rows number []
@@ -29,13 +30,17 @@ of_number number pairs = map (λ p. p.1) (filter (λ p. p.0 == number) pairs)
 abbrev pub used_by : User → List ℕ → List Use
 used_by user places = map (λ place. (place, user)) places
 
--- those of an instance at a place, of these entities, by an attribute with its value
-abbrev pub uses_by : ℕ → List ℕ → AttributePlace → Value → List Use
-uses_by place entities attribute x = used_by (record { place = place; entities = entities; attribute = attribute }) (references x)
+-- an instance at a place, by an attribute
+abbrev pub user_by : ℕ → AttributeOf → User
+user_by place a = record { place = place; entities = a.entities; attribute = a.attribute }
+
+-- what it uses by this attribute with its value
+abbrev pub uses_by : ℕ → AttributeOf → Value → List Use
+uses_by place a x = used_by (user_by place a) (references x)
 
 -- by its attributes and their values
-abbrev pub uses_in : ℕ → List ℕ → List (AttributePlace × Value) → List Use
-uses_in place entities attributes = flat_map (λ a. uses_by place entities a.0 a.1) attributes
+abbrev pub uses_in : ℕ → List (AttributeOf × Value) → List Use
+uses_in place attributes = flat_map (λ a. uses_by place a.0 a.1) attributes
 
 -- ---- values
 

@@ -1,6 +1,6 @@
 //! A population in a list.
 
-use crate::extents::found_extent;
+use crate::extents::{extents_of, found_extent, instances_once};
 use crate::instance::{KeptInstance, WrittenInstance};
 use crate::read::kept_instances;
 use crate::users::{User, users_among, users_of};
@@ -10,17 +10,24 @@ use rp_value::Value;
 use std::alloc::{AllocError, Global};
 use std::marker::Model;
 
-/// A population in a list, with its values as they are read, and with who uses whom.
+/// A population in a list, with its values as they are read, and with the instances of each entity and who uses whom.
 pub struct ListDomain {
     instances: Items<KeptInstance>,
+    /// The places of its instances, by entities of the schema.
+    extents: Vec<Items<usize>>,
     /// By the places of what they use.
     users: Vec<Items<User>>,
 }
 
 impl Drop for ListDomain {
     fn drop(self) {
-        let ListDomain { instances, users } = self;
+        let ListDomain {
+            instances,
+            extents,
+            users,
+        } = self;
         drop(instances);
+        drop(extents);
         drop(users);
     }
 }
@@ -30,6 +37,7 @@ impl Model for ListDomain {
     ghost use Rattle.rp_meaning.specs.Populations.{Instance};
     ghost use Rattle.rp_meaning.specs.Uses.{uses_from};
     ghost use Rattle.rp_domain.specs.Rows.{put_all};
+    ghost use Rattle.rp_domain.specs.Standing.{standing_from};
     ghost use Rattle.std.specs.Coded.{codes};
     ghost use Rattle.rp_value.specs.contracts.value.Value as value;
 
@@ -39,14 +47,18 @@ impl Model for ListDomain {
 
     ghost view = { λ d. d.instances };
 
-    ghost invariant = { λ d. d.users.items ≡ put_all (replicate (length d.instances) []) (uses_from 0 d.instances) };
+    ghost invariant = { λ d. record {
+      extents : d.extents.items ≡ put_all (replicate (length d.extents.items) []) (standing_from 0 d.instances);
+      users : d.users.items ≡ put_all (replicate (length d.instances) []) (uses_from 0 d.instances);
+    } };
 }
 
 impl ListDomain {
     ghost use Rattle.std.specs.Prelude.{◌≡◌, IfOk, map, length};
     ghost use Rattle.rp_meaning.specs.Reading.{instance_of};
 
-    /// The population of these instances of a schema. A reference to a place that no instance has leaves it.
+    /// The population of these instances of a schema. A reference to a place that no instance has leaves it, and what an instance
+    /// derives has no value that is written.
     pub fn new(
         alloc: Global,
         schema: &Schema,
@@ -55,8 +67,13 @@ impl ListDomain {
         ensures { IfOk result (λ domain. domain ≡ map (λ i. instance_of schema.now (length instances.items) i.entities i.values) instances.items) }
     {
         let instances = kept_instances(alloc, schema, instances)?;
+        let extents = extents_of(alloc, schema.entities.len(), instances.as_slice())?;
         let users = users_of(alloc, instances.as_slice())?;
-        Ok(ListDomain { instances, users })
+        Ok(ListDomain {
+            instances,
+            extents,
+            users,
+        })
     }
 }
 
@@ -75,7 +92,11 @@ impl Domain for ListDomain {
     }
 
     fn extent(&self, alloc: Global, entity: usize) -> Result<Items<Value>, AllocError> {
-        found_extent(alloc, self.instances.as_slice(), entity)
+        if entity < self.extents.len() {
+            instances_once(alloc, self.extents[entity].as_slice())
+        } else {
+            found_extent(alloc, self.instances.as_slice(), entity)
+        }
     }
 
     fn users(&self, alloc: Global, at: usize, role: &Role) -> Result<Items<Value>, AllocError> {

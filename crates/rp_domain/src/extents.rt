@@ -1,15 +1,77 @@
 //! The instances of entities.
 
-ghost use Rattle.std.specs.Prelude.{◌≡◌, IfOk};
-ghost use Rattle.plain_data.specs.Numbers.{is_among};
+ghost use Rattle.std.specs.Prelude.{◌≡◌, [], ◌∷◌, ◌++◌, IfOk, OnOk, length, replicate};
 ghost use Rattle.rp_meaning.specs.Populations.{instances as values_of, places_from};
+ghost use Rattle.rp_meaning.specs.Uses.{each_once};
+ghost use Rattle.rp_domain.specs.Rows.{put_all};
+ghost use Rattle.rp_domain.specs.Standing as spec;
 
 use crate::instance::KeptInstance;
+use crate::room::room_of_extents;
+use crate::rows::{empty_rows, put, with_room};
 use plain_data::Items;
 use rp_value::Value;
 use std::alloc::{AllocError, Global};
 
-/// The instances of an entity, in their order.
+/// Puts the place of an instance behind those of each of its entities.
+fn put_place(
+    rows: &mut Vec<Items<usize>>,
+    place: usize,
+    entities: &[usize],
+) -> Result<(), AllocError>
+    ensures { OnOk result (rows.new.items ≡ put_all rows.old.items (spec.standing place entities.now)) }
+{
+    for entity in entities {
+        put(rows, *entity, place)?;
+    }
+    Ok(())
+}
+
+/// The places of the instances of each entity of a schema of so many.
+#[tactic(auto, unfolding(crate::specs::Standing::standing_from))]
+pub(crate) fn extents_of(
+    alloc: Global,
+    count: usize,
+    instances: &[KeptInstance],
+) -> Result<Vec<Items<usize>>, AllocError>
+    ensures { IfOk result (λ rows. rows.items ≡ put_all (replicate count []) (spec.standing_from 0 instances.now)) }
+{
+    let room = room_of_extents(alloc, count, instances)?;
+    let mut rows = empty_rows(alloc, room.as_slice())?;
+    for (place, instance) in instances.iter().enumerate() {
+        put_place(&mut rows, place, instance.entities())?;
+    }
+    Ok(rows)
+}
+
+/// Adds the instance at a place, unless it is the last one.
+fn push_once(
+    found: &mut Items<Value>,
+    last: Option<usize>,
+    place: usize,
+) -> Result<(), AllocError>
+    ensures { OnOk result (found.new ≡ found.old ++ values_of (spec.once_behind last (place ∷ []))) }
+{
+    match last {
+        Some(other) if other == place => Ok(()),
+        _ => found.push(Value::Inst(place as u64)),
+    }
+}
+
+/// The instances at these places, each once of those that stand together.
+pub(crate) fn instances_once(alloc: Global, places: &[usize]) -> Result<Items<Value>, AllocError>
+    ensures { IfOk result (λ found. found ≡ values_of (each_once places.now)) }
+{
+    let mut found = with_room(alloc, places.len())?;
+    let mut last = None;
+    for place in places {
+        push_once(&mut found, last, *place)?;
+        last = Some(*place);
+    }
+    Ok(found)
+}
+
+/// The instances of an entity, in their order, by a walk over all instances.
 #[tactic(auto, unfolding(rp_meaning::specs::Populations::places_from))]
 pub(crate) fn found_extent(
     alloc: Global,

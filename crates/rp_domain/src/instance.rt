@@ -1,9 +1,9 @@
 //! An instance of a population.
 
 ghost use Rattle.std.specs.Prelude.{◌≡◌, slice_get};
-ghost use Rattle.std.specs.Option.{option_copied};
+ghost use Rattle.std.specs.Option.{option_copied, unwrap_or};
 
-use ex_named::AttributePlace;
+use crate::combination::{AttributeOf, Combination};
 use plain_data::Items;
 use rp_meaning::Seen;
 use rp_value::Value;
@@ -18,31 +18,31 @@ pub struct WrittenInstance {
     pub values: Items<Value>,
 }
 
-/// An instance with its values as they are written and as they are read.
+/// An instance with its values as they are written, and as they are read where these are others.
 pub(crate) struct KeptInstance {
-    entities: Shared<Items<usize>>,
-    attributes: Items<AttributePlace>,
+    combination: Shared<Combination>,
     written: Items<Value>,
-    read: Items<Value>,
+    read: Option<Items<Value>>,
 }
 
 impl Drop for KeptInstance {
     fn drop(self) {
         let KeptInstance {
-            entities,
-            attributes,
+            combination,
             written,
             read,
         } = self;
-        drop(entities);
-        drop(attributes);
+        drop(combination);
         drop(written);
         drop(read);
     }
 }
 
 impl Model for KeptInstance {
-    ghost use Rattle.rp_meaning.specs.Populations.{Instance, stored};
+    ghost use Rattle.std.specs.Prelude.{◌≡◌, map};
+    ghost use Rattle.std.specs.List.{zip};
+    ghost use Rattle.rp_meaning.specs.Populations.{Instance};
+    ghost use Rattle.rp_domain.specs.Combinations.{used_of, values_of};
     ghost use Rattle.std.specs.Coded.{codes};
     ghost use Rattle.rp_value.specs.contracts.value.Value as value;
 
@@ -50,12 +50,9 @@ impl Model for KeptInstance {
 
     ghost coded = { Prim.hlevel (codes, value.the_row.coded) };
 
-    ghost view = { λ i. record { entities = i.entities; values = stored i.attributes i.written i.read } };
+    ghost view = { λ i. record { entities = i.combination.entities; values = values_of i.combination.attributes i.written i.read } };
 
-    ghost use Rattle.std.specs.Prelude.{◌≡◌, length};
-    ghost use Rattle.std.specs.List.{zip};
-
-    ghost invariant = { λ i. length i.read ≡ length (zip i.attributes i.written) };
+    ghost invariant = { λ i. zip i.combination.uses i.written ≡ map (used_of i.combination.entities) (values_of i.combination.attributes i.written i.read) };
 }
 
 pub(crate) fn value_at(values: &[Value], at: usize) -> Option<&Value>
@@ -64,23 +61,32 @@ pub(crate) fn value_at(values: &[Value], at: usize) -> Option<&Value>
     values.get(at)
 }
 
-impl KeptInstance {
-    ghost use Rattle.std.specs.Prelude.{◌≡◌, length, map};
-    ghost use Rattle.std.specs.List.{zip};
-    ghost use Rattle.rp_meaning.specs.Populations.{is_of, stored};
+/// The values as they are read.
+fn read_by<'v>(written: &'v Items<Value>, read: &'v Option<Items<Value>>) -> &'v [Value]
+    ensures { result.now ≡ unwrap_or read.now written.now }
+{
+    match read {
+        None => written.as_slice(),
+        Some(read) => read.as_slice(),
+    }
+}
 
-    pub(crate) fn of(
-        entities: Shared<Items<usize>>,
-        attributes: Items<AttributePlace>,
+impl KeptInstance {
+    ghost use Rattle.std.specs.Prelude.{◌≡◌, map};
+    ghost use Rattle.std.specs.List.{zip};
+    ghost use Rattle.rp_meaning.specs.Populations.{is_of};
+    ghost use Rattle.rp_domain.specs.Combinations.{used_of, values_of};
+
+    pub(crate) fn new(
+        combination: Shared<Combination>,
         written: Items<Value>,
-        read: Items<Value>,
+        read: Option<Items<Value>>,
     ) -> KeptInstance
-        requires { length read ≡ length (zip attributes written) }
-        ensures { result ≡ (record { entities = entities; values = stored attributes written read }) }
+        requires { zip combination.uses written ≡ map (used_of combination.entities) (values_of combination.attributes written read) }
+        ensures { result ≡ (record { entities = combination.entities; values = values_of combination.attributes written read }) }
     {
         KeptInstance {
-            entities,
-            attributes,
+            combination,
             written,
             read,
         }
@@ -89,31 +95,32 @@ impl KeptInstance {
     pub(crate) fn seen(&self) -> Seen<'_>
         ensures { result ≡ self.now }
     {
+        let combination = self.combination.get();
         Seen {
-            entities: self.entities.get().as_slice(),
-            attributes: self.attributes.as_slice(),
+            entities: combination.entities.get().as_slice(),
+            attributes: combination.attributes.as_slice(),
             written: self.written.as_slice(),
-            read: self.read.as_slice(),
+            read: read_by(&self.written, &self.read),
         }
     }
 
-    pub(crate) fn entities(&self) -> &Shared<Items<usize>>
+    pub(crate) fn entities(&self) -> &[usize]
         ensures { result.now ≡ self.now.entities }
     {
-        &self.entities
+        self.combination.get().entities.get().as_slice()
     }
 
     /// The attributes that have values, and these as they are written.
-    #[tactic(auto, using(crate::proofs::Uses::written_are))]
-    pub(crate) fn written(&self) -> (&[AttributePlace], &[Value])
-        ensures { zip result.0.now result.1.now ≡ map (λ x. (x.attribute, x.written)) self.now.values }
+    pub(crate) fn uses(&self) -> (&[Shared<AttributeOf>], &[Value])
+        ensures { zip result.0.now result.1.now ≡ map (used_of self.now.entities) self.now.values }
     {
-        (self.attributes.as_slice(), self.written.as_slice())
+        let attributes = self.combination.get().uses.as_slice();
+        (attributes, self.written.as_slice())
     }
 
     pub(crate) fn is_of(&self, entity: usize) -> bool
         ensures { result ≡ is_of self.now entity }
     {
-        self.entities.get().as_slice().contains(&entity)
+        self.entities().contains(&entity)
     }
 }

@@ -2,13 +2,17 @@
 #![tactic(auto)]
 
 mod attributes;
+mod combination;
+mod combinations;
 mod domain;
 mod extents;
 mod given;
 mod instance;
 mod read;
 mod references;
+mod room;
 mod rows;
+mod sameness;
 mod users;
 
 pub use domain::ListDomain;

@@ -1,32 +1,26 @@
-//! Values as they are read.
+//! Instances as they are kept, with their values as they are read.
 
-ghost use Rattle.std.specs.Prelude.{◌≡◌, IfOk, OnOk, ◌++◌, map, length, slice_get};
+ghost use Rattle.std.specs.Prelude.{◌≡◌, ◌||◌, [], ◌∷◌, IfOk, IsFalse, ◌++◌, map, length, slice_get};
 ghost use Rattle.std.specs.List.{zip};
-ghost use Rattle.std.specs.Option.{option_and_then, option_copied, option_to_list};
-ghost use Rattle.rp_meaning.specs.Attributes.{entity_at};
+ghost use Rattle.std.specs.Option.{option_to_list, unwrap_or};
+ghost use Rattle.rp_meaning.specs.Populations.{stored};
 ghost use Rattle.rp_meaning.specs.Reading as spec;
+ghost use Rattle.rp_domain.specs.Combinations as combinations_spec;
+ghost use Rattle.rp_domain.specs.Combinations.{values_of};
 ghost use Rattle.rp_domain.specs.Rows.{read_all, read_value};
 
-use crate::attributes::attributes;
+use crate::attributes::declaration;
+use crate::combinations::Combinations;
 use crate::given::given;
 use crate::instance::{KeptInstance, WrittenInstance, value_at};
-use crate::references::present;
+use crate::references::within;
+use crate::rows::with_room;
+use crate::sameness::is_same;
 use ex_named::AttributePlace;
 use plain_data::Items;
-use rp_meaning::{ExplicitAttribute, Schema};
+use rp_meaning::Schema;
 use rp_value::Value;
-use shared::Shared;
 use std::alloc::{AllocError, Global};
-
-/// The declaration of an explicit attribute.
-fn declaration<'s>(schema: &'s Schema, attribute: &AttributePlace) -> Option<&'s ExplicitAttribute>
-    ensures { option_copied result ≡ option_and_then (λ e. slice_get e.explicit attribute.now.place) (entity_at schema.now attribute.now.entity) }
-{
-    match schema.entities.get(attribute.entity) {
-        None => None,
-        Some(entity) => entity.explicit.get(attribute.place),
-    }
-}
 
 /// The value of an explicit attribute as it is read in a population of so many instances.
 fn read_value(
@@ -41,15 +35,33 @@ fn read_value(
     match declaration(schema, attribute) {
         None => Ok(Value::Indet),
         Some(declared) => {
-            let value = present(value, alloc, count)?;
+            let value = within(alloc, value, count)?;
             let data_type = &declared.declaration.data_type;
             given(alloc, schema.types.as_slice(), data_type, &value)
         }
     }
 }
 
-/// Adds the value at a place, which is an attribute's, as it is read, if there is one.
+/// Adds the value of an attribute as it is read, and tells whether that is another one than is written. Where it isn't, the two
+/// share what they hold.
 #[tactic(auto, unfolding(crate::specs::Rows::read_value))]
+fn push_value(
+    found: &mut Items<Value>,
+    alloc: Global,
+    schema: &Schema,
+    count: usize,
+    attribute: &AttributePlace,
+    value: &Value,
+) -> Result<bool, AllocError>
+    ensures { IfOk result (λ differs. (found.new ≡ found.old ++ read_value schema.now count attribute.now value.now ∷ []) × (IsFalse differs → read_value schema.now count attribute.now value.now ≡ value.now)) }
+{
+    let read = read_value(alloc, schema, count, attribute, value)?;
+    let differs = !is_same(&read, value);
+    found.push(if differs { read } else { value.copy()? })?;
+    Ok(differs)
+}
+
+/// Adds the value at a place, which is an attribute's, as it is read, if there is one, and tells whether that is another one.
 fn push_read(
     found: &mut Items<Value>,
     alloc: Global,
@@ -58,53 +70,83 @@ fn push_read(
     attribute: &AttributePlace,
     written: &[Value],
     at: usize,
-) -> Result<(), AllocError>
-    ensures { OnOk result (found.new ≡ found.old ++ map (λ x. read_value schema.now count attribute.now x) (option_to_list (slice_get written.now at))) }
+) -> Result<bool, AllocError>
+    ensures read { IfOk result (λ differs. found.new ≡ found.old ++ map (λ x. read_value schema.now count attribute.now x) (option_to_list (slice_get written.now at))) }
+    ensures same { IfOk result (λ differs. IsFalse differs → map (λ x. read_value schema.now count attribute.now x) (option_to_list (slice_get written.now at)) ≡ option_to_list (slice_get written.now at)) }
 {
     match value_at(written, at) {
-        None => Ok(()),
-        Some(value) => found.push(read_value(alloc, schema, count, attribute, value)?),
+        None => Ok(false),
+        Some(value) => push_value(found, alloc, schema, count, attribute, value),
     }
 }
 
-/// The values of attributes as they are read.
+fn either(one: bool, other: bool) -> bool
+    ensures { result ≡ (one || other) }
+{
+    one || other
+}
+
+/// The values of attributes as they are read, if one of them is another than is written.
 fn read_values(
     alloc: Global,
     schema: &Schema,
     count: usize,
     attributes: &[AttributePlace],
     written: &[Value],
-) -> Result<Items<Value>, AllocError>
-    ensures { IfOk result (λ found. found ≡ read_all schema.now count (zip attributes.now written.now)) }
+) -> Result<Option<Items<Value>>, AllocError>
+    ensures { IfOk result (λ found. values_of attributes.now written.now found ≡ stored attributes.now written.now (read_all schema.now count (zip attributes.now written.now))) }
 {
-    let mut found = Items::new(alloc);
+    let mut found = with_room(alloc, written.len())?;
+    let mut differs = false;
     for (at, attribute) in attributes.iter().enumerate() {
-        push_read(&mut found, alloc, schema, count, attribute, written, at)?;
+        let other = push_read(&mut found, alloc, schema, count, attribute, written, at)?;
+        differs = either(differs, other);
     }
-    Ok(found)
+    Ok(if differs { Some(found) } else { None })
+}
+
+/// Makes the value at a place `?` if it is derived, and if there is one.
+fn forget(values: &mut Items<Value>, at: usize, is_derived: bool)
+    ensures { values.new ≡ combinations_spec.without_one is_derived values.old at }
+{
+    if is_derived && at < values.len() {
+        values.set(at, Value::Indet);
+    }
+}
+
+/// The values, without those of which it is said that they are derived.
+fn without_derived(mut values: Items<Value>, derived: &[bool]) -> Items<Value>
+    ensures { result ≡ combinations_spec.without_derived derived.now values }
+{
+    for (at, is_derived) in derived.iter().enumerate() {
+        forget(&mut values, at, *is_derived);
+    }
+    values
 }
 
 /// An instance of a population of so many.
-#[tactic(auto, unfolding(crate::specs::Rows::read_value))]
 fn kept(
     alloc: Global,
     schema: &Schema,
+    combinations: &mut Combinations<'_>,
     count: usize,
     instance: WrittenInstance,
 ) -> Result<KeptInstance, AllocError>
-    ensures { IfOk result (λ i. i ≡ spec.instance_of schema.now count instance.entities instance.values) }
+    requires { combinations.old ≡ schema.now }
+    ensures same { combinations.new ≡ combinations.old }
+    ensures kept { IfOk result (λ i. i ≡ spec.instance_of schema.now count instance.entities instance.values) }
 {
     let WrittenInstance { entities, values } = instance;
-    let attributes = attributes(alloc, schema, entities.as_slice())?;
+    let combination = combinations.of(alloc, entities)?;
+    let written = without_derived(values, combination.get().derived.as_slice());
     let read = read_values(
         alloc,
         schema,
         count,
-        attributes.as_slice(),
-        values.as_slice(),
+        combination.get().attributes.as_slice(),
+        written.as_slice(),
     )?;
-    let entities = Shared::new(alloc, entities)?;
-    Ok(KeptInstance::of(entities, attributes, values, read))
+    Ok(KeptInstance::new(combination, written, read))
 }
 
 /// The instances of a population, in their order.
@@ -116,9 +158,10 @@ pub(crate) fn kept_instances(
     ensures { IfOk result (λ found. found ≡ map (λ i. spec.instance_of schema.now (length instances.items) i.entities i.values) instances.items) }
 {
     let count = instances.len();
-    let mut found = Items::new(alloc);
+    let mut combinations = Combinations::new(alloc, schema);
+    let mut found = with_room(alloc, count)?;
     for instance in instances {
-        found.push(kept(alloc, schema, count, instance)?)?;
+        found.push(kept(alloc, schema, &mut combinations, count, instance)?)?;
     }
     Ok(found)
 }

@@ -1,6 +1,6 @@
 //! References that leave a population.
 
-ghost use Rattle.std.specs.Prelude.{◌≡◌, IfOk, map, nat_lt, if◌then◌else◌};
+ghost use Rattle.std.specs.Prelude.{◌≡◌, IfOk, IsFalse, map, nat_lt, if◌then◌else◌};
 ghost use Rattle.rp_value.specs.declared.value.Value.TheVariants as v;
 ghost use Rattle.rp_meaning.specs.Reading as spec;
 
@@ -8,10 +8,40 @@ use plain_data::Items;
 use rp_value::{AggregateKind, Elements, Value};
 use std::alloc::{AllocError, Global};
 
+/// Whether a reference of the value leaves a population of so many instances.
+#[cycle(leaving)]
+#[tactic(auto, unfolding(rp_meaning::specs::Reading::present))]
+fn leaves(value: &Value, count: usize) -> bool
+    ensures { IsFalse result → spec.present count value.now ≡ value.now }
+{
+    match value {
+        Value::Inst(place) => *place >= count as u64,
+        Value::Agg { kind: _, elements } => one_leaves(elements.as_slice(), count),
+        Value::Named {
+            defined_type: _,
+            value,
+        } => leaves(value.get(), count),
+        _ => false,
+    }
+}
+
+/// Whether a reference of one of the values leaves the population.
+#[cycle(leaving)]
+fn one_leaves(values: &[Value], count: usize) -> bool
+    ensures { IsFalse result → map (spec.present count) values.now ≡ values.now }
+{
+    for value in values {
+        if leaves(value, count) {
+            return true;
+        }
+    }
+    false
+}
+
 /// The value, in which each reference that leaves a population of so many instances is `?`.
 #[cycle(present)]
 #[tactic(auto, unfolding(rp_meaning::specs::Reading::present))]
-pub(crate) fn present(value: &Value, alloc: Global, count: usize) -> Result<Value, AllocError>
+fn present(value: &Value, alloc: Global, count: usize) -> Result<Value, AllocError>
     ensures { IfOk result (λ x. x ≡ spec.present count value.now) }
 {
     match value {
@@ -63,4 +93,15 @@ fn present_elements(
         found.push(present(value, alloc, count)?)?;
     }
     Ok(found)
+}
+
+/// The value, in which each reference that leaves a population of so many instances is `?`. Where none does, it copies nothing.
+pub(crate) fn within(alloc: Global, value: &Value, count: usize) -> Result<Value, AllocError>
+    ensures { IfOk result (λ x. x ≡ spec.present count value.now) }
+{
+    if leaves(value, count) {
+        present(value, alloc, count)
+    } else {
+        value.copy()
+    }
 }

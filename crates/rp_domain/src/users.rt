@@ -7,8 +7,10 @@ ghost use Rattle.rp_meaning.specs.Populations.{instances};
 ghost use Rattle.rp_meaning.specs.Uses as uses;
 ghost use Rattle.rp_domain.specs.Rows as spec;
 
+use crate::combination::AttributeOf;
 use crate::instance::{KeptInstance, value_at};
-use crate::rows::{empty_rows, put};
+use crate::room::room_of_users;
+use crate::rows::{empty_rows, put, with_room};
 use ex_named::{AttributePlace, AttributeSort};
 use plain_data::Items;
 use rp_meaning::Role;
@@ -17,80 +19,79 @@ use shared::Shared;
 use std::alloc::{AllocError, Global};
 use std::marker::Model;
 
-/// A user of an instance: its place, its entities, and the attribute.
+/// A user of an instance: its place, and the attribute.
 pub(crate) struct User {
     place: usize,
-    entities: Shared<Items<usize>>,
-    attribute: AttributePlace,
+    attribute: Shared<AttributeOf>,
 }
 
 impl Drop for User {
     fn drop(self) {
         let User {
             place: _,
-            entities,
-            attribute: _,
+            attribute,
         } = self;
-        drop(entities);
+        drop(attribute);
     }
 }
 
 impl Model for User {
-    ghost use Rattle.rp_meaning.specs.Uses as spec;
-    ghost use Rattle.std.specs.Coded.{codes};
-    ghost use Rattle.rp_value.specs.contracts.value.Value as value;
+    ghost use Rattle.rp_meaning.specs.Uses as uses;
+    ghost use Rattle.rp_domain.specs.Rows.{user_by};
 
-    ghost Value = { spec.User };
+    ghost Value = { uses.User };
 
-    ghost coded = { Prim.hlevel (codes, value.the_row.coded) };
-
-    ghost view = { λ u. record { place = u.place; entities = u.entities; attribute = u.attribute } };
-}
-
-impl User {
-    ghost use Rattle.std.specs.Prelude.{◌≡◌, IfOk};
-
-    fn copy(&self) -> Result<User, AllocError>
-        ensures { IfOk result (λ u. u ≡ self.now) }
-    {
-        Ok(User {
-            place: self.place,
-            entities: self.entities.share()?,
-            attribute: self.attribute,
-        })
-    }
-}
-
-/// Puts a user behind those of a place, if that has a row.
-fn put_user(rows: &mut Vec<Items<User>>, place: usize, user: &User) -> Result<(), AllocError>
-    ensures { OnOk result (rows.new.items ≡ spec.put rows.old.items place user.now) }
-{
-    put(rows, place, user.copy()?)
+    ghost view = { λ u. user_by u.place u.attribute };
 }
 
 /// Puts a user behind those of each place that a value refers to.
 #[cycle(uses)]
-fn put_value(value: &Value, rows: &mut Vec<Items<User>>, user: &User) -> Result<(), AllocError>
-    ensures { OnOk result (rows.new.items ≡ spec.put_all rows.old.items (spec.used_by user.now (uses.references value.now))) }
+fn put_value(
+    value: &Value,
+    rows: &mut Vec<Items<User>>,
+    place: usize,
+    attribute: &Shared<AttributeOf>,
+) -> Result<(), AllocError>
+    ensures { OnOk result (rows.new.items ≡ spec.put_all rows.old.items (spec.uses_by place attribute.now value.now)) }
 {
     match value {
-        Value::Inst(place) => put_user(rows, *place as usize, user),
-        Value::Agg { kind: _, elements } => put_values(elements.as_slice(), rows, user),
+        Value::Inst(used) => put_user(rows, *used as usize, place, attribute),
+        Value::Agg { kind: _, elements } => {
+            put_values(elements.as_slice(), rows, place, attribute)
+        }
         Value::Named {
             defined_type: _,
             value,
-        } => put_value(value.get(), rows, user),
+        } => put_value(value.get(), rows, place, attribute),
         _ => Ok(()),
     }
 }
 
+/// Puts a user behind those of a place, if that has a row.
+fn put_user(
+    rows: &mut Vec<Items<User>>,
+    used: usize,
+    place: usize,
+    attribute: &Shared<AttributeOf>,
+) -> Result<(), AllocError>
+    ensures { OnOk result (rows.new.items ≡ spec.put rows.old.items used (spec.user_by place attribute.now)) }
+{
+    let attribute = attribute.share()?;
+    put(rows, used, User { place, attribute })
+}
+
 /// Puts a user behind those of each place that values refer to.
 #[cycle(uses)]
-fn put_values(values: &[Value], rows: &mut Vec<Items<User>>, user: &User) -> Result<(), AllocError>
-    ensures { OnOk result (rows.new.items ≡ spec.put_all rows.old.items (spec.used_by user.now (flat_map uses.references values.now))) }
+fn put_values(
+    values: &[Value],
+    rows: &mut Vec<Items<User>>,
+    place: usize,
+    attribute: &Shared<AttributeOf>,
+) -> Result<(), AllocError>
+    ensures { OnOk result (rows.new.items ≡ spec.put_all rows.old.items (spec.used_by (spec.user_by place attribute.now) (flat_map uses.references values.now))) }
 {
     for value in values {
-        put_value(value, rows, user)?;
+        put_value(value, rows, place, attribute)?;
     }
     Ok(())
 }
@@ -99,36 +100,29 @@ fn put_values(values: &[Value], rows: &mut Vec<Items<User>>, user: &User) -> Res
 fn put_attribute(
     rows: &mut Vec<Items<User>>,
     place: usize,
-    entities: &Shared<Items<usize>>,
-    attribute: &AttributePlace,
+    attribute: &Shared<AttributeOf>,
     written: &[Value],
     at: usize,
 ) -> Result<(), AllocError>
-    ensures { OnOk result (rows.new.items ≡ spec.put_all rows.old.items (flat_map (λ x. spec.uses_by place entities.now attribute.now x) (option_to_list (slice_get written.now at)))) }
+    ensures { OnOk result (rows.new.items ≡ spec.put_all rows.old.items (flat_map (λ x. spec.uses_by place attribute.now x) (option_to_list (slice_get written.now at)))) }
 {
-    let Some(value) = value_at(written, at) else {
-        return Ok(());
-    };
-    let user = User {
-        place,
-        entities: entities.share()?,
-        attribute: *attribute,
-    };
-    put_value(value, rows, &user)
+    match value_at(written, at) {
+        None => Ok(()),
+        Some(value) => put_value(value, rows, place, attribute),
+    }
 }
 
 /// Puts the user that an instance with these values is behind those of each place that they refer to.
 fn put_attributes(
     rows: &mut Vec<Items<User>>,
     place: usize,
-    entities: &Shared<Items<usize>>,
-    attributes: &[AttributePlace],
+    attributes: &[Shared<AttributeOf>],
     written: &[Value],
 ) -> Result<(), AllocError>
-    ensures { OnOk result (rows.new.items ≡ spec.put_all rows.old.items (spec.uses_in place entities.now (zip attributes.now written.now))) }
+    ensures { OnOk result (rows.new.items ≡ spec.put_all rows.old.items (spec.uses_in place (zip attributes.now written.now))) }
 {
     for (at, attribute) in attributes.iter().enumerate() {
-        put_attribute(rows, place, entities, attribute, written, at)?;
+        put_attribute(rows, place, attribute, written, at)?;
     }
     Ok(())
 }
@@ -141,8 +135,8 @@ fn put_instance(
 ) -> Result<(), AllocError>
     ensures { OnOk result (rows.new.items ≡ spec.put_all rows.old.items (flat_map (uses.uses_of place instance.now) instance.now.values)) }
 {
-    let (attributes, written) = instance.written();
-    put_attributes(rows, place, instance.entities(), attributes, written)
+    let (attributes, written) = instance.uses();
+    put_attributes(rows, place, attributes, written)
 }
 
 /// The users of each instance.
@@ -153,7 +147,8 @@ pub(crate) fn users_of(
 ) -> Result<Vec<Items<User>>, AllocError>
     ensures { IfOk result (λ rows. rows.items ≡ spec.put_all (replicate (length instances.now) []) (uses.uses_from 0 instances.now)) }
 {
-    let mut rows = empty_rows(alloc, instances.len())?;
+    let room = room_of_users(alloc, instances)?;
+    let mut rows = empty_rows(alloc, room.as_slice())?;
     for (place, instance) in instances.iter().enumerate() {
         put_instance(&mut rows, place, instance)?;
     }
@@ -195,8 +190,9 @@ fn is_in(role: &Role, user: &User) -> bool
     match role {
         Role::Every => true,
         Role::Of(entity, attributes) => {
-            user.entities.get().as_slice().contains(entity)
-                && is_one_of(&user.attribute, attributes.as_slice())
+            let attribute = user.attribute.get();
+            attribute.entities.get().as_slice().contains(entity)
+                && is_one_of(&attribute.attribute, attributes.as_slice())
         }
     }
 }
@@ -209,7 +205,7 @@ pub(crate) fn users_among(
 ) -> Result<Items<Value>, AllocError>
     ensures { IfOk result (λ found. found ≡ instances (uses.places_among role.now users.now)) }
 {
-    let mut found = Items::new(alloc);
+    let mut found = with_room(alloc, users.len())?;
     for user in users {
         if is_in(role, user) {
             found.push(Value::Inst(user.place as u64))?;

@@ -1,17 +1,18 @@
--- How the values of instances are read in a population.
-use Rattle.std.specs.Prelude.{ℕ, nat_lt, List, [], map, length, slice_get, if◌then◌else◌}
-use Rattle.std.specs.List.{flat_map, range_with_len, zip}
+-- How the values of instances are written and read in a population.
+use Rattle.std.specs.Prelude.{ℕ, Bool, nat_lt, List, [], map, length, slice_get, if◌then◌else◌}
+use Rattle.std.specs.List.{flat_map, list_any, range_with_len, zip}
 use Rattle.std.specs.Option.{option_and_then, option_map_or}
 use Rattle.ex_named.specs.declared.reference.AttributePlace.{AttributePlace}
 use Rattle.ex_named.specs.declared.reference.AttributeSort.TheVariants as sort
+use Rattle.plain_data.specs.Numbers.{is_among}
 use Rattle.rp_value.specs.declared.value.Value.{Value}
 use Rattle.rp_value.specs.declared.value.Value.TheFolds.{fold-Value}
 use Rattle.rp_value.specs.declared.value.Value.TheOpen.{Value-F}
 use Rattle.rp_value.specs.declared.value.Value.TheVariants as v
 use Rattle.rp_value.specs.declared.value.Value.TheViews.{roll-Value}
 use Rattle.rp_meaning.specs.declared.schema.Schema.{Schema}
-use Rattle.rp_meaning.specs.Attributes.{entity_at}
-use Rattle.rp_meaning.specs.Populations.{Instance, stored}
+use Rattle.rp_meaning.specs.Attributes.{entity_at, explicit_derivations}
+use Rattle.rp_meaning.specs.Populations.{Stored, Instance}
 use Rattle.rp_meaning.specs.Types.{given}
 
 abbrev pub present_in : ℕ → Value-F Value → Value
@@ -28,6 +29,14 @@ module _ (schema : Schema) where
   read_as count a x =
       option_map_or (λ e. given schema.types e.declaration.data_type (present count x)) (option_and_then (λ e. slice_get e.explicit a.place) (entity_at schema a.entity)) v.Indet
 
+  -- whether one of these entities redeclares an explicit attribute in DERIVE
+  abbrev pub is_derived : List ℕ → AttributePlace → Bool
+  is_derived entities a = list_any (λ d. is_among entities d.entity) (explicit_derivations schema a)
+
+  -- in an instance of these entities: what it derives has no value that is written, and so uses nothing
+  abbrev pub written_as : List ℕ → AttributePlace → Value → Value
+  written_as entities a x = if is_derived entities a then v.Indet else x
+
   abbrev pub explicit_place : ℕ → ℕ → AttributePlace
   explicit_place entity place = record { entity = entity; sort = sort.Explicit; place = place }
 
@@ -39,9 +48,12 @@ module _ (schema : Schema) where
   abbrev pub attributes : List ℕ → List AttributePlace
   attributes entities = flat_map explicit_places entities
 
+  abbrev pub stored_as : ℕ → List ℕ → AttributePlace → Value → Stored
+  stored_as count entities a x = record { attribute = a; written = written_as entities a x; read = read_as count a (written_as entities a x) }
+
   -- an instance of a population of so many, of these entities, with these values
   abbrev pub instance_of : ℕ → List ℕ → List Value → Instance
-  instance_of count entities written = record {
+  instance_of count entities values = record {
     entities = entities;
-    values = stored (attributes entities) written (map (λ p. read_as count p.0 p.1) (zip (attributes entities) written));
+    values = map (λ p. stored_as count entities p.0 p.1) (zip (attributes entities) values);
   }

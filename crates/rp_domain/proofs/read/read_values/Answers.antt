@@ -1,7 +1,12 @@
-use Rattle.std.proofs.Common.{◌∙◌, sym, arith, rules}
-use Rattle.rp_domain.proofs.Uses.{reads_step}
+use Rattle.std.proofs.Common.{◌≡◌, ◌∙◌, ◌++◌, ap, sym, arith, rules}
+use Rattle.rp_domain.proofs.Uses.{neither, reads_step, writes_step}
 use Rattle.rp_domain.proofs.read.read_values.Goals as goal
 
 pub loop-at-preserved : goal.loop-at-preserved
 loop-at-preserved c =
-    rw c.in_ok-push_read.ensures (sym (reads_step c.args.schema.now c.args.count c.loop-at.found c.args.attributes.now c.args.written.now c.loop-at.at _ (omega arith) (search rules)) ∙ c.loop-at.invariant)
+    record {
+      read = rw c.in_ok-other.ensures.read (sym (reads_step c.args.schema.now c.args.count c.loop-at.found c.args.attributes.now c.args.written.now c.loop-at.at _ (omega arith) (search rules)) ∙ c.loop-at.invariant.read);
+      same = λ none.
+      let both = neither c.loop-at.differs c.in_ok-other.other (sym c.either.ensures ∙ none) in
+      rw (c.in_ok-other.ensures.read ∙ ap (λ xs. c.loop-at.found ++ xs) (c.in_ok-other.ensures.same both.1)) (sym (writes_step c.loop-at.found c.args.attributes.now c.args.written.now c.loop-at.at _ (omega arith) (search rules)) ∙ c.loop-at.invariant.same both.0);
+    }

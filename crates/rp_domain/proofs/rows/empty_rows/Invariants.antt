@@ -2,4 +2,4 @@ use Rattle.std.proofs.Common.{◌≡◌, [], replicate}
 use Rattle.rp_domain.proofs.rows.empty_rows.Given as goal
 
 abbrev pub invariant-loop-row : goal.invariant-loop-row
-invariant-loop-row g l = l.rows.items ≡ replicate l._row []
+invariant-loop-row g l = l.rows.items ≡ replicate l.row-index []

@@ -1,6 +1,7 @@
 use Rattle.std.proofs.Common.{◌≡◌, ◌∙◌, ap, sym, arith}
 use Rattle.std.specs.List.{flat_map}
 use Rattle.rp_meaning.specs.Uses.{references}
+use Rattle.rp_domain.specs.Rows.{user_by}
 use Rattle.rp_domain.proofs.Uses.{references-elements, values_step}
 use Rattle.rp_domain.proofs.users.+uses.Goals as goal
 
@@ -12,5 +13,5 @@ put_value-returns-in-Agg t c =
 
 pub put_values-loop-value-preserved : goal.put_values-loop-value-preserved
 put_values-loop-value-preserved t c =
-    let step = values_step c.loop-value.rows.items c.args.user.now c.args.values.now c.loop-value.value-index c.value-item.result (omega arith) c.value-item.is in
+    let step = values_step c.loop-value.rows.items (user_by c.args.place c.args.attribute.now) c.args.values.now c.loop-value.value-index c.value-item.result (omega arith) c.value-item.is in
     rw c.in_ok-put_value.ensures (sym step ∙ c.loop-value.invariant)

@@ -4,4 +4,4 @@ use Rattle.rp_domain.proofs.users.put_attributes.Goals as goal
 
 pub loop-at-preserved : goal.loop-at-preserved
 loop-at-preserved c =
-    rw c.in_ok-put_attribute.ensures (sym (attributes_step c.loop-at.rows.items c.args.place c.args.entities.now c.args.attributes.now c.args.written.now c.loop-at.at _ (omega arith) (search rules)) ∙ c.loop-at.invariant)
+    rw c.in_ok-put_attribute.ensures (sym (attributes_step c.loop-at.rows.items c.args.place c.args.attributes.now c.args.written.now c.loop-at.at _ (omega arith) (search rules)) ∙ c.loop-at.invariant)

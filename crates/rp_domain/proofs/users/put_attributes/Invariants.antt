@@ -4,5 +4,4 @@ use Rattle.rp_domain.specs.Rows as spec
 use Rattle.rp_domain.proofs.users.put_attributes.Given as goal
 
 abbrev pub invariant-loop-at : goal.invariant-loop-at
-invariant-loop-at l =
-    spec.put_all l.rows.items (spec.uses_in l.place l.entities (zip (drop l.at l.attributes) (drop l.at l.written))) ≡ spec.put_all l.initial.rows.items (spec.uses_in l.place l.entities (zip l.attributes l.written))
+invariant-loop-at l = spec.put_all l.rows.items (spec.uses_in l.place (zip (drop l.at l.attributes) (drop l.at l.written))) ≡ spec.put_all l.initial.rows.items (spec.uses_in l.place (zip l.attributes l.written))

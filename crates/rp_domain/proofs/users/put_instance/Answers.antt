@@ -5,5 +5,5 @@ use Rattle.rp_domain.proofs.users.put_instance.Goals as goal
 
 pub returns : goal.returns
 returns c =
-    let same = ap (uses_in c.args.place c.args.instance.now.entities) c.written.ensures ∙ uses-in c.args.place c.args.instance.now in
-    rw same at (rw c.entities.ensures at c.put_attributes.ensures)
+    let same = ap (uses_in c.args.place) c.uses.ensures ∙ uses-in c.args.place c.args.instance.now in
+    rw same at c.put_attributes.ensures

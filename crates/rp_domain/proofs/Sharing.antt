@@ -1,0 +1,74 @@
+-- What is shared by instances of the same entities, and their values.
+use Rattle.std.proofs.Common.{◌≡◌, ℕ, zero, suc, ◌+◌, ◌<◌, Bool, true, false, List, [], ◌∷◌, ◌++◌, map, take, drop, length, get_or, drop-cons, add-one, if◌then◌else◌, IfSome, slice_get, slice_set, refl, sym, ◌∙◌, ap}
+use Rattle.std.specs.List.{zip}
+use Rattle.ex_named.specs.declared.reference.AttributePlace.{AttributePlace}
+use Rattle.rp_value.specs.declared.value.Value.{Value}
+use Rattle.rp_value.specs.declared.value.Value.TheVariants as v
+use Rattle.rp_meaning.specs.declared.schema.Schema.{Schema}
+use Rattle.rp_meaning.specs.Populations.{stored}
+use Rattle.rp_meaning.specs.Reading.{is_derived, stored_as}
+use Rattle.rp_domain.specs.declared.combination.Combination.{Combination}
+use Rattle.rp_domain.specs.Combinations.{attribute_of, combination, used_of, without_derived, without_one}
+use Rattle.rp_domain.specs.Rows.{read_all, read_value}
+
+-- what holds of each that is kept holds still where one more is kept of which it holds
+pub kept_more : {X : Type 0} (P : X → Type 0) (xs : List X) (x : X) → ((k : ℕ) → IfSome (slice_get xs k) P) → P x → (k : ℕ) → IfSome (slice_get (xs ++ x ∷ []) k) P
+kept_more P [] x all here zero = here
+kept_more P [] x all here (suc k) = tt
+kept_more P (y ∷ ys) x all here zero = all zero
+kept_more P (y ∷ ys) x all here (suc k) = kept_more P ys x (λ k. all (suc k)) here k
+
+pub itself_is : (schema : Schema) (entities : List ℕ) (x : Combination) → x ≡ combination schema entities → x ≡ combination schema x.entities
+unfolding combination
+itself_is schema entities x is = is ∙ ap (combination schema) (sym (ap (λ (y : Combination). y.entities) is))
+
+module _ (schema : Schema) (count : ℕ) where
+  -- attributes with their values as uses tell them
+  pub used_are : (entities : List ℕ) (attributes : List AttributePlace) (written : List Value)
+      → zip (map (attribute_of entities) attributes) written ≡ map (used_of entities) (stored attributes written (read_all schema count (zip attributes written)))
+  used_are entities [] written = refl
+  used_are entities (a ∷ attributes) [] = refl
+  used_are entities (a ∷ attributes) (x ∷ written) = ap (λ xs. (attribute_of entities a, x) ∷ xs) (used_are entities attributes written)
+
+  -- the values of an instance
+  pub values_are : (entities : List ℕ) (attributes : List AttributePlace) (values : List Value)
+      → stored attributes (without_derived (map (is_derived schema entities) attributes) values) (read_all schema count (zip attributes (without_derived (map (is_derived schema entities) attributes) values)))
+      ≡ map (λ p. stored_as schema count entities p.0 p.1) (zip attributes values)
+  unfolding read_value
+  values_are entities [] values = refl
+  values_are entities (a ∷ attributes) [] = refl
+  values_are entities (a ∷ attributes) (x ∷ values) = ap (λ xs. stored_as schema count entities a x ∷ xs) (values_are entities attributes values)
+
+  -- where all are read as they are written
+  pub stored_itself : (attributes : List AttributePlace) (written : List Value) → stored attributes written (map (λ p. p.1) (zip attributes written)) ≡ stored attributes written written
+  stored_itself [] written = refl
+  stored_itself (a ∷ attributes) [] = refl
+  stored_itself (a ∷ attributes) (x ∷ written) = ap (λ xs. (record { attribute = a; written = x; read = x }) ∷ xs) (stored_itself attributes written)
+
+-- ---- values that are derived
+
+none-derived : (derived : List Bool) → without_derived derived [] ≡ []
+none-derived [] = refl
+none-derived (d ∷ derived) = refl
+
+behind-first : (x : Value) (xs ys : List Value) (t : Bool) → (if t then x ∷ xs else x ∷ ys) ≡ x ∷ (if t then xs else ys)
+behind-first x xs ys true = refl
+behind-first x xs ys false = refl
+
+derived-at : (values : List Value) (at : ℕ) (d : Bool) (derived : List Bool)
+    → take at values ++ without_derived (d ∷ derived) (drop at values) ≡ take (suc at) (without_one d values at) ++ without_derived derived (drop (suc at) (without_one d values at))
+derived-at [] zero true derived = sym (none-derived derived)
+derived-at [] zero false derived = sym (none-derived derived)
+derived-at [] (suc at) true derived = sym (none-derived derived)
+derived-at [] (suc at) false derived = sym (none-derived derived)
+derived-at (x ∷ values) zero true derived = refl
+derived-at (x ∷ values) zero false derived = refl
+derived-at (x ∷ values) (suc at) d derived =
+    ap (λ xs. x ∷ xs) (derived-at values at d derived)
+    ∙ ap (λ xs. take (suc (suc at)) xs ++ without_derived derived (drop (suc (suc at)) xs)) (sym (behind-first x (slice_set values at v.Indet) values d))
+
+pub derived_step : (values : List Value) (at : ℕ) (d : Bool) (derived : List Bool) → at < length derived → d ≡ get_or derived at d
+    → take at values ++ without_derived (drop at derived) (drop at values) ≡ take (at + 1) (without_one d values at) ++ without_derived (drop (at + 1) derived) (drop (at + 1) (without_one d values at))
+derived_step values at d derived h is =
+    ap (λ ds. take at values ++ without_derived ds (drop at values)) (drop-cons derived at d h ∙ ap (λ e. e ∷ drop (suc at) derived) (sym is))
+    ∙ rw (add-one) (derived-at values at d (drop (suc at) derived))

@@ -1,0 +1,125 @@
+//! What is shared by instances of the same entities, found once for all of a population.
+
+ghost use Rattle.std.specs.Prelude.{◌≡◌, IsTrue};
+
+use crate::combination::{Combination, shared_by};
+use plain_data::Items;
+use rp_meaning::Schema;
+use shared::Shared;
+use std::alloc::{AllocError, Global};
+use std::collections::BTreeMap;
+use std::marker::Model;
+
+/// A schema, with what was found in it for the instances so far. Nothing tells what was found.
+pub(crate) struct Combinations<'s> {
+    schema: &'s Schema,
+    found: Vec<Shared<Combination>>,
+    // Where one stands of these, by its entities. Nothing is proved of it: what stands there is compared.
+    places: BTreeMap<Vec<usize>, usize>,
+    /// Of the instance before.
+    last: usize,
+}
+
+impl<'s> Drop for Combinations<'s> {
+    fn drop(self) {
+        let Combinations {
+            schema: _,
+            found,
+            places,
+            last: _,
+        } = self;
+        drop(found);
+        drop(places);
+    }
+}
+
+impl<'s> Model for Combinations<'s> {
+    ghost use Rattle.rp_meaning.specs.declared.schema.Schema.{Schema};
+    ghost use Rattle.rp_domain.specs.Combinations.{AreCombinations};
+    ghost use Rattle.std.specs.Coded.{codes};
+    ghost use Rattle.rp_meaning.specs.contracts.schema.Schema as declared;
+
+    ghost Value = { Schema };
+
+    ghost coded = { Prim.hlevel (codes, declared.the_row.coded) };
+
+    ghost view = { λ c. c.schema.now };
+
+    ghost invariant = { λ c. AreCombinations c.schema.now c.found.items };
+}
+
+/// Whether the numbers are the same.
+fn are_same(numbers: &[usize], others: &[usize]) -> bool
+    ensures { IsTrue result → numbers.now ≡ others.now }
+{
+    numbers == others
+}
+
+impl<'s> Combinations<'s> {
+    ghost use Rattle.std.specs.Prelude.{◌≡◌, IfOk, IfSome};
+    ghost use Rattle.rp_domain.specs.Combinations as spec;
+
+    pub(crate) fn new(alloc: Global, schema: &'s Schema) -> Combinations<'s>
+        ensures { result ≡ schema.now }
+    {
+        Combinations {
+            schema,
+            found: Vec::new(alloc),
+            places: BTreeMap::new(alloc),
+            last: 0,
+        }
+    }
+
+    /// What instances of these entities share, if it stands at a place.
+    fn known(&self, place: usize, entities: &[usize]) -> Option<&Shared<Combination>>
+        ensures { IfSome result (λ found. found.now ≡ spec.combination self.now entities.now) }
+    {
+        match self.found.get(place) {
+            Some(found) if are_same(found.get().entities.get().as_slice(), entities) => Some(found),
+            _ => None,
+        }
+    }
+
+    /// Where what instances of these entities share may stand.
+    fn place(&self, entities: &[usize]) -> usize {
+        match self.places.get(entities) {
+            Some(place) => *place,
+            None => self.found.len(),
+        }
+    }
+
+    /// Finds what instances of these entities share, and keeps it.
+    fn find(
+        &mut self,
+        alloc: Global,
+        entities: Items<usize>,
+    ) -> Result<Shared<Combination>, AllocError>
+        ensures same { self.new ≡ self.old }
+        ensures found { IfOk result (λ found. found ≡ spec.combination self.old entities) }
+    {
+        let key = Vec::from_slice(alloc, entities.as_slice())?;
+        let combination = shared_by(alloc, self.schema, entities)?;
+        self.places.insert(key, self.found.len())?;
+        self.found.push(combination.share()?)?;
+        Ok(combination)
+    }
+
+    /// What instances of these entities share.
+    pub(crate) fn of(
+        &mut self,
+        alloc: Global,
+        entities: Items<usize>,
+    ) -> Result<Shared<Combination>, AllocError>
+        ensures same { self.new ≡ self.old }
+        ensures found { IfOk result (λ found. found ≡ spec.combination self.old entities) }
+    {
+        if let Some(found) = self.known(self.last, entities.as_slice()) {
+            return found.share();
+        }
+        self.last = self.place(entities.as_slice());
+        if let Some(found) = self.known(self.last, entities.as_slice()) {
+            return found.share();
+        }
+        self.find(alloc, entities)
+    }
+}
