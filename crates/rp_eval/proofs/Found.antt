@@ -17,7 +17,7 @@ use Rattle.rp_meaning.specs.Populations.{Instance, Stored, stored, instances}
 use Rattle.rp_meaning.specs.Uses.{same_attribute}
 use Rattle.rp_meaning.specs.Uses as uses
 use Rattle.rp_eval.specs.Counts as counts
-use Rattle.rp_eval.specs.Counts.{read_at, read_in, once_after, value_in}
+use Rattle.rp_eval.specs.Counts.{read_at, read_in, is_at, once_after, again_after, value_in}
 
 -- ---- stored values
 
@@ -77,6 +77,17 @@ pub once : (places : List ℕ) → once_after None (instances places) ≡ instan
 unfolding out-Value denote.Hole.Carrier.out
 once [] = refl
 once (x ∷ xs) = ap (λ ys. v.Inst x ∷ ys) (once-after x xs)
+
+unrepeated-by : (same : Bool) (x : Value) (xs here behind : List Value) (again : Bool) → cond same true again ≡ false → (again ≡ false → behind ≡ xs) → cond same here (x ∷ behind) ≡ x ∷ xs
+unrepeated-by true x xs here behind again h k = absurd (cc)
+unrepeated-by false x xs here behind again h k = ap (λ ys. x ∷ ys) (k h)
+
+-- where none stands right behind itself, each stands there once
+pub unrepeated : (last : Option ℕ) (xs : List Value) → again_after last xs ≡ false → once_after last xs ≡ xs
+unrepeated last [] h = refl
+unrepeated last (x ∷ xs) h =
+    let place = place_in (out-Value x) in
+    unrepeated-by (is_at last place) x xs (once_after last xs) (once_after place xs) (again_after place xs) h (unrepeated place xs)
 
 pub instances_count : (places : List ℕ) → length (instances places) ≡ length places
 instances_count places = length-map places (λ place. v.Inst place)
