@@ -17,9 +17,7 @@ use crate::statements::Ending;
 use crate::walk::Walk;
 use ex_named::NamedDataType;
 use plain_data::Items;
-use rp_meaning::{
-    Algorithm, Body, Counter, Domain, Function, Given, Initial, Schema, Stop,
-};
+use rp_meaning::{Algorithm, Body, Counter, Domain, Function, Given, Initial, Schema, Stop};
 use rp_operators::given;
 use rp_value::Value;
 use std::alloc::{AllocError, Global};

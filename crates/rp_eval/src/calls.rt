@@ -24,7 +24,6 @@ use std::alloc::Global;
 #[derive(Clone, Copy)]
 pub(crate) enum Calling {
     Function(usize),
-    BuiltIn(BuiltInFunction),
     /// `[ .. ]`
     Initializer,
 }
@@ -73,7 +72,7 @@ impl<'a, D: Domain, B: Fn(Global, &Schema, &D, u8, &mut Counter, Body) -> Result
     }
 
     /// A function of the language of one argument.
-    fn of_one(
+    pub(crate) fn of_one(
         &self,
         function: BuiltInFunction,
         value: &Value,
@@ -98,7 +97,7 @@ impl<'a, D: Domain, B: Fn(Global, &Schema, &D, u8, &mut Counter, Body) -> Result
     }
 
     /// A function of the language of two arguments.
-    fn of_two(
+    pub(crate) fn of_two(
         &self,
         function: BuiltInFunction,
         first: &Value,
@@ -111,22 +110,6 @@ impl<'a, D: Domain, B: Fn(Global, &Schema, &D, u8, &mut Counter, Body) -> Result
             BuiltInFunction::Nvl => Ok(null_value(first, second)?),
             BuiltInFunction::UsedIn => self.used_in_by(first, second, counter),
             BuiltInFunction::ValueIn => self.value_in(first, second, counter),
-            _ => Ok(Value::Indet),
-        }
-    }
-
-    /// A function of the language.
-    fn built_in(
-        &self,
-        function: BuiltInFunction,
-        values: &[Value],
-        counter: &mut Counter,
-    ) -> Result<Value, Stop>
-        ensures { Runs (spec.built_in (world self.now.schema.now (D.population self.now.domain.now)) (bodies_at self.now.schema.now (D.population self.now.domain.now) self.now.levels) function values.now counter.old) result counter.new }
-    {
-        match values {
-            [value] => self.of_one(function, value, counter),
-            [first, second] => self.of_two(function, first, second, counter),
             _ => Ok(Value::Indet),
         }
     }
@@ -152,7 +135,6 @@ impl<'a, D: Domain, B: Fn(Global, &Schema, &D, u8, &mut Counter, Body) -> Result
     {
         match calling {
             Calling::Function(number) => self.body_below(Body::Function(number, values), counter),
-            Calling::BuiltIn(function) => self.built_in(function, values.as_slice(), counter),
             Calling::Initializer => self.initialized(values, counter),
         }
     }

@@ -16,14 +16,12 @@ use crate::calls::Calling;
 use crate::frame::Frame;
 use crate::steps::{charge, charge_interval, charge_operator, known, variable};
 use crate::walk::Walk;
-use ex_tree::UnaryOperator;
+use ex_tree::{BuiltInFunction, UnaryOperator};
 use plain_data::Items;
 use rp_meaning::{
     Body, Counter, Domain, Expression, Interval, Operation, Qualifier, Query, Role, Schema, Stop,
 };
-use rp_operators::{
-    aggregate_of, applied, applied_to, index, is_true, place_of, range, within,
-};
+use rp_operators::{aggregate_of, applied, applied_to, index, is_true, place_of, range, within};
 use rp_value::Value;
 use std::alloc::{AllocError, Global};
 
@@ -98,10 +96,15 @@ impl<'a, D: Domain, B: Fn(Global, &Schema, &D, u8, &mut Counter, Body) -> Result
             Expression::Constant(number) => self.constant(*number, counter),
             Expression::Population(entity) => self.extent(*entity, counter),
             Expression::Call(number, arguments) => {
-                self.called(arguments.as_slice(), Calling::Function(*number), frame, counter)
+                self.called(
+                    arguments.as_slice(),
+                    Calling::Function(*number),
+                    frame,
+                    counter,
+                )
             }
             Expression::BuiltIn(function, arguments) => {
-                self.called(arguments.as_slice(), Calling::BuiltIn(*function), frame, counter)
+                self.built_in(arguments.as_slice(), *function, frame, counter)
             }
             Expression::Initializer(elements) => {
                 self.called(elements.as_slice(), Calling::Initializer, frame, counter)
@@ -160,6 +163,37 @@ impl<'a, D: Domain, B: Fn(Global, &Schema, &D, u8, &mut Counter, Body) -> Result
         charge(counter, 1)?;
         let values = self.expressions(arguments, frame, counter)?;
         self.calling(called, values, counter)
+    }
+
+    /// A function of the language, for a step. The arguments that it takes stand in no list.
+    #[cycle(expressions)]
+    fn built_in(
+        &self,
+        arguments: &[Expression],
+        function: BuiltInFunction,
+        frame: &mut Frame,
+        counter: &mut Counter,
+    ) -> Result<Value, Stop>
+        requires { RunsBodies D.population self.now.alloc self.now.schema self.now.domain self.now.levels (B.pre self.now.below) (B.post self.now.below) }
+        ensures value { Runs (charged 1 (followed (spec.each_after frame.old [] (map (value_at self.now.schema.now (D.population self.now.domain.now) self.now.levels) arguments.now)) (spec.built_in (world self.now.schema.now (D.population self.now.domain.now)) (bodies_at self.now.schema.now (D.population self.now.domain.now) self.now.levels) function)) counter.old) result counter.new }
+        ensures frame { OnOk result (frame.new ≡ frame.old) }
+    {
+        charge(counter, 1)?;
+        match arguments {
+            [value] => {
+                let value = self.expression(value, frame, counter)?;
+                self.of_one(function, &value, counter)
+            }
+            [first, second] => {
+                let first = self.expression(first, frame, counter)?;
+                let second = self.expression(second, frame, counter)?;
+                self.of_two(function, &first, &second, counter)
+            }
+            _ => {
+                self.expressions(arguments, frame, counter)?;
+                Ok(Value::Indet)
+            }
+        }
     }
 
     /// The users of an instance in a role.

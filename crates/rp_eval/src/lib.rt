@@ -4,7 +4,6 @@
 mod attributes;
 mod bodies;
 mod calls;
-
 mod expressions;
 mod frame;
 mod laws;
@@ -15,5 +14,5 @@ mod turns;
 mod users;
 mod walk;
 
-pub use rules::{Code, eval};
 pub use laws::population_decides;
+pub use rules::{Code, eval};

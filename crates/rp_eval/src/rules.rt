@@ -159,10 +159,7 @@ impl<'a, D: Domain, B: Fn(Global, &Schema, &D, u8, &mut Counter, Body) -> Result
         };
         let users = inverse_users(self.alloc, self.domain, inverse, place as usize)?;
         charge(counter, 1 + users.as_slice().len())?;
-        Ok(Value::Log(Logical::of(is_count_of(
-            inverse.aggregate,
-            users.len(),
-        ))))
+        Ok(Value::Log(Logical::of(is_count_of(inverse.aggregate, users.len()))))
     }
 
     /// What a condition gives behind statements.
@@ -201,12 +198,7 @@ impl<'a, D: Domain, B: Fn(Global, &Schema, &D, u8, &mut Counter, Body) -> Result
     }
 
     /// What a rule says of SELF.
-    fn evaluation(
-        &self,
-        rule: Rule,
-        itself: Value,
-        counter: &mut Counter,
-    ) -> Result<Value, Stop>
+    fn evaluation(&self, rule: Rule, itself: Value, counter: &mut Counter) -> Result<Value, Stop>
         requires { RunsBodies D.population self.now.alloc self.now.schema self.now.domain self.now.levels (B.pre self.now.below) (B.post self.now.below) }
         ensures { Runs (spec.evaluation (world self.now.schema.now (D.population self.now.domain.now)) (bodies_at self.now.schema.now (D.population self.now.domain.now) self.now.levels) rule itself counter.old) result counter.new }
     {
@@ -215,7 +207,11 @@ impl<'a, D: Domain, B: Fn(Global, &Schema, &D, u8, &mut Counter, Body) -> Result
                 self.condition(type_condition(self.schema, number, place), itself, counter)
             }
             Rule::Entity(number, place) => {
-                self.condition(entity_condition(self.schema, number, place), itself, counter)
+                self.condition(
+                    entity_condition(self.schema, number, place),
+                    itself,
+                    counter,
+                )
             }
             Rule::Global(number, place) => {
                 self.rule_value(self.schema.rules.get(number), place, counter)
