@@ -1,14 +1,18 @@
 //! A schema that was checked, as it is evaluated.
 #![tactic(auto)]
 
-mod control;
+mod algorithms;
+mod attributes;
+mod compile;
 mod declared;
-mod leaves;
-mod statement;
-mod trees;
-mod types;
+mod defined_types;
+mod entities;
+mod expressions;
+mod names;
+mod orders;
+mod rederived;
+mod roles;
+mod rows;
+mod selects;
 
-pub use declared::Declared;
-pub use statement::statements;
-pub use trees::{expression, expressions};
-pub use types::copied_type;
+pub use compile::compile;

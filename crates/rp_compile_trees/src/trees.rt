@@ -6,7 +6,7 @@ ghost use Rattle.ex_typing.specs.Expressions.{within};
 ghost use Rattle.rp_meaning.specs.declared.tree.Expression.TheVariants as tree_of;
 ghost use Rattle.rp_meaning.specs.declared.tree.Qualifier.TheVariants as qualifier_of;
 ghost use Rattle.rp_meaning.specs.CompiledExpressions as spec;
-ghost use Rattle.rp_meaning.specs.CompiledTrees as trees;
+ghost use Rattle.rp_compile_trees.specs.Parts as parts;
 
 use crate::declared::Declared;
 use crate::leaves::{built_in, indeterminate, item, literal, meant, own_attribute};
@@ -16,7 +16,7 @@ use ex_operators::elements_of;
 use ex_tree::{BuiltInFunction, UnaryOperator};
 use ex_typing::TypingScope;
 use plain_data::{Boxed, Items};
-use rp_meaning::{Expression, Interval, Operation, Qualifier, Query};
+use rp_meaning::{Expression, Interval, Operation, Qualifier, Query, compiled_as_typed};
 use std::alloc::{AllocError, Global};
 
 fn qualified(
@@ -46,6 +46,35 @@ fn range(alloc: Global, low: Expression, high: Expression) -> Result<Qualifier, 
     Ok(Qualifier::Range(low, Boxed::new(alloc, high)?))
 }
 
+/// What is said of an expression's value.
+#[tactic(auto)]
+fn typed(
+    alloc: Global,
+    schema: &Declared<'_>,
+    scope: &TypingScope<'_>,
+    tree: &NamedExpression,
+) -> Result<Typed, AllocError>
+    ensures { IfOk result (λ typed. typed ≡ parts.typed schema.now scope.now tree.now) }
+{
+    compiled_as_typed();
+    ex_typing::expression(alloc, schema.known(), scope, tree)
+}
+
+/// What is said of what a qualifier takes of a value of which this is said.
+#[tactic(auto)]
+fn behind(
+    alloc: Global,
+    schema: &Declared<'_>,
+    scope: &TypingScope<'_>,
+    base: Typed,
+    tree: &NamedQualifier,
+) -> Result<Typed, AllocError>
+    ensures { IfOk result (λ typed. typed ≡ parts.behind schema.now scope.now base tree.now) }
+{
+    compiled_as_typed();
+    ex_typing::qualifier(alloc, schema.known(), scope, base, tree)
+}
+
 /// An expression as it is evaluated.
 #[cycle(trees)]
 pub fn expression(
@@ -72,7 +101,7 @@ pub fn expression(
         }
         NamedExpression::Qualified(base, list) => {
             let tree = expression(alloc, schema, scope, base.get())?;
-            let typed = ex_typing::expression(alloc, schema.known(), scope, base.get())?;
+            let typed = typed(alloc, schema, scope, base.get())?;
             let list = qualifiers(alloc, schema, scope, typed, list.as_slice())?;
             qualified(alloc, tree, list)
         }
@@ -92,13 +121,13 @@ pub fn expression(
 
 /// Several expressions.
 #[cycle(trees)]
-pub fn expressions(
+pub(crate) fn expressions(
     alloc: Global,
     schema: &Declared<'_>,
     scope: &TypingScope<'_>,
     list: &[NamedExpression],
 ) -> Result<Items<Expression>, AllocError>
-    ensures { IfOk result (λ found. found ≡ spec.expressions schema.now scope.now list.now) }
+    ensures { IfOk result (λ found. found ≡ parts.expressions schema.now scope.now list.now) }
 {
     let mut found = Items::new(alloc);
     for tree in list {
@@ -115,7 +144,7 @@ fn call(
     function: usize,
     arguments: &Items<NamedExpression>,
 ) -> Result<Expression, AllocError>
-    ensures { IfOk result (λ found. found ≡ tree_of.Call function (spec.expressions schema.now scope.now arguments.now)) }
+    ensures { IfOk result (λ found. found ≡ tree_of.Call function (parts.expressions schema.now scope.now arguments.now)) }
 {
     let arguments = expressions(alloc, schema, scope, arguments.as_slice())?;
     Ok(Expression::Call(function, arguments))
@@ -129,7 +158,7 @@ fn call_built_in(
     function: BuiltInFunction,
     arguments: &Items<NamedExpression>,
 ) -> Result<Expression, AllocError>
-    ensures { IfOk result (λ found. found ≡ spec.built_in schema.now function (spec.expressions schema.now scope.now arguments.now)) }
+    ensures { IfOk result (λ found. found ≡ spec.built_in schema.now function (parts.expressions schema.now scope.now arguments.now)) }
 {
     let arguments = expressions(alloc, schema, scope, arguments.as_slice())?;
     built_in(alloc, schema, function, arguments)
@@ -142,7 +171,7 @@ fn initializer(
     scope: &TypingScope<'_>,
     elements: &Items<NamedExpression>,
 ) -> Result<Expression, AllocError>
-    ensures { IfOk result (λ found. found ≡ tree_of.Initializer (spec.expressions schema.now scope.now elements.now)) }
+    ensures { IfOk result (λ found. found ≡ tree_of.Initializer (parts.expressions schema.now scope.now elements.now)) }
 {
     let elements = expressions(alloc, schema, scope, elements.as_slice())?;
     Ok(Expression::Initializer(elements))
@@ -171,13 +200,13 @@ fn qualifiers(
     base: Typed,
     list: &[NamedQualifier],
 ) -> Result<Items<Qualifier>, AllocError>
-    ensures { IfOk result (λ found. found ≡ trees.qualifiers schema.now scope.now base list.now) }
+    ensures { IfOk result (λ found. found ≡ parts.qualifiers schema.now scope.now base list.now) }
 {
     let mut found = Items::new(alloc);
     let mut typed = base;
     for tree in list {
-        found.push(qualifier(alloc, schema, scope, typed.kinds.as_slice(), tree)?)?;
-        typed = ex_typing::qualifier(alloc, schema.known(), scope, typed, tree)?;
+        found.push(qualifier(alloc, schema, scope, &typed, tree)?)?;
+        typed = behind(alloc, schema, scope, typed, tree)?;
     }
     Ok(found)
 }
@@ -187,14 +216,14 @@ fn qualifier(
     alloc: Global,
     schema: &Declared<'_>,
     scope: &TypingScope<'_>,
-    base: &[ValueKind],
+    base: &Typed,
     tree: &NamedQualifier,
 ) -> Result<Qualifier, AllocError>
-    ensures { IfOk result (λ found. found ≡ trees.qualifier schema.now scope.now base.now tree.now) }
+    ensures { IfOk result (λ found. found ≡ parts.qualifier schema.now scope.now base.now tree.now) }
 {
     match tree {
         NamedQualifier::Attribute(_, name) => {
-            let places = meant(alloc, schema, name.text.as_str(), base)?;
+            let places = meant(alloc, schema, name.text.as_str(), base.kinds.as_slice())?;
             Ok(Qualifier::Attribute(places))
         }
         NamedQualifier::Group(_, entity) => Ok(Qualifier::Group(*entity)),
@@ -217,7 +246,7 @@ fn operations(
     scope: &TypingScope<'_>,
     list: &[NamedOperation],
 ) -> Result<Items<Operation>, AllocError>
-    ensures { IfOk result (λ found. found ≡ trees.operations schema.now scope.now list.now) }
+    ensures { IfOk result (λ found. found ≡ parts.operations schema.now scope.now list.now) }
 {
     let mut found = Items::new(alloc);
     for tree in list {
@@ -237,7 +266,7 @@ fn interval(
     scope: &TypingScope<'_>,
     tree: &NamedInterval,
 ) -> Result<Expression, AllocError>
-    ensures { IfOk result (λ found. found ≡ tree_of.Interval (trees.interval schema.now scope.now tree.now)) }
+    ensures { IfOk result (λ found. found ≡ tree_of.Interval (parts.interval schema.now scope.now tree.now)) }
 {
     let low = expression(alloc, schema, scope, &tree.low)?;
     let item = expression(alloc, schema, scope, &tree.item)?;
@@ -260,9 +289,9 @@ fn query(
     scope: &TypingScope<'_>,
     tree: &NamedQuery,
 ) -> Result<Expression, AllocError>
-    ensures { IfOk result (λ found. found ≡ tree_of.Query (trees.query schema.now scope.now tree.now)) }
+    ensures { IfOk result (λ found. found ≡ tree_of.Query (parts.query schema.now scope.now tree.now)) }
 {
-    let typed = ex_typing::expression(alloc, schema.known(), scope, &tree.source)?;
+    let typed = typed(alloc, schema, scope, &tree.source)?;
     let elements = elements_of(alloc, schema.known().types(), typed.kinds.as_slice())?;
     let condition = condition(alloc, schema, scope, elements.as_slice(), &tree.condition)?;
     let source = expression(alloc, schema, scope, &tree.source)?;

@@ -6,7 +6,7 @@ ghost use Rattle.ex_named.specs.declared.expression.NamedDataType.TheVariants as
 ghost use Rattle.ex_typing_statements.specs.Statements.{in_turn};
 ghost use Rattle.rp_meaning.specs.CompiledExpressions as expressions_spec;
 ghost use Rattle.rp_meaning.specs.CompiledStatements as spec;
-ghost use Rattle.rp_meaning.specs.CompiledTrees as trees;
+ghost use Rattle.rp_compile_trees.specs.Parts as parts;
 ghost use Rattle.rp_meaning.specs.declared.tree.Statement.TheVariants as statement_of;
 
 use crate::control::control;
@@ -58,19 +58,32 @@ fn assignment(
 }
 
 /// Statements as they are executed, where variables are declared with these types.
-#[cycle(statements)]
+#[tactic(auto)]
 pub fn statements(
     alloc: Global,
     schema: &Declared<'_>,
-    types: &[&NamedDataType],
     scope: &TypingScope<'_>,
     list: &[NamedStatement],
+    types: &[&NamedDataType],
 ) -> Result<Items<Statement>, AllocError>
-    ensures { IfOk result (λ found. found ≡ spec.statements schema.now (map (λ t. t.now) types.now) scope.now list.now) }
+    ensures { IfOk result (λ found. found ≡ spec.statements (expressions_spec.expression schema.now) (map (λ t. t.now) types.now) scope.now list.now) }
+{
+    block(alloc, schema, scope, list, types)
+}
+
+#[cycle(statements)]
+fn block(
+    alloc: Global,
+    schema: &Declared<'_>,
+    scope: &TypingScope<'_>,
+    list: &[NamedStatement],
+    types: &[&NamedDataType],
+) -> Result<Items<Statement>, AllocError>
+    ensures { IfOk result (λ found. found ≡ parts.statements schema.now (map (λ t. t.now) types.now) scope.now list.now) }
 {
     let mut found = Items::new(alloc);
     for tree in list {
-        found.push(statement(alloc, schema, types, scope, tree)?)?;
+        found.push(statement(alloc, schema, scope, tree, types)?)?;
     }
     Ok(found)
 }
@@ -79,31 +92,31 @@ pub fn statements(
 fn statement(
     alloc: Global,
     schema: &Declared<'_>,
-    types: &[&NamedDataType],
     scope: &TypingScope<'_>,
     tree: &NamedStatement,
+    types: &[&NamedDataType],
 ) -> Result<Statement, AllocError>
-    ensures { IfOk result (λ found. found ≡ spec.compiled_statement schema.now (map (λ t. t.now) types.now) tree.now scope.now) }
+    ensures { IfOk result (λ found. found ≡ parts.statement schema.now (map (λ t. t.now) types.now) scope.now tree.now) }
 {
     match tree {
         NamedStatement::Null => Ok(Statement::Null),
         NamedStatement::Assignment(slot, _, value) => {
             assignment(alloc, schema, types, scope, *slot, value)
         }
-        NamedStatement::Case(case) => case_statement(alloc, schema, types, scope, case.get()),
+        NamedStatement::Case(case) => case_statement(alloc, schema, scope, case.get(), types),
         NamedStatement::Compound(body) => {
-            let body = statements(alloc, schema, types, scope, body.as_slice())?;
+            let body = block(alloc, schema, scope, body.as_slice(), types)?;
             Ok(Statement::Compound(body))
         }
         NamedStatement::Escape => Ok(Statement::Escape),
         NamedStatement::If(condition, then_part, else_part) => {
             let condition = expression(alloc, schema, scope, condition)?;
-            let then_part = statements(alloc, schema, types, scope, then_part.as_slice())?;
-            let else_part = statements(alloc, schema, types, scope, else_part.as_slice())?;
+            let then_part = block(alloc, schema, scope, then_part.as_slice(), types)?;
+            let else_part = block(alloc, schema, scope, else_part.as_slice(), types)?;
             Ok(Statement::If(condition, then_part, else_part))
         }
         NamedStatement::Repeat(control, body) => {
-            repeat(alloc, schema, types, scope, control.get(), body)
+            repeat(alloc, schema, scope, control.get(), body, types)
         }
         NamedStatement::Return(_, value) => {
             let value = expression(alloc, schema, scope, value)?;
@@ -117,15 +130,15 @@ fn statement(
 fn case_statement(
     alloc: Global,
     schema: &Declared<'_>,
-    types: &[&NamedDataType],
     scope: &TypingScope<'_>,
     tree: &NamedCase,
+    types: &[&NamedDataType],
 ) -> Result<Statement, AllocError>
-    ensures { IfOk result (λ found. found ≡ trees.compiled_case schema.now (map (λ t. t.now) types.now) tree.now scope.now) }
+    ensures { IfOk result (λ found. found ≡ parts.case_statement schema.now (map (λ t. t.now) types.now) scope.now tree.now) }
 {
     let selector = expression(alloc, schema, scope, &tree.selector)?;
-    let mut actions = case_actions(alloc, schema, types, scope, tree.actions.as_slice())?;
-    actions.append(otherwise(alloc, schema, types, scope, &tree.otherwise)?)?;
+    let mut actions = case_actions(alloc, schema, scope, tree.actions.as_slice(), types)?;
+    actions.append(otherwise(alloc, schema, scope, &tree.otherwise, types)?)?;
     Ok(Statement::Case(selector, actions))
 }
 
@@ -134,15 +147,15 @@ fn case_statement(
 fn case_actions(
     alloc: Global,
     schema: &Declared<'_>,
-    types: &[&NamedDataType],
     scope: &TypingScope<'_>,
     list: &[NamedCaseAction],
+    types: &[&NamedDataType],
 ) -> Result<Items<CaseAction>, AllocError>
-    ensures { IfOk result (λ found. found ≡ trees.case_actions schema.now (map (λ t. t.now) types.now) scope.now list.now) }
+    ensures { IfOk result (λ found. found ≡ parts.case_actions schema.now (map (λ t. t.now) types.now) scope.now list.now) }
 {
     let mut found = Items::new(alloc);
     for tree in list {
-        found.push(case_action(alloc, schema, types, scope, tree)?)?;
+        found.push(case_action(alloc, schema, scope, tree, types)?)?;
     }
     Ok(found)
 }
@@ -151,14 +164,14 @@ fn case_actions(
 fn case_action(
     alloc: Global,
     schema: &Declared<'_>,
-    types: &[&NamedDataType],
     scope: &TypingScope<'_>,
     tree: &NamedCaseAction,
+    types: &[&NamedDataType],
 ) -> Result<CaseAction, AllocError>
-    ensures { IfOk result (λ found. found ≡ trees.compiled_case_action schema.now (map (λ t. t.now) types.now) tree.now scope.now) }
+    ensures { IfOk result (λ found. found ≡ parts.case_action schema.now (map (λ t. t.now) types.now) scope.now tree.now) }
 {
     let labels = expressions(alloc, schema, scope, tree.labels.as_slice())?;
-    let statement = statement(alloc, schema, types, scope, &tree.statement)?;
+    let statement = statement(alloc, schema, scope, &tree.statement, types)?;
     Ok(CaseAction {
         labels: Some(labels),
         statement,
@@ -170,15 +183,15 @@ fn case_action(
 fn otherwise(
     alloc: Global,
     schema: &Declared<'_>,
-    types: &[&NamedDataType],
     scope: &TypingScope<'_>,
     tree: &Option<Boxed<NamedStatement>>,
+    types: &[&NamedDataType],
 ) -> Result<Items<CaseAction>, AllocError>
-    ensures { IfOk result (λ found. found ≡ trees.otherwise schema.now (map (λ t. t.now) types.now) scope.now tree.now) }
+    ensures { IfOk result (λ found. found ≡ parts.otherwise schema.now (map (λ t. t.now) types.now) scope.now tree.now) }
 {
     let mut found = Items::new(alloc);
     if let Some(tree) = tree {
-        let statement = statement(alloc, schema, types, scope, tree.get())?;
+        let statement = statement(alloc, schema, scope, tree.get(), types)?;
         found.push(CaseAction {
             labels: None,
             statement,
@@ -191,19 +204,19 @@ fn otherwise(
 fn repeat(
     alloc: Global,
     schema: &Declared<'_>,
-    types: &[&NamedDataType],
     scope: &TypingScope<'_>,
     tree: &NamedRepeatControl,
     body: &Items<NamedStatement>,
+    types: &[&NamedDataType],
 ) -> Result<Statement, AllocError>
-    ensures { IfOk result (λ found. found ≡ trees.repeat schema.now (map (λ t. t.now) types.now) scope.now tree.now body.now) }
+    ensures { IfOk result (λ found. found ≡ parts.repeat schema.now (map (λ t. t.now) types.now) scope.now tree.now body.now) }
 {
     match &tree.increment {
         Some(_) => {
             let turn = scope.within(alloc, &VARIABLE)?;
-            repeat_in(alloc, schema, types, scope, &turn, tree, body)
+            repeat_in(alloc, schema, scope, &turn, tree, body, types)
         }
-        None => repeat_in(alloc, schema, types, scope, scope, tree, body),
+        None => repeat_in(alloc, schema, scope, scope, tree, body, types),
     }
 }
 
@@ -212,17 +225,17 @@ fn repeat(
 fn repeat_in<'a>(
     alloc: Global,
     schema: &Declared<'_>,
-    types: &[&NamedDataType],
     scope: &TypingScope<'a>,
     turn: &TypingScope<'a>,
     tree: &NamedRepeatControl,
     body: &Items<NamedStatement>,
+    types: &[&NamedDataType],
 ) -> Result<Statement, AllocError>
     requires { turn.now ≡ in_turn scope.now tree.now.increment }
-    ensures { IfOk result (λ found. found ≡ trees.repeat schema.now (map (λ t. t.now) types.now) scope.now tree.now body.now) }
+    ensures { IfOk result (λ found. found ≡ parts.repeat schema.now (map (λ t. t.now) types.now) scope.now tree.now body.now) }
 {
     let control = control(alloc, schema, scope, turn, tree)?;
     let control = Boxed::new(alloc, control)?;
-    let body = statements(alloc, schema, types, turn, body.as_slice())?;
+    let body = block(alloc, schema, turn, body.as_slice(), types)?;
     Ok(Statement::Repeat(control, body))
 }

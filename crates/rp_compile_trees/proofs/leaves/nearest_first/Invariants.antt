@@ -2,7 +2,7 @@ use Rattle.std.proofs.Common.{◌≡◌, ◌++◌, ℕ, List, Bool, not, filter,
 use Rattle.ex_named.specs.declared.reference.AttributePlace.{AttributePlace}
 use Rattle.plain_data.specs.Numbers.{is_among}
 use Rattle.rp_meaning.specs.CompiledExpressions as spec
-use Rattle.rp_compile.proofs.leaves.nearest_first.Given as goal
+use Rattle.rp_compile_trees.proofs.leaves.nearest_first.Given as goal
 
 abbrev is_near : List ℕ → AttributePlace → Bool
 is_near near p = is_among near p.entity

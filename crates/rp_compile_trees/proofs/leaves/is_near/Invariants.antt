@@ -3,7 +3,7 @@ use Rattle.std.specs.List.{flat_map}
 use Rattle.ex_kinds.specs.declared.kind.ValueKind.{ValueKind}
 use Rattle.plain_data.specs.Numbers.{is_among}
 use Rattle.rp_meaning.specs.CompiledExpressions as spec
-use Rattle.rp_compile.proofs.leaves.is_near.Given as goal
+use Rattle.rp_compile_trees.proofs.leaves.is_near.Given as goal
 
 abbrev above : List (List ℕ) → ValueKind → List ℕ
 above supertypes kind = spec.family_at supertypes kind.depth kind.sort

@@ -4,7 +4,7 @@ ghost use Rattle.std.specs.Prelude.{◌≡◌, IfOk};
 ghost use Rattle.std.specs.Option.{option_map};
 ghost use Rattle.ex_typing_statements.specs.Statements.{in_turn};
 ghost use Rattle.rp_meaning.specs.CompiledExpressions as expressions;
-ghost use Rattle.rp_meaning.specs.CompiledStatements as spec;
+ghost use Rattle.rp_compile_trees.specs.Parts as spec;
 
 use crate::declared::Declared;
 use crate::trees::expression;
