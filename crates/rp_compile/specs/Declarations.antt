@@ -1,8 +1,7 @@
 -- Declarations as they are evaluated, by what expressions are compiled by.
-use Rattle.std.specs.Prelude.{ℕ, ◌-◌, ◌+◌, ◌==◌, List, [], ◌∷◌, ◌++◌, map, filter, length, Option, option_map, slice_get}
-use Rattle.std.specs.List.{flat_map, filter_map}
-use Rattle.std.specs.Option.{option_map_or, option_to_list}
-use Rattle.ex_attributes.specs.Attributes.{own, same_place}
+use Rattle.std.specs.Prelude.{ℕ, ◌+◌, List, [], ◌∷◌, ◌++◌, map, length, option_map}
+use Rattle.std.specs.List.{flat_map}
+use Rattle.std.specs.Option.{option_to_list}
 use Rattle.ex_named.specs.declared.declaration.NamedConstant.{NamedConstant}
 use Rattle.ex_named.specs.declared.declaration.NamedDerived.{NamedDerived}
 use Rattle.ex_named.specs.declared.declaration.NamedDomainRule.{NamedDomainRule}
@@ -14,19 +13,12 @@ use Rattle.ex_named.specs.declared.declaration.NamedRule.{NamedRule}
 use Rattle.ex_named.specs.declared.declaration.NamedType.{NamedType}
 use Rattle.ex_named.specs.declared.expression.NamedDataType.{NamedDataType}
 use Rattle.ex_named.specs.declared.expression.NamedExpression.{NamedExpression}
-use Rattle.ex_named.specs.declared.reference.AttributePlace.{AttributePlace}
-use Rattle.ex_named.specs.declared.reference.AttributeSort.{AttributeSort}
 use Rattle.ex_named.specs.declared.reference.AttributeSort.TheVariants as sort
 use Rattle.ex_named.specs.declared.statement.NamedStatement.{NamedStatement}
 use Rattle.ex_slots.specs.Slots.{declared_by}
 use Rattle.ex_types.specs.Declarations.{nowhere, of_type_number, of_entity, of_function, of_rule}
 use Rattle.ex_typing.specs.Expressions.{TypingScope}
-use Rattle.graphs.specs.Graphs.{family, numbers_from}
-use Rattle.name_tables.specs.Names.{named}
-use Rattle.name_tables.specs.Order.{rank}
 use Rattle.plain_data.specs.Numbers.{numbered}
-use Rattle.rp_meaning.specs.declared.role.NamedRole.{NamedRole}
-use Rattle.rp_meaning.specs.declared.role.Role.TheVariants.{Of}
 use Rattle.rp_meaning.specs.declared.schema.Algorithm.{Algorithm}
 use Rattle.rp_meaning.specs.declared.schema.DefinedType.{DefinedType}
 use Rattle.rp_meaning.specs.declared.schema.Derivation.{Derivation}
@@ -41,51 +33,12 @@ use Rattle.rp_meaning.specs.Compiled as compiled
 use Rattle.rp_meaning.specs.Compiled.{Rederived, explicit_declaration, of_parameters, of_locals, own_derivations, redeclarations_in}
 use Rattle.rp_meaning.specs.CompiledExpressions as expressions
 use Rattle.rp_meaning.specs.CompiledExpressions.{Declared}
-use Rattle.rp_meaning.specs.CompiledNames.{Rows, joined, inherited_rows, roles_of}
+use Rattle.rp_meaning.specs.CompiledNames.{joined}
 use Rattle.rp_meaning.specs.CompiledStatements.{statements}
 use Rattle.rp_meaning.specs.CompiledTypes as types_of
-
--- ---- in order
-
--- the number of each name beside how many names come before it
-abbrev pub ranked : List (List ℕ) → List (ℕ × ℕ)
-ranked names = numbered (λ number name. (rank names name, number)) names
-
--- each entity beside how many of all don't stand above it
-abbrev pub by_depth : List (List ℕ) → List ℕ → List (ℕ × ℕ)
-by_depth graph order = map (λ entity. (length graph - length (family graph entity), entity)) order
-
--- those with most ancestors first, and of several such in the order in which they stand here
-abbrev pub deepest_first : List (List ℕ) → List ℕ → List ℕ
-deepest_first graph order = flat_map (λ above. filter (λ entity. length (family graph entity) + above == length graph) order) (numbers_from 0 (length graph))
+use Rattle.rp_compile_names.specs.Found.{derivations}
 
 -- ---- attributes
-
--- attributes of these names, which an entity declares so
-abbrev pub placed : ℕ → AttributeSort → List (List ℕ) → Rows
-placed entity s = numbered (λ place name. (name, record { entity = entity; sort = s; place = place }))
-
-abbrev pub derived_text : NamedDerived → Option (List ℕ)
-derived_text x = option_map (λ n. n.text) (own x.attribute)
-
--- the role that the attributes of a name are in an entity of this name
-abbrev pub role : ℕ → List ℕ → Rows → List ℕ → NamedRole
-role entity entity_name rows name = record { name = joined entity_name name; role = Of entity (named name rows) }
-
-abbrev pub roles : List ℕ → List NamedEntity → List (List ℕ) → List NamedRole
-roles schema_name entities supertypes = flat_map (λ r. r) (numbered (λ number x. roles_of entities supertypes number (joined schema_name x.name.text)) entities)
-
--- ---- DERIVE
-
-abbrev pub rederived_by : List NamedEntity → ℕ → List Rederived
-rederived_by entities entity = option_map_or (λ x. filter_map (λ d. d) (numbered (compiled.rederived entity) x.derived)) (slice_get entities entity) []
-
--- each by the entity whose attribute it redeclares
-abbrev pub by_entity : List Rederived → List (ℕ × Rederived)
-by_entity = map (λ d. (d.0.entity, d))
-
-abbrev pub derivations : List Rederived → AttributePlace → List Derivation
-derivations rederived attribute = map (λ d. d.1) (filter (λ d. same_place d.0 attribute) rederived)
 
 abbrev pub explicit : List Rederived → ℕ → ℕ → NamedExplicit → ExplicitAttribute
 explicit rederived entity place x = record { declaration = explicit_declaration x; derivations = derivations rederived (record { entity = entity; sort = sort.Explicit; place = place }) }

@@ -5,15 +5,15 @@ ghost use Rattle.plain_data.specs.Numbers.{numbered};
 ghost use Rattle.rp_meaning.specs.Compiled as compiled;
 
 use crate::algorithms::{functions, rules};
-use crate::declared::{declared, supertypes};
+use crate::declared::declared;
 use crate::defined_types::defined_types;
 use crate::entities::entities;
 use crate::expressions::constants;
-use crate::orders::{entity_order, rule_order, type_order};
-use crate::rederived::rederived_rows;
-use crate::roles::roles;
 use ex_types::CheckedSchema;
 use plain_data::Items;
+use rp_compile_names::{
+    entity_order, rederived_rows, roles, rule_order, supertypes, type_order,
+};
 use rp_compile_trees::Declared;
 use rp_meaning::{DefinedType, Entity, Function, Given, GlobalRule, NamedRole, Schema};
 use std::alloc::{AllocError, Global};

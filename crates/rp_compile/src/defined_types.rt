@@ -7,13 +7,12 @@ ghost use Rattle.rp_meaning.specs.CompiledTypes as types_spec;
 ghost use Rattle.rp_compile.specs.Declarations as spec;
 
 use crate::expressions::conditions;
-use crate::names::joined;
-use crate::selects::{choices, selection, selects};
 use ex_kinds::{Sort, kinds_of_one};
 use ex_named::{NamedDataType, NamedDomainRule, NamedType, NamedUnderlying, TypeName};
 use ex_renamings::Renamings;
 use ex_typing::TypingScope;
 use plain_data::{Items, Rows};
+use rp_compile_names::{choices, joined, selection, selects};
 use rp_compile_trees::{Declared, copied_type};
 use rp_meaning::{DefinedType, Expression, Underlying};
 use std::alloc::{AllocError, Global};

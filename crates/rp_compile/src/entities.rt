@@ -6,12 +6,9 @@ ghost use Rattle.plain_data.specs.Numbers.{numbered};
 ghost use Rattle.ex_slots.specs.Slots as slots;
 ghost use Rattle.rp_meaning.specs.Compiled as compiled;
 ghost use Rattle.rp_compile.specs.Declarations as spec;
-ghost use Rattle.rp_compile.specs.Rows.{row as row_of};
+ghost use Rattle.rp_compile_names.specs.Rows.{row as row_of};
 
-use crate::attributes::explicit_of;
 use crate::expressions::{conditions, given};
-use crate::names::joined;
-use crate::rederived::{Rederived, derivations};
 use ex_kinds::{Sort, kinds_of_one};
 use ex_named::{
     AttributeMeaning, AttributePlace, AttributeSort, AttributeUse, NamedAttribute, NamedDerived,
@@ -20,6 +17,7 @@ use ex_named::{
 use ex_tree::Name;
 use ex_typing::TypingScope;
 use plain_data::Items;
+use rp_compile_names::{Rederived, derivations, explicit_of, joined, rederived_of};
 use rp_compile_trees::{Declared, copied_type};
 use rp_meaning::{
     Derivation, Entity, Explicit, ExplicitAttribute, Expression, Given, Inverse, Redeclaration,
@@ -305,16 +303,6 @@ fn entity(
     })
 }
 
-/// The row of a number.
-fn row(rows: &[Items<Rederived>], number: usize) -> &[Rederived]
-    ensures { result.now ≡ row_of rows.now number }
-{
-    match rows.get(number) {
-        Some(row) => row.as_slice(),
-        None => &[],
-    }
-}
-
 /// The entities of a schema of this name, given what redeclares the attributes of each in DERIVE.
 pub(crate) fn entities(
     alloc: Global,
@@ -327,7 +315,7 @@ pub(crate) fn entities(
 {
     let mut found = Items::new(alloc);
     for (number, declared) in list.iter().enumerate() {
-        let rederived = row(rederived, number);
+        let rederived = rederived_of(rederived, number);
         found.push(entity(alloc, schema, schema_name, rederived, number, declared)?)?;
     }
     Ok(found)

@@ -5,7 +5,7 @@ ghost use Rattle.std.specs.List.{filter_map, flat_map};
 ghost use Rattle.ex_attributes.specs.Attributes.{declared_by as attributes_of};
 ghost use Rattle.ex_slots.specs.Slots as slots;
 ghost use Rattle.rp_meaning.specs.CompiledNames as names_spec;
-ghost use Rattle.rp_compile.specs.Declarations as spec;
+ghost use Rattle.rp_compile_names.specs.Found as spec;
 
 use ex_named::{
     AttributePlace, AttributeSort, NamedAttribute, NamedDerived, NamedEntity, NamedExplicit,
@@ -31,7 +31,7 @@ fn push_together<'s>(
 }
 
 /// The explicit attributes of an entity's own, in order, each with its declaration.
-pub(crate) fn explicit_of(
+pub fn explicit_of(
     alloc: Global,
     entity: &NamedEntity,
 ) -> Result<Vec<(&Name, &NamedExplicit)>, AllocError>
@@ -130,7 +130,7 @@ fn push_own<'s>(
 }
 
 /// The attributes that these entities declare, by their names.
-pub(crate) fn attributes<'s>(
+pub fn attributes<'s>(
     alloc: Global,
     entities: &'s [NamedEntity],
     order: &[usize],

@@ -9,7 +9,7 @@ use plain_data::Text;
 use std::alloc::{AllocError, Global};
 
 /// `FIRST.SECOND`
-pub(crate) fn joined(alloc: Global, first: &str, second: &str) -> Result<Text, AllocError>
+pub fn joined(alloc: Global, first: &str, second: &str) -> Result<Text, AllocError>
     ensures { IfOk result (λ text. text ≡ spec.joined first.now second.now) }
 {
     let mut text = String::from_str(alloc, first)?;

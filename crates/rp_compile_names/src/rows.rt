@@ -2,7 +2,7 @@
 
 ghost use Rattle.std.specs.Prelude.{◌≡◌, [], replicate, IfOk, OnOk};
 ghost use Rattle.std.specs.List.{flat_map};
-ghost use Rattle.rp_compile.specs.Rows as spec;
+ghost use Rattle.rp_compile_names.specs.Rows as spec;
 
 use plain_data::Items;
 use std::alloc::{AllocError, Global};

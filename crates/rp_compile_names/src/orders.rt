@@ -4,8 +4,8 @@ ghost use Rattle.std.specs.Prelude.{◌≡◌, [], map, length, replicate, IfOk}
 ghost use Rattle.ex_types.specs.Checked.{entity_names as names_of_entities, type_names as names_of_types};
 ghost use Rattle.name_tables.specs.Order.{IsOrderOf};
 ghost use Rattle.rp_meaning.specs.CompiledNames as spec;
-ghost use Rattle.rp_compile.specs.Declarations as parts;
-ghost use Rattle.rp_compile.specs.Rows.{put_all};
+ghost use Rattle.rp_compile_names.specs.Found as parts;
+ghost use Rattle.rp_compile_names.specs.Rows.{put_all};
 
 use crate::names::{entity_names, rule_names, type_names};
 use crate::rows::{concatenated, empty_rows, put};
@@ -40,14 +40,14 @@ fn in_order(alloc: Global, names: &[&str]) -> Result<Items<usize>, AllocError>
 }
 
 /// The defined types, in the order of the bytes of their names.
-pub(crate) fn type_order(alloc: Global, types: &[NamedType]) -> Result<Items<usize>, AllocError>
+pub fn type_order(alloc: Global, types: &[NamedType]) -> Result<Items<usize>, AllocError>
     ensures { IfOk result (λ order. order ≡ spec.in_order (names_of_types types.now)) }
 {
     in_order(alloc, &type_names(alloc, types)?)
 }
 
 /// The entities, in the order of the bytes of their names.
-pub(crate) fn entity_order(
+pub fn entity_order(
     alloc: Global,
     entities: &[NamedEntity],
 ) -> Result<Items<usize>, AllocError>
@@ -57,7 +57,7 @@ pub(crate) fn entity_order(
 }
 
 /// The rules, in the order of the bytes of their names.
-pub(crate) fn rule_order(alloc: Global, rules: &[NamedRule]) -> Result<Items<usize>, AllocError>
+pub fn rule_order(alloc: Global, rules: &[NamedRule]) -> Result<Items<usize>, AllocError>
     ensures { IfOk result (λ order. order ≡ spec.in_order (map (λ x. x.name.text) rules.now)) }
 {
     in_order(alloc, &rule_names(alloc, rules)?)

@@ -6,7 +6,7 @@ ghost use Rattle.plain_data.specs.Numbers.{numbered};
 ghost use Rattle.ex_slots.specs.Slots as slots;
 ghost use Rattle.name_tables.specs.Names.{rows_of};
 ghost use Rattle.rp_meaning.specs.CompiledNames as names_spec;
-ghost use Rattle.rp_compile.specs.Declarations as spec;
+ghost use Rattle.rp_compile_names.specs.Found as spec;
 
 use crate::attributes::explicit_of;
 use crate::names::joined;
@@ -150,7 +150,7 @@ fn push_roles_of(
 }
 
 /// The roles of all entities of a schema of this name.
-pub(crate) fn roles(
+pub fn roles(
     alloc: Global,
     schema_name: &str,
     entities: &[NamedEntity],

@@ -7,8 +7,8 @@ ghost use Rattle.ex_attributes.specs.Attributes.{same_place};
 ghost use Rattle.ex_slots.specs.Slots as slots;
 ghost use Rattle.graphs.specs.Graphs.{family as family_of};
 ghost use Rattle.rp_meaning.specs.Compiled as compiled;
-ghost use Rattle.rp_compile.specs.Declarations as spec;
-ghost use Rattle.rp_compile.specs.Rows.{put_all};
+ghost use Rattle.rp_compile_names.specs.Found as spec;
+ghost use Rattle.rp_compile_names.specs.Rows.{put_all, row as row_of};
 
 use crate::rows::{concatenated, empty_rows, put};
 use ex_named::{AttributeMeaning, AttributePlace, NamedAttribute, NamedDerived, NamedEntity};
@@ -18,7 +18,7 @@ use rp_meaning::Derivation;
 use std::alloc::{AllocError, Global};
 
 /// An inherited attribute, and what gives it its value.
-pub(crate) type Rederived = (AttributePlace, Derivation);
+pub type Rederived = (AttributePlace, Derivation);
 
 /// The declaration that is redeclared there.
 fn derived_place(derived: &NamedDerived) -> Option<AttributePlace>
@@ -114,7 +114,7 @@ fn deepest_first(
 }
 
 /// What redeclares attributes in DERIVE, those of each entity in its row.
-pub(crate) fn rederived_rows(
+pub fn rederived_rows(
     alloc: Global,
     entities: &[NamedEntity],
     graph: &[Rows<usize>],
@@ -138,7 +138,7 @@ fn is_same_place(a: AttributePlace, b: AttributePlace) -> bool
 }
 
 /// What redeclares this attribute.
-pub(crate) fn derivations(
+pub fn derivations(
     alloc: Global,
     rederived: &[Rederived],
     attribute: AttributePlace,
@@ -152,4 +152,14 @@ pub(crate) fn derivations(
         }
     }
     Ok(found)
+}
+
+/// Those of the entity of this number.
+pub fn rederived_of(rows: &[Items<Rederived>], number: usize) -> &[Rederived]
+    ensures { result.now ≡ row_of rows.now number }
+{
+    match rows.get(number) {
+        Some(row) => row.as_slice(),
+        None => &[],
+    }
 }

@@ -66,7 +66,7 @@ fn entities_among(alloc: Global, members: &[TypeName]) -> Result<Rows<usize>, Al
 }
 
 /// Of each type the defined types among its members.
-pub(crate) fn selection(
+pub fn selection(
     alloc: Global,
     types: &Renamings<'_>,
 ) -> Result<Vec<Rows<usize>>, AllocError>
@@ -114,7 +114,7 @@ fn without_selects(
 }
 
 /// A SELECT, and those among its members, at any depth.
-pub(crate) fn selects(
+pub fn selects(
     alloc: Global,
     types: &Renamings<'_>,
     graph: &[Rows<usize>],
@@ -177,7 +177,7 @@ fn push_types(found: &mut Items<TypeName>, numbers: &[usize]) -> Result<(), Allo
 }
 
 /// What a SELECT chooses from, by the SELECTs that it and its members are.
-pub(crate) fn choices(
+pub fn choices(
     alloc: Global,
     types: &Renamings<'_>,
     selects: &[usize],
