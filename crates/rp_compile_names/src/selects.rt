@@ -9,7 +9,7 @@ ghost use Rattle.rp_meaning.specs.CompiledTypes as spec;
 
 use ex_named::{NamedDataType, NamedUnderlying, TypeName};
 use ex_renamings::Renamings;
-use graphs::family;
+use graphs::{family, is_in};
 use plain_data::{Items, Rows};
 use std::alloc::{AllocError, Global};
 use std::collections::BTreeSet;
@@ -149,7 +149,8 @@ fn each_once(alloc: Global, numbers: &[usize]) -> Result<Vec<usize>, AllocError>
     let mut found = Vec::new(alloc);
     let mut seen = BTreeSet::new(alloc);
     for number in numbers {
-        if seen.insert(*number)? {
+        if !is_in(&seen, *number) {
+            seen.insert(*number)?;
             found.push(*number)?;
         }
     }
