@@ -19,7 +19,7 @@ use ex_named::{
 };
 use ex_typing::TypingScope;
 use plain_data::{Boxed, Items};
-use rp_meaning::{CaseAction, Statement};
+use rp_meaning::{CaseAction, Expression, Statement};
 use std::alloc::{AllocError, Global};
 
 /// What the variable of a REPEAT may be.
@@ -55,6 +55,19 @@ fn assignment(
     let data_type = type_at(alloc, types, slot)?;
     let value = expression(alloc, schema, scope, value)?;
     Ok(Statement::Assignment(slot, data_type, value))
+}
+
+/// The labels of an action.
+#[tactic(auto)]
+fn labels(
+    alloc: Global,
+    schema: &Declared<'_>,
+    scope: &TypingScope<'_>,
+    list: &[NamedExpression],
+) -> Result<Items<Expression>, AllocError>
+    ensures { IfOk result (λ found. found ≡ map (expressions_spec.expression schema.now scope.now) list.now) }
+{
+    expressions(alloc, schema, scope, list)
 }
 
 /// Statements as they are executed, where variables are declared with these types.
@@ -170,7 +183,7 @@ fn case_action(
 ) -> Result<CaseAction, AllocError>
     ensures { IfOk result (λ found. found ≡ parts.case_action schema.now (map (λ t. t.now) types.now) scope.now tree.now) }
 {
-    let labels = expressions(alloc, schema, scope, tree.labels.as_slice())?;
+    let labels = labels(alloc, schema, scope, tree.labels.as_slice())?;
     let statement = statement(alloc, schema, scope, &tree.statement, types)?;
     Ok(CaseAction {
         labels: Some(labels),
