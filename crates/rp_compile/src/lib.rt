@@ -1,14 +1,11 @@
 //! A schema that was checked, as it is evaluated.
 #![tactic(auto)]
 
-mod control;
+mod algorithms;
+mod compile;
 mod declared;
-mod leaves;
-mod statement;
-mod trees;
-mod types;
+mod defined_types;
+mod entities;
+mod expressions;
 
-pub use declared::Declared;
-pub use statement::statements;
-pub use trees::{expression, expressions};
-pub use types::copied_type;
+pub use compile::compile;
