@@ -43,3 +43,20 @@ pub decided : (world : World) (rule : Rule) (itself x : Value) (limit other step
 unfolding outcome
 decided world rule itself x limit other steps h =
     from_outcome (λ l. evaluation world (bodies world l) rule itself) (λ l. steady-evaluation world l (bodies world) (steady-level world most_turns l) rule itself) limit other x steps _ refl h
+
+-- ---- of steps and bodies
+
+both_decide : (taken bodies limit : ℕ) (x : Value) (test : Bool) → (nat_le taken limit && nat_le bodies 200) ≡ test
+    → outcome_of limit (cond test (Some (x, record { left = limit - taken; nesting = max 0 bodies })) None) ≡ cond test (o.Value x taken) o.Limit
+both_decide taken bodies limit x true e =
+    let le : taken ≤ limit = grind (nat_tests, arith, e) in
+    let steps : limit - (limit - taken) ≡ taken = omega (arith, le) in
+    rw (steps) refl
+both_decide taken bodies limit x false e = refl
+
+pub decided_by_both : (world : World) (rule : Rule) (itself x : Value) (levels limit : ℕ) (old new : Counter) → (t : Taken (λ l. evaluation world (bodies world l) rule itself) levels old new x)
+    → outcome world rule itself limit ≡ cond (nat_le t.steps limit && nat_le t.bodies 200) (o.Value x t.steps) o.Limit
+unfolding outcome
+decided_by_both world rule itself x levels limit old new t =
+    rw (serves (λ l. evaluation world (bodies world l) rule itself) (λ l. steady-evaluation world l (bodies world) (steady-level world most_turns l) rule itself) levels 200 old new (within_limit limit) x t)
+        (both_decide t.steps t.bodies limit x (nat_le t.steps limit && nat_le t.bodies 200) refl)

@@ -1,6 +1,6 @@
 //! What holds of every evaluation.
 
-ghost use Rattle.std.specs.Prelude.{◌≡◌, ℕ, ◌≤◌, List, nat_le, if◌then◌else◌};
+ghost use Rattle.std.specs.Prelude.{◌≡◌, ℕ, ◌≤◌, ◌&&◌, List, nat_le, if◌then◌else◌};
 ghost use Rattle.rp_meaning.specs.Expressions.{Scope, World, expression};
 ghost use Rattle.rp_meaning.specs.Laws.{Steady, Taken, kept};
 ghost use Rattle.rp_meaning.specs.Levels.{bodies};
@@ -28,6 +28,13 @@ pub fn limits_only_cut()
 pub fn a_limit_is_of_steps()
     ensures { (world : World) (rule : Rule) (itself x : Value) (limit other steps : ℕ) → outcome world rule itself limit ≡ o.Value x steps
         → outcome world rule itself other ≡ if nat_le steps other then o.Value x steps else o.Limit }
+{}
+
+/// An evaluation that comes to a value, wherever that is, takes some number of steps, and some number of bodies nest: its
+/// outcome is that value with those steps where the limit has as many steps and 200 bodies are as many, and else the limit.
+pub fn outcomes_are_of_steps_and_bodies()
+    ensures { (world : World) (rule : Rule) (itself x : Value) (levels limit : ℕ) (old new : Counter) → (t : Taken (λ l. evaluation world (bodies world l) rule itself) levels old new x)
+        → outcome world rule itself limit ≡ if nat_le t.steps limit && nat_le t.bodies 200 then o.Value x t.steps else o.Limit }
 {}
 
 /// A value that is kept serves at every other place: it costs the steps that it took, and is the limit where these are

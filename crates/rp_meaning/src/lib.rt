@@ -18,7 +18,10 @@ pub use body::Body;
 pub use compiled::compiled_as_typed;
 pub use counter::Counter;
 pub use domain::{Domain, Seen};
-pub use laws::{a_limit_is_of_steps, kept_values_serve, limits_only_cut, steps_are_bounded};
+pub use laws::{
+    a_limit_is_of_steps, kept_values_serve, limits_only_cut, outcomes_are_of_steps_and_bodies,
+    steps_are_bounded,
+};
 pub use outcome::Outcome;
 pub use report::{Check, Constraint, Culprit, Report, Verdict};
 pub use role::{NamedRole, Role};
