@@ -164,16 +164,17 @@ fn push_entity(
     }
 }
 
-/// Adds those of the entities in the order of their names.
+/// Adds those of these entities in an order of all.
 fn push_entities(
     alloc: Global,
     found: &mut Items<Value>,
     schema: &Schema,
     entities: &[usize],
+    order: &[usize],
 ) -> Result<(), AllocError>
-    ensures { OnOk result (found.new ≡ found.old ++ names.entity_texts schema.now entities.now schema.now.entity_order) }
+    ensures { OnOk result (found.new ≡ found.old ++ names.entity_texts schema.now entities.now order.now) }
 {
-    for number in schema.entity_order.as_slice() {
+    for number in order {
         push_entity(alloc, found, schema, entities, *number)?;
     }
     Ok(())
@@ -211,7 +212,10 @@ fn push_instance<D: Domain>(
     ensures { OnOk result (found.new ≡ found.old ++ names.texts schema.now (spec.entity_names schema.now (D.population domain.now) (slice_get (D.population domain.now) place))) }
 {
     match domain.instance(place as usize) {
-        Some(instance) => push_entities(alloc, found, schema, instance.entities),
+        Some(instance) => {
+            let order = schema.entity_order.as_slice();
+            push_entities(alloc, found, schema, instance.entities, order)
+        }
         None => Ok(()),
     }
 }
