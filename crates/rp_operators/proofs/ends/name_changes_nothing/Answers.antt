@@ -10,4 +10,4 @@ returns-in-Entity c = λ _ x. stays-Entity c.args.types.now (d.Named c.args.name
 pub returns-in-Select : goal.returns-in-Select
 returns-in-Select c = λ none x.
     stays-Select c.args.types.now (d.Named c.args.name) c.in-Defined.number c.in-Select.choices.now x (ap d.Named c.in-Defined.is) c.in-Select.ensures
-      (sym c.chooses_aggregates.ensures ∙ not-true c.chooses_aggregates.result none)
+    (sym c.chooses_aggregates.ensures ∙ not-true c.chooses_aggregates.result none)
