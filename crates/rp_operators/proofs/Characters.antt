@@ -1,5 +1,5 @@
 -- Characters of texts.
-use Rattle.std.proofs.Common.{◌≡◌, ℕ, ◌+◌, ◌-◌, ◌<◌, ◌≤◌, Bool, true, false, cond, if◌then◌else◌, ◌==◌, List, [], ◌∷◌, ◌++◌, length, take, drop, get_or, refl, sym, ◌∙◌, ap, append_assoc, add-one, drop-cons, arith}
+use Rattle.std.proofs.Common.{◌≡◌, ℕ, ◌+◌, ◌-◌, ◌<◌, ◌≤◌, Bool, true, false, cond, if◌then◌else◌, ◌==◌, List, [], ◌∷◌, ◌++◌, length, take, drop, get_or, refl, sym, append_assoc, add-one, drop-cons, arith}
 use Rattle.std.specs.List.{count_by}
 use Rattle.std.specs.Fmt.{char_count, is_char_start, take_chars}
 use Rattle.std.proofs.Math.Seq.{take-suc}
