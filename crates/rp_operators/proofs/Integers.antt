@@ -1,11 +1,9 @@
 -- Numbers of 64 bits with a sign as values of INTEGER.
-use Rattle.std.proofs.Common.{◌≡◌, ℕ, ℤ, pos, negsuc, zero, suc, ◌-◌, ◌^◌, ◌<◌, ◌≤◌, Bool, true, false, nat_lt, nat_le, if◌then◌else◌, FitsSigned, refl, sym, ap, arith}
-use Rattle.std.specs.Prelude.{int_lt, int_le, ◌&&◌}
+use Rattle.std.proofs.Common.{◌≡◌, ℤ, pos, negsuc, FitsSigned, arith}
 use mir.Syntax.{w64}
 use Rattle.std.proofs.lemmas.Int.{ints}
 use Rattle.std.proofs.lemmas.Bool.Decides.{nat_tests}
 use Rattle.rp_meaning.specs.Operators.{integer}
-use Rattle.rp_value.specs.declared.value.Value.{Value}
 use Rattle.rp_value.specs.declared.value.Value.TheVariants as v
 
 pub integer_fits : (z : ℤ) → FitsSigned w64 z → integer z ≡ v.Int z

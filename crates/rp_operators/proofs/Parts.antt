@@ -77,7 +77,7 @@ module _ (defined : List DefinedType) where
     pub inside-scalar : ((kind : AggregateKind) (xs : Elements Value) → x ≡ v.Agg kind xs → ⊥) → ((n : ℕ) (y : Value) → x ≡ v.Named n y → ⊥) → inside defined declared x ≡ x
     inside-scalar other never =
         subst (λ z. inside defined declared z ≡ z) (roll-out-Value x)
-          (scalar declared (out-Value x) (λ kind xs is. other kind xs (sym (roll-out-Value x) ∙ is)) (λ n y is. never n y (sym (roll-out-Value x) ∙ is)))
+        (scalar declared (out-Value x) (λ kind xs is. other kind xs (sym (roll-out-Value x) ∙ is)) (λ n y is. never n y (sym (roll-out-Value x) ∙ is)))
 
     pub inside-Agg : (kind : AggregateKind) (xs : Elements Value) → x ≡ v.Agg kind xs → inside defined declared x ≡ elements_under defined declared kind xs
     inside-Agg kind xs is = ap (inside defined declared) (is ∙ sym (v.rolls-Agg kind xs)) ∙ inside-rolls declared (Value-F.Agg kind xs) ∙ of_elements declared kind xs

@@ -1,11 +1,11 @@
 -- Powers of INTEGER.
-use Rattle.std.proofs.Common.{◌≡◌, ◌⊎◌, inl, inr, ℕ, ℤ, pos, negsuc, zero, suc, ◌*◌, ◌%◌, ◌^◌, ◌<◌, ◌≤◌, ◌==◌, Bool, true, false, cond, if◌then◌else◌, refl, sym, ◌∙◌, ap, ap₂, subst, le_trans, pow-suc, mul-zero, arith, FitsSigned}
+use Rattle.std.proofs.Common.{◌≡◌, ℕ, ℤ, pos, negsuc, zero, suc, ◌*◌, ◌%◌, ◌^◌, ◌<◌, ◌≤◌, ◌==◌, Bool, true, false, cond, refl, sym, ◌∙◌, ap, ap₂, subst, le_trans, pow-suc, mul-zero, arith, FitsSigned}
 use Rattle.std.specs.Prelude.{◌*ℤ◌, ◌≤ℤ◌, neg_ℤ, unsigned_abs}
 use Rattle.std.specs.Int.{int_pow}
 use mir.Syntax.{w64}
 use Rattle.std.proofs.lemmas.Int.{ints}
 use Rattle.std.proofs.Math.IntN.{pos-*ℤ-pos, negsuc-*ℤ-pos, negsuc-*ℤ-negsuc}
-use Rattle.std.proofs.Math.Nat.{mul-one, mul_comm, pow-le-pow_left}
+use Rattle.std.proofs.Math.Nat.{mul-one, mul_comm, pow-zero, pow-le-pow_left}
 use Rattle.std.proofs.Math.Pow.{pow_mono}
 use Rattle.rp_meaning.specs.Operators.{integer, power, power_of}
 use Rattle.rp_operators.proofs.Integers.{integer_beyond}
@@ -37,8 +37,8 @@ next (negsuc a) n =
     ∙ ap₂ (λ even m. cond even (pos m) (neg_ℤ (pos m))) (sym (odd_next n (n % 2 == 0) refl)) (grows (suc a) n)
 
 pub power_is : (x : ℤ) (n : ℕ) → int_pow x n ≡ power_of x n
-power_is (pos a) zero = refl
-power_is (negsuc a) zero = refl
+power_is (pos a) zero = ap pos (pow-zero a)
+power_is (negsuc a) zero = ap pos (pow-zero (suc a))
 power_is x (suc n) = sym (next x n) ∙ ap (λ y. x *ℤ y) (power_is x n)
 
 -- ---- powers past 64 bits
@@ -72,9 +72,9 @@ both_wide y z g h = integer_beyond y (wide y g) ∙ sym (integer_beyond z (wide 
 pub same_power : (x : ℤ) (e k : ℕ) → 64 ≤ e → 64 ≤ k → e % 2 ≡ k % 2 → integer (int_pow x e) ≡ integer (int_pow x k)
 same_power (pos zero) e k g h p = ap (λ m. integer (pos m)) (zero-pow e (omega arith) ∙ sym (zero-pow k (omega arith)))
 same_power (pos (suc zero)) e k g h p = ap (λ m. integer (pos m)) (one-pow e ∙ sym (one-pow k))
-same_power (pos (suc (suc n))) e k g h p = both_wide _ _ (past n e g) (past n k h)
+same_power (pos (suc (suc n))) e k g h p = both_wide (int_pow (pos (suc (suc n))) e) (int_pow (pos (suc (suc n))) k) (past n e g) (past n k h)
 same_power (negsuc zero) e k g h p = ap₂ (λ (r m : ℕ). integer (cond (r == 0) (pos m) (neg_ℤ (pos m)))) p (one-pow e ∙ sym (one-pow k))
-same_power (negsuc (suc n)) e k g h p = both_wide _ _
+same_power (negsuc (suc n)) e k g h p = both_wide (int_pow (negsuc (suc n)) e) (int_pow (negsuc (suc n)) k)
     (subst (λ (m : ℕ). 2 ^ 64 ≤ m) (sym (size-signed (e % 2 == 0) (suc (suc n) ^ e))) (past n e g))
     (subst (λ (m : ℕ). 2 ^ 64 ≤ m) (sym (size-signed (k % 2 == 0) (suc (suc n) ^ k))) (past n k h))
 

@@ -1,10 +1,8 @@
 -- A SET of elements.
-use Rattle.std.proofs.Common.{◌≡◌, ℕ, ℤ, List, [], refl, sym, ◌∙◌, ap}
+use Rattle.std.proofs.Common.{◌≡◌, ℤ, List, [], sym, ◌∙◌, ap}
 use Rattle.rp_meaning.specs.Types.{of_kind}
 use Rattle.rp_operations.specs.Operations.{union, union_seen, set_union, aggregate}
-use Rattle.rp_operations.specs.Seen.{Seen, Aggregate, seen}
 use Rattle.rp_operators.proofs.Sights.{sees-Agg}
-use Rattle.rp_value.specs.declared.value.AggregateKind.{AggregateKind}
 use Rattle.rp_value.specs.declared.value.AggregateKind.TheVariants as k
 use Rattle.rp_value.specs.declared.value.Value.{Value}
 

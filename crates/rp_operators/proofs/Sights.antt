@@ -1,6 +1,8 @@
 -- What is beneath the names of a value, variant by variant.
-use Rattle.std.proofs.Common.{◌≡◌, ℕ, ℤ, Bool, List, [], ◌∷◌, map, Option, None, refl, sym, ◌∙◌, ap, subst}
+use Rattle.std.proofs.Common.{◌≡◌, ℕ, ℤ, Bool, List, [], ◌∷◌, map, Option, Some, None, true, not, refl, sym, ◌∙◌, ap, subst}
+use Rattle.std.proofs.lemmas.Bool.{true≢false}
 use Rattle.std.proofs.lemmas.Option.{none-some}
+use Rattle.std.specs.Option.{is_some}
 use Rattle.rp_numbers.specs.Decimals.{Decimal, scaled, scaled_whole}
 use Rattle.rp_numbers.specs.declared.Logical.{Logical}
 use Rattle.rp_meaning.specs.Bare.{bare, carried, carried_by, itself_and_bare}
@@ -120,6 +122,10 @@ bare-unnamed x never = bare-itself x (uncarried (out-Value x) (λ n y is. never 
 pub bare-under : (x : Value) (n : ℕ) (y : Value) → x ≡ v.Named n y → bare y ≡ bare x
 unfolding bare
 bare-under x n y is = bare-rolls (Value-F.Named n y) ∙ ap bare (v.rolls-Named n y ∙ sym is)
+
+pub unless_some : (found : Option ℕ) (none : Bool) → is_some found ≡ not none → none ≡ true → found ≡ None
+unless_some None none is so = refl
+unless_some (Some n) none is so = absurd (true≢false (is ∙ ap not so))
 
 pub named-alone : (x : Value) (n m : ℕ) (y : Value) → x ≡ v.Named n y → n ≡ m → carried y ≡ None → v.Named m (bare x) ≡ x
 named-alone x n m y is same none = ap (v.Named m) (sym (bare-under x n y is) ∙ bare-itself y none) ∙ ap (λ k. v.Named k y) (sym same) ∙ sym is

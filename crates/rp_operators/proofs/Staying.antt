@@ -1,5 +1,5 @@
 -- What declared types leave as it is.
-use Rattle.std.proofs.Common.{◌≡◌, ℕ, Bool, true, false, not, ◌||◌, List, [], ◌∷◌, map, Option, Some, None, if◌then◌else◌, refl, sym, ◌∙◌, ap, subst}
+use Rattle.std.proofs.Common.{◌≡◌, ℕ, Bool, true, false, not, ◌||◌, List, [], ◌∷◌, map, Option, None, if◌then◌else◌, refl, sym, ◌∙◌, ap, subst}
 use Rattle.std.specs.List.{list_any}
 use Rattle.std.proofs.lemmas.Bool.{true≢false}
 use Rattle.ex_named.specs.declared.expression.NamedDataType.{NamedDataType, NamedDataType-F, out-NamedDataType}
@@ -155,9 +155,9 @@ module _ (defined : List DefinedType) where
         let declared = types.inner_by defined (end_of defined number) (carried x) in
         let is_fit = fits defined (d.Named (t.Defined number)) x in
         when (is_indeterminate x || not is_fit) x (under defined (d.Named (t.Defined number)) x) (λ fit.
-          under-Defined number x
-          ∙ named_chosen number (end_of defined number) (inside defined declared x) chosen
-          ∙ stays declared x (λ kind xs is. absurd (unlike (end_of defined number) x chosen (sym (fits-Defined number x) ∙ fitting (is_indeterminate x) is_fit fit) kind xs is)))
+        under-Defined number x
+        ∙ named_chosen number (end_of defined number) (inside defined declared x) chosen
+        ∙ stays declared x (λ kind xs is. absurd (unlike (end_of defined number) x chosen (sym (fits-Defined number x) ∙ fitting (is_indeterminate x) is_fit fit) kind xs is)))
 
   pub stays-Select : (data_type : NamedDataType) (number : ℕ) (choices : List TypeName) (x : Value) → data_type ≡ d.Named (t.Defined number) → Select choices ≡ end_of defined number
       → list_any (is_of_choice defined an_aggregate) choices ≡ false → element_under defined data_type x ≡ x

@@ -1,5 +1,5 @@
 -- What `+` costs.
-use Rattle.std.proofs.Common.{◌≡◌, ◌≤◌, ℕ, ℤ, ◌+◌, Bool, true, false, if◌then◌else◌, List, [], ◌∷◌, ◌++◌, length, Option, Some, None, refl, sym, ◌∙◌, ap, ap₂, subst, length-append, arith}
+use Rattle.std.proofs.Common.{◌≡◌, ℕ, ℤ, ◌+◌, Bool, true, false, if◌then◌else◌, List, [], ◌∷◌, ◌++◌, length, Option, Some, None, refl, sym, ◌∙◌, ap, subst, length-append}
 use Rattle.std.specs.Fmt.{char_count}
 use Rattle.std.specs.Prelude.{◌+ℤ◌}
 use Rattle.rp_meaning.specs.Bare.{bare, integer_of, aggregate_in}

@@ -1,12 +1,12 @@
 -- Names of types, one after the other.
-use Rattle.std.proofs.Common.{◌≡◌, ◌<◌, ℕ, ◌+◌, Bool, true, false, if◌then◌else◌, List, [], ◌∷◌, ◌++◌, map, filter, drop, get_or, length, Option, Some, None, refl, sym, ◌∙◌, ap, append_assoc, add-one, drop-cons}
+use Rattle.std.proofs.Common.{◌≡◌, ◌<◌, ℕ, ◌+◌, Bool, true, false, if◌then◌else◌, List, [], ◌∷◌, ◌++◌, map, filter, drop, get_or, length, Option, None, refl, sym, ◌∙◌, ap, append_assoc, add-one, drop-cons}
 use Rattle.std.proofs.lemmas.List.{map-append, append-nil}
 use Rattle.std.proofs.lemmas.List.Elements.{filter_map-append, filter-append}
 use Rattle.std.specs.List.{filter_map}
 use Rattle.plain_data.specs.Numbers.{is_among}
 use Rattle.rp_meaning.specs.TypeNames as names
 use Rattle.rp_meaning.specs.declared.schema.Schema.{Schema}
-use Rattle.rp_operators.specs.Naming.{texts, type_texts, entity_texts, unless_named, unnamed, with_enumeration}
+use Rattle.rp_operators.specs.Naming.{texts, type_texts, entity_texts, unnamed, with_enumeration}
 use Rattle.rp_value.specs.declared.value.Value.{Value}
 use Rattle.rp_value.specs.declared.value.Value.TheOpen.{Value-F}
 use Rattle.rp_value.specs.declared.value.Value.TheVariants as v
@@ -18,6 +18,10 @@ next xs i within = rw (add-one) (drop-cons xs i 0 within)
 in_parts : (of : List ℕ → List Value) → ((xs ys : List ℕ) → of (xs ++ ys) ≡ of xs ++ of ys)
     → (found new : List Value) (xs ys : List ℕ) → new ≡ found ++ of xs → new ++ of ys ≡ found ++ of (xs ++ ys)
 in_parts of appends found new xs ys is = ap (λ zs. zs ++ of ys) is ∙ append_assoc found (of xs) (of ys) ∙ ap (λ zs. found ++ zs) (sym (appends xs ys))
+
+-- where there is no name
+pub nothing_more : (name : ℕ → Option (List ℕ)) (number : ℕ) (found : List Value) → None ≡ name number → found ≡ found ++ map (λ text. v.Str text) (filter_map name (number ∷ []))
+nothing_more name number found is = rw (sym is) (sym (append-nil found))
 
 with_unless : (numbers : List ℕ) (enumeration : ℕ) (among : Bool) → (if among then numbers else numbers ++ enumeration ∷ []) ≡ numbers ++ (if among then [] else enumeration ∷ [])
 with_unless numbers enumeration true = sym (append-nil numbers)
@@ -36,6 +40,11 @@ module _ (schema : Schema) where
       ∙ ap (texts schema) (filter_map-append (names.entity_name schema []) (filter (is_among entities) xs) (filter (is_among entities) ys))
       ∙ texts_append _ _
 
+  pub one_entity : (entities : List ℕ) (number : ℕ) (among : Bool) → is_among entities number ≡ among
+      → entity_texts schema entities (number ∷ []) ≡ (if among then texts schema (filter_map (names.entity_name schema []) (number ∷ [])) else [])
+  one_entity entities number true is = rw is refl
+  one_entity entities number false is = rw is refl
+
   -- a type more
   pub type_step : (numbers : List ℕ) (i : ℕ) (found new : List Value) → i < length numbers → new ≡ found ++ type_texts schema (get_or numbers i 0 ∷ [])
       → new ++ type_texts schema (drop (i + 1) numbers) ≡ found ++ type_texts schema (drop i numbers)
@@ -50,10 +59,10 @@ module _ (schema : Schema) where
       ∙ ap (λ rest. found ++ entity_texts schema entities rest) (sym (next numbers i within))
 
   -- those beneath
-  pub named_step : (number : ℕ) (below all : List ℕ) (found new : List Value) → new ≡ found ++ type_texts schema (number ∷ []) → number ∷ below ≡ all
-      → new ++ type_texts schema below ≡ found ++ type_texts schema all
+  pub named_step : (number : ℕ) (below all : List ℕ) (found new : List Value) → new ≡ found ++ type_texts schema (number ∷ []) → below ≡ all
+      → new ++ type_texts schema below ≡ found ++ type_texts schema (number ∷ all)
   named_step number below all found new is whole =
-      in_parts (type_texts schema) types_append found new (number ∷ []) below is ∙ ap (λ rest. found ++ type_texts schema rest) whole
+      in_parts (type_texts schema) types_append found new (number ∷ []) below is ∙ ap (λ rest. found ++ type_texts schema (number ∷ rest)) whole
 
   with_unnamed : (numbers : List ℕ) (y : Value-F Value) → with_enumeration schema numbers y ≡ numbers ++ unnamed numbers y
   with_unnamed numbers (Value-F.Item enumeration place) = with_unless numbers enumeration (is_among numbers enumeration)

@@ -1,6 +1,7 @@
 -- Names of types as texts. They hang on the schema alone, but for those of instances.
-use Rattle.std.specs.Prelude.{ℕ, List, [], ◌∷◌, Bool, map, filter, Option, if◌then◌else◌}
+use Rattle.std.specs.Prelude.{ℕ, List, [], ◌∷◌, filter, Option, slice_get, if◌then◌else◌}
 use Rattle.std.specs.List.{filter_map}
+use Rattle.std.specs.Option.{option_map_or}
 use Rattle.plain_data.specs.Numbers.{is_among}
 use Rattle.rp_meaning.specs.TypeNames as names
 use Rattle.rp_meaning.specs.declared.schema.Schema.{Schema}
@@ -26,6 +27,9 @@ module _ (schema : Schema) where
   -- of the entities among these
   abbrev pub entity_texts : List ℕ → List ℕ → List Value
   entity_texts entities numbers = texts (filter_map (names.entity_name schema []) (filter (is_among entities) numbers))
+
+  abbrev pub beneath : ℕ → List ℕ
+  beneath number = option_map_or (λ x. x.beneath) (slice_get schema.types number) []
 
   abbrev pub defined_types : Option ℕ → List ℕ
   defined_types = names.defined_types schema []

@@ -203,7 +203,12 @@ fn with_elements(
 {
     let kind = match (declared, kind) {
         (Some((AggregateKind::Set, low)), AggregateKind::Initializer) => {
-            return of_kind(alloc, AggregateKind::Set, low, copies(alloc, elements.as_slice())?);
+            return of_kind(
+                alloc,
+                AggregateKind::Set,
+                low,
+                copies(alloc, elements.as_slice())?,
+            );
         }
         (Some((declared, low)), AggregateKind::Initializer) => {
             if low != elements.low() {

@@ -4,6 +4,7 @@ ghost use Rattle.std.specs.Prelude.{◌≡◌, true};
 ghost use Rattle.std.specs.List.{list_any};
 ghost use Rattle.std.specs.Option.{option_map};
 ghost use Rattle.ex_named.specs.declared.expression.NamedDataType.{out-NamedDataType};
+ghost use Rattle.ex_named.specs.declared.expression.NamedDataType.TheVariants as d;
 ghost use Rattle.rp_meaning.specs.Bare.{carried as spec_carried};
 ghost use Rattle.rp_meaning.specs.Types as spec;
 ghost use Rattle.rp_operators.specs.Ends.{aggregate_type_behind, an_aggregate, element_under, end_behind};
@@ -245,6 +246,18 @@ fn chooses_aggregates(types: &[DefinedType], choices: &[TypeName]) -> bool
         .any(|choice| is_choice_of_aggregates(types, *choice))
 }
 
+fn name_changes_nothing(types: &[DefinedType], name: TypeName) -> bool
+    ensures { result ≡ true → (x : Value) → element_under types.now (d.Named name) x ≡ x }
+{
+    match name {
+        TypeName::Entity(_) => true,
+        TypeName::Defined(number) => match end_of(types, number) {
+            End::Select(choices) => !chooses_aggregates(types, choices),
+            End::Enumeration(_) | End::Written(_) | End::Absent(_) => false,
+        },
+    }
+}
+
 /// Whether elements of a type stay as they are, whatever they are.
 #[tactic(auto, using(crate::proofs::Staying::elements_stay))]
 pub(crate) fn changes_nothing(types: &[DefinedType], data_type: &NamedDataType) -> bool
@@ -253,11 +266,7 @@ pub(crate) fn changes_nothing(types: &[DefinedType], data_type: &NamedDataType) 
     match data_type {
         NamedDataType::Generic => true,
         NamedDataType::Simple(_) => true,
-        NamedDataType::Named(TypeName::Entity(_)) => true,
-        NamedDataType::Named(TypeName::Defined(number)) => match end_of(types, *number) {
-            End::Select(choices) => !chooses_aggregates(types, choices),
-            End::Enumeration(_) | End::Written(_) | End::Absent(_) => false,
-        },
+        NamedDataType::Named(name) => name_changes_nothing(types, *name),
         _ => false,
     }
 }

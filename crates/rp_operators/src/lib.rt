@@ -19,6 +19,6 @@ pub use built_ins::{
 };
 pub use costs::{cost, count, interval_cost, size};
 pub use declared::given;
+pub use naming::type_names;
 pub use operators::{applied, applied_to, within};
 pub use qualifiers::{index, range};
-pub use naming::type_names;

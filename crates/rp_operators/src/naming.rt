@@ -1,6 +1,8 @@
 //! TYPEOF: the names of the types of a value.
 
 ghost use Rattle.std.specs.Prelude.{◌≡◌, [], ◌∷◌, ◌++◌, map, slice_get, Some, IfOk, OnOk};
+ghost use Rattle.std.specs.List.{filter_map};
+ghost use Rattle.std.specs.Option.{option_copied};
 ghost use Rattle.plain_data.specs.Numbers.{is_among};
 ghost use Rattle.rp_meaning.specs.TypeNames as spec;
 ghost use Rattle.rp_operators.specs.Naming as names;
@@ -21,6 +23,15 @@ fn push_text(alloc: Global, found: &mut Items<Value>, name: &str) -> Result<(), 
     Ok(())
 }
 
+fn type_name(schema: &Schema, number: usize) -> Option<&str>
+    ensures { option_copied result ≡ spec.type_name schema.now [] number }
+{
+    match schema.types.as_slice().get(number) {
+        Some(defined_type) => Some(defined_type.name.as_str()),
+        None => None,
+    }
+}
+
 /// Adds the name of a defined type, if there is one of this number.
 fn push_type(
     alloc: Global,
@@ -30,8 +41,8 @@ fn push_type(
 ) -> Result<(), AllocError>
     ensures { OnOk result (found.new ≡ found.old ++ names.type_texts schema.now (number ∷ [])) }
 {
-    match schema.types.as_slice().get(number) {
-        Some(defined_type) => push_text(alloc, found, defined_type.name.as_str()),
+    match type_name(schema, number) {
+        Some(name) => push_text(alloc, found, name),
         None => Ok(()),
     }
 }
@@ -52,7 +63,7 @@ fn push_types(
 
 /// The defined types that a defined type renames.
 fn beneath(schema: &Schema, number: usize) -> &[usize]
-    ensures { number ∷ result.now ≡ names.defined_types schema.now (Some number) }
+    ensures { result.now ≡ names.beneath schema.now number }
 {
     match schema.types.as_slice().get(number) {
         Some(defined_type) => defined_type.beneath.as_slice(),
@@ -88,13 +99,26 @@ fn push_carried(
     }
 }
 
+fn is_one_of(numbers: &[usize], number: usize) -> bool
+    ensures { result ≡ is_among numbers.now number }
+{
+    numbers.iter().any(|other| *other == number)
+}
+
+/// Whether a defined type is this one, or renames it.
+fn is_renaming(schema: &Schema, own: usize, number: usize) -> bool
+    ensures { result ≡ is_among (names.defined_types schema.now (Some own)) number }
+{
+    own == number || is_one_of(beneath(schema, own), number)
+}
+
 /// Whether a value that carries a defined type is of this one.
 fn is_named(schema: &Schema, carried: Option<usize>, number: usize) -> bool
     ensures { result ≡ is_among (names.defined_types schema.now carried) number }
 {
     match carried {
         None => false,
-        Some(own) => own == number || beneath(schema, own).iter().any(|other| *other == number),
+        Some(own) => is_renaming(schema, own, number),
     }
 }
 
@@ -145,7 +169,31 @@ fn push_defined(
     push_unnamed(alloc, found, schema, carried, x)
 }
 
-/// Adds the name of an entity, if it is one of these and there is one of its number.
+fn entity_name(schema: &Schema, number: usize) -> Option<&str>
+    ensures { option_copied result ≡ spec.entity_name schema.now [] number }
+{
+    match schema.entities.as_slice().get(number) {
+        Some(entity) => Some(entity.name.as_str()),
+        None => None,
+    }
+}
+
+/// Adds the name of an entity, if there is one of this number.
+fn push_entity_name(
+    alloc: Global,
+    found: &mut Items<Value>,
+    schema: &Schema,
+    number: usize,
+) -> Result<(), AllocError>
+    ensures { OnOk result (found.new ≡ found.old ++ names.texts schema.now (filter_map (spec.entity_name schema.now []) (number ∷ []))) }
+{
+    match entity_name(schema, number) {
+        Some(name) => push_text(alloc, found, name),
+        None => Ok(()),
+    }
+}
+
+/// Adds the name of an entity, if it is one of these.
 fn push_entity(
     alloc: Global,
     found: &mut Items<Value>,
@@ -155,25 +203,24 @@ fn push_entity(
 ) -> Result<(), AllocError>
     ensures { OnOk result (found.new ≡ found.old ++ names.entity_texts schema.now entities.now (number ∷ [])) }
 {
-    if !entities.iter().any(|entity| *entity == number) {
-        return Ok(());
-    }
-    match schema.entities.as_slice().get(number) {
-        Some(entity) => push_text(alloc, found, entity.name.as_str()),
-        None => Ok(()),
+    if is_one_of(entities, number) {
+        push_entity_name(alloc, found, schema, number)
+    } else {
+        Ok(())
     }
 }
 
-/// Adds those of the entities in the order of their names.
+/// Adds those of these entities in an order of all.
 fn push_entities(
     alloc: Global,
     found: &mut Items<Value>,
     schema: &Schema,
     entities: &[usize],
+    order: &[usize],
 ) -> Result<(), AllocError>
-    ensures { OnOk result (found.new ≡ found.old ++ names.entity_texts schema.now entities.now schema.now.entity_order) }
+    ensures { OnOk result (found.new ≡ found.old ++ names.entity_texts schema.now entities.now order.now) }
 {
-    for number in schema.entity_order.as_slice() {
+    for number in order {
         push_entity(alloc, found, schema, entities, *number)?;
     }
     Ok(())
@@ -211,7 +258,10 @@ fn push_instance<D: Domain>(
     ensures { OnOk result (found.new ≡ found.old ++ names.texts schema.now (spec.entity_names schema.now (D.population domain.now) (slice_get (D.population domain.now) place))) }
 {
     match domain.instance(place as usize) {
-        Some(instance) => push_entities(alloc, found, schema, instance.entities),
+        Some(instance) => {
+            let order = schema.entity_order.as_slice();
+            push_entities(alloc, found, schema, instance.entities, order)
+        }
         None => Ok(()),
     }
 }

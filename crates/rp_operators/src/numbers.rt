@@ -86,7 +86,6 @@ pub(crate) fn rest(x: &Value, y: &Value) -> Value
 }
 
 /// Whether a power of this exponent is out of 64 bits, or a number that a less exponent of the same parity gives too.
-#[tactic(auto, using(crate::proofs::Powers::reduces))]
 fn reduced(exponent: u64) -> u32
     ensures { (x : ℤ) → spec.integer (spec.power_of x result) ≡ spec.integer (spec.power_of x exponent) }
 {

@@ -67,7 +67,6 @@ fn are_aggregates(s: Bare<'_>, t: Bare<'_>) -> bool
     }
 }
 
-
 fn sides_of(x: &Value, y: &Value) -> Sides
     ensures by_value { (found : Value) → of_sides result found found ≡ spec.by_value found x.now y.now }
     ensures in_order { (of_aggregates found : Value) → of_sides result of_aggregates found ≡ spec.in_order of_aggregates found x.now y.now }

@@ -1,4 +1,3 @@
-use Rattle.std.proofs.Common.{◌≡◌}
 use Rattle.rp_operators.proofs.Sights.{bare-unnamed}
 use Rattle.rp_operators.proofs.bare.+without_names.Goals as goal
 

@@ -1,4 +1,3 @@
-use Rattle.std.proofs.Common.{◌≡◌}
 use Rattle.rp_operators.proofs.Sizes.{size-scalar}
 use Rattle.rp_operators.proofs.costs.+sizes.Goals as goal
 

@@ -7,4 +7,4 @@ pub returns : goal.returns
 returns c =
     c.of_sum_beneath.ensures
     ∙ ap (unless_more c.args.most) (sym (sum_cost c.args.x.now c.args.y.now c.beneath_names.result c.beneath_names-2.result
-        c.beneath_names.ensures.value c.beneath_names.ensures.sight c.beneath_names-2.ensures.value c.beneath_names-2.ensures.sight))
+    c.beneath_names.ensures.value c.beneath_names.ensures.sight c.beneath_names-2.ensures.value c.beneath_names-2.ensures.sight))

@@ -1,4 +1,3 @@
-use Rattle.std.proofs.Common.{◌≡◌}
 use Rattle.std.specs.Option.{option_map}
 use Rattle.rp_operators.specs.Ends.{aggregate_type_behind}
 use Rattle.rp_operators.proofs.Parts.{inside-scalar}
