@@ -1,5 +1,5 @@
 -- Extents, by what was put into the rows of entities.
-use Rattle.std.proofs.Common.{◌≡◌, ℕ, zero, suc, ◌+◌, ◌<◌, ◌==◌, ◌||◌, Bool, true, false, List, [], ◌∷◌, ◌++◌, map, filter, drop, length, replicate, get_or, if◌then◌else◌, Option, Some, None, append_assoc, refl, sym, ◌∙◌, ap, arith}
+use Rattle.std.proofs.Common.{◌≡◌, ℕ, ◌+◌, ◌<◌, ◌==◌, ◌||◌, Bool, true, false, List, [], ◌∷◌, ◌++◌, map, filter, drop, length, replicate, get_or, if◌then◌else◌, Option, Some, None, append_assoc, refl, sym, ◌∙◌, ap, arith}
 use Rattle.std.proofs.lemmas.List.{map-append}
 use Rattle.std.proofs.lemmas.Bool.Decides.{nat_tests}
 use Rattle.plain_data.specs.Numbers.{is_among}

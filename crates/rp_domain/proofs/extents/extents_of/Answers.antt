@@ -1,4 +1,3 @@
-use Rattle.std.proofs.Common.{◌≡◌}
 use Rattle.rp_domain.specs.Standing.{standing_from}
 use Rattle.rp_domain.proofs.Standing.{rows_of}
 use Rattle.rp_domain.proofs.extents.extents_of.Goals as goal

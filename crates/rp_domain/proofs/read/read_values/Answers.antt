@@ -1,4 +1,4 @@
-use Rattle.std.proofs.Common.{◌≡◌, ◌∙◌, ◌++◌, ap, sym, arith, rules}
+use Rattle.std.proofs.Common.{◌∙◌, ◌++◌, ap, sym, arith, rules}
 use Rattle.rp_domain.proofs.Sharing.{unread}
 use Rattle.rp_domain.proofs.Uses.{neither, reads_step, writes_step}
 use Rattle.rp_domain.proofs.read.read_values.Goals as goal
