@@ -57,11 +57,7 @@ pub(crate) fn extents_of(
 }
 
 /// Adds the instance at a place, unless it is the last one.
-fn push_once(
-    found: &mut Items<Value>,
-    last: Option<usize>,
-    place: usize,
-) -> Result<(), AllocError>
+fn push_once(found: &mut Items<Value>, last: Option<usize>, place: usize) -> Result<(), AllocError>
     ensures { OnOk result (found.new ≡ found.old ++ values_of (spec.once_behind last (place ∷ []))) }
 {
     match last {

@@ -102,11 +102,7 @@ fn read_values(
         let other = push_read(&mut found, alloc, schema, count, attribute, written, at)?;
         differs = either(differs, other);
     }
-    if differs {
-        Ok(Some(found))
-    } else {
-        Ok(None)
-    }
+    if differs { Ok(Some(found)) } else { Ok(None) }
 }
 
 /// Makes the value at a place `?` if it is derived, and if there is one.

@@ -8,8 +8,8 @@ loop-at-preserved c =
     record {
       read = rw c.in_ok-other.ensures.read (sym (reads_step c.args.schema.now c.args.count c.loop-at.found c.args.attributes.now c.args.written.now c.loop-at.at _ (omega arith) (search rules)) ∙ c.loop-at.invariant.read);
       same = λ none.
-      let both = neither c.loop-at.differs c.in_ok-other.other (sym c.either-differs.ensures ∙ none) in
-      rw (c.in_ok-other.ensures.read ∙ ap (λ xs. c.loop-at.found ++ xs) (c.in_ok-other.ensures.same both.1)) (sym (writes_step c.loop-at.found c.args.attributes.now c.args.written.now c.loop-at.at (omega arith)) ∙ c.loop-at.invariant.same both.0);
+          let both = neither c.loop-at.differs c.in_ok-other.other (sym c.either-differs.ensures ∙ none) in
+          rw (c.in_ok-other.ensures.read ∙ ap (λ xs. c.loop-at.found ++ xs) (c.in_ok-other.ensures.same both.1)) (sym (writes_step c.loop-at.found c.args.attributes.now c.args.written.now c.loop-at.at (omega arith)) ∙ c.loop-at.invariant.same both.0);
     }
 
 pub returns-else-differs : goal.returns-else-differs
