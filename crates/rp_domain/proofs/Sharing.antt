@@ -1,14 +1,15 @@
 -- What is shared by instances of the same entities, and their values.
-use Rattle.std.proofs.Common.{◌≡◌, ℕ, zero, suc, ◌+◌, ◌<◌, Bool, true, false, List, [], ◌∷◌, ◌++◌, map, take, drop, length, get_or, drop-cons, add-one, if◌then◌else◌, IfSome, slice_get, slice_set, refl, sym, ◌∙◌, ap}
+use Rattle.std.proofs.Common.{◌≡◌, ℕ, zero, suc, ◌+◌, ◌<◌, ◌≤◌, Option, subst, Bool, true, false, List, [], ◌∷◌, ◌++◌, map, take, drop, length, get_or, drop-cons, add-one, if◌then◌else◌, IfSome, slice_get, slice_set, refl, sym, ◌∙◌, ap}
+use Rattle.std.proofs.lemmas.List.{drop_all}
 use Rattle.std.specs.List.{zip}
 use Rattle.ex_named.specs.declared.reference.AttributePlace.{AttributePlace}
 use Rattle.rp_value.specs.declared.value.Value.{Value}
 use Rattle.rp_value.specs.declared.value.Value.TheVariants as v
 use Rattle.rp_meaning.specs.declared.schema.Schema.{Schema}
-use Rattle.rp_meaning.specs.Populations.{stored}
-use Rattle.rp_meaning.specs.Reading.{is_derived, stored_as}
+use Rattle.rp_meaning.specs.Populations.{Instance, Stored, stored}
+use Rattle.rp_meaning.specs.Reading.{attributes, instance_of, is_derived, stored_as}
 use Rattle.rp_domain.specs.declared.combination.Combination.{Combination}
-use Rattle.rp_domain.specs.Combinations.{attribute_of, combination, used_of, without_derived, without_one}
+use Rattle.rp_domain.specs.Combinations.{attribute_of, combination, used_of, values_of, without_derived, without_one}
 use Rattle.rp_domain.specs.Rows.{read_all, read_value}
 
 -- what holds of each that is kept holds still where one more is kept of which it holds
@@ -44,6 +45,36 @@ module _ (schema : Schema) (count : ℕ) where
   stored_itself [] written = refl
   stored_itself (a ∷ attributes) [] = refl
   stored_itself (a ∷ attributes) (x ∷ written) = ap (λ xs. (record { attribute = a; written = x; read = x }) ∷ xs) (stored_itself attributes written)
+
+  -- where all have been read, and none otherwise than it is written
+  pub unread : (attributes : List AttributePlace) (written found : List Value) (i : ℕ) → length attributes ≤ i
+      → found ++ read_all schema count (zip (drop i attributes) (drop i written)) ≡ read_all schema count (zip attributes written)
+      → found ++ map (λ (p : AttributePlace × Value). p.1) (zip (drop i attributes) (drop i written)) ≡ map (λ (p : AttributePlace × Value). p.1) (zip attributes written)
+      → stored attributes written written ≡ stored attributes written (read_all schema count (zip attributes written))
+  unread attributes written found i h read same =
+      let none : drop i attributes ≡ [] = drop_all i attributes h in
+      let all = rw none at read in
+      let these = rw none at same in
+      sym (stored_itself attributes written) ∙ ap (stored attributes written) (sym these ∙ all)
+
+  -- what is made of what is shared
+  pub kept_uses : (entities : List ℕ) (c : Combination) (written : List Value) (read : Option (List Value)) → c ≡ combination schema entities
+      → values_of c.attributes written read ≡ stored c.attributes written (read_all schema count (zip c.attributes written))
+      → zip c.uses written ≡ map (used_of c.entities) (values_of c.attributes written read)
+  unfolding combination
+  kept_uses entities c written read is =
+      subst (λ (x : Combination). values_of x.attributes written read ≡ stored x.attributes written (read_all schema count (zip x.attributes written)) → zip x.uses written ≡ map (used_of x.entities) (values_of x.attributes written read)) (sym is)
+      (λ reads. used_are entities (attributes schema entities) written ∙ ap (map (used_of entities)) (sym reads))
+
+  pub kept_is : (entities : List ℕ) (c : Combination) (values written : List Value) (read : Option (List Value)) → c ≡ combination schema entities
+      → written ≡ without_derived c.derived values
+      → values_of c.attributes written read ≡ stored c.attributes written (read_all schema count (zip c.attributes written))
+      → (record { entities = c.entities; values = values_of c.attributes written read }) ≡ instance_of schema count entities values
+  unfolding combination
+  kept_is entities c values written read is =
+      subst (λ (x : Combination). written ≡ without_derived x.derived values → values_of x.attributes written read ≡ stored x.attributes written (read_all schema count (zip x.attributes written)) → (record { entities = x.entities; values = values_of x.attributes written read }) ≡ instance_of schema count entities values) (sym is)
+      (λ forgot reads. ap (λ (xs : List Stored). let i : Instance = record { entities = entities; values = xs } in i)
+      (reads ∙ ap (λ ws. stored (attributes schema entities) ws (read_all schema count (zip (attributes schema entities) ws))) forgot ∙ values_are entities (attributes schema entities) values))
 
 -- ---- values that are derived
 

@@ -1,5 +1,5 @@
 -- Extents, by what was put into the rows of entities.
-use Rattle.std.proofs.Common.{◌≡◌, ℕ, zero, suc, ◌+◌, ◌<◌, ◌==◌, ◌||◌, Bool, true, false, List, [], ◌∷◌, ◌++◌, map, filter, drop, length, get_or, if◌then◌else◌, Option, Some, None, append_assoc, refl, sym, ◌∙◌, ap, arith}
+use Rattle.std.proofs.Common.{◌≡◌, ℕ, ◌+◌, ◌<◌, ◌==◌, ◌||◌, Bool, true, false, List, [], ◌∷◌, ◌++◌, map, filter, drop, length, replicate, get_or, if◌then◌else◌, Option, Some, None, append_assoc, refl, sym, ◌∙◌, ap, arith}
 use Rattle.std.proofs.lemmas.List.{map-append}
 use Rattle.std.proofs.lemmas.Bool.Decides.{nat_tests}
 use Rattle.plain_data.specs.Numbers.{is_among}
@@ -9,7 +9,7 @@ use Rattle.rp_meaning.specs.Populations.{Instance, instances, places_from}
 use Rattle.rp_meaning.specs.Uses.{each_once, once_after}
 use Rattle.rp_domain.specs.Rows.{of_number, put_all}
 use Rattle.rp_domain.specs.Standing.{standing, standing_from, once_behind}
-use Rattle.rp_domain.proofs.Put.{put_all-append}
+use Rattle.rp_domain.proofs.Put.{as-many, put_all-append}
 use Rattle.rp_domain.proofs.Uses.{drop-read}
 
 either : {A : Type 0} (t : Bool) (a b c d : A) → a ≡ c → b ≡ d → (if t then a else b) ≡ (if t then c else d)
@@ -105,3 +105,7 @@ once_step found last places i place h is =
     ∙ ap (λ ps. found ++ instances ps) (once-behind last place rest)
     ∙ ap (λ xs. found ++ xs) (map-append (λ p. v.Inst p) (once_behind last (place ∷ [])) (once_after place rest))
     ∙ sym (append_assoc found (instances (once_behind last (place ∷ []))) (instances (once_after place rest)))
+
+-- rows that were filled, by how many they are
+pub rows_of : (n : ℕ) (rows : List (List ℕ)) (pairs : List (ℕ × ℕ)) → rows ≡ put_all (replicate n []) pairs → rows ≡ put_all (replicate (length rows) []) pairs
+rows_of n rows pairs is = is ∙ ap (λ (m : ℕ). put_all (replicate m []) pairs) (sym (ap length is ∙ as-many n pairs))

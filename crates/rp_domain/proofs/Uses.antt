@@ -98,20 +98,20 @@ no_users role place population h = let is : nat_lt place (length population) ≡
 
 -- ---- where values are read as they are written
 
-seconds-of : (x : AttributePlace) (ys : List Value) → map (λ (p : AttributePlace × Value). p.1) (map (λ y. (x, y)) ys) ≡ ys
-seconds-of x [] = refl
-seconds-of x (y ∷ ys) = ap (λ zs. y ∷ zs) (seconds-of x ys)
+abbrev pub seconds : List (AttributePlace × Value) → List Value
+seconds = map (λ (p : AttributePlace × Value). p.1)
 
-pub writes_step : (found : List Value) (xs : List AttributePlace) (ys : List Value) (i : ℕ) (x : AttributePlace) → i < length xs → x ≡ get_or xs i x
-    → found ++ map (λ (p : AttributePlace × Value). p.1) (zip (drop i xs) (drop i ys))
-    ≡ (found ++ option_to_list (slice_get ys i)) ++ map (λ (p : AttributePlace × Value). p.1) (zip (drop (i + 1) xs) (drop (i + 1) ys))
-writes_step found xs ys i x h is =
-    let here = option_to_list (slice_get ys i) in
-    let others = zip (drop (i + 1) xs) (drop (i + 1) ys) in
-    ap (λ zs. found ++ map (λ (p : AttributePlace × Value). p.1) zs) (zip_step xs ys i x h is)
-    ∙ ap (λ zs. found ++ zs) (map-append (λ (p : AttributePlace × Value). p.1) (map (λ y. (x, y)) here) others)
-    ∙ ap (λ zs. found ++ (zs ++ map (λ (p : AttributePlace × Value). p.1) others)) (seconds-of x here)
-    ∙ sym (append_assoc found here (map (λ (p : AttributePlace × Value). p.1) others))
+seconds-zip : (xs : List AttributePlace) (ys : List Value) (i : ℕ) → i < length xs → seconds (zip (drop i xs) (drop i ys)) ≡ option_to_list (slice_get ys i) ++ seconds (zip (drop (suc i) xs) (drop (suc i) ys))
+seconds-zip [] ys i h = absurd (omega (arith, h))
+seconds-zip (x ∷ xs) [] zero h = sym (ap seconds (zip-none {A = AttributePlace} {B = Value} xs))
+seconds-zip (x ∷ xs) [] (suc i) h = ap seconds (zip-none {A = AttributePlace} {B = Value} (drop i xs)) ∙ sym (ap seconds (zip-none {A = AttributePlace} {B = Value} (drop (suc i) xs)))
+seconds-zip (x ∷ xs) (y ∷ ys) zero h = refl
+seconds-zip (x ∷ xs) (y ∷ ys) (suc i) h = seconds-zip xs ys i (omega (arith, h))
+
+pub writes_step : (found : List Value) (xs : List AttributePlace) (ys : List Value) (i : ℕ) → i < length xs
+    → found ++ seconds (zip (drop i xs) (drop i ys)) ≡ (found ++ option_to_list (slice_get ys i)) ++ seconds (zip (drop (i + 1) xs) (drop (i + 1) ys))
+writes_step found xs ys i h =
+    rw (add-one) (ap (λ zs. found ++ zs) (seconds-zip xs ys i h) ∙ sym (append_assoc found (option_to_list (slice_get ys i)) (seconds (zip (drop (suc i) xs) (drop (suc i) ys)))))
 
 pub neither : (a b : Bool) → IsFalse (a || b) → IsFalse a × IsFalse b
 neither true b h = (h, cc)

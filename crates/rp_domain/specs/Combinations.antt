@@ -1,7 +1,6 @@
 -- What instances of the same entities share, and their values.
 use Rattle.std.specs.Prelude.{◌≡◌, ℕ, Bool, List, [], ◌∷◌, map, Option, if◌then◌else◌, slice_get, slice_set, IfSome}
 use Rattle.std.specs.Option.{unwrap_or}
-use Rattle.std.specs.List.{zip}
 use Rattle.ex_named.specs.declared.reference.AttributePlace.{AttributePlace}
 use Rattle.rp_value.specs.declared.value.Value.{Value}
 use Rattle.rp_value.specs.declared.value.Value.TheVariants as v

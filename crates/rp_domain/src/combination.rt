@@ -126,12 +126,7 @@ pub(crate) fn shared_by(
     ensures { IfOk result (λ found. found ≡ spec.combination schema.now entities) }
 {
     let attributes = attributes(alloc, schema, entities.as_slice())?;
-    let derived = derived(
-        alloc,
-        schema,
-        entities.as_slice(),
-        attributes.as_slice(),
-    )?;
+    let derived = derived(alloc, schema, entities.as_slice(), attributes.as_slice())?;
     let entities = Shared::new(alloc, entities)?;
     let uses = uses_of(alloc, &entities, attributes.as_slice())?;
     Shared::new(

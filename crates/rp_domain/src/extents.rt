@@ -27,9 +27,9 @@ fn put_place(
     Ok(())
 }
 
-/// The places of the instances of each entity of a schema of so many.
+/// So many rows, with the places of instances by their entities.
 #[tactic(auto, unfolding(crate::specs::Standing::standing_from))]
-pub(crate) fn extents_of(
+fn filled(
     alloc: Global,
     count: usize,
     instances: &[KeptInstance],
@@ -44,12 +44,20 @@ pub(crate) fn extents_of(
     Ok(rows)
 }
 
+/// The places of the instances of each entity, by entities of a schema of so many.
+pub(crate) fn extents_of(
+    alloc: Global,
+    count: usize,
+    instances: &[KeptInstance],
+) -> Result<Vec<Items<usize>>, AllocError>
+    ensures { IfOk result (λ rows. rows.items ≡ put_all (replicate (length rows.items) []) (spec.standing_from 0 instances.now)) }
+{
+    let rows = filled(alloc, count, instances)?;
+    Ok(rows)
+}
+
 /// Adds the instance at a place, unless it is the last one.
-fn push_once(
-    found: &mut Items<Value>,
-    last: Option<usize>,
-    place: usize,
-) -> Result<(), AllocError>
+fn push_once(found: &mut Items<Value>, last: Option<usize>, place: usize) -> Result<(), AllocError>
     ensures { OnOk result (found.new ≡ found.old ++ values_of (spec.once_behind last (place ∷ []))) }
 {
     match last {

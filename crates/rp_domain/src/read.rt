@@ -11,7 +11,6 @@ ghost use Rattle.rp_domain.specs.Rows.{read_all, read_value};
 
 use crate::attributes::declaration;
 use crate::combinations::Combinations;
-use crate::given::given;
 use crate::instance::{KeptInstance, WrittenInstance, value_at};
 use crate::references::within;
 use crate::rows::with_room;
@@ -19,6 +18,7 @@ use crate::sameness::is_same;
 use ex_named::AttributePlace;
 use plain_data::Items;
 use rp_meaning::Schema;
+use rp_operators::given;
 use rp_value::Value;
 use std::alloc::{AllocError, Global};
 
@@ -102,7 +102,7 @@ fn read_values(
         let other = push_read(&mut found, alloc, schema, count, attribute, written, at)?;
         differs = either(differs, other);
     }
-    Ok(if differs { Some(found) } else { None })
+    if differs { Ok(Some(found)) } else { Ok(None) }
 }
 
 /// Makes the value at a place `?` if it is derived, and if there is one.

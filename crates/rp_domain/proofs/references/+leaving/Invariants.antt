@@ -1,4 +1,4 @@
-use Rattle.std.proofs.Common.{◌≡◌, ◌++◌, map, take, drop}
+use Rattle.std.proofs.Common.{◌≡◌, map, take}
 use Rattle.rp_meaning.specs.Reading.{present}
 use Rattle.rp_domain.proofs.references.+leaving.Given as goal
 

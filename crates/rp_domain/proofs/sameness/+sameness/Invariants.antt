@@ -1,4 +1,4 @@
-use Rattle.std.proofs.Common.{◌≡◌, take, length}
+use Rattle.std.proofs.Common.{◌≡◌, take}
 use Rattle.rp_domain.proofs.sameness.+sameness.Given as goal
 
 abbrev pub invariant-are_same-loop-at : goal.invariant-are_same-loop-at

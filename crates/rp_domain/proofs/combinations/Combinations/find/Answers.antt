@@ -9,4 +9,4 @@ invariant_of-self-2 c =
     let schema = c.self.inside.schema.now in
     let one = itself_is schema c.args.entities c.in_ok-share.field-0 (c.in_ok-share.ensures ∙ c.in_ok-combination.ensures) in
     let all = kept_more (λ (x : Combination). x ≡ spec.combination schema x.entities) c.self.inside.found.items c.in_ok-share.field-0 c.self.invariant one in
-    subst (λ (xs : List Combination). (k : ℕ) → IfSome (slice_get xs k) (λ x. x ≡ spec.combination schema x.entities)) (sym c.in_ok-push.ensures.items) all
+    subst (λ (xs : List Combination). (k : ℕ) → IfSome (slice_get xs k) (λ x. x ≡ spec.combination schema x.entities)) (sym {A = List Combination} c.in_ok-push.ensures.items) all

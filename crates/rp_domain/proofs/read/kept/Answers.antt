@@ -1,0 +1,24 @@
+use Rattle.std.proofs.Common.{◌≡◌, ◌∙◌, ap}
+use Rattle.rp_meaning.specs.declared.schema.Schema.{Schema}
+use Rattle.rp_domain.specs.declared.combination.Combination.{Combination}
+use Rattle.rp_domain.specs.Combinations as spec
+use Rattle.rp_domain.proofs.Sharing.{kept_is, kept_uses}
+use Rattle.rp_domain.proofs.read.kept.Goals as goal
+
+pub new-requires : goal.new-requires
+new-requires c =
+    let shared = c.in_ok-combination.combination in
+    let is : shared ≡ spec.combination c.args.schema.now c.args.instance.entities =
+    c.in_ok-combination.ensures.found ∙ ap (λ (s : Schema). spec.combination s c.args.instance.entities) c.requires in
+    let attributes : c.as_slice-2.result.now ≡ shared.attributes = c.as_slice-2.ensures ∙ ap (λ (x : Combination). x.attributes) c.get-2.ensures in
+    kept_uses c.args.schema.now c.args.count c.args.instance.entities shared c.without_derived-written.result c.in_ok-read.read is (rw (attributes, c.as_slice-3.ensures) at c.in_ok-read.ensures)
+
+pub returns-clause-kept : goal.returns-clause-kept
+returns-clause-kept c =
+    let shared = c.in_ok-combination.combination in
+    let is : shared ≡ spec.combination c.args.schema.now c.args.instance.entities =
+    c.in_ok-combination.ensures.found ∙ ap (λ (s : Schema). spec.combination s c.args.instance.entities) c.requires in
+    let derived : c.as_slice.result.now ≡ shared.derived = c.as_slice.ensures ∙ ap (λ (x : Combination). x.derived) c.get.ensures in
+    let attributes : c.as_slice-2.result.now ≡ shared.attributes = c.as_slice-2.ensures ∙ ap (λ (x : Combination). x.attributes) c.get-2.ensures in
+    c.new.ensures
+    ∙ kept_is c.args.schema.now c.args.count c.args.instance.entities shared c.args.instance.values c.without_derived-written.result c.in_ok-read.read is (rw derived at c.without_derived-written.ensures) (rw (attributes, c.as_slice-3.ensures) at c.in_ok-read.ensures)
