@@ -17,7 +17,7 @@ use Rattle.rp_meaning.specs.Populations.{Instance, Stored, stored, instances}
 use Rattle.rp_meaning.specs.Uses.{same_attribute}
 use Rattle.rp_meaning.specs.Uses as uses
 use Rattle.rp_eval.specs.Counts as counts
-use Rattle.rp_eval.specs.Counts.{read_at, read_in, once_after, value_in}
+use Rattle.rp_eval.specs.Counts.{read_at, read_in, is_at, once_after, again_after, value_in}
 
 -- ---- stored values
 
@@ -35,27 +35,27 @@ read-none None = refl
 read-none (Some w) = refl
 
 -- the first of which the attribute is the one
-pub value-hit : (a : AttributePlace) (xs : List AttributePlace) (written read : List Value) (k : ℕ) (x : AttributePlace) → k < length xs → x ≡ get_or xs k x → same_attribute x a ≡ true
+pub value-hit : (a d : AttributePlace) (xs : List AttributePlace) (written read : List Value) (k : ℕ) → k < length xs → same_attribute (get_or xs k d) a ≡ true
     → value_in a (drop k xs) (drop k written) (drop k read) ≡ read_at written read k
-value-hit a [] written read k x h is same = absurd (omega (arith, h))
-value-hit a (y ∷ xs) [] read zero x h is same = refl
-value-hit a (y ∷ xs) (w ∷ written) [] zero x h is same = refl
-value-hit a (y ∷ xs) (w ∷ written) (r ∷ read) zero x h is same = let e : same_attribute y a ≡ true = rw is at same in rw e refl
-value-hit a (y ∷ xs) [] [] (suc k) x h is same = rw (stored-unwritten (drop k xs) []) refl
-value-hit a (y ∷ xs) [] (r ∷ read) (suc k) x h is same = rw (stored-unwritten (drop k xs) (drop k read)) refl
-value-hit a (y ∷ xs) (w ∷ written) [] (suc k) x h is same = rw (stored-unread (drop k xs) (drop k written)) (sym (read-none (slice_get written k)))
-value-hit a (y ∷ xs) (w ∷ written) (r ∷ read) (suc k) x h is same = value-hit a xs written read k x (omega (arith, h)) is same
+value-hit a d [] written read k h same = absurd (omega (arith, h))
+value-hit a d (y ∷ xs) [] read zero h same = refl
+value-hit a d (y ∷ xs) (w ∷ written) [] zero h same = refl
+value-hit a d (y ∷ xs) (w ∷ written) (r ∷ read) zero h same = rw same refl
+value-hit a d (y ∷ xs) [] [] (suc k) h same = rw (stored-unwritten (drop k xs) []) refl
+value-hit a d (y ∷ xs) [] (r ∷ read) (suc k) h same = rw (stored-unwritten (drop k xs) (drop k read)) refl
+value-hit a d (y ∷ xs) (w ∷ written) [] (suc k) h same = rw (stored-unread (drop k xs) (drop k written)) (sym (read-none (slice_get written k)))
+value-hit a d (y ∷ xs) (w ∷ written) (r ∷ read) (suc k) h same = value-hit a d xs written read k (omega (arith, h)) same
 
 -- what is no such attribute is passed by
-pub value-miss : (a : AttributePlace) (xs : List AttributePlace) (written read : List Value) (k : ℕ) (x : AttributePlace) → k < length xs → x ≡ get_or xs k x → same_attribute x a ≡ false
+pub value-miss : (a d : AttributePlace) (xs : List AttributePlace) (written read : List Value) (k : ℕ) → k < length xs → same_attribute (get_or xs k d) a ≡ false
     → value_in a (drop k xs) (drop k written) (drop k read) ≡ value_in a (drop (suc k) xs) (drop (suc k) written) (drop (suc k) read)
-value-miss a [] written read k x h is same = absurd (omega (arith, h))
-value-miss a (y ∷ xs) [] read zero x h is same = rw (stored-unwritten xs (drop 1 read)) refl
-value-miss a (y ∷ xs) (w ∷ written) [] zero x h is same = rw (stored-unread xs written) refl
-value-miss a (y ∷ xs) (w ∷ written) (r ∷ read) zero x h is same = let e : same_attribute y a ≡ false = rw is at same in rw e refl
-value-miss a (y ∷ xs) [] read (suc k) x h is same = rw (stored-unwritten (drop k xs) (drop (suc k) read), stored-unwritten (drop (suc k) xs) (drop (suc (suc k)) read)) refl
-value-miss a (y ∷ xs) (w ∷ written) [] (suc k) x h is same = rw (stored-unread (drop k xs) (drop k written), stored-unread (drop (suc k) xs) (drop (suc k) written)) refl
-value-miss a (y ∷ xs) (w ∷ written) (r ∷ read) (suc k) x h is same = value-miss a xs written read k x (omega (arith, h)) is same
+value-miss a d [] written read k h same = absurd (omega (arith, h))
+value-miss a d (y ∷ xs) [] read zero h same = rw (stored-unwritten xs (drop 1 read)) refl
+value-miss a d (y ∷ xs) (w ∷ written) [] zero h same = rw (stored-unread xs written) refl
+value-miss a d (y ∷ xs) (w ∷ written) (r ∷ read) zero h same = rw same refl
+value-miss a d (y ∷ xs) [] read (suc k) h same = rw (stored-unwritten (drop k xs) (drop (suc k) read), stored-unwritten (drop (suc k) xs) (drop (suc (suc k)) read)) refl
+value-miss a d (y ∷ xs) (w ∷ written) [] (suc k) h same = rw (stored-unread (drop k xs) (drop k written), stored-unread (drop (suc k) xs) (drop (suc k) written)) refl
+value-miss a d (y ∷ xs) (w ∷ written) (r ∷ read) (suc k) h same = value-miss a d xs written read k (omega (arith, h)) same
 
 -- past the end there is none
 pub value-none : (a : AttributePlace) (xs : List AttributePlace) (written read : List Value) (k : ℕ) → length xs ≤ k → value_in a (drop k xs) (drop k written) (drop k read) ≡ v.Indet
@@ -77,6 +77,17 @@ pub once : (places : List ℕ) → once_after None (instances places) ≡ instan
 unfolding out-Value denote.Hole.Carrier.out
 once [] = refl
 once (x ∷ xs) = ap (λ ys. v.Inst x ∷ ys) (once-after x xs)
+
+unrepeated-by : (same : Bool) (x : Value) (xs here behind : List Value) (again : Bool) → cond same true again ≡ false → (again ≡ false → behind ≡ xs) → cond same here (x ∷ behind) ≡ x ∷ xs
+unrepeated-by true x xs here behind again h k = absurd (cc)
+unrepeated-by false x xs here behind again h k = ap (λ ys. x ∷ ys) (k h)
+
+-- where none stands right behind itself, each stands there once
+pub unrepeated : (last : Option ℕ) (xs : List Value) → again_after last xs ≡ false → once_after last xs ≡ xs
+unrepeated last [] h = refl
+unrepeated last (x ∷ xs) h =
+    let place = place_in (out-Value x) in
+    unrepeated-by (is_at last place) x xs (once_after last xs) (once_after place xs) (again_after place xs) h (unrepeated place xs)
 
 pub instances_count : (places : List ℕ) → length (instances places) ≡ length places
 instances_count places = length-map places (λ place. v.Inst place)

@@ -27,6 +27,11 @@ abbrev pub once_after : Option ℕ → List Value → List Value
 once_after last [] = []
 once_after last (x ∷ xs) = if is_at last (place_in (out-Value x)) then once_after last xs else x ∷ once_after (place_in (out-Value x)) xs
 
+-- whether one stands right behind itself
+abbrev pub again_after : Option ℕ → List Value → Bool
+again_after last [] = false
+again_after last (x ∷ xs) = if is_at last (place_in (out-Value x)) then true else again_after (place_in (out-Value x)) xs
+
 abbrev pub read_in : Option Value → Option Value → Value
 read_in (Some written) (Some read) = read
 read_in _ _ = v.Indet

@@ -1,6 +1,6 @@
 //! Attributes of instances: which are meant, what gives their values, and what is stored of them.
 
-ghost use Rattle.std.specs.Prelude.{◌≡◌, IfOk};
+ghost use Rattle.std.specs.Prelude.{◌≡◌, true, IfOk, IfSome};
 ghost use Rattle.std.specs.List.{find};
 ghost use Rattle.std.specs.Option.{option_copied};
 ghost use Rattle.rp_meaning.specs.Attributes as spec;
@@ -22,7 +22,8 @@ pub(crate) fn is_of(instance: &Seen<'_>, entity: usize) -> bool
 
 /// Which of these attributes is meant in an instance: the first of which it has the entity.
 pub(crate) fn chosen(attributes: &[AttributePlace], instance: &Seen<'_>) -> Option<AttributePlace>
-    ensures { result ≡ spec.chosen attributes.now instance.now }
+    ensures value { result ≡ spec.chosen attributes.now instance.now }
+    ensures has { IfSome result (λ a. populations.is_of instance.now a.entity ≡ true) }
 {
     for attribute in attributes {
         if is_of(instance, attribute.entity) {

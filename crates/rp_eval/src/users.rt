@@ -33,6 +33,21 @@ fn is_at(last: Option<u64>, place: Option<u64>) -> bool
     }
 }
 
+/// Whether an instance stands right behind itself.
+fn any_again(users: &[Value]) -> bool
+    ensures { result ≡ counts.again_after None users.now }
+{
+    let mut last = None;
+    for user in users {
+        let place = own_place(user);
+        if is_at(last, place) {
+            return true;
+        }
+        last = place;
+    }
+    false
+}
+
 /// Each instance once, of those that stand together.
 fn each_once(alloc: Global, users: &[Value]) -> Result<Items<Value>, AllocError>
     ensures { IfOk result (λ found. found ≡ counts.once_after None users.now) }
@@ -73,6 +88,9 @@ pub(crate) fn inverse_users<D: Domain>(
     let role = Role::Of(inverse.entity, Items::from_slice(alloc, &[inverse.attribute])?);
     let users = domain.users(alloc, place, &role)?;
     if is_bag(inverse.aggregate) {
+        return Ok(users);
+    }
+    if !any_again(users.as_slice()) {
         return Ok(users);
     }
     let found = each_once(alloc, users.as_slice())?;

@@ -57,24 +57,20 @@ impl<'a, D: Domain, B: Fn(Global, &Schema, &D, u8, &mut Counter, Body) -> Result
         )
     }
 
-    /// What a derivation gives for the instance at a place, and what is stored where there is none.
-    fn derived_by(
+    /// What a derivation gives for the instance at a place.
+    fn derived(
         &self,
-        derivation: Option<Derivation>,
-        stored: Value,
+        derivation: Derivation,
         place: u64,
         counter: &mut Counter,
     ) -> Result<Value, Stop>
         requires { RunsBodies D.population self.now.alloc self.now.schema self.now.domain self.now.levels (B.pre self.now.below) (B.post self.now.below) }
-        ensures { Runs (spec.derived_by (world self.now.schema.now (D.population self.now.domain.now)) (bodies_at self.now.schema.now (D.population self.now.domain.now) self.now.levels) derivation stored place counter.old) result counter.new }
+        ensures { Runs (bodies_at self.now.schema.now (D.population self.now.domain.now) self.now.levels (b.Derived derivation.entity derivation.place place) counter.old) result counter.new }
     {
-        match derivation {
-            Some(derivation) => self.body_below(
-                Body::Derived(derivation.entity, derivation.place, place),
-                counter,
-            ),
-            None => Ok(stored),
-        }
+        self.body_below(
+            Body::Derived(derivation.entity, derivation.place, place),
+            counter,
+        )
     }
 
     /// The users of what stands at a place.
@@ -109,13 +105,17 @@ impl<'a, D: Domain, B: Fn(Global, &Schema, &D, u8, &mut Counter, Body) -> Result
         match attribute.sort {
             AttributeSort::Explicit => {
                 let derivations = explicit_derivations(self.schema, attribute);
-                let stored = stored_value(instance, attribute)?;
-                self.derived_by(derivation_in(derivations, instance), stored, place, counter)
+                match derivation_in(derivations, instance) {
+                    Some(derivation) => self.derived(derivation, place, counter),
+                    None => Ok(stored_value(instance, attribute)?),
+                }
             }
             AttributeSort::Derived => {
                 let derivations = own_derivations(self.schema, attribute);
-                let derivation = derivation_in(derivations, instance);
-                self.derived_by(derivation, Value::Indet, place, counter)
+                match derivation_in(derivations, instance) {
+                    Some(derivation) => self.derived(derivation, place, counter),
+                    None => Ok(Value::Indet),
+                }
             }
             AttributeSort::Inverse => {
                 let inverse = inverse_at(self.schema, attribute.entity, attribute.place);
@@ -141,10 +141,8 @@ impl<'a, D: Domain, B: Fn(Global, &Schema, &D, u8, &mut Counter, Body) -> Result
             return Ok(Value::Indet);
         };
         match chosen(attributes, &instance) {
-            Some(attribute) if is_of(&instance, attribute.entity) => {
-                self.attribute_by(attribute, &instance, place, counter)
-            }
-            _ => Ok(Value::Indet),
+            Some(attribute) => self.attribute_by(attribute, &instance, place, counter),
+            None => Ok(Value::Indet),
         }
     }
 

@@ -33,7 +33,7 @@ statement-returns-in-Case g t c =
 pub statement-returns-in-Repeat : goal.statement-returns-in-Repeat
 statement-returns-in-Repeat g t c =
     let w = world c.args.self.now.schema.now (g.D.Domain.population c.args.self.now.domain.now) in
-    rw (statement-repeat w most_turns (bodies w c.args.self.now.levels) c.args.frame.now c.args.item.now c.in-Repeat.control c.in-Repeat.body c.in-Repeat.is, sym c.as_slice-in-Repeat.ensures) (search rules)
+    rw (statement-repeat w most_turns (bodies w c.args.self.now.levels) c.args.frame.now c.args.item.now c.in-Repeat.control c.in-Repeat.body c.in-Repeat.is, sym c.as_slice-in-Repeat.ensures, sym c.get.ensures) (search rules)
 
 pub matched-returns-in_err-is_hit : goal.matched-returns-in_err-is_hit
 matched-returns-in_err-is_hit g t c =
