@@ -104,7 +104,7 @@ users_give (Some a) places = refl
 pub texts_count : (schema : Schema) (population : List Instance) (names : List (List ℕ)) → length (texts schema population names) ≡ length names
 texts_count schema population names = length-map names (λ text. v.Str text)
 
-pub role_of_name : (schema : Schema) (name : List ℕ) → ¬ (name ≡ []) → spec.role_by schema name ≡ counts.named_role schema.roles name
+pub role_of_name : (schema : Schema) (name : List ℕ) → ¬ (name ≡ []) → spec.role_named schema.roles name ≡ counts.named_role schema.roles name
 role_of_name schema [] h = absurd (h refl)
 role_of_name schema (x ∷ xs) h = refl
 

@@ -3,7 +3,7 @@
 ghost use Rattle.std.specs.Prelude.{◌≡◌, [], ◌∷◌, None, Some, IfOk};
 ghost use Rattle.std.specs.Option.{option_copied};
 ghost use Rattle.ex_tree.specs.declared.expression.BuiltInFunction.{BuiltInFunction};
-ghost use Rattle.rp_meaning.specs.Attributes.{derivation_in, explicit_derivations, own_derivations, role_by};
+ghost use Rattle.rp_meaning.specs.Attributes.{derivation_in, explicit_derivations, own_derivations, role_named};
 ghost use Rattle.rp_meaning.specs.Computations.{Runs};
 ghost use Rattle.rp_meaning.specs.Computations as computations;
 ghost use Rattle.rp_meaning.specs.Expressions as spec;
@@ -220,7 +220,7 @@ impl<'a, D: Domain, B: Fn(Global, &Schema, &D, u8, &mut Counter, Body) -> Result
         place: Option<u64>,
         counter: &mut Counter,
     ) -> Result<Value, Stop>
-        ensures { Runs (spec.used_in_role (world self.now.schema.now (D.population self.now.domain.now)) (bodies_at self.now.schema.now (D.population self.now.domain.now) self.now.levels) (role_by self.now.schema.now name.now) place counter.old) result counter.new }
+        ensures { Runs (spec.used_in_role (world self.now.schema.now (D.population self.now.domain.now)) (bodies_at self.now.schema.now (D.population self.now.domain.now) self.now.levels) (role_named self.now.schema.now.roles name.now) place counter.old) result counter.new }
     {
         if name.is_empty() {
             self.used_in_role(Some(&Role::Every), place, counter)

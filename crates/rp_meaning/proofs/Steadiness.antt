@@ -36,7 +36,7 @@ use Rattle.rp_meaning.specs.declared.tree.Increment.{Increment}
 use Rattle.rp_meaning.specs.declared.tree.Statement.{Statement, map-Statement, roll-Statement}
 use Rattle.rp_meaning.specs.declared.tree.Statement.TheFolds.{fold-roll-Statement, fold-roll-CaseAction, ind-Statement}
 use Rattle.rp_meaning.specs.declared.tree.Statement.TheOpen.{Statement-F, CaseAction-F}
-use Rattle.rp_meaning.specs.Attributes.{chosen, derivation, inverse_at, role_by}
+use Rattle.rp_meaning.specs.Attributes.{chosen, derivation, inverse_at, role_named}
 use Rattle.rp_meaning.specs.Bare.{is_true, place_of, text_of}
 use Rattle.rp_meaning.specs.Computations.{Computation, pure, no_more, steps, around, in_body, and_then, ◌>>=◌, ◌>>◌}
 use Rattle.rp_meaning.specs.Expressions.{Scope, World, Meaning, Operating, expression, qualifier, interval, operation, query, expression_layer, qualifier_layer, interval_layer, operation_layer, query_layer, costing, each_after, in_turn, tested, kept_after, kept_one, queried, derived_by, inverse_by, attribute_by, attribute_of, attribute_at, attribute_in, attribute, used_in_role, used_in_by, of_one, of_two, built_in}
@@ -192,7 +192,7 @@ module _ (world : World) (levels : ℕ) (below : ℕ → Body → Computation Va
 
   steady-used_in_by : (text : Option (List ℕ)) (o : Option ℕ) → Steady (λ l. used_in_by world (below l) text o) levels
   steady-used_in_by None o = steady-same _ levels
-  steady-used_in_by (Some text) o = steady-used_in_role (role_by world.schema text) o
+  steady-used_in_by (Some text) o = steady-used_in_role (role_named world.schema.roles text) o
 
   steady-of_one : (function : BuiltInFunction) (x : Value) → Steady (λ l. of_one world (below l) function x) levels
   steady-of_one f.TypeOf x = steady-costing _ _ levels

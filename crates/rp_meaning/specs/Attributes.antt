@@ -10,6 +10,7 @@ use Rattle.rp_value.specs.declared.value.AggregateKind.{AggregateKind}
 use Rattle.rp_value.specs.declared.value.AggregateKind.TheVariants as k
 use Rattle.rp_value.specs.declared.value.Value.{Value}
 use Rattle.rp_value.specs.declared.value.Value.TheVariants as v
+use Rattle.rp_meaning.specs.declared.role.NamedRole.{NamedRole}
 use Rattle.rp_meaning.specs.declared.role.Role.{Role}
 use Rattle.rp_meaning.specs.declared.role.Role.TheVariants as r
 use Rattle.rp_meaning.specs.declared.schema.Derivation.{Derivation}
@@ -50,9 +51,12 @@ module _ (schema : Schema) where
   abbrev pub inverse_at : ℕ → ℕ → Option Inverse
   inverse_at entity place = option_and_then (λ e. slice_get e.inverse place) (entity_at entity)
 
-  abbrev pub role_by : List ℕ → Option Role
-  role_by [] = Some r.Every
-  role_by text = option_map (λ x. x.role) (find (λ x. bytes_eq x.name text) schema.roles)
+-- ---- roles
+
+-- the role of this name; no name stands for every role
+abbrev pub role_named : List NamedRole → List ℕ → Option Role
+role_named roles [] = Some r.Every
+role_named roles text = option_map (λ x. x.role) (find (λ x. bytes_eq x.name text) roles)
 
 -- ---- inverse attributes
 

@@ -1,9 +1,7 @@
 -- Expressions as they are evaluated, beside what their values may be, by recursion on the tree (ISO 10303-11:1994, clause 12).
 -- What a value may be decides which attribute is meant behind a point.
 use Rattle.std.specs.Prelude.{ℕ, zero, pos, Bool, true, false, not, ◌==◌, ◌^◌, nat_lt, if◌then◌else◌, List, [], ◌∷◌, ◌++◌, map, filter, Option, Some, None}
-use Rattle.std.specs.List.{find, flat_map, list_any}
-use Rattle.std.specs.Option.{option_map}
-use Rattle.std.specs.Str.{bytes_eq}
+use Rattle.std.specs.List.{flat_map, list_any}
 use Rattle.ex_kinds.specs.declared.kind.Sort.{Sort}
 use Rattle.ex_kinds.specs.declared.kind.Sort.TheVariants as k
 use Rattle.ex_kinds.specs.declared.typed.Typed.{Typed}
@@ -33,8 +31,6 @@ use Rattle.rp_value.specs.declared.value.Value.{Value, out-Value}
 use Rattle.rp_value.specs.declared.value.Value.TheOpen.{Value-F}
 use Rattle.rp_value.specs.declared.value.Value.TheVariants as v
 use Rattle.rp_meaning.specs.declared.role.NamedRole.{NamedRole}
-use Rattle.rp_meaning.specs.declared.role.Role.{Role}
-use Rattle.rp_meaning.specs.declared.role.Role.TheVariants as role
 use Rattle.rp_meaning.specs.declared.tree.Expression.{Expression, out-Expression}
 use Rattle.rp_meaning.specs.declared.tree.Expression.TheOpen.{Expression-F}
 use Rattle.rp_meaning.specs.declared.tree.Expression.TheVariants as e
@@ -43,6 +39,7 @@ use Rattle.rp_meaning.specs.declared.tree.Operation.{Operation, roll-Operation}
 use Rattle.rp_meaning.specs.declared.tree.Qualifier.{Qualifier}
 use Rattle.rp_meaning.specs.declared.tree.Qualifier.TheVariants as q
 use Rattle.rp_meaning.specs.declared.tree.Query.{Query, roll-Query}
+pub use Rattle.rp_meaning.specs.Attributes.{role_named}
 use Rattle.rp_meaning.specs.CompiledNames.{Rows}
 
 -- What is said of the value, and the tree.
@@ -140,11 +137,6 @@ text_in _ = None
 -- the text that an expression is, where it is a literal
 abbrev pub text_of : Expression → Option (List ℕ)
 text_of x = elim (out-Expression x) [ Expression-F.Literal value ↦ text_in (out-Value value) | _ ↦ None ]
-
--- the role of this name; no name stands for every role
-abbrev pub role_named : List NamedRole → List ℕ → Option Role
-role_named roles [] = Some role.Every
-role_named roles (byte ∷ bytes) = option_map (λ x. x.role) (find (λ x. bytes_eq x.name (byte ∷ bytes)) roles)
 
 -- ---- expressions
 

@@ -24,7 +24,7 @@ use Rattle.rp_meaning.specs.declared.tree.Interval.{Interval}
 use Rattle.rp_meaning.specs.declared.tree.Operation.{Operation}
 use Rattle.rp_meaning.specs.declared.tree.Qualifier.{Qualifier}
 use Rattle.rp_meaning.specs.declared.tree.Query.{Query}
-use Rattle.rp_meaning.specs.Attributes.{chosen, stored_value, derivation_in, explicit_derivations, own_derivations, inverse_at, inverse_places, of_users, aggregate, role_by}
+use Rattle.rp_meaning.specs.Attributes.{chosen, stored_value, derivation_in, explicit_derivations, own_derivations, inverse_at, inverse_places, of_users, aggregate, role_named}
 use Rattle.rp_meaning.specs.Bare.{is_true, aggregate_of, place_of, text_of}
 use Rattle.rp_meaning.specs.BuiltIns.{absolute, binary_length, exists, high_index, index, initializer, low_index, null_value, odd, range, size, size_of, text_length, value_in}
 use Rattle.rp_meaning.specs.Computations.{Computation, pure, steps, ◌>>=◌, ◌>>◌}
@@ -154,7 +154,7 @@ module _ (world : World) (below : Body → Computation Value) where
   used_in_role role None = pure v.Indet
 
   abbrev pub used_in_by : Option (List ℕ) → Option ℕ → Computation Value
-  used_in_by (Some text) place = used_in_role (role_by world.schema text) place
+  used_in_by (Some text) place = used_in_role (role_named world.schema.roles text) place
   used_in_by None place = pure v.Indet
 
   abbrev pub type_names_value : Value → Computation Value

@@ -1,8 +1,8 @@
 -- What values become by the types with which attributes, variables, parameters, results and constants are declared
 -- (ISO 10303-11:1994, clause 8 and 13.3).
-use Rattle.std.specs.Prelude.{ℕ, ℤ, pos, Bool, true, false, not, ◌==◌, ◌||◌, List, [], map, Option, Some, None, if◌then◌else◌, slice_get}
+use Rattle.std.specs.Prelude.{ℕ, ℤ, pos, Bool, true, false, not, ◌==◌, ◌||◌, ◌^◌, nat_lt, List, [], map, Option, Some, None, if◌then◌else◌, slice_get}
 use Rattle.std.specs.List.{list_any}
-use Rattle.std.specs.Option.{option_map, option_map_or}
+use Rattle.std.specs.Option.{option_and_then, option_map_or}
 use Rattle.ex_tree.specs.declared.data_type.SimpleType.{SimpleType}
 use Rattle.ex_tree.specs.declared.data_type.SimpleType.TheVariants as s
 use Rattle.ex_named.specs.declared.expression.NamedDataType.{NamedDataType, NamedDataType-F, out-NamedDataType}
@@ -79,8 +79,12 @@ pub record AggregateType : Type 0 where
   pub kind : Option (AggregateKind × ℤ)
   pub element : NamedDataType
 
+-- an index is a value of INTEGER
+abbrev pub array_from : ℕ → NamedDataType → Option AggregateType
+array_from low element = if nat_lt low (2 ^ 63) then Some (record { kind = Some (k.Array, pos low); element = element }) else None
+
 abbrev pub aggregate_by : NamedDataType-F NamedDataType → Option AggregateType
-aggregate_by (NamedDataType-F.Array bounds optional unique element) = Some (record { kind = Some (k.Array, pos bounds.low); element = element })
+aggregate_by (NamedDataType-F.Array bounds optional unique element) = array_from bounds.low element
 aggregate_by (NamedDataType-F.List bounds unique element) = Some (record { kind = Some (k.List, pos 1); element = element })
 aggregate_by (NamedDataType-F.Bag bounds element) = Some (record { kind = Some (k.Bag, pos 1); element = element })
 aggregate_by (NamedDataType-F.Set bounds element) = Some (record { kind = Some (k.Set, pos 1); element = element })
@@ -100,11 +104,6 @@ of_kind (kind, low) items = v.Agg kind (record { low = low; items = items })
 abbrev pub as_aggregate : Option (AggregateKind × ℤ) → AggregateKind → ℤ → List Value → Value
 as_aggregate (Some declared) k.Initializer low items = of_kind declared items
 as_aggregate _ kind low items = v.Agg kind (record { low = low; items = items })
-
--- a value that carries a defined type
-abbrev pub carrying : Option ℕ → Value → Value
-carrying None x = x
-carrying (Some number) x = v.Named number x
 
 module _ (types : List DefinedType) where
   unfoldable pub end_of : ℕ → End
@@ -139,48 +138,43 @@ module _ (types : List DefinedType) where
 
   -- ---- the types that values carry
 
-  abbrev pub name_by : ℕ → End → Option ℕ → Option ℕ
-  name_by number (Enumeration declaring) own = if declaring == number then None else Some number
-  name_by number (Select choices) own = own
-  name_by number (Written data_type) own = Some number
+  -- A value that is read through a defined type carries that one alone, but none through an enumeration's own type, and through a SELECT
+  -- what it carries already.
+  abbrev pub named_by : ℕ → End → Value → Value
+  named_by number (Enumeration declaring) x = if declaring == number then bare x else v.Named number (bare x)
+  named_by number (Select choices) x = x
+  named_by number (Written data_type) x = v.Named number (bare x)
 
-  abbrev pub name_in : NamedDataType-F NamedDataType → Option ℕ → Option ℕ
-  name_in (NamedDataType-F.Named (t.Defined number)) own = name_by number (end_of number) own
-  name_in _ own = own
+  -- so it does through a type that is written out
+  abbrev pub named_in : NamedDataType-F NamedDataType → Value → Value
+  named_in (NamedDataType-F.Named (t.Defined number)) x = named_by number (end_of number) x
+  named_in _ x = x
 
-  -- The defined type that a value carries once it is declared with a type: that one, but for an enumeration by the type that declares
-  -- it; in a SELECT, and in a type that is written out, its own.
-  abbrev pub name_under : NamedDataType → Value → Option ℕ
-  name_under data_type x = name_in (out-NamedDataType data_type) (carried x)
+  -- what says the type of the elements in a value: in a SELECT the defined type that the value carries
+  abbrev pub inner_by : End → Option ℕ → Option AggregateType
+  inner_by (Select choices) own = option_and_then (λ number. aggregate_type (end_of number)) own
+  inner_by e own = aggregate_type e
 
-  -- the type that says what stands in a value: in a SELECT the one that the value carries
-  abbrev pub inner_by : End → NamedDataType → Option ℕ → Option NamedDataType
-  inner_by (Select choices) data_type own = option_map defined own
-  inner_by _ data_type own = Some data_type
-
-  abbrev pub inner_type : NamedDataType → Value → Option NamedDataType
-  inner_type data_type x = inner_by (end data_type) data_type (carried x)
-
-  -- a value, and what it is without names once a type says what stands in it
+  -- a value, and what it is once a type says what stands in it; all else it keeps
   pub record Part : Type 0 where
     pub itself : Value
-    pub inside : NamedDataType → Value
+    pub inside : Option AggregateType → Value
 
-  abbrev pub carrying_part : NamedDataType → Part → Value
-  carrying_part data_type p = carrying (name_under data_type p.itself) (option_map_or p.inside (inner_type data_type p.itself) (bare p.itself))
+  abbrev pub part_under : NamedDataType → Part → Value
+  part_under data_type p = named_in (out-NamedDataType data_type) (p.inside (inner_by (end data_type) (carried p.itself)))
 
   -- an element that doesn't fit stays as it is
   abbrev pub element_under : NamedDataType → Part → Value
-  element_under data_type p = if is_indeterminate p.itself || not (fits data_type p.itself) then p.itself else carrying_part data_type p
+  element_under data_type p = if is_indeterminate p.itself || not (fits data_type p.itself) then p.itself else part_under data_type p
 
   abbrev pub elements_under : Option AggregateType → AggregateKind → Elements Part → Value
   elements_under None kind xs = v.Agg kind (record { low = xs.low; items = map (λ p. p.itself) xs.items })
   elements_under (Some a) kind xs = as_aggregate a.kind kind xs.low (map (element_under a.element) xs.items)
 
-  abbrev pub inside_by : Value-F Part → NamedDataType → Value
-  inside_by (Value-F.Agg kind xs) data_type = elements_under (aggregate_type (end data_type)) kind xs
-  inside_by (Value-F.Named n p) data_type = p.inside data_type
-  inside_by x data_type = roll-Value (map-Value Part Value (λ p. p.itself) x)
+  abbrev pub inside_by : Value-F Part → Option AggregateType → Value
+  inside_by (Value-F.Agg kind xs) declared = elements_under declared kind xs
+  inside_by (Value-F.Named n p) declared = v.Named n (p.inside declared)
+  inside_by x declared = roll-Value (map-Value Part Value (λ p. p.itself) x)
 
   abbrev pub part_by : Value-F Part → Part
   part_by x = record { itself = roll-Value (map-Value Part Value (λ p. p.itself) x); inside = inside_by x }
@@ -190,4 +184,4 @@ module _ (types : List DefinedType) where
 
   -- a value once it is declared with a type: `?` where its kind doesn't fit
   unfoldable pub given : NamedDataType → Value → Value
-  given data_type x = if is_indeterminate x || not (fits data_type x) then v.Indet else carrying_part data_type (part x)
+  given data_type x = if is_indeterminate x || not (fits data_type x) then v.Indet else part_under data_type (part x)

@@ -1,3 +1,5 @@
 pub mod Characters
 pub mod Integers
 pub mod Sights
+pub mod Sizes
+pub mod Sums

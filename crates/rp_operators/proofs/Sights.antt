@@ -1,8 +1,9 @@
 -- What is beneath the names of a value, variant by variant.
-use Rattle.std.proofs.Common.{◌≡◌, ℕ, ℤ, Bool, List, [], ◌∷◌, map, refl, sym, ◌∙◌, ap, subst}
+use Rattle.std.proofs.Common.{◌≡◌, ℕ, ℤ, Bool, List, [], ◌∷◌, map, Option, None, refl, sym, ◌∙◌, ap, subst}
+use Rattle.std.proofs.lemmas.Option.{none-some}
 use Rattle.rp_numbers.specs.Decimals.{Decimal, scaled, scaled_whole}
 use Rattle.rp_numbers.specs.declared.Logical.{Logical}
-use Rattle.rp_meaning.specs.Bare.{bare, itself_and_bare}
+use Rattle.rp_meaning.specs.Bare.{bare, carried, carried_by, itself_and_bare}
 use Rattle.rp_operations.specs.Seen.{Seen, Indeterminate, Number, Text, Bits, Truth, Item, Instance, Aggregate, with_seen, seen}
 use Rattle.rp_value.specs.Elements.{Elements}
 use Rattle.rp_value.specs.declared.value.AggregateKind.{AggregateKind}
@@ -10,25 +11,25 @@ use Rattle.rp_value.specs.declared.value.Value.{Value, out-Value}
 use Rattle.rp_value.specs.declared.value.Value.TheFolds.{fold-Value, fold-roll-Value, ind-Value, map-Value}
 use Rattle.rp_value.specs.declared.value.Value.TheOpen.{Value-F}
 use Rattle.rp_value.specs.declared.value.Value.TheVariants as v
-use Rattle.rp_value.specs.declared.value.Value.TheViews.{roll-Value, out-roll-Value}
+use Rattle.rp_value.specs.declared.value.Value.TheViews.{roll-Value, out-roll-Value, roll-out-Value}
 
 -- ---- a value beside what is made of it is the value itself
 
-module _ {B : Type 0} (with : Value-F (Value × B) → Value × B) (keeps : (y : Value-F (Value × B)) → (with y).0 ≡ roll-Value (map-Value (Value × B) Value (λ p. p.0) y)) where
-  abbrev both : Value → Value × B
-  both = fold-Value (Value × B) with
+module _ {B : Type 0} (kept : B → Value) (with : Value-F B → B) (keeps : (y : Value-F B) → kept (with y) ≡ roll-Value (map-Value B Value kept y)) where
+  abbrev both : Value → B
+  both = fold-Value B with
 
   abbrev IsItself : Value → Type 0
-  IsItself x = (both x).0 ≡ x
+  IsItself x = kept (both x) ≡ x
 
   abbrev Kept : Type 0
   Kept = (x : Value) × IsItself x
 
-  each_itself : (ps : List Kept) → map (λ p. p.0) (map both (map (λ p. p.0) ps)) ≡ map (λ p. p.0) ps
+  each_itself : (ps : List Kept) → map kept (map both (map (λ p. p.0) ps)) ≡ map (λ p. p.0) ps
   each_itself [] = refl
   each_itself (p ∷ ps) = λ i. p.1 i ∷ each_itself ps i
 
-  layer_itself : (y : Value-F Kept) → map-Value (Value × B) Value (λ p. p.0) (map-Value Value (Value × B) both (map-Value Kept Value (λ p. p.0) y)) ≡ map-Value Kept Value (λ p. p.0) y
+  layer_itself : (y : Value-F Kept) → map-Value B Value kept (map-Value Value B both (map-Value Kept Value (λ p. p.0) y)) ≡ map-Value Kept Value (λ p. p.0) y
   layer_itself Value-F.Indet = refl
   layer_itself (Value-F.Int n) = refl
   layer_itself (Value-F.Dec d) = refl
@@ -42,11 +43,11 @@ module _ {B : Type 0} (with : Value-F (Value × B) → Value × B) (keeps : (y :
 
   pub itself : (x : Value) → IsItself x
   itself = ind-Value IsItself (λ x y is.
-      ap (λ p. p.0) (fold-roll-Value (Value × B) with x)
-      ∙ keeps (map-Value Value (Value × B) both x)
-      ∙ ap roll-Value (subst (λ z. map-Value (Value × B) Value (λ p. p.0) (map-Value Value (Value × B) both z) ≡ z) is (layer_itself y)))
+      ap kept (fold-roll-Value B with x)
+      ∙ keeps (map-Value Value B both x)
+      ∙ ap roll-Value (subst (λ z. map-Value B Value kept (map-Value Value B both z) ≡ z) is (layer_itself y)))
 
-  pub all_itself : (xs : List Value) → map (λ p. p.0) (map both xs) ≡ xs
+  pub all_itself : (xs : List Value) → map kept (map both xs) ≡ xs
   all_itself [] = refl
   all_itself (x ∷ xs) = λ i. itself x i ∷ all_itself xs i
 
@@ -83,6 +84,43 @@ bare-rolls : (y : Value-F Value) → (itself_and_bare (map-Value Value (Value ×
 unfolding bare
 bare-rolls y = ap (λ p. p.1) (sym (fold-roll-Value (Value × Value) itself_and_bare y))
 
+-- what carries no name is bare
+lone : (y : Value-F Value) → carried_by y ≡ None → bare (roll-Value y) ≡ roll-Value y
+lone Value-F.Indet is = sym (bare-rolls Value-F.Indet)
+lone (Value-F.Int n) is = sym (bare-rolls (Value-F.Int n))
+lone (Value-F.Dec d) is = sym (bare-rolls (Value-F.Dec d))
+lone (Value-F.Str text) is = sym (bare-rolls (Value-F.Str text))
+lone (Value-F.Bin bits) is = sym (bare-rolls (Value-F.Bin bits))
+lone (Value-F.Log x) is = sym (bare-rolls (Value-F.Log x))
+lone (Value-F.Item n place) is = sym (bare-rolls (Value-F.Item n place))
+lone (Value-F.Inst name) is = sym (bare-rolls (Value-F.Inst name))
+lone (Value-F.Agg kind elements) is =
+    sym (bare-rolls (Value-F.Agg kind elements))
+    ∙ (λ i. roll-Value (Value-F.Agg kind (record { low = elements.low; items = all_itself (λ p. p.0) itself_and_bare name_keeps elements.items i })))
+lone (Value-F.Named n x) is = absurd (none-some n (sym is))
+
+pub bare-itself : (x : Value) → carried x ≡ None → bare x ≡ x
+bare-itself x is = ap bare (sym (roll-out-Value x)) ∙ lone (out-Value x) is ∙ roll-out-Value x
+
+uncarried : (y : Value-F Value) → ((n : ℕ) (z : Value) → roll-Value y ≡ v.Named n z → ⊥) → carried_by y ≡ None
+uncarried Value-F.Indet never = refl
+uncarried (Value-F.Int n) never = refl
+uncarried (Value-F.Dec d) never = refl
+uncarried (Value-F.Str text) never = refl
+uncarried (Value-F.Bin bits) never = refl
+uncarried (Value-F.Log x) never = refl
+uncarried (Value-F.Item n place) never = refl
+uncarried (Value-F.Inst name) never = refl
+uncarried (Value-F.Agg kind elements) never = refl
+uncarried (Value-F.Named n x) never = absurd (never n x (v.rolls-Named n x))
+
+pub bare-unnamed : (x : Value) → ((n : ℕ) (y : Value) → x ≡ v.Named n y → ⊥) → bare x ≡ x
+bare-unnamed x never = bare-itself x (uncarried (out-Value x) (λ n y is. never n y (sym (roll-out-Value x) ∙ is)))
+
+pub bare-under : (x : Value) (n : ℕ) (y : Value) → x ≡ v.Named n y → bare y ≡ bare x
+unfolding bare
+bare-under x n y is = bare-rolls (Value-F.Named n y) ∙ ap bare (v.rolls-Named n y ∙ sym is)
+
 -- ---- variant by variant
 
 module _ (x : Value) where
@@ -112,7 +150,7 @@ module _ (x : Value) where
 
   pub sees-Agg : (kind : AggregateKind) (elements : Elements Value) → x ≡ v.Agg kind elements → Aggregate kind elements ≡ seen x
   sees-Agg kind elements is =
-      (λ i. Aggregate kind (record { low = elements.low; items = sym (all_itself with_seen sight_keeps elements.items) i }))
+      (λ i. Aggregate kind (record { low = elements.low; items = sym (all_itself (λ p. p.0) with_seen sight_keeps elements.items) i }))
       ∙ seen-rolls (Value-F.Agg kind elements) ∙ ap seen (v.rolls-Agg kind elements ∙ sym is)
 
   pub sees-Named : (n : ℕ) (y : Value) → x ≡ v.Named n y → seen y ≡ seen x
@@ -145,7 +183,7 @@ module _ (x : Value) where
 
   pub bare-Agg : (kind : AggregateKind) (elements : Elements Value) → x ≡ v.Agg kind elements → Value-F.Agg kind elements ≡ out-Value (bare x)
   bare-Agg kind elements is =
-      (λ i. Value-F.Agg kind (record { low = elements.low; items = sym (all_itself itself_and_bare name_keeps elements.items) i }))
+      (λ i. Value-F.Agg kind (record { low = elements.low; items = sym (all_itself (λ p. p.0) itself_and_bare name_keeps elements.items) i }))
       ∙ sym (out-roll-Value (Value-F.Agg kind (record { low = elements.low; items = map (λ p. p.0) (map named elements.items) })))
       ∙ ap out-Value (bare-rolls (Value-F.Agg kind elements) ∙ ap bare (v.rolls-Agg kind elements ∙ sym is))
 
@@ -175,3 +213,9 @@ pub ruleset bares = (
   bare-Agg,
   bare-Named,
 )
+
+pub ruleset bare_itself = (bare-itself)
+
+pub ruleset named_alone = (bare-itself, bare-under)
+
+pub ruleset bare_values = (bare-itself, bare-under)

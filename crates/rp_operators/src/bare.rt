@@ -47,19 +47,6 @@ pub(crate) fn beneath_names(value: &Value) -> Bare<'_>
     }
 }
 
-/// The defined type that a value carries.
-pub(crate) fn carried(value: &Value) -> Option<usize>
-    ensures { result ≡ spec.carried value.now }
-{
-    match value {
-        Value::Named {
-            defined_type,
-            value: _,
-        } => Some(*defined_type),
-        _ => None,
-    }
-}
-
 pub(crate) fn is_indeterminate(value: &Value) -> bool
     ensures { result ≡ spec.is_indeterminate value.now }
 {
