@@ -1,5 +1,5 @@
 -- What is beneath the names of a value, variant by variant.
-use Rattle.std.proofs.Common.{◌≡◌, ℕ, ℤ, Bool, List, [], ◌∷◌, map, Option, None, refl, sym, ◌∙◌, ap, subst}
+use Rattle.std.proofs.Common.{◌≡◌, ℕ, ℤ, Bool, List, [], ◌∷◌, map, Option, None, absurd, refl, sym, ◌∙◌, ap, subst}
 use Rattle.std.proofs.lemmas.Option.{none-some}
 use Rattle.rp_numbers.specs.Decimals.{Decimal, scaled, scaled_whole}
 use Rattle.rp_numbers.specs.declared.Logical.{Logical}
@@ -101,21 +101,6 @@ lone (Value-F.Named n x) is = absurd (none-some n (sym is))
 
 pub bare-itself : (x : Value) → carried x ≡ None → bare x ≡ x
 bare-itself x is = ap bare (sym (roll-out-Value x)) ∙ lone (out-Value x) is ∙ roll-out-Value x
-
-uncarried : (y : Value-F Value) → ((n : ℕ) (z : Value) → roll-Value y ≡ v.Named n z → ⊥) → carried_by y ≡ None
-uncarried Value-F.Indet never = refl
-uncarried (Value-F.Int n) never = refl
-uncarried (Value-F.Dec d) never = refl
-uncarried (Value-F.Str text) never = refl
-uncarried (Value-F.Bin bits) never = refl
-uncarried (Value-F.Log x) never = refl
-uncarried (Value-F.Item n place) never = refl
-uncarried (Value-F.Inst name) never = refl
-uncarried (Value-F.Agg kind elements) never = refl
-uncarried (Value-F.Named n x) never = absurd (never n x (v.rolls-Named n x))
-
-pub bare-unnamed : (x : Value) → ((n : ℕ) (y : Value) → x ≡ v.Named n y → ⊥) → bare x ≡ x
-bare-unnamed x never = bare-itself x (uncarried (out-Value x) (λ n y is. never n y (sym (roll-out-Value x) ∙ is)))
 
 pub bare-under : (x : Value) (n : ℕ) (y : Value) → x ≡ v.Named n y → bare y ≡ bare x
 unfolding bare

@@ -1,2 +1,6 @@
 pub mod Amounts
+pub mod Ends
+pub mod Naming
+pub mod Places
 pub mod Sights
+pub mod Standing

@@ -1,6 +1,6 @@
 //! Values without the names of defined types.
 
-ghost use Rattle.std.specs.Prelude.{◌≡◌};
+ghost use Rattle.std.specs.Prelude.{◌≡◌, IfOk};
 ghost use Rattle.std.specs.Option.{option_copied, option_map};
 ghost use Rattle.rp_meaning.specs.Bare as spec;
 ghost use Rattle.rp_meaning.specs.Operators.{truth_in};
@@ -9,6 +9,7 @@ ghost use Rattle.rp_operators.specs.Sights.{aggregate_behind, opened, seen_by};
 ghost use Rattle.rp_value.specs.declared.value.Value.{out-Value};
 
 use rp_value::{AggregateKind, Bits, Characters, Elements, HeldDecimal, Logical, Value};
+use std::alloc::AllocError;
 
 /// What is beneath the names of a value.
 #[derive(Clone, Copy)]
@@ -44,6 +45,33 @@ pub(crate) fn beneath_names(value: &Value) -> Bare<'_>
             defined_type: _,
             value,
         } => beneath_names(value.get()),
+    }
+}
+
+/// A value without the names that stand around it.
+#[tactic(auto, using(crate::proofs::Sights::bare_values))]
+pub(crate) fn without_names(value: &Value) -> Result<Value, AllocError>
+    ensures { IfOk result (λ x. x ≡ spec.bare value.now) }
+{
+    match value {
+        Value::Named {
+            defined_type: _,
+            value,
+        } => without_names(value.get()),
+        _ => value.copy(),
+    }
+}
+
+/// The defined type that a value carries.
+pub(crate) fn carried(value: &Value) -> Option<usize>
+    ensures { result ≡ spec.carried value.now }
+{
+    match value {
+        Value::Named {
+            defined_type,
+            value: _,
+        } => Some(*defined_type),
+        _ => None,
     }
 }
 

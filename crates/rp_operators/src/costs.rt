@@ -6,9 +6,7 @@ ghost use Rattle.std.specs.List.{sum};
 ghost use Rattle.rp_meaning.specs.BuiltIns.{size as size_of_initialiser};
 ghost use Rattle.rp_meaning.specs.Operators as spec;
 ghost use Rattle.rp_operations.specs.Seen.{seen};
-ghost use Rattle.rp_meaning.specs.Bare.{aggregate_in};
-ghost use Rattle.rp_operators.specs.Amounts.{joined_length, unless_more};
-ghost use Rattle.rp_operators.specs.Sights.{opened, seen_by};
+ghost use Rattle.rp_operators.specs.Amounts.{unless_more};
 
 use crate::bare::{Bare, aggregate_of, beneath_names};
 use ex_tree::BinaryOperator;
@@ -49,35 +47,17 @@ fn of_two(most: usize, x: &Value, y: &Value) -> Option<usize>
     }
 }
 
-/// The sum of two lengths, unless it is more than `most`.
-fn of_lengths(most: usize, m: usize, n: usize) -> Option<usize>
-    ensures { result ≡ unless_more most (m + n) }
-{
-    unless_more(most, m.checked_add(n)?)
-}
-
-/// What `+` costs, by what is beneath the names of the two.
-#[tactic(auto, using(crate::proofs::Characters::counts))]
-fn of_sum_beneath(most: usize, x: Bare<'_>, y: Bare<'_>) -> Option<usize>
-    ensures { result ≡ unless_more most (spec.cost_in (aggregate_in (opened x.entry)) (aggregate_in (opened y.entry)) + joined_length (seen_by x.entry) (seen_by y.entry)) }
-{
-    match (x, y) {
-        (Bare::Aggregate(_, xs), Bare::Aggregate(_, ys)) => {
-            of_counts(most, xs.as_slice().len(), ys.as_slice().len())
-        }
-        (Bare::Text(s), Bare::Text(t)) => of_lengths(most, s.count(), t.count()),
-        (Bare::Bits(s), Bare::Bits(t)) => {
-            of_lengths(most, s.as_slice().len(), t.as_slice().len())
-        }
-        _ => Some(0),
-    }
-}
-
 /// What `+` costs.
 fn of_sum(most: usize, x: &Value, y: &Value) -> Option<usize>
     ensures { result ≡ unless_more most (spec.cost_of_two x.now y.now + spec.length_seen (seen (spec.sum x.now y.now))) }
 {
-    of_sum_beneath(most, beneath_names(x), beneath_names(y))
+    match (beneath_names(x), beneath_names(y)) {
+        (Bare::Text(s), Bare::Text(t)) => unless_more(most, s.count().checked_add(t.count())?),
+        (Bare::Bits(s), Bare::Bits(t)) => {
+            unless_more(most, s.as_slice().len().checked_add(t.as_slice().len())?)
+        }
+        _ => of_two(most, x, y),
+    }
 }
 
 /// How many steps a binary operator costs on two values, unless it is more than `most`.

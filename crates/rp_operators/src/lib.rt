@@ -5,10 +5,12 @@ mod bare;
 mod built_ins;
 mod costs;
 mod declared;
+mod ends;
 mod naming;
 mod numbers;
 mod operators;
 mod qualifiers;
+mod relations;
 
 pub use bare::{aggregate_of, integer_of, is_true, place_of, text_of};
 pub use built_ins::{

@@ -3,12 +3,95 @@
 ghost use Rattle.std.specs.Prelude.{◌≡◌, ◌++◌, IfOk};
 ghost use Rattle.ex_tree.specs.declared.expression.UnaryOperator.TheVariants as n;
 ghost use Rattle.rp_meaning.specs.Operators as spec;
+ghost use Rattle.rp_numbers.specs.Logical as logical;
+ghost use Rattle.rp_operators.specs.Sights.{seen_by};
+ghost use Rattle.rp_value.specs.declared.value.Value.TheVariants as v;
 
-use crate::bare::truth_of;
-use crate::numbers::{negated, plain};
+use crate::bare::{Bare, beneath_names, truth_of};
+use crate::numbers::{minus, negated, plain, plus, power, quotient, rest, times};
+use crate::relations::{at_least, at_most, equal, greater, less, unequal};
 use ex_tree::{BinaryOperator, IntervalOperator, UnaryOperator};
-use rp_value::Value;
+use plain_data::{Items, Text};
+use rp_operations::{aggregate_union, intersect, is_in, minus as less_elements, same};
+use rp_value::{Bits, Characters, Value};
 use std::alloc::{AllocError, Global};
+
+/// One text behind the other.
+fn joined_texts(alloc: Global, s: &Characters, t: &Characters) -> Result<Value, AllocError>
+    ensures { IfOk result (λ a. a ≡ v.Str (s.now ++ t.now)) }
+{
+    let mut text = String::from_str(alloc, s.as_str())?;
+    text.push_str(t.as_str())?;
+    Value::text(alloc, Text::new(text))
+}
+
+/// The bits of the one behind those of the other.
+fn joined_bits(alloc: Global, s: &Bits, t: &Bits) -> Result<Value, AllocError>
+    ensures { IfOk result (λ a. a ≡ v.Bin (s.now ++ t.now)) }
+{
+    let mut bits = Vec::from_slice(alloc, s.as_slice())?;
+    bits.extend_from_slice(t.as_slice())?;
+    Value::binary(alloc, Items::from_vec(bits))
+}
+
+/// `+`
+fn sum(alloc: Global, x: &Value, y: &Value) -> Result<Value, AllocError>
+    ensures { IfOk result (λ a. a ≡ spec.sum x.now y.now) }
+{
+    match (beneath_names(x), beneath_names(y)) {
+        (Bare::Text(s), Bare::Text(t)) => joined_texts(alloc, s, t),
+        (Bare::Bits(s), Bare::Bits(t)) => joined_bits(alloc, s, t),
+        (Bare::Aggregate(_, _), _) | (_, Bare::Aggregate(_, _)) => aggregate_union(alloc, x, y),
+        _ => Ok(plus(x, y)),
+    }
+}
+
+/// `*`
+fn product(alloc: Global, x: &Value, y: &Value) -> Result<Value, AllocError>
+    ensures { IfOk result (λ a. a ≡ spec.product x.now y.now) }
+{
+    match (beneath_names(x), beneath_names(y)) {
+        (Bare::Aggregate(_, _), Bare::Aggregate(_, _)) => intersect(alloc, x, y),
+        _ => Ok(times(x, y)),
+    }
+}
+
+/// `-`
+fn remainder(alloc: Global, x: &Value, y: &Value) -> Result<Value, AllocError>
+    ensures { IfOk result (λ a. a ≡ spec.remainder x.now y.now) }
+{
+    match beneath_names(x) {
+        Bare::Aggregate(_, _) => less_elements(alloc, x, y),
+        _ => Ok(minus(x, y)),
+    }
+}
+
+fn conjunction(x: &Value, y: &Value) -> Value
+    ensures { result ≡ spec.on_truths logical.conjunction x.now y.now }
+{
+    match (truth_of(x), truth_of(y)) {
+        (Some(x), Some(y)) => Value::Log(x.and(y)),
+        _ => Value::Indet,
+    }
+}
+
+fn disjunction(x: &Value, y: &Value) -> Value
+    ensures { result ≡ spec.on_truths logical.disjunction x.now y.now }
+{
+    match (truth_of(x), truth_of(y)) {
+        (Some(x), Some(y)) => Value::Log(x.or(y)),
+        _ => Value::Indet,
+    }
+}
+
+fn exclusive_disjunction(x: &Value, y: &Value) -> Value
+    ensures { result ≡ spec.on_truths logical.exclusive_disjunction x.now y.now }
+{
+    match (truth_of(x), truth_of(y)) {
+        (Some(x), Some(y)) => Value::Log(x.xor(y)),
+        _ => Value::Indet,
+    }
+}
 
 fn negation(x: &Value) -> Value
     ensures { result ≡ spec.applied_to n.Not x.now }
@@ -28,7 +111,27 @@ pub fn applied(
 ) -> Result<Value, AllocError>
     ensures { IfOk result (λ a. a ≡ spec.applied operator x.now y.now) }
 {
-    Err(AllocError)
+    Ok(match operator {
+        BinaryOperator::Power => power(x, y),
+        BinaryOperator::Multiply => return product(alloc, x, y),
+        BinaryOperator::Divide => Value::Indet,
+        BinaryOperator::Div => quotient(x, y),
+        BinaryOperator::Mod => rest(x, y),
+        BinaryOperator::And => conjunction(x, y),
+        BinaryOperator::Add => return sum(alloc, x, y),
+        BinaryOperator::Subtract => return remainder(alloc, x, y),
+        BinaryOperator::Or => disjunction(x, y),
+        BinaryOperator::Xor => exclusive_disjunction(x, y),
+        BinaryOperator::Less => less(x, y),
+        BinaryOperator::Greater => greater(x, y),
+        BinaryOperator::LessEqual => return at_most(alloc, x, y),
+        BinaryOperator::GreaterEqual => return at_least(alloc, x, y),
+        BinaryOperator::NotEqual => unequal(x, y),
+        BinaryOperator::Equal => equal(x, y),
+        BinaryOperator::InstanceNotEqual => Value::Log(same(x, y).not()),
+        BinaryOperator::InstanceEqual => Value::Log(same(x, y)),
+        BinaryOperator::In => is_in(x, y),
+    })
 }
 
 /// What a sign or NOT gives of a value.
@@ -39,6 +142,15 @@ pub fn applied_to(operator: UnaryOperator, x: &Value) -> Value
         UnaryOperator::Plus => plain(x),
         UnaryOperator::Minus => negated(x),
         UnaryOperator::Not => negation(x),
+    }
+}
+
+fn relation(operator: IntervalOperator) -> BinaryOperator
+    ensures { result ≡ spec.relation operator }
+{
+    match operator {
+        IntervalOperator::Less => BinaryOperator::Less,
+        IntervalOperator::LessEqual => BinaryOperator::LessEqual,
     }
 }
 
@@ -53,5 +165,7 @@ pub fn within(
 ) -> Result<Value, AllocError>
     ensures { IfOk result (λ a. a ≡ spec.within first second low.now item.now high.now) }
 {
-    Err(AllocError)
+    let above = applied(alloc, relation(first), low, item)?;
+    let below = applied(alloc, relation(second), item, high)?;
+    Ok(conjunction(&above, &below))
 }
