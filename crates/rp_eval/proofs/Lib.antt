@@ -5,3 +5,4 @@ pub mod Found
 pub mod Assigned
 pub mod Runnings
 pub mod Parameters
+pub mod Trees

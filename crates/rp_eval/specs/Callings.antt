@@ -12,4 +12,4 @@ use Rattle.rp_eval.specs.declared.calls.Calling.TheVariants as k
 module _ (world : World) (below : Body → Computation Value) where
   abbrev pub calling : Calling → List Value → Computation Value
   calling (k.Function number) = λ values. below (b.Function number values)
-    calling k.Initializer = λ values. costing (size (initializer values)) (initializer values)
+  calling k.Initializer = λ values. costing (size (initializer values)) (initializer values)

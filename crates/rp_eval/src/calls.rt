@@ -97,7 +97,7 @@ impl<'a, D: Domain, B: Fn(Global, &Schema, &D, u8, &mut Counter, Body) -> Result
     }
 
     /// A function of the language of two arguments.
-    pub(crate) fn of_two(
+    fn of_two(
         &self,
         function: BuiltInFunction,
         first: &Value,
@@ -110,6 +110,22 @@ impl<'a, D: Domain, B: Fn(Global, &Schema, &D, u8, &mut Counter, Body) -> Result
             BuiltInFunction::Nvl => Ok(null_value(first, second)?),
             BuiltInFunction::UsedIn => self.used_in_by(first, second, counter),
             BuiltInFunction::ValueIn => self.value_in(first, second, counter),
+            _ => Ok(Value::Indet),
+        }
+    }
+
+    /// A function of the language, with the values of its arguments.
+    pub(crate) fn of_values(
+        &self,
+        function: BuiltInFunction,
+        values: &[Value],
+        counter: &mut Counter,
+    ) -> Result<Value, Stop>
+        ensures { Runs (spec.built_in (world self.now.schema.now (D.population self.now.domain.now)) (bodies_at self.now.schema.now (D.population self.now.domain.now) self.now.levels) function values.now counter.old) result counter.new }
+    {
+        match values {
+            [value] => self.of_one(function, value, counter),
+            [first, second] => self.of_two(function, first, second, counter),
             _ => Ok(Value::Indet),
         }
     }

@@ -165,7 +165,7 @@ impl<'a, D: Domain, B: Fn(Global, &Schema, &D, u8, &mut Counter, Body) -> Result
         self.calling(called, values, counter)
     }
 
-    /// A function of the language, for a step. The arguments that it takes stand in no list.
+    /// A function of the language, for a step. A single argument stands in no list.
     #[cycle(expressions)]
     fn built_in(
         &self,
@@ -184,14 +184,9 @@ impl<'a, D: Domain, B: Fn(Global, &Schema, &D, u8, &mut Counter, Body) -> Result
                 let value = self.expression(value, frame, counter)?;
                 self.of_one(function, &value, counter)
             }
-            [first, second] => {
-                let first = self.expression(first, frame, counter)?;
-                let second = self.expression(second, frame, counter)?;
-                self.of_two(function, &first, &second, counter)
-            }
             _ => {
-                self.expressions(arguments, frame, counter)?;
-                Ok(Value::Indet)
+                let values = self.expressions(arguments, frame, counter)?;
+                self.of_values(function, values.as_slice(), counter)
             }
         }
     }

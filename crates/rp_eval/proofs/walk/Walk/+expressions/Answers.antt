@@ -1,6 +1,9 @@
 use Rattle.std.proofs.Common.{rules, sym, ◌∙◌, arith}
-use Rattle.rp_eval.specs.Bodies.{value_at, operation_at, qualifier_at}
+use Rattle.rp_meaning.specs.Expressions.{expression, built_in}
+use Rattle.rp_meaning.specs.Levels.{bodies}
+use Rattle.rp_eval.specs.Bodies.{world, value_at, operation_at, qualifier_at}
 use Rattle.rp_eval.proofs.Loops.{each_step, kept_step, turn_step}
+use Rattle.rp_eval.proofs.Trees.{called-one, only_is, expression-call, expression-built-in, expression-initializer}
 use Rattle.rp_eval.proofs.walk.Walk.+expressions.Goals as goal
 
 pub expressions-returns-in_err-expression-clause-value : goal.expressions-returns-in_err-expression-clause-value
@@ -66,3 +69,35 @@ kept-loop-element-preserved g t c =
       frame = c.in_ok-holds.ensures.frame ∙ c.loop-element.invariant.frame;
       runs = rw c.in_ok-keep.ensures (sym step ∙ c.loop-element.invariant.runs);
     }
+
+pub built_in-returns-in_err-value-in-len1-clause-value : goal.built_in-returns-in_err-value-in-len1-clause-value
+built_in-returns-in_err-value-in-len1-clause-value g t c =
+    let w = world c.args.self.now.schema.now (g.D.Domain.population c.args.self.now.domain.now) in
+    let below = bodies w c.args.self.now.levels in
+    let only = only_is c.args.arguments.now c.value-item.result (omega arith) (omega arith) c.value-item.is in
+    rw (called-one (expression w below) (built_in w below c.args.function) c.args.frame.now c.args.arguments.now c.value-item.result c.in_ok-charge.field-0 c.args.counter.now c.charge.new.counter only c.in_ok-charge.ensures) (search rules)
+
+pub built_in-returns-in_ok-value-in-len1-clause-value : goal.built_in-returns-in_ok-value-in-len1-clause-value
+built_in-returns-in_ok-value-in-len1-clause-value g t c =
+    let w = world c.args.self.now.schema.now (g.D.Domain.population c.args.self.now.domain.now) in
+    let below = bodies w c.args.self.now.levels in
+    let only = only_is c.args.arguments.now c.value-item.result (omega arith) (omega arith) c.value-item.is in
+    rw (called-one (expression w below) (built_in w below c.args.function) c.args.frame.now c.args.arguments.now c.value-item.result c.in_ok-charge.field-0 c.args.counter.now c.charge.new.counter only c.in_ok-charge.ensures, c.in_ok-value-in-len1.ensures.value) c.of_one.ensures
+
+pub expression-returns-in-Call-clause-value : goal.expression-returns-in-Call-clause-value
+expression-returns-in-Call-clause-value g t c =
+    let w = world c.args.self.now.schema.now (g.D.Domain.population c.args.self.now.domain.now) in
+    let below = bodies w c.args.self.now.levels in
+    rw (expression-call w below c.args.frame.now c.args.tree.now c.in-Call.number c.in-Call.arguments c.in-Call.is, sym c.as_slice.ensures) c.called.ensures.value
+
+pub expression-returns-in-BuiltIn-clause-value : goal.expression-returns-in-BuiltIn-clause-value
+expression-returns-in-BuiltIn-clause-value g t c =
+    let w = world c.args.self.now.schema.now (g.D.Domain.population c.args.self.now.domain.now) in
+    let below = bodies w c.args.self.now.levels in
+    rw (expression-built-in w below c.args.frame.now c.args.tree.now c.in-BuiltIn.function c.in-BuiltIn.arguments c.in-BuiltIn.is, sym c.as_slice-in-BuiltIn.ensures) c.built_in.ensures.value
+
+pub expression-returns-in-Initializer-clause-value : goal.expression-returns-in-Initializer-clause-value
+expression-returns-in-Initializer-clause-value g t c =
+    let w = world c.args.self.now.schema.now (g.D.Domain.population c.args.self.now.domain.now) in
+    let below = bodies w c.args.self.now.levels in
+    rw (expression-initializer w below c.args.frame.now c.args.tree.now c.in-Initializer.elements c.in-Initializer.is, sym c.as_slice-in-Initializer.ensures) c.called-in-Initializer.ensures.value

@@ -1,0 +1,59 @@
+-- What calls mean, and what comes of a single argument.
+use Rattle.std.proofs.Common.{◌≡◌, ℕ, ◌<◌, ◌≤◌, Option, Some, None, List, [], ◌∷◌, length, map, get_or, refl, sym, ap, ◌∙◌, arith}
+use Rattle.ex_tree.specs.declared.expression.BuiltInFunction.{BuiltInFunction}
+use Rattle.rp_value.specs.declared.value.Value.{Value}
+use Rattle.rp_meaning.specs.BuiltIns.{initializer, size}
+use Rattle.rp_meaning.specs.Computations.{Computation, and_then, pure, steps, ◌>>=◌, ◌>>◌}
+use Rattle.rp_meaning.specs.Expressions.{Scope, World, Meaning, Operating, built_in, costing, each_after, expression, qualifier, interval, operation, query, expression_layer, qualifier_layer, interval_layer, operation_layer, query_layer}
+use Rattle.rp_meaning.specs.declared.body.Body.{Body}
+use Rattle.rp_meaning.specs.declared.body.Body.TheVariants as b
+use Rattle.rp_meaning.specs.declared.counter.Counter.{Counter}
+use Rattle.rp_meaning.specs.declared.tree.Expression.{Expression}
+use Rattle.rp_meaning.specs.declared.tree.Expression.TheFolds.{fold-roll-Expression}
+use Rattle.rp_meaning.specs.declared.tree.Expression.TheOpen.{Expression-F}
+use Rattle.rp_meaning.specs.declared.tree.Expression.TheVariants as e
+use Rattle.rp_eval.specs.Charges.{charged, followed}
+
+module _ (world : World) (below : Body → Computation Value) where
+  pub expression-call : (s : Scope) (x : Expression) (number : ℕ) (arguments : List Expression) → x ≡ e.Call number arguments
+      → expression world below x s ≡ (steps 1 >> (each_after s [] (map (expression world below) arguments) >>= (λ values. below (b.Function number values))))
+  unfolding expression qualifier interval operation query
+  expression-call s x number arguments is = ap (λ y. expression world below y s) (is ∙ sym (e.rolls-Call number arguments))
+      ∙ ap (λ means. means s) (fold-roll-Expression Meaning Operating Meaning Operating Meaning (expression_layer world below) (qualifier_layer world below) (interval_layer world below) (operation_layer world below) (query_layer world below) (Expression-F.Call number arguments))
+
+  pub expression-built-in : (s : Scope) (x : Expression) (function : BuiltInFunction) (arguments : List Expression) → x ≡ e.BuiltIn function arguments
+      → expression world below x s ≡ (steps 1 >> (each_after s [] (map (expression world below) arguments) >>= built_in world below function))
+  unfolding expression qualifier interval operation query
+  expression-built-in s x function arguments is = ap (λ y. expression world below y s) (is ∙ sym (e.rolls-BuiltIn function arguments))
+      ∙ ap (λ means. means s) (fold-roll-Expression Meaning Operating Meaning Operating Meaning (expression_layer world below) (qualifier_layer world below) (interval_layer world below) (operation_layer world below) (query_layer world below) (Expression-F.BuiltIn function arguments))
+
+  pub expression-initializer : (s : Scope) (x : Expression) (elements : List Expression) → x ≡ e.Initializer elements
+      → expression world below x s ≡ (steps 1 >> (each_after s [] (map (expression world below) elements) >>= (λ values. costing (size (initializer values)) (initializer values))))
+  unfolding expression qualifier interval operation query
+  expression-initializer s x elements is = ap (λ y. expression world below y s) (is ∙ sym (e.rolls-Initializer elements))
+      ∙ ap (λ means. means s) (fold-roll-Expression Meaning Operating Meaning Operating Meaning (expression_layer world below) (qualifier_layer world below) (interval_layer world below) (operation_layer world below) (query_layer world below) (Expression-F.Initializer elements))
+
+-- ---- the values of arguments
+
+one-by : (next : List Value → Computation Value) (found : Option (Value × Counter)) → and_then (and_then found (λ a. pure (a ∷ []))) next ≡ and_then found (λ a. next (a ∷ []))
+one-by next None = refl
+one-by next (Some p) = refl
+
+of-one : (means : Expression → Meaning) (next : List Value → Computation Value) (s : Scope) (x : Expression) (left : Counter)
+    → and_then (each_after s [] (map means (x ∷ [])) left) next ≡ and_then (means x s left) (λ a. next (a ∷ []))
+of-one means next s x left = one-by next (means x s left)
+
+-- behind a step
+behind : (m : Computation Value) (u : Unit {0}) (left : Counter) (found : Option (Unit {0} × Counter)) → found ≡ Some (u, left) → and_then found (λ v. m) ≡ m left
+behind m u left found is = rw is refl
+
+pub called-one : (means : Expression → Meaning) (next : List Value → Computation Value) (s : Scope) (trees : List Expression) (x : Expression) (u : Unit {0}) (old left : Counter) → trees ≡ x ∷ [] → steps 1 old ≡ Some (u, left)
+    → charged 1 (followed (each_after s [] (map means trees)) next) old ≡ and_then (means x s left) (λ a. next (a ∷ []))
+called-one means next s trees x u old left is step =
+    behind (each_after s [] (map means trees) >>= next) u left (steps 1 old) step
+    ∙ (ap (λ ts. and_then (each_after s [] (map means ts) left) next) is ∙ of-one means next s x left)
+
+pub only_is : {A : Type 0} (xs : List A) (x : A) → 1 ≤ length xs → length xs < 2 → x ≡ get_or xs 0 x → xs ≡ x ∷ []
+only_is [] x some few is = absurd (omega (arith, some))
+only_is (y ∷ []) x some few is = ap (λ z. z ∷ []) (sym is)
+only_is (y ∷ z ∷ xs) x some few is = absurd (omega (arith, few))
