@@ -5,13 +5,13 @@ ghost use Rattle.plain_data.specs.Numbers.{numbered};
 ghost use Rattle.rp_meaning.specs.Compiled as compiled;
 
 use crate::algorithms::{functions, rules};
-use crate::declared::declared;
+use crate::declared::{declared, graph_of};
 use crate::defined_types::defined_types;
 use crate::entities::entities;
 use crate::expressions::constants;
 use ex_types::CheckedSchema;
 use plain_data::Items;
-use rp_compile_names::{entity_order, rederived_rows, roles, rule_order, supertypes, type_order};
+use rp_compile_names::{entity_order, rederived_rows, roles, rule_order, type_order};
 use rp_compile_trees::Declared;
 use rp_meaning::{DefinedType, Entity, Function, Given, GlobalRule, NamedRole, Schema};
 use std::alloc::{AllocError, Global};
@@ -23,16 +23,14 @@ type Compiled = (
 );
 
 /// The roles of a schema's explicit attributes.
-#[tactic(auto, unfolding(ex_types::specs::Declarations::known, ex_attributes::specs::Attributes::attributes_of))]
 fn roles_of(alloc: Global, schema: &CheckedSchema) -> Result<Items<NamedRole>, AllocError>
     ensures { IfOk result (λ found. found ≡ compiled.roles schema.now.named.schema) }
 {
-    let graph = supertypes(alloc, schema.entities())?;
+    let graph = graph_of(alloc, schema)?;
     roles(alloc, schema.name(), schema.entities(), &graph)
 }
 
 /// The entities, by what the schema declares, in the order of their names.
-#[tactic(auto, unfolding(ex_types::specs::Declarations::known, ex_attributes::specs::Attributes::attributes_of))]
 fn entities_of(
     alloc: Global,
     schema: &CheckedSchema,
@@ -43,7 +41,7 @@ fn entities_of(
     requires order { order.now ≡ compiled.entity_order schema.now.named.schema }
     ensures { IfOk result (λ found. found ≡ numbered (compiled.entity schema.now.named.schema) schema.now.named.schema.entities) }
 {
-    let graph = supertypes(alloc, schema.entities())?;
+    let graph = graph_of(alloc, schema)?;
     let rederived = rederived_rows(alloc, schema.entities(), &graph, order)?;
     entities(
         alloc,
