@@ -1,2 +1,2 @@
-pub mod Entities
-pub mod Algorithms
+pub mod Rederived
+pub mod Variables

@@ -83,10 +83,7 @@ fn frame(alloc: Global, types: &[&NamedDataType]) -> Result<Rows<Kinds>, AllocEr
 }
 
 /// Copies of these types.
-fn copied_types(
-    alloc: Global,
-    types: &[&NamedDataType],
-) -> Result<Items<NamedDataType>, AllocError>
+fn copied_types(alloc: Global, types: &[&NamedDataType]) -> Result<Items<NamedDataType>, AllocError>
     ensures { IfOk result (λ found. found ≡ map (λ t. t.now) types.now) }
 {
     let mut found = Items::new(alloc);
@@ -215,11 +212,7 @@ pub(crate) fn functions(
     Ok(found)
 }
 
-fn rule(
-    alloc: Global,
-    schema: &Declared<'_>,
-    rule: &NamedRule,
-) -> Result<GlobalRule, AllocError>
+fn rule(alloc: Global, schema: &Declared<'_>, rule: &NamedRule) -> Result<GlobalRule, AllocError>
     ensures { IfOk result (λ found. found ≡ spec.rule schema.now rule.now) }
 {
     let types = local_types(alloc, rule.locals.as_slice())?;

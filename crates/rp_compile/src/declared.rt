@@ -5,13 +5,24 @@ ghost use Rattle.rp_meaning.specs.Compiled as compiled;
 
 use ancestors::Descent;
 use ex_types::CheckedSchema;
+use plain_data::Rows;
 use rp_compile_names::{attributes, supertypes};
 use rp_compile_trees::Declared;
 use rp_meaning::NamedRole;
 use std::alloc::{AllocError, Global};
 
-/// What a schema of these roles declares, whose entities stand in this order by their names.
+/// Of each entity its direct supertypes.
 #[tactic(auto, unfolding(ex_types::specs::Declarations::known, ex_attributes::specs::Attributes::attributes_of))]
+pub(crate) fn graph_of(
+    alloc: Global,
+    schema: &CheckedSchema,
+) -> Result<Vec<Rows<usize>>, AllocError>
+    ensures { IfOk result (λ graph. graph.items ≡ compiled.supertypes schema.now.named.schema) }
+{
+    supertypes(alloc, schema.entities())
+}
+
+/// What a schema of these roles declares, whose entities stand in this order by their names.
 pub(crate) fn declared<'s>(
     alloc: Global,
     schema: &'s CheckedSchema,
@@ -22,7 +33,7 @@ pub(crate) fn declared<'s>(
     requires order { order.now ≡ compiled.entity_order schema.now.named.schema }
     ensures { IfOk result (λ declared. declared ≡ compiled.declared schema.now.named.schema) }
 {
-    let supertypes = Descent::of(alloc, supertypes(alloc, schema.entities())?)?;
+    let supertypes = Descent::of(alloc, graph_of(alloc, schema)?)?;
     let attributes = attributes(alloc, schema.entities(), order)?;
     Ok(Declared::new(schema.known(), supertypes, attributes, roles))
 }

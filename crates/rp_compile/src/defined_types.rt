@@ -32,11 +32,7 @@ fn underlying_by(
 }
 
 /// What a defined type is behind all names.
-fn underlying(
-    alloc: Global,
-    types: &Renamings<'_>,
-    number: usize,
-) -> Result<Underlying, AllocError>
+fn underlying(alloc: Global, types: &Renamings<'_>, number: usize) -> Result<Underlying, AllocError>
     ensures { IfOk result (λ found. found ≡ types_spec.underlying types.now number) }
 {
     let end = types.end(number);

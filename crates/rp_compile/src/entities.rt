@@ -109,10 +109,7 @@ fn push_redeclarations(
 }
 
 /// What an entity redeclares as explicit attributes.
-fn redeclarations(
-    alloc: Global,
-    list: &[NamedExplicit],
-) -> Result<Items<Redeclaration>, AllocError>
+fn redeclarations(alloc: Global, list: &[NamedExplicit]) -> Result<Items<Redeclaration>, AllocError>
     ensures { IfOk result (λ found. found ≡ flat_map compiled.redeclarations_in list.now) }
 {
     let mut found = Items::new(alloc);
@@ -226,10 +223,7 @@ fn inverse_attributes(alloc: Global, list: &[NamedInverse]) -> Result<Items<Inve
     Ok(found)
 }
 
-fn unique_rule(
-    alloc: Global,
-    rule: &NamedUniqueRule,
-) -> Result<Items<AttributePlace>, AllocError>
+fn unique_rule(alloc: Global, rule: &NamedUniqueRule) -> Result<Items<AttributePlace>, AllocError>
     ensures { IfOk result (λ found. found ≡ map compiled.declaration rule.now.attributes) }
 {
     let mut found = Items::new(alloc);

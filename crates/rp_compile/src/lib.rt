@@ -2,10 +2,10 @@
 #![tactic(auto)]
 
 mod algorithms;
-mod compile;
 mod declared;
 mod defined_types;
 mod entities;
 mod expressions;
+mod schema;
 
-pub use compile::compile;
+pub use schema::compile;

@@ -1,5 +1,5 @@
 pub mod Put
-pub mod Orders
+pub mod Ranks
 pub mod Once
 pub mod Depths
-pub mod Attributes
+pub mod Declared

@@ -2,19 +2,19 @@
 //! redeclares attributes in DERIVE, and what SELECTs choose from.
 #![tactic(auto)]
 
-mod attributes;
+mod declared_names;
 mod graph;
 mod names;
 mod orders;
 mod rederived;
-mod roles;
+mod role_names;
 mod rows;
-mod selects;
+mod select_types;
 
-pub use attributes::{attributes, explicit_of};
+pub use declared_names::{attributes, explicit_of};
 pub use graph::supertypes;
 pub use names::joined;
 pub use orders::{entity_order, rule_order, type_order};
 pub use rederived::{Rederived, derivations, rederived_of, rederived_rows};
-pub use roles::roles;
-pub use selects::{choices, selection, selects};
+pub use role_names::roles;
+pub use select_types::{choices, selection, selects};

@@ -3,7 +3,7 @@
 ghost use Rattle.std.specs.Prelude.{◌≡◌, ◌++◌, [], length, replicate, IfOk, OnOk};
 ghost use Rattle.std.specs.List.{filter_map, flat_map};
 ghost use Rattle.plain_data.specs.Numbers.{numbered};
-ghost use Rattle.ex_attributes.specs.Attributes.{same_place};
+ghost use Rattle.ex_attributes.specs.Attributes.{same_place, sort_number as number_of};
 ghost use Rattle.ex_slots.specs.Slots as slots;
 ghost use Rattle.graphs.specs.Graphs.{family as family_of};
 ghost use Rattle.rp_meaning.specs.Compiled as compiled;
@@ -11,7 +11,9 @@ ghost use Rattle.rp_compile_names.specs.Found as spec;
 ghost use Rattle.rp_compile_names.specs.Rows.{put_all, row as row_of};
 
 use crate::rows::{concatenated, empty_rows, put};
-use ex_named::{AttributeMeaning, AttributePlace, NamedAttribute, NamedDerived, NamedEntity};
+use ex_named::{
+    AttributeMeaning, AttributePlace, AttributeSort, NamedAttribute, NamedDerived, NamedEntity,
+};
 use graphs::family;
 use plain_data::{Items, Rows};
 use rp_meaning::Derivation;
@@ -131,10 +133,20 @@ pub fn rederived_rows(
     Ok(rows)
 }
 
+fn sort_number(sort: AttributeSort) -> usize
+    ensures { result ≡ number_of sort }
+{
+    match sort {
+        AttributeSort::Explicit => 0,
+        AttributeSort::Derived => 1,
+        AttributeSort::Inverse => 2,
+    }
+}
+
 fn is_same_place(a: AttributePlace, b: AttributePlace) -> bool
     ensures { result ≡ same_place a b }
 {
-    a == b
+    a.entity == b.entity && sort_number(a.sort) == sort_number(b.sort) && a.place == b.place
 }
 
 /// What redeclares this attribute.

@@ -183,11 +183,7 @@ fn copied_role(alloc: Global, role: &Role) -> Result<Role, AllocError>
 }
 
 /// The role of this name; no name stands for every role.
-fn role_named(
-    alloc: Global,
-    roles: &[NamedRole],
-    name: &str,
-) -> Result<Option<Role>, AllocError>
+fn role_named(alloc: Global, roles: &[NamedRole], name: &str) -> Result<Option<Role>, AllocError>
     ensures { IfOk result (λ found. found ≡ spec.role_named roles.now name.now) }
 {
     if name.is_empty() {

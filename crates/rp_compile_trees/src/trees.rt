@@ -29,11 +29,7 @@ fn qualified(
     Ok(Expression::Qualified(Boxed::new(alloc, base)?, list))
 }
 
-fn chain(
-    alloc: Global,
-    left: Expression,
-    list: Items<Operation>,
-) -> Result<Expression, AllocError>
+fn chain(alloc: Global, left: Expression, list: Items<Operation>) -> Result<Expression, AllocError>
     ensures { IfOk result (λ found. found ≡ tree_of.Chain left list) }
 {
     Ok(Expression::Chain(Boxed::new(alloc, left)?, list))
