@@ -13,5 +13,5 @@ returns g c =
     let value = c.args.value.now in
     let first = c.push_defined.new.found in
     all_names schema (with_enumeration schema (defined_types schema (carried value)) (out-Value (bare value))) (names.simple_names schema population (out-Value (bare value))) first c.push_simple.new.found
-    (c.in_ok-push_defined.ensures ∙ (λ i. c.new-found.ensures i ++ type_texts schema (with_enumeration schema (defined_types schema (c.carried.ensures i)) (c.beneath_names.ensures.value i))))
-    (c.in_ok-push_simple.ensures ∙ ap (λ y. first ++ texts schema (names.simple_names schema population y)) c.beneath_names.ensures.value)
+    (c.in_ok-push_defined.ensures ∙ (λ i. c.new-found.ensures i ++ type_texts schema (with_enumeration schema (defined_types schema (c.carried.ensures i)) (c.beneath_names-x.ensures.value i))))
+    (c.in_ok-push_simple.ensures ∙ ap (λ y. first ++ texts schema (names.simple_names schema population y)) c.beneath_names-x.ensures.value)
