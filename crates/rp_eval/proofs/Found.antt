@@ -1,7 +1,5 @@
 -- What is found in lists.
-use Rattle.std.proofs.Common.{◌≡◌, ℕ, zero, suc, ◌+◌, ◌<◌, ◌≤◌, Bool, true, false, Option, Some, None, List, [], ◌∷◌, ◌++◌, length, map, drop, get_or, set, replicate, refl, sym, ap, ◌∙◌, add-one, arith, cond, slice_get, ◌==◌}
-use Rattle.std.specs.List.{find}
-use Rattle.std.specs.Option.{option_map_or}
+use Rattle.std.proofs.Common.{◌≡◌, ℕ, zero, suc, ◌<◌, ◌≤◌, Bool, true, false, Option, Some, None, List, [], ◌∷◌, length, drop, get_or, set, refl, sym, ap, arith, cond, slice_get, ◌==◌}
 use Rattle.std.proofs.Math.ListN.{drop_of_length-le}
 use Rattle.ex_named.specs.declared.reference.AttributePlace.{AttributePlace}
 use Rattle.rp_value.specs.declared.value.Value.{Value, out-Value}
@@ -13,7 +11,7 @@ use Rattle.rp_meaning.specs.declared.schema.Schema.{Schema}
 use Rattle.rp_meaning.specs.Attributes as spec
 use Rattle.rp_meaning.specs.TypeNames.{texts}
 use Rattle.rp_meaning.specs.Bare.{place_in}
-use Rattle.rp_meaning.specs.Populations.{Instance, Stored, stored, instances}
+use Rattle.rp_meaning.specs.Populations.{Instance, stored, instances}
 use Rattle.rp_meaning.specs.Uses.{same_attribute}
 use Rattle.rp_meaning.specs.Uses as uses
 use Rattle.rp_eval.specs.Counts as counts

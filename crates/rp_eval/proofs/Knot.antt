@@ -6,7 +6,6 @@ use Rattle.rp_meaning.specs.declared.counter.Counter.{Counter}
 use Rattle.rp_meaning.specs.declared.rule.Rule.{Rule}
 use Rattle.rp_meaning.specs.Computations.{nested}
 use Rattle.rp_meaning.specs.Expressions.{World}
-use Rattle.rp_meaning.specs.Laws.{Taken}
 use Rattle.rp_meaning.specs.Levels.{bodies, level, body_with, most_turns}
 use Rattle.rp_meaning.specs.Outcomes.{evaluation}
 use Rattle.rp_meaning.proofs.Steadiness.{steady-evaluation, steady-level}

@@ -5,7 +5,6 @@ use denote.Ref.{Bor, MutBor}
 use Rattle.rp_value.specs.declared.value.Value.{Value}
 use Rattle.rp_meaning.specs.declared.body.Body.{Body}
 use Rattle.rp_meaning.specs.declared.counter.Counter.{Counter}
-use Rattle.rp_meaning.specs.declared.schema.Algorithm.{Algorithm}
 use Rattle.rp_meaning.specs.declared.schema.Schema.{Schema}
 use Rattle.rp_meaning.specs.declared.stop.Stop.{Stop}
 use Rattle.rp_meaning.specs.declared.tree.CaseAction.{CaseAction}

@@ -121,10 +121,7 @@ pub(crate) fn own_derivations(schema: &Schema, attribute: AttributePlace) -> &[D
 }
 
 /// Which of several gives an attribute in an instance: the first of which it has the entity.
-pub(crate) fn derivation_in(
-    derivations: &[Derivation],
-    instance: &Seen<'_>,
-) -> Option<Derivation>
+pub(crate) fn derivation_in(derivations: &[Derivation], instance: &Seen<'_>) -> Option<Derivation>
     ensures { result ≡ find (λ x. populations.is_of instance.now x.entity) derivations.now }
 {
     for derivation in derivations {

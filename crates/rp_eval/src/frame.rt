@@ -1,7 +1,7 @@
 //! What an expression stands in.
 
-use rp_value::Value;
 use plain_data::Items;
+use rp_value::Value;
 use std::alloc::{AllocError, Global};
 use std::marker::Model;
 

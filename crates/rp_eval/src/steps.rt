@@ -74,11 +74,7 @@ pub(crate) fn known(value: &Value, counter: &mut Counter) -> Result<Value, Stop>
 }
 
 /// The variable of a slot, for a step.
-pub(crate) fn variable(
-    frame: &Frame,
-    slot: usize,
-    counter: &mut Counter,
-) -> Result<Value, Stop>
+pub(crate) fn variable(frame: &Frame, slot: usize, counter: &mut Counter) -> Result<Value, Stop>
     ensures { Runs (charged 1 (pure (slice_index_or frame.now.variables slot v.Indet)) counter.old) result counter.new }
 {
     charge(counter, 1)?;

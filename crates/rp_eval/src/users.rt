@@ -85,7 +85,10 @@ pub(crate) fn inverse_users<D: Domain>(
 ) -> Result<Items<Value>, AllocError>
     ensures { IfOk result (λ found. found ≡ instances (spec.inverse_places (D.population domain.now) inverse.now place)) }
 {
-    let role = Role::Of(inverse.entity, Items::from_slice(alloc, &[inverse.attribute])?);
+    let role = Role::Of(
+        inverse.entity,
+        Items::from_slice(alloc, &[inverse.attribute])?,
+    );
     let users = domain.users(alloc, place, &role)?;
     if is_bag(inverse.aggregate) {
         return Ok(users);
