@@ -69,5 +69,5 @@ declared-names number x =
     sym (map-append (λ (a : Attribute). (a.name, a.place)) first (second ++ third)
     ∙ ap (λ (ys : List (List ℕ × AttributePlace)). names_only first ++ ys) (map-append (λ (a : Attribute). (a.name, a.place)) second third)
     ∙ (λ i. (without-kinds number Explicit 0 (flat_map explicit_names x.explicit) ∙ ap (numbered_from (named number Explicit) 0) (explicit x.explicit)) i
-      ++ ((without-kinds number Derived 0 (filter_map derived_name x.derived) ∙ ap (numbered_from (named number Derived) 0) (derived x.derived)) i
-      ++ (without-kinds number Inverse 0 (map inverse_name x.inverse) ∙ ap (numbered_from (named number Inverse) 0) (inverse x.inverse)) i)))
+    ++ ((without-kinds number Derived 0 (filter_map derived_name x.derived) ∙ ap (numbered_from (named number Derived) 0) (derived x.derived)) i
+    ++ (without-kinds number Inverse 0 (map inverse_name x.inverse) ∙ ap (numbered_from (named number Inverse) 0) (inverse x.inverse)) i)))

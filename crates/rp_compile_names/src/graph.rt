@@ -7,10 +7,7 @@ use plain_data::Rows;
 use std::alloc::{AllocError, Global};
 
 /// Of each entity its direct supertypes.
-pub fn supertypes(
-    alloc: Global,
-    entities: &[NamedEntity],
-) -> Result<Vec<Rows<usize>>, AllocError>
+pub fn supertypes(alloc: Global, entities: &[NamedEntity]) -> Result<Vec<Rows<usize>>, AllocError>
     ensures { IfOk result (λ graph. graph.items ≡ map (λ e. e.supertypes) entities.now) }
 {
     let mut graph = Vec::with_capacity(alloc, entities.len())?;

@@ -28,10 +28,7 @@ pub(crate) fn type_names(alloc: Global, types: &[NamedType]) -> Result<Vec<&str>
     Ok(names)
 }
 
-pub(crate) fn entity_names(
-    alloc: Global,
-    entities: &[NamedEntity],
-) -> Result<Vec<&str>, AllocError>
+pub(crate) fn entity_names(alloc: Global, entities: &[NamedEntity]) -> Result<Vec<&str>, AllocError>
     ensures { IfOk result (λ names. map (λ n. n.now) names.items ≡ names_of_entities entities.now) }
 {
     let mut names = Vec::with_capacity(alloc, entities.len())?;

@@ -47,10 +47,7 @@ pub fn type_order(alloc: Global, types: &[NamedType]) -> Result<Items<usize>, Al
 }
 
 /// The entities, in the order of the bytes of their names.
-pub fn entity_order(
-    alloc: Global,
-    entities: &[NamedEntity],
-) -> Result<Items<usize>, AllocError>
+pub fn entity_order(alloc: Global, entities: &[NamedEntity]) -> Result<Items<usize>, AllocError>
     ensures { IfOk result (λ order. order ≡ spec.in_order (names_of_entities entities.now)) }
 {
     in_order(alloc, &entity_names(alloc, entities)?)

@@ -66,10 +66,7 @@ fn entities_among(alloc: Global, members: &[TypeName]) -> Result<Rows<usize>, Al
 }
 
 /// Of each type the defined types among its members.
-pub fn selection(
-    alloc: Global,
-    types: &Renamings<'_>,
-) -> Result<Vec<Rows<usize>>, AllocError>
+pub fn selection(alloc: Global, types: &Renamings<'_>) -> Result<Vec<Rows<usize>>, AllocError>
     ensures { IfOk result (λ graph. graph.items ≡ spec.selection types.now) }
 {
     let mut graph = Vec::with_capacity(alloc, types.types().len())?;

@@ -59,4 +59,4 @@ pub decided_by_both : (world : World) (rule : Rule) (itself x : Value) (levels l
 unfolding outcome
 decided_by_both world rule itself x levels limit old new t =
     rw (serves (λ l. evaluation world (bodies world l) rule itself) (λ l. steady-evaluation world l (bodies world) (steady-level world most_turns l) rule itself) levels 200 old new (within_limit limit) x t)
-        (both_decide t.steps t.bodies limit x (nat_le t.steps limit && nat_le t.bodies 200) refl)
+    (both_decide t.steps t.bodies limit x (nat_le t.steps limit && nat_le t.bodies 200) refl)

@@ -21,5 +21,5 @@ returns-then-eq c =
     let some : (length c.args.name.now == 0) ≡ false = sym c.is_empty.ensures ∙ c.if-is_empty.false in
     let same : is c.args.name.now c.role-item.result ≡ true = cc in
     let found : find (is c.args.name.now) c.args.roles.now ≡ Some c.role-item.result =
-        sym c.loop-role.invariant ∙ first c.args.roles.now c.args.name.now c.loop-role.role-index c.role-item.result (omega arith) c.role-item.is same in
+    sym c.loop-role.invariant ∙ first c.args.roles.now c.args.name.now c.loop-role.role-index c.role-item.result (omega arith) c.role-item.is same in
     ap Some c.in_ok-copied_role.ensures ∙ sym (named c.args.roles.now c.args.name.now some ∙ ap (option_map (λ x. x.role)) found)
