@@ -1,5 +1,5 @@
 -- Characters of texts.
-use Rattle.std.proofs.Common.{◌≡◌, ℕ, ◌+◌, Bool, true, false, cond, if◌then◌else◌, List, refl, sym, arith}
+use Rattle.std.proofs.Common.{◌≡◌, ℕ, ◌+◌, Bool, true, false, cond, if◌then◌else◌, List, [], ◌∷◌, ◌++◌, refl, sym, arith}
 use Rattle.std.specs.List.{count_by}
 use Rattle.std.specs.Fmt.{char_count, is_char_start}
 use Rattle.std.proofs.lemmas.List.Recursion.{is_count_by}
@@ -11,3 +11,8 @@ step false n = omega arith
 pub counts : (text : List ℕ) → count_by is_char_start text ≡ char_count text
 unfolding char_count
 counts text = sym (is_count_by char_count is_char_start refl (λ b rest. step (is_char_start b) (char_count rest)) text)
+
+pub joined : (s t : List ℕ) → char_count (s ++ t) ≡ char_count s + char_count t
+unfolding char_count
+joined [] t = omega arith
+joined (b ∷ s) t = omega (arith, joined s t)
