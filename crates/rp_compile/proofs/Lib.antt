@@ -1,2 +1,0 @@
-pub mod Rederived
-pub mod Variables
