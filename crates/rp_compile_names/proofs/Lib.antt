@@ -1,0 +1,5 @@
+pub mod Put
+pub mod Ranks
+pub mod Once
+pub mod Depths
+pub mod Declared

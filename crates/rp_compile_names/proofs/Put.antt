@@ -1,0 +1,75 @@
+-- What was put into rows stands in the rows of its numbers.
+use Rattle.std.proofs.Common.{◌≡◌, ℕ, zero, suc, ◌<◌, ◌≢◌, ◌==◌, Bool, true, false, List, [], ◌∷◌, ◌++◌, map, filter, length, replicate, if◌then◌else◌, refl, sym, ◌∙◌, ap, arith, append-nil, append_assoc, ◌+◌}
+use Rattle.std.proofs.lemmas.List.{get_or-set_same, get_or-set_other, length-set, length-replicate, length-map, ext_get_or}
+use Rattle.std.proofs.lemmas.List.Folds.{flat_map-map}
+use Rattle.std.proofs.lemmas.Bool.Decides.{nat_tests}
+use Rattle.std.specs.List.{flat_map}
+use Rattle.graphs.specs.Graphs.{numbers_from}
+use Rattle.rp_compile_names.specs.Rows.{row, put, put_all, of_number}
+
+pub put_all-append : {A : Type 0} (rows : List (List A)) (us ws : List (ℕ × A)) → put_all rows (us ++ ws) ≡ put_all (put_all rows us) ws
+put_all-append rows [] ws = refl
+put_all-append rows (u ∷ us) ws = put_all-append (put rows u.0 u.1) us ws
+
+abbrev at : {A : Type 0} → ℕ → ℕ × A → Bool
+at number p = p.0 == number
+
+length-put_all : {A : Type 0} (rows : List (List A)) (us : List (ℕ × A)) → length (put_all rows us) ≡ length rows
+length-put_all rows [] = refl
+length-put_all rows (u ∷ us) = length-put_all (put rows u.0 u.1) us ∙ length-set rows u.0 (row rows u.0 ++ u.1 ∷ [])
+
+row-put_same : {A : Type 0} (rows : List (List A)) (number : ℕ) (x : A) → number < length rows → row (put rows number x) number ≡ row rows number ++ x ∷ []
+row-put_same rows number x h = get_or-set_same rows number (row rows number ++ x ∷ []) [] h
+
+row-put_other : {A : Type 0} (rows : List (List A)) (other number : ℕ) (x : A) → number ≢ other → row (put rows other x) number ≡ row rows number
+row-put_other rows other number x h = get_or-set_other rows other number (row rows other ++ x ∷ []) [] h
+
+-- what is put, and what follows it
+row-step : {A : Type 0} (rows : List (List A)) (u : ℕ × A) (us : List (ℕ × A)) (number : ℕ) (t : Bool) → (u.0 == number) ≡ t → number < length rows
+    → row (put rows u.0 u.1) number ++ of_number number us ≡ row rows number ++ map (λ (w : ℕ × A). w.1) (if t then u ∷ filter (at number) us else filter (at number) us)
+row-step rows u us number true is h =
+    let same : u.0 ≡ number = grind (arith, nat_tests, is) in
+    ap (λ r. r ++ of_number number us) (rw (sym same) (row-put_same rows u.0 u.1 (rw same h))) ∙ append_assoc (row rows number) (u.1 ∷ []) (of_number number us)
+row-step rows u us number false is h =
+    let other : number ≢ u.0 = grind (arith, nat_tests, is) in
+    ap (λ r. r ++ of_number number us) (row-put_other rows u.0 number u.1 other)
+
+row-all : {A : Type 0} (rows : List (List A)) (us : List (ℕ × A)) (number : ℕ) → number < length rows → row (put_all rows us) number ≡ row rows number ++ of_number number us
+row-all rows [] number h = sym (append-nil (row rows number))
+row-all rows (u ∷ us) number h =
+    row-all (put rows u.0 u.1) us number (rw (length-set rows u.0 (row rows u.0 ++ u.1 ∷ [])) h)
+    ∙ row-step rows u us number (u.0 == number) refl h
+
+row-empty : {A : Type 0} (n number : ℕ) → row {A = A} (replicate n []) number ≡ []
+row-empty zero number = refl
+row-empty (suc n) zero = refl
+row-empty (suc n) (suc number) = row-empty n number
+
+-- what a row has in the end
+pub rows-are : {A : Type 0} (n : ℕ) (us : List (ℕ × A)) (number : ℕ) → number < n → row (put_all (replicate n []) us) number ≡ of_number number us
+rows-are {A = A} n us number h = row-all (replicate n []) us number (rw (length-replicate {A = List A} n []) h) ∙ ap (λ (r : List A). r ++ of_number number us) (row-empty n number)
+
+pub as-many : {A : Type 0} (n : ℕ) (us : List (ℕ × A)) → length (put_all (replicate n []) us) ≡ n
+as-many n us = length-put_all (replicate n []) us ∙ length-replicate n []
+
+-- ---- all rows at once
+
+pub numbers-length : (k n : ℕ) → length (numbers_from k n) ≡ n
+numbers-length k zero = refl
+numbers-length k (suc n) = ap suc (numbers-length (suc k) n)
+
+row-numbers : {A : Type 0} (f : ℕ → List A) (k n i : ℕ) → i < n → row (map f (numbers_from k n)) i ≡ f (k + i)
+row-numbers f k zero i h = absurd (omega (arith, h))
+row-numbers f k (suc n) zero h = let e : k ≡ k + 0 = omega arith in ap f e
+row-numbers f k (suc n) (suc i) h = let e : suc k + i ≡ k + suc i = omega arith in row-numbers f (suc k) n i (omega (arith, h)) ∙ ap f e
+
+pub all-rows : {A : Type 0} (n : ℕ) (us : List (ℕ × A)) → put_all (replicate n []) us ≡ map (λ k. of_number k us) (numbers_from 0 n)
+all-rows {A = A} n us =
+    let many : length (put_all {A = A} (replicate n []) us) ≡ n = as-many n us in
+    let numbers : length (map (λ (k : ℕ). of_number {A = A} k us) (numbers_from 0 n)) ≡ n = length-map (numbers_from 0 n) (λ (k : ℕ). of_number {A = A} k us) ∙ numbers-length 0 n in
+    ext_get_or [] (put_all (replicate n []) us) (map (λ k. of_number k us) (numbers_from 0 n)) (many ∙ sym numbers)
+    (λ i h. let within : i < n = rw many at h in let same : 0 + i ≡ i = omega arith in rows-are n us i within ∙ sym (row-numbers (λ (k : ℕ). of_number {A = A} k us) 0 n i within ∙ ap (λ (k : ℕ). of_number {A = A} k us) same))
+
+-- one after the other
+pub rows-joined : {A : Type 0} (n : ℕ) (us : List (ℕ × A)) → flat_map (λ row. row) (put_all (replicate n []) us) ≡ flat_map (λ k. of_number k us) (numbers_from 0 n)
+rows-joined {A = A} n us = ap (flat_map (λ (row : List A). row)) (all-rows n us) ∙ flat_map-map (λ (row : List A). row) (λ (k : ℕ). of_number {A = A} k us) (numbers_from 0 n)

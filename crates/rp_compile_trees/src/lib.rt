@@ -1,0 +1,14 @@
+//! Expressions and statements of a checked schema, as they are evaluated.
+#![tactic(auto)]
+
+mod control;
+mod declared;
+mod leaves;
+mod statement;
+mod trees;
+mod types;
+
+pub use declared::Declared;
+pub use statement::statements;
+pub use trees::expression;
+pub use types::copied_type;
