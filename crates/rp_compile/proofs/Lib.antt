@@ -1,0 +1,3 @@
+pub mod Rederived
+pub mod Variables
+pub mod Renaming
