@@ -1,7 +1,6 @@
 -- The names of the attributes that an entity declares, by their sorts.
-use Rattle.std.proofs.Common.{◌≡◌, ℕ, suc, List, [], ◌∷◌, ◌++◌, map, Option, Some, None, option_map, refl, sym, ◌∙◌, ap, append_assoc}
+use Rattle.std.proofs.Common.{◌≡◌, ℕ, suc, List, [], ◌∷◌, ◌++◌, map, Option, Some, None, refl, sym, ◌∙◌, ap, append_assoc}
 use Rattle.std.proofs.lemmas.List.{map-append}
-use Rattle.std.proofs.lemmas.Simd.{map-map}
 use Rattle.std.specs.List.{flat_map, filter_map}
 use Rattle.ex_attributes.specs.declared.attribute.Attribute.{Attribute}
 use Rattle.ex_attributes.specs.Attributes.{own, declared_by as attributes_of, explicit_names, derived_name, inverse_name}

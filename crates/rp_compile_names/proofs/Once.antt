@@ -1,5 +1,5 @@
 -- Numbers that are seen are passed over.
-use Rattle.std.proofs.Common.{◌≡◌, ℕ, ◌==◌, ◌||◌, ◌&&◌, not, Bool, true, false, List, [], ◌∷◌, ◌++◌, filter, drop, length, get_or, if◌then◌else◌, refl, sym, ◌∙◌, ap, arith, append_assoc, ◌<◌, ◌+◌, drop-cons, add-one, suc}
+use Rattle.std.proofs.Common.{◌≡◌, ℕ, ◌==◌, ◌||◌, ◌&&◌, not, Bool, true, false, List, [], ◌∷◌, ◌++◌, filter, drop, length, get_or, if◌then◌else◌, refl, sym, ◌∙◌, ap, arith, append_assoc, ◌<◌, ◌+◌, drop-cons, add-one}
 use Rattle.std.proofs.lemmas.Bool.Decides.{nat_tests}
 use Rattle.std.specs.BTreeSet.{insert_key}
 use Rattle.std.specs.Ordering.{nat_cmp}

@@ -4,7 +4,7 @@ use Rattle.std.specs.List.{flat_map, filter_map}
 use Rattle.graphs.specs.Graphs.{numbers_from}
 use Rattle.name_tables.specs.Order.{rank}
 use Rattle.plain_data.specs.Numbers.{numbered_from}
-use Rattle.rp_meaning.specs.CompiledNames.{at_rank, in_order}
+use Rattle.rp_meaning.specs.CompiledNames.{in_order}
 use Rattle.rp_compile_names.specs.Found.{ranked}
 use Rattle.rp_compile_names.specs.Rows.{put_all, of_number}
 use Rattle.rp_compile_names.proofs.Put.{rows-joined}

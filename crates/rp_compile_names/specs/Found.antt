@@ -1,5 +1,5 @@
 -- What is looked up in a schema while it is compiled.
-use Rattle.std.specs.Prelude.{ℕ, ◌-◌, ◌+◌, ◌==◌, List, [], ◌∷◌, map, filter, length, Option, option_map, slice_get}
+use Rattle.std.specs.Prelude.{ℕ, ◌-◌, ◌+◌, ◌==◌, List, [], map, filter, length, Option, option_map, slice_get}
 use Rattle.std.specs.List.{flat_map, filter_map}
 use Rattle.std.specs.Option.{option_map_or}
 use Rattle.ex_attributes.specs.Attributes.{own, same_place}

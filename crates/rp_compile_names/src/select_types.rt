@@ -174,6 +174,27 @@ fn push_types(found: &mut Items<TypeName>, numbers: &[usize]) -> Result<(), Allo
     Ok(())
 }
 
+/// The entities among members, each once.
+fn chosen_entities(alloc: Global, members: &[TypeName]) -> Result<Vec<usize>, AllocError>
+    ensures { IfOk result (λ found. found.items ≡ graphs.each_once (filter_map spec.entity_in members.now)) }
+{
+    let entities = entities_among(alloc, members)?;
+    each_once(alloc, entities.as_slice())
+}
+
+/// The defined types among members that are no SELECTs, each once.
+fn chosen_types(
+    alloc: Global,
+    types: &Renamings<'_>,
+    members: &[TypeName],
+) -> Result<Vec<usize>, AllocError>
+    ensures { IfOk result (λ found. found.items ≡ graphs.each_once (filter (λ k. not (is_select types.now k)) (filter_map spec.defined_in members.now))) }
+{
+    let defined = defined_among(alloc, members)?;
+    let others = without_selects(alloc, types, defined.as_slice())?;
+    each_once(alloc, &others)
+}
+
 /// What a SELECT chooses from, by the SELECTs that it and its members are.
 pub fn choices(
     alloc: Global,
@@ -183,11 +204,10 @@ pub fn choices(
     ensures { IfOk result (λ found. found ≡ map names.Entity (graphs.each_once (filter_map spec.entity_in (flat_map (spec.members types.now) selects.now))) ++ map names.Defined (graphs.each_once (filter (λ k. not (is_select types.now k)) (filter_map spec.defined_in (flat_map (spec.members types.now) selects.now))))) }
 {
     let members = all_members(alloc, types, selects)?;
-    let entities = entities_among(alloc, &members)?;
-    let defined = defined_among(alloc, &members)?;
-    let others = without_selects(alloc, types, defined.as_slice())?;
+    let entities = chosen_entities(alloc, &members)?;
+    let defined = chosen_types(alloc, types, &members)?;
     let mut found = Items::new(alloc);
-    push_entities(&mut found, &each_once(alloc, entities.as_slice())?)?;
-    push_types(&mut found, &each_once(alloc, &others)?)?;
+    push_entities(&mut found, &entities)?;
+    push_types(&mut found, &defined)?;
     Ok(found)
 }

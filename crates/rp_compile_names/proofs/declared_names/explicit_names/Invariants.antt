@@ -1,5 +1,4 @@
 use Rattle.std.proofs.Common.{◌≡◌, drop, map, ◌++◌}
-use Rattle.name_tables.specs.Names.{rows_of}
 use Rattle.ex_slots.specs.Slots as slots
 use Rattle.rp_compile_names.proofs.declared_names.explicit_names.Given as goal
 

@@ -1,6 +1,5 @@
 use Rattle.std.proofs.Common.{◌≡◌, drop, ◌++◌}
 use Rattle.std.specs.List.{flat_map}
-use Rattle.name_tables.specs.Names.{rows_of}
 use Rattle.ex_slots.specs.Slots as slots
 use Rattle.rp_compile_names.proofs.declared_names.explicit_of.Given as goal
 

@@ -1,6 +1,5 @@
 use Rattle.std.proofs.Common.{◌≡◌, drop, map, ◌++◌}
 use Rattle.std.specs.List.{filter_map}
-use Rattle.name_tables.specs.Names.{rows_of}
 use Rattle.ex_attributes.specs.Attributes.{own}
 use Rattle.ex_slots.specs.Slots as slots
 use Rattle.rp_compile_names.proofs.declared_names.push_together.Given as goal

@@ -1,4 +1,4 @@
-use Rattle.std.proofs.Common.{◌≡◌, ℕ, List, [], map, length, replicate, IfOk, sym, ◌∙◌, ap, subst}
+use Rattle.std.proofs.Common.{◌≡◌, ℕ, List, [], map, replicate, IfOk, sym, ◌∙◌, ap, subst}
 use Rattle.std.proofs.lemmas.List.{length-map}
 use Rattle.std.specs.List.{flat_map}
 use Rattle.rp_compile_names.specs.Found.{ranked}

@@ -1,6 +1,5 @@
-use Rattle.std.proofs.Common.{◌≡◌, ℕ, not, List, filter, ◌++◌, sym, ap, ◌∙◌}
+use Rattle.std.proofs.Common.{sym, ◌∙◌}
 use Rattle.graphs.specs.Graphs.{each_once}
-use Rattle.plain_data.specs.Numbers.{is_among}
 use Rattle.rp_compile_names.proofs.Once.{all-unseen, turn-new, turn-seen}
 use Rattle.rp_compile_names.proofs.select_types.each_once.Goals as goal
 use Rattle.rp_compile_names.proofs.select_types.each_once.Goals.{then-not-is_in+in_ok-insert+in_ok-push, else-not-is_in}
