@@ -1,7 +1,6 @@
 -- Functions and rules of a schema, by what expressions are compiled by.
 use Rattle.std.proofs.Common.{◌≡◌, ℕ, ◌+◌, ◌<◌, List, [], ◌∷◌, ◌++◌, map, length, drop, get_or, None, refl, sym, ◌∙◌, ap, append_assoc, drop-cons, add-one}
 use Rattle.std.proofs.lemmas.List.{map-append}
-use Rattle.std.specs.List.{flat_map}
 use Rattle.ex_kinds.specs.Kinds.{Kinds, of_type}
 use Rattle.ex_named.specs.declared.declaration.NamedDomainRule.{NamedDomainRule}
 use Rattle.ex_named.specs.declared.declaration.NamedFunction.{NamedFunction}

@@ -273,6 +273,19 @@ fn all_explicit(
     Ok((explicit, redeclarations))
 }
 
+/// The inverse attributes of an entity's own, and its UNIQUE rules.
+fn inverse_and_unique(
+    alloc: Global,
+    entity: &NamedEntity,
+) -> Result<(Items<Inverse>, Items<Items<AttributePlace>>), AllocError>
+    ensures inverse { IfOk result (λ found. found.0 ≡ map compiled.inverse entity.now.inverse) }
+    ensures unique_rules { IfOk result (λ found. found.1 ≡ map (λ rule. map compiled.declaration rule.attributes) entity.now.unique_rules) }
+{
+    let inverse = inverse_attributes(alloc, entity.inverse.as_slice())?;
+    let unique_rules = unique_rules(alloc, entity.unique_rules.as_slice())?;
+    Ok((inverse, unique_rules))
+}
+
 /// An entity, given what redeclares its attributes in DERIVE.
 fn entity(
     alloc: Global,
@@ -294,8 +307,7 @@ fn entity(
         entity.derived.as_slice(),
         entity.domain_rules.as_slice(),
     )?;
-    let inverse = inverse_attributes(alloc, entity.inverse.as_slice())?;
-    let unique_rules = unique_rules(alloc, entity.unique_rules.as_slice())?;
+    let (inverse, unique_rules) = inverse_and_unique(alloc, entity)?;
     Ok(Entity {
         name,
         explicit,

@@ -1,4 +1,4 @@
-use Rattle.std.proofs.Common.{◌≡◌, map, length, sym, ◌∙◌, ap}
+use Rattle.std.proofs.Common.{map, length, sym, ◌∙◌, ap}
 use Rattle.ex_kinds.specs.Kinds.{of_type}
 use Rattle.rp_meaning.specs.Compiled.{of_locals}
 use Rattle.rp_compile.proofs.Variables.{rule-scope, rule-found}

@@ -1,5 +1,4 @@
-use Rattle.std.proofs.Common.{◌≡◌, ◌≢◌, ℕ, sym, ◌∙◌, ap}
-use Rattle.ex_renamings.specs.Renamings.{renamed}
+use Rattle.std.proofs.Common.{◌∙◌}
 use Rattle.rp_compile.proofs.Renaming.{turned}
 use Rattle.rp_compile.proofs.defined_types.beneath.Goals as goal
 

@@ -1,4 +1,4 @@
-use Rattle.std.proofs.Common.{◌≡◌, [], ◌∷◌, ◌++◌, ◌∙◌, ap}
+use Rattle.std.proofs.Common.{[], ◌∷◌, ◌++◌, ◌∙◌, ap}
 use Rattle.rp_meaning.specs.declared.schema.Entity.{Entity}
 use Rattle.rp_compile.proofs.Rederived.{next-entity}
 use Rattle.rp_compile.proofs.entities.entities.Goals as goal
