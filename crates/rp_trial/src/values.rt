@@ -1,0 +1,155 @@
+//! The text of a value.
+
+use ex_named::{NamedType, NamedUnderlying};
+use itoa::Buffer;
+use rp_content::Instance;
+use rp_numbers::Logical;
+use rp_value::{AggregateKind, Elements, Value};
+use std::alloc::AllocError;
+
+/// What names the parts of values: the types of a schema, and the instances of a population.
+#[derive(Clone, Copy)]
+pub(crate) struct Named<'n> {
+    pub(crate) types: &'n [NamedType],
+    pub(crate) instances: &'n [Instance],
+}
+
+fn type_name<'n>(types: &'n [NamedType], number: usize) -> &'n str {
+    match types.get(number) {
+        Some(declared) => declared.name.text.as_str(),
+        None => "",
+    }
+}
+
+fn item_name<'n>(types: &'n [NamedType], enumeration: usize, place: usize) -> &'n str {
+    match types.get(enumeration) {
+        Some(NamedType {
+            name: _,
+            underlying: NamedUnderlying::Enumeration(items),
+            domain_rules: _,
+        }) => match items.get(place) {
+            Some(item) => item.text.as_str(),
+            None => "",
+        },
+        _ => "",
+    }
+}
+
+fn kind_name(kind: AggregateKind) -> &'static str {
+    match kind {
+        AggregateKind::Array => "ARRAY",
+        AggregateKind::List => "LIST",
+        AggregateKind::Bag => "BAG",
+        AggregateKind::Set => "SET",
+        AggregateKind::Initializer => "",
+    }
+}
+
+fn logical_name(value: Logical) -> &'static str {
+    match value {
+        Logical::False => "FALSE",
+        Logical::Unknown => "UNKNOWN",
+        Logical::True => "TRUE",
+    }
+}
+
+pub(crate) fn write_text(out: &mut Vec<u8>, text: &str) -> Result<(), AllocError> {
+    out.extend_from_slice(text.as_bytes())
+}
+
+/// A string between apostrophes, of which each in it stands twice.
+fn write_string(out: &mut Vec<u8>, text: &[u8]) -> Result<(), AllocError> {
+    out.push(b'\'')?;
+    for byte in text {
+        if *byte == b'\'' {
+            out.push(b'\'')?;
+        }
+        out.push(*byte)?;
+    }
+    out.push(b'\'')?;
+    Ok(())
+}
+
+fn write_bits(out: &mut Vec<u8>, bits: &[bool]) -> Result<(), AllocError> {
+    out.push(b'%')?;
+    for bit in bits {
+        out.push(if *bit { b'1' } else { b'0' })?;
+    }
+    Ok(())
+}
+
+fn write_item(
+    out: &mut Vec<u8>,
+    types: &[NamedType],
+    enumeration: usize,
+    place: usize,
+) -> Result<(), AllocError> {
+    write_text(out, type_name(types, enumeration))?;
+    out.push(b'.')?;
+    write_text(out, item_name(types, enumeration, place))
+}
+
+/// The name of the instance at a place.
+pub(crate) fn write_instance(
+    out: &mut Vec<u8>,
+    instances: &[Instance],
+    place: u64,
+) -> Result<(), AllocError> {
+    out.push(b'#')?;
+    match instances.get(place as usize) {
+        Some(instance) => write_text(out, Buffer::new().format(instance.name)),
+        None => Ok(()),
+    }
+}
+
+/// A value.
+#[cycle(values)]
+pub(crate) fn write_value(
+    out: &mut Vec<u8>,
+    named: Named<'_>,
+    value: &Value,
+) -> Result<(), AllocError> {
+    match value {
+        Value::Indet => write_text(out, "?"),
+        Value::Int(number) => write_text(out, Buffer::new().format(*number)),
+        Value::Dec(decimal) => decimal.get().write(out),
+        Value::Str(text) => write_string(out, text.as_bytes()),
+        Value::Bin(bits) => write_bits(out, bits.as_slice()),
+        Value::Log(value) => write_text(out, logical_name(*value)),
+        Value::Item { enumeration, place } => write_item(out, named.types, *enumeration, *place),
+        Value::Inst(place) => write_instance(out, named.instances, *place),
+        Value::Agg { kind, elements } => write_aggregate(out, named, *kind, elements),
+        Value::Named {
+            defined_type,
+            value,
+        } => {
+            write_text(out, type_name(named.types, *defined_type))?;
+            out.push(b'(')?;
+            write_value(out, named, value.get())?;
+            out.push(b')')?;
+            Ok(())
+        }
+    }
+}
+
+#[cycle(values)]
+fn write_aggregate(
+    out: &mut Vec<u8>,
+    named: Named<'_>,
+    kind: AggregateKind,
+    elements: &Elements<Value>,
+) -> Result<(), AllocError> {
+    write_text(out, kind_name(kind))?;
+    out.push(b'[')?;
+    write_text(out, Buffer::new().format(elements.low()))?;
+    write_text(out, ": ")?;
+    let values = elements.as_slice();
+    'values: for place in 0..values.len() {
+        if place > 0 {
+            write_text(out, ", ")?;
+        }
+        write_value(out, named, &values[place])?;
+    }
+    out.push(b']')?;
+    Ok(())
+}
