@@ -20,8 +20,7 @@ from lib.harness import TOP, run_parts
 
 PROGRAM = os.path.join(TOP, "crates/rule_trial/out/rule_trial")
 ASSEMBLY = os.path.join(TOP, "example/assembly")
-LINE = re.compile(r"(\d+) (\S+)\.(\S+) (-|#\d+) (.*)", re.DOTALL)
-USAGE = b"rule_trial: usage: rule_trial SCHEMA FILE LIMIT..\n"
+LINE = re.compile(r"(\d+) (\S+)\.(\S+) (\?|-|#\d+) (.*)", re.DOTALL)
 
 
 def evaluated(folder, schema, file, limits):
@@ -31,8 +30,8 @@ def evaluated(folder, schema, file, limits):
     status, out, err = folder.run("schema.exp", "file.step", *map(str, limits))
     if status or err:
         return f"status {status}, {err.decode()}"
-    lines = [LINE.fullmatch(line).groups() for line in out.decode().splitlines()]
-    return {(int(limit), owner, label, itself): outcome for limit, owner, label, itself, outcome in lines}
+    lines = [LINE.fullmatch(line).groups() for line in out.decode().split("\n")[:-1]]
+    return {(int(limit), owner, label, itself.replace("-", "?")): outcome for limit, owner, label, itself, outcome in lines}
 
 
 def wanted_of(row):
@@ -57,7 +56,7 @@ def rows_of_settings(it):
         for (limit, _, label, of), outcome in found.items():
             by_row[label, of, limit][outcome] = None
         for row in mine:
-            itself = "-" if row.rule else f"#{row.self_name}"
+            itself = "?" if row.rule else f"#{row.self_name}"
             seen = {limit: " or ".join(by_row[row.name.upper(), itself, limit]) for limit in wanted_of(row)}
             it.expect(f"{setting.name}, {row.name}: {row.expression}", seen, wanted_of(row))
 
@@ -88,7 +87,7 @@ def report_of(found, conditions):
         if list_of(outcome):
             lists.setdefault((owner, label), defaultdict(list))[list_of(outcome)].append(itself)
     verdicts = {condition: next((key.upper() for key in LISTS if key in of), "TRUE") for condition, of in lists.items()}
-    return {condition: (verdicts[condition], {key: some for key, some in of.items() if some != ["-"]}) for condition, of in lists.items()}
+    return {condition: (verdicts[condition], {key: some for key, some in of.items() if some != ["?"]}) for condition, of in lists.items()}
 
 
 def files_of_assembly(it):
@@ -115,20 +114,20 @@ FILE = ("ISO-10303-21;HEADER;FILE_DESCRIPTION((''),'2;1');FILE_NAME('','',(''),(
 def faulty_input(it):
     """One line, and status 2."""
     good = FILE.format("S", "#1=E(1);")
-    for name, schema, file, words, told in (
-            ("no words", SCHEMA, good, [], USAGE), ("no limit that is one", SCHEMA, good, ["schema.exp", "file.step", "-1"], USAGE),
-            ("no file", SCHEMA, good, ["schema.exp", "none.step", "1"], b'rule_trial: "none.step" can\'t be read\n'),
-            ("no schema", "SCHEMA", good, ["schema.exp", "file.step", "1"], b"rule_trial: the schema is none: Syntax line 1 column 7\n"),
-            ("no exchange file", SCHEMA, "ISO", ["schema.exp", "file.step", "1"], b"rule_trial: the file is none: byte 0\n"),
-            ("another schema", SCHEMA, FILE.format("T", ""), ["schema.exp", "file.step", "1"], b"rule_trial: the file is of another schema\n"),
-            ("a faulty instance", SCHEMA, FILE.format("S", "#7=F();"), ["schema.exp", "file.step", "1"], b"rule_trial: instance #7 is faulty\n")):
+    words = ["schema.exp", "file.step", "1"]
+    for name, schema, file, given, told in (
+            ("no words", SCHEMA, good, [], b"rule_trial SCHEMA FILE LIMIT.."), ("no number", SCHEMA, good, [*words, "-1"], b"a limit is no number"),
+            ("no file", SCHEMA, good, ["schema.exp", "none.step", "1"], b"a file can't be read or is over 8 MiB"),
+            ("no schema", "SCHEMA", good, words, b"Syntax line 1 column 7"), ("no exchange file", SCHEMA, "ISO", words, b"no exchange file: byte 0"),
+            ("another schema", SCHEMA, FILE.format("T", ""), words, b"a file of another schema"),
+            ("a faulty instance", SCHEMA, FILE.format("S", "#7=F();"), words, b"a faulty instance: #7")):
         it.folder.write("schema.exp", schema)
         it.folder.write("file.step", file)
-        it.expect(name, it.folder.run(*words), (2, b"", told))
+        it.expect(name, it.folder.run(*given), (2, b"", b"rule_trial: %s\n" % told))
     it.folder.write("schema.exp", SCHEMA)
     it.folder.write("file.step", FILE.format("S", "#9=E($);#1=E(1);"))
-    lines = b"1 E.W #1 1 1\n1 E.W #9 ? 1\n1 E.#2 #1 7 1\n1 E.#2 #9 7 1\n1 R.#1 - TRUE 1\n"
-    limited = b"0 E.W #1 LIMIT\n0 E.W #9 LIMIT\n0 E.#2 #1 LIMIT\n0 E.#2 #9 LIMIT\n0 R.#1 - LIMIT\n"
+    lines = b"1 E.W #1 1 1\n1 E.W #9 ? 1\n1 E.#2 #1 7 1\n1 E.#2 #9 7 1\n1 R.#1 ? TRUE 1\n"
+    limited = b"0 E.W #1 LIMIT\n0 E.W #9 LIMIT\n0 E.#2 #1 LIMIT\n0 E.#2 #9 LIMIT\n0 R.#1 ? LIMIT\n"
     it.expect("two limits", it.folder.run("schema.exp", "file.step", "1", "0"), (0, lines + limited, b""))
 
 

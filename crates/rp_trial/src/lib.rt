@@ -2,12 +2,9 @@
 //! exchange file.
 #![tactic(auto)]
 
-mod fault;
-mod lines;
 mod loading;
 mod places;
 mod trial;
 mod values;
 
-pub use fault::TrialFault;
 pub use trial::trial;

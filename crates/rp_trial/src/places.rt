@@ -1,7 +1,7 @@
 //! Instances whose references are places in a population.
 
-use ex_layouts::{Dictionary, layout_of};
-use plain_data::{Items, Rows};
+use ex_layouts::Dictionary;
+use plain_data::Items;
 use rp_content::{Entities, Instance};
 use rp_domain::WrittenInstance;
 use rp_value::Value;
@@ -27,11 +27,10 @@ fn placed(alloc: Global, instances: &[Instance], value: &Value) -> Result<Value,
         Value::Named {
             defined_type,
             value,
-        } => Value::named(
-            alloc,
-            *defined_type,
-            placed(alloc, instances, value.get())?,
-        ),
+        } => {
+            let value = placed(alloc, instances, value.get())?;
+            Value::named(alloc, *defined_type, value)
+        }
         _ => value.copy(),
     }
 }
@@ -57,16 +56,7 @@ fn entities_of(
 ) -> Result<Items<usize>, AllocError> {
     match entities {
         Entities::Leaf(entity) => Ok(Items::from_vec(schema.line_of(alloc, *entity)?.into_vec())),
-        Entities::Several(_) => {
-            let layout = layout_of(alloc, schema, entities)?;
-            let mut found = Items::new(alloc);
-            for place in layout.places.as_slice() {
-                if let Some(entity) = layout.entities.as_slice().get(*place) {
-                    found.push(*entity)?;
-                }
-            }
-            Ok(found)
-        }
+        Entities::Several(all) => Items::from_slice(alloc, all.as_slice()),
     }
 }
 
@@ -74,9 +64,8 @@ fn entities_of(
 pub(crate) fn written_instances(
     alloc: Global,
     schema: &Dictionary<'_>,
-    instances: &Rows<Instance>,
+    instances: &[Instance],
 ) -> Result<Vec<WrittenInstance>, AllocError> {
-    let instances = instances.as_slice();
     let mut found = Vec::with_capacity(alloc, instances.len())?;
     for instance in instances {
         let values = all_placed(alloc, instances, instance.values.as_slice())?;

@@ -1,210 +1,199 @@
-//! All conditions of WHERE clauses of entities and of rules, evaluated.
+//! All conditions of the WHERE clauses of entities and of rules, evaluated.
 
-use crate::fault::TrialFault;
-use crate::lines::{Condition, write_line};
 use crate::loading::{content_of, schema_of};
 use crate::places::written_instances;
-use crate::values::Named;
+use crate::values::{Names, write_text, write_value};
 use ex_compiled::Compiled;
 use ex_loaded::LoadedSchema;
 use ex_named::NamedDomainRule;
 use ex_types::CheckedSchema;
+use itoa::Buffer;
+use plain_data::{Failure, Items};
 use rp_compile::compile;
-use rp_content::Instance;
 use rp_domain::ListDomain;
 use rp_eval::{Code, eval};
-use rp_io::{Sink, write_all};
-use rp_meaning::{Domain, Rule, Schema};
+use rp_meaning::{Domain, Outcome, Rule, Schema};
 use rp_value::Value;
-use std::alloc::Global;
+use std::alloc::{AllocError, Global};
 
-/// What is tried: a schema as it was checked and as it is evaluated, and a population of it, with one limit.
-#[derive(Drop)]
-struct Trial<'t> {
+/// A condition, and the name of what declares it.
+#[derive(Clone, Copy)]
+struct Condition<'c> {
+    rule: Rule,
+    owner: &'c str,
+    declared: &'c NamedDomainRule,
+}
+
+/// All conditions, in the order of their declarations.
+fn conditions<'c>(
     alloc: Global,
-    checked: &'t CheckedSchema,
-    schema: &'t Schema,
-    domain: &'t ListDomain,
-    named: Named<'t>,
+    schema: &'c CheckedSchema,
+) -> Result<Vec<Condition<'c>>, AllocError> {
+    let mut found = Vec::new(alloc);
+    for (number, entity) in schema.entities().iter().enumerate() {
+        for (place, declared) in entity.domain_rules.as_slice().iter().enumerate() {
+            let rule = Rule::Entity(number, place);
+            let owner = entity.name.text.as_str();
+            found.push(Condition {
+                rule,
+                owner,
+                declared,
+            })?;
+        }
+    }
+    for (number, global) in schema.rules().iter().enumerate() {
+        for (place, declared) in global.domain_rules.as_slice().iter().enumerate() {
+            let rule = Rule::Global(number, place);
+            let owner = global.name.text.as_str();
+            found.push(Condition {
+                rule,
+                owner,
+                declared,
+            })?;
+        }
+    }
+    Ok(found)
+}
+
+/// What SELF is in turn: of a rule it is nothing.
+fn each_self(
+    alloc: Global,
+    domain: &ListDomain,
+    rule: Rule,
+) -> Result<Items<Value>, AllocError> {
+    match rule {
+        Rule::Entity(entity, _) => domain.extent(alloc, entity),
+        _ => {
+            let mut none = Items::new(alloc);
+            none.push(Value::Indet)?;
+            Ok(none)
+        }
+    }
+}
+
+fn place_of(rule: Rule) -> usize {
+    match rule {
+        Rule::Entity(_, place) | Rule::Global(_, place) => place,
+        _ => 0,
+    }
+}
+
+/// Its label; without one `#` and its number in the WHERE clause, from 1.
+fn write_label(out: &mut Vec<u8>, condition: &Condition<'_>) -> Result<(), AllocError> {
+    match &condition.declared.label {
+        Some(label) => write_text(out, label.text.as_str()),
+        None => {
+            let number = place_of(condition.rule).wrapping_add(1);
+            write_text(out, "#")?;
+            write_text(out, Buffer::new().format(number))
+        }
+    }
+}
+
+/// `LIMIT OWNER.LABEL `
+fn write_condition(
+    out: &mut Vec<u8>,
     limit: usize,
+    condition: &Condition<'_>,
+) -> Result<(), AllocError> {
+    write_text(out, Buffer::new().format(limit))?;
+    write_text(out, " ")?;
+    write_text(out, condition.owner)?;
+    write_text(out, ".")?;
+    write_label(out, condition)?;
+    write_text(out, " ")
 }
 
-fn written<W: Sink>(writer: &mut W, lines: &[u8]) -> Result<(), TrialFault> {
-    match write_all(writer, lines) {
-        Ok(()) => Ok(()),
-        Err(_) => Err(TrialFault::Write),
+/// `SELF VALUE STEPS`, or `SELF LIMIT`
+fn write_outcome(
+    out: &mut Vec<u8>,
+    names: Names<'_>,
+    itself: &Value,
+    outcome: &Outcome,
+) -> Result<(), AllocError> {
+    write_value(out, names, itself)?;
+    match outcome {
+        Outcome::Value(value, steps) => {
+            write_text(out, " ")?;
+            write_value(out, names, value)?;
+            write_text(out, " ")?;
+            write_text(out, Buffer::new().format(*steps))?;
+        }
+        Outcome::Limit => write_text(out, " LIMIT")?,
     }
+    write_text(out, "\n")
 }
 
-impl<'t> Trial<'t> {
-    /// Puts the line of a condition for SELF behind the others.
-    fn push_line(
-        &self,
-        lines: &mut Vec<u8>,
-        condition: Condition<'_>,
-        rule: Rule,
-        itself: Option<u64>,
-    ) -> Result<(), TrialFault> {
-        let code = Code {
-            schema: self.schema,
-            rule,
-        };
-        let value = match itself {
-            Some(place) => Value::Inst(place),
-            None => Value::Indet,
-        };
-        let outcome = eval(self.alloc, &code, self.domain, value, self.limit)?;
-        write_line(
-            lines,
-            self.named,
-            self.limit,
-            condition,
-            itself,
-            &outcome,
-        )?;
-        Ok(())
-    }
-
-    /// A condition of an entity, for each of its instances.
-    fn entity_condition<W: Sink>(
-        &self,
-        entity: usize,
-        condition: Condition<'_>,
-        writer: &mut W,
-    ) -> Result<(), TrialFault> {
-        let mut lines = Vec::new(self.alloc);
-        let instances = self.domain.extent(self.alloc, entity)?;
-        for instance in instances.as_slice() {
-            if let Value::Inst(place) = instance {
-                let rule = Rule::Entity(entity, condition.place);
-                self.push_line(&mut lines, condition, rule, Some(*place))?;
-            }
-        }
-        written(writer, &lines)
-    }
-
-    /// A condition of a rule.
-    fn rule_condition<W: Sink>(
-        &self,
-        rule: usize,
-        condition: Condition<'_>,
-        writer: &mut W,
-    ) -> Result<(), TrialFault> {
-        let mut lines = Vec::new(self.alloc);
-        let rule = Rule::Global(rule, condition.place);
-        self.push_line(&mut lines, condition, rule, None)?;
-        written(writer, &lines)
-    }
-
-    fn entity<W: Sink>(
-        &self,
-        number: usize,
-        owner: &str,
-        conditions: &[NamedDomainRule],
-        writer: &mut W,
-    ) -> Result<(), TrialFault> {
-        for (place, declared) in conditions.iter().enumerate() {
-            let condition = Condition {
-                owner,
-                place,
-                declared,
-            };
-            self.entity_condition(number, condition, writer)?;
-        }
-        Ok(())
-    }
-
-    fn rule<W: Sink>(
-        &self,
-        number: usize,
-        owner: &str,
-        conditions: &[NamedDomainRule],
-        writer: &mut W,
-    ) -> Result<(), TrialFault> {
-        for (place, declared) in conditions.iter().enumerate() {
-            let condition = Condition {
-                owner,
-                place,
-                declared,
-            };
-            self.rule_condition(number, condition, writer)?;
-        }
-        Ok(())
-    }
-
-    /// All conditions, in the order of their declarations.
-    fn run<W: Sink>(&self, writer: &mut W) -> Result<(), TrialFault> {
-        for (number, declared) in self.checked.entities().iter().enumerate() {
-            let conditions = declared.domain_rules.as_slice();
-            self.entity(number, declared.name.text.as_str(), conditions, writer)?;
-        }
-        for (number, declared) in self.checked.rules().iter().enumerate() {
-            let conditions = declared.domain_rules.as_slice();
-            self.rule(number, declared.name.text.as_str(), conditions, writer)?;
-        }
-        Ok(())
-    }
-}
-
-/// The conditions of a schema over a population of these instances, by each limit.
-fn run_all<W: Sink>(
+/// The lines of a condition.
+fn write_lines(
     alloc: Global,
-    checked: &CheckedSchema,
-    domain_of: (&Schema, &ListDomain),
-    instances: &[Instance],
-    limits: &[usize],
-    writer: &mut W,
-) -> Result<(), TrialFault> {
-    let (schema, domain) = domain_of;
-    let named = Named {
-        types: checked.types(),
-        instances,
-    };
-    for limit in limits {
-        let trial = Trial {
-            alloc,
-            checked,
-            schema,
-            domain,
-            named,
-            limit: *limit,
-        };
-        trial.run(writer)?;
+    out: &mut Vec<u8>,
+    names: Names<'_>,
+    code: &Code<'_>,
+    domain: &ListDomain,
+    limit: usize,
+    condition: &Condition<'_>,
+) -> Result<(), AllocError> {
+    for itself in each_self(alloc, domain, condition.rule)?.as_slice() {
+        let outcome = eval(alloc, code, domain, itself.copy()?, limit)?;
+        write_condition(out, limit, condition)?;
+        write_outcome(out, names, itself, &outcome)?;
     }
     Ok(())
 }
 
-fn trial_of<W: Sink>(
+/// The lines of all conditions for each limit.
+fn lines(
+    alloc: Global,
+    names: Names<'_>,
+    checked: &CheckedSchema,
+    schema: &Schema,
+    domain: &ListDomain,
+    limits: &[usize],
+) -> Result<Vec<u8>, AllocError> {
+    let conditions = conditions(alloc, checked)?;
+    let mut out = Vec::new(alloc);
+    for limit in limits {
+        for condition in &conditions {
+            let code = Code {
+                schema,
+                rule: condition.rule,
+            };
+            write_lines(alloc, &mut out, names, &code, domain, *limit, condition)?;
+        }
+    }
+    Ok(out)
+}
+
+fn trial_of(
     alloc: Global,
     compiled: &Compiled,
     file: &[u8],
     limits: &[usize],
-    writer: &mut W,
-) -> Result<(), TrialFault> {
+) -> Result<Vec<u8>, Failure<String>> {
     let loaded = LoadedSchema::of(alloc, compiled)?;
+    let checked = loaded.checked();
     let content = content_of(alloc, loaded.dictionary(), file)?;
-    let written = written_instances(alloc, loaded.dictionary(), &content.instances)?;
-    let schema = compile(alloc, loaded.checked())?;
+    let instances = content.instances.as_slice();
+    let written = written_instances(alloc, loaded.dictionary(), instances)?;
+    let schema = compile(alloc, checked)?;
     let domain = ListDomain::new(alloc, &schema, written)?;
-    run_all(
-        alloc,
-        loaded.checked(),
-        (&schema, &domain),
-        content.instances.as_slice(),
-        limits,
-        writer,
-    )
+    let names = Names {
+        types: checked.types(),
+        instances,
+    };
+    Ok(lines(alloc, names, checked, &schema, &domain, limits)?)
 }
 
-/// Writes, for each limit, each condition of a schema's WHERE clauses with its outcome: those of an entity for each of its
-/// instances in an exchange file, those of a rule once.
-pub fn trial<W: Sink>(
+/// A line for each limit and condition of a schema's WHERE clauses and each SELF, `LIMIT OWNER.LABEL SELF VALUE STEPS` or
+/// `LIMIT OWNER.LABEL SELF LIMIT`: SELF are the entity's instances in an exchange file, and `?` of a rule. Else what is wrong with
+/// the schema or the file, in words.
+pub fn trial(
     alloc: Global,
     schema: &[u8],
     file: &[u8],
     limits: &[usize],
-    writer: &mut W,
-) -> Result<(), TrialFault> {
+) -> Result<Vec<u8>, Failure<String>> {
     let compiled = schema_of(alloc, schema)?;
-    trial_of(alloc, &compiled, file, limits, writer)
+    trial_of(alloc, &compiled, file, limits)
 }

@@ -9,7 +9,7 @@ use std::alloc::AllocError;
 
 /// What names the parts of values: the types of a schema, and the instances of a population.
 #[derive(Clone, Copy)]
-pub(crate) struct Named<'n> {
+pub(crate) struct Names<'n> {
     pub(crate) types: &'n [NamedType],
     pub(crate) instances: &'n [Instance],
 }
@@ -22,16 +22,15 @@ fn type_name<'n>(types: &'n [NamedType], number: usize) -> &'n str {
 }
 
 fn item_name<'n>(types: &'n [NamedType], enumeration: usize, place: usize) -> &'n str {
-    match types.get(enumeration) {
-        Some(NamedType {
-            name: _,
-            underlying: NamedUnderlying::Enumeration(items),
-            domain_rules: _,
-        }) => match items.get(place) {
-            Some(item) => item.text.as_str(),
-            None => "",
-        },
-        _ => "",
+    let Some(declared) = types.get(enumeration) else {
+        return "";
+    };
+    let NamedUnderlying::Enumeration(items) = &declared.underlying else {
+        return "";
+    };
+    match items.get(place) {
+        Some(item) => item.text.as_str(),
+        None => "",
     }
 }
 
@@ -57,7 +56,7 @@ pub(crate) fn write_text(out: &mut Vec<u8>, text: &str) -> Result<(), AllocError
     out.extend_from_slice(text.as_bytes())
 }
 
-/// A string between apostrophes, of which each in it stands twice.
+/// A string between apostrophes; each one in it stands twice.
 fn write_string(out: &mut Vec<u8>, text: &[u8]) -> Result<(), AllocError> {
     out.push(b'\'')?;
     for byte in text {
@@ -66,8 +65,7 @@ fn write_string(out: &mut Vec<u8>, text: &[u8]) -> Result<(), AllocError> {
         }
         out.push(*byte)?;
     }
-    out.push(b'\'')?;
-    Ok(())
+    write_text(out, "'")
 }
 
 fn write_bits(out: &mut Vec<u8>, bits: &[bool]) -> Result<(), AllocError> {
@@ -78,35 +76,20 @@ fn write_bits(out: &mut Vec<u8>, bits: &[bool]) -> Result<(), AllocError> {
     Ok(())
 }
 
-fn write_item(
-    out: &mut Vec<u8>,
-    types: &[NamedType],
-    enumeration: usize,
-    place: usize,
-) -> Result<(), AllocError> {
-    write_text(out, type_name(types, enumeration))?;
-    out.push(b'.')?;
-    write_text(out, item_name(types, enumeration, place))
-}
-
 /// The name of the instance at a place.
-pub(crate) fn write_instance(
-    out: &mut Vec<u8>,
-    instances: &[Instance],
-    place: u64,
-) -> Result<(), AllocError> {
-    out.push(b'#')?;
+fn write_name(out: &mut Vec<u8>, instances: &[Instance], place: u64) -> Result<(), AllocError> {
+    write_text(out, "#")?;
     match instances.get(place as usize) {
         Some(instance) => write_text(out, Buffer::new().format(instance.name)),
         None => Ok(()),
     }
 }
 
-/// A value.
+/// A value, as EXPRESS writes literals: `SET[1: LABEL('a'), COLOUR.RED, %10, #7]`.
 #[cycle(values)]
 pub(crate) fn write_value(
     out: &mut Vec<u8>,
-    named: Named<'_>,
+    names: Names<'_>,
     value: &Value,
 ) -> Result<(), AllocError> {
     match value {
@@ -116,18 +99,21 @@ pub(crate) fn write_value(
         Value::Str(text) => write_string(out, text.as_bytes()),
         Value::Bin(bits) => write_bits(out, bits.as_slice()),
         Value::Log(value) => write_text(out, logical_name(*value)),
-        Value::Item { enumeration, place } => write_item(out, named.types, *enumeration, *place),
-        Value::Inst(place) => write_instance(out, named.instances, *place),
-        Value::Agg { kind, elements } => write_aggregate(out, named, *kind, elements),
+        Value::Item { enumeration, place } => {
+            write_text(out, type_name(names.types, *enumeration))?;
+            write_text(out, ".")?;
+            write_text(out, item_name(names.types, *enumeration, *place))
+        }
+        Value::Inst(place) => write_name(out, names.instances, *place),
+        Value::Agg { kind, elements } => write_aggregate(out, names, *kind, elements),
         Value::Named {
             defined_type,
             value,
         } => {
-            write_text(out, type_name(named.types, *defined_type))?;
-            out.push(b'(')?;
-            write_value(out, named, value.get())?;
-            out.push(b')')?;
-            Ok(())
+            write_text(out, type_name(names.types, *defined_type))?;
+            write_text(out, "(")?;
+            write_value(out, names, value.get())?;
+            write_text(out, ")")
         }
     }
 }
@@ -135,12 +121,12 @@ pub(crate) fn write_value(
 #[cycle(values)]
 fn write_aggregate(
     out: &mut Vec<u8>,
-    named: Named<'_>,
+    names: Names<'_>,
     kind: AggregateKind,
     elements: &Elements<Value>,
 ) -> Result<(), AllocError> {
     write_text(out, kind_name(kind))?;
-    out.push(b'[')?;
+    write_text(out, "[")?;
     write_text(out, Buffer::new().format(elements.low()))?;
     write_text(out, ": ")?;
     let values = elements.as_slice();
@@ -148,8 +134,7 @@ fn write_aggregate(
         if place > 0 {
             write_text(out, ", ")?;
         }
-        write_value(out, named, &values[place])?;
+        write_value(out, names, &values[place])?;
     }
-    out.push(b']')?;
-    Ok(())
+    write_text(out, "]")
 }
