@@ -6,7 +6,6 @@ mod combination;
 mod combinations;
 mod domain;
 mod extents;
-mod given;
 mod instance;
 mod read;
 mod references;

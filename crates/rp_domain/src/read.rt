@@ -11,7 +11,6 @@ ghost use Rattle.rp_domain.specs.Rows.{read_all, read_value};
 
 use crate::attributes::declaration;
 use crate::combinations::Combinations;
-use crate::given::given;
 use crate::instance::{KeptInstance, WrittenInstance, value_at};
 use crate::references::within;
 use crate::rows::with_room;
@@ -19,6 +18,7 @@ use crate::sameness::is_same;
 use ex_named::AttributePlace;
 use plain_data::Items;
 use rp_meaning::Schema;
+use rp_operators::given;
 use rp_value::Value;
 use std::alloc::{AllocError, Global};
 
