@@ -20,7 +20,7 @@ from lib.harness import TOP, run_parts
 
 PROGRAM = os.path.join(TOP, "crates/rule_trial/out/rule_trial")
 ASSEMBLY = os.path.join(TOP, "example/assembly")
-LINE = re.compile(r"(\d+) (\S+)\.(\S+) (\?|-|#\d+) (.*)", re.DOTALL)
+LINE = re.compile(r"(\d+) (\S+)\.(\S+) (\?|#\d+) (.*)")
 
 
 def evaluated(folder, schema, file, limits):
@@ -31,7 +31,7 @@ def evaluated(folder, schema, file, limits):
     if status or err:
         return f"status {status}, {err.decode()}"
     lines = [LINE.fullmatch(line).groups() for line in out.decode().split("\n")[:-1]]
-    return {(int(limit), owner, label, itself.replace("-", "?")): outcome for limit, owner, label, itself, outcome in lines}
+    return {(int(limit), owner, label, itself): outcome for limit, owner, label, itself, outcome in lines}
 
 
 def wanted_of(row):
