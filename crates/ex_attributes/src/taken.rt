@@ -15,13 +15,6 @@ use ex_tree::Name;
 use std::alloc::{AllocError, Global};
 
 impl Attributes {
-    /// The attributes of this name that entities declare, entity after entity.
-    pub fn declared_named(&self, alloc: Global, name: &str) -> Result<Vec<&Attribute>, AllocError>
-        ensures { IfOk result (λ found. map (λ a. a.now) found.items ≡ spec.named name.now self.now.declared) }
-    {
-        self.declared().named(alloc, name)
-    }
-
     /// The attributes of this name that an entity or one above it declares.
     fn named(&self, alloc: Global, entity: usize, name: &str) -> Result<Vec<&Attribute>, AllocError>
         ensures { IfOk result (λ found. read found.items ≡ spec.named_attributes self.now entity name.now) }

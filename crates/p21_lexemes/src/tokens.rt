@@ -179,11 +179,10 @@ impl<'a> Tokens<'a> {
         ensures { self.new ≡ rest self.old }
     {
         let left = &self.left[self.len..];
-        let end = self.end;
         match usual(left) {
-            Some((kind, len)) => *self = with_token(kind, len, left, end),
-            None if may_be_number(left) => self.go_to_number(left, end),
-            None => self.go_to(left, end),
+            Some((kind, len)) => *self = with_token(kind, len, left, self.end),
+            None if may_be_number(left) => self.go_to_number(left, self.end),
+            None => self.go_to(left, self.end),
         }
     }
 

@@ -245,13 +245,6 @@ impl Characters {
         }
     }
 
-    /// Whether each character takes one byte, so that its index is that of its byte.
-    pub fn has_one_byte_each(&self) -> bool
-        ensures { result ≡ (count_by is_char_start self.now == length self.now) }
-    {
-        self.count() == self.as_bytes().len()
-    }
-
     /// The byte where so many characters end, or the text does.
     pub fn byte_of(&self, character: usize) -> usize
         ensures { result ≡ length (take_chars character self.now) }
