@@ -1,0 +1,54 @@
+//! A schema, and what a file holds by it; else what is wrong, in words.
+
+use ex_check::{compile_schema, words_of_fault};
+use ex_compiled::Compiled;
+use ex_layouts::Dictionary;
+use p21_bind::bind;
+use p21_grammar::is_of_schema;
+use p21_read::read_raw;
+use p21_tree::Raw;
+use plain_data::Failure;
+use rp_content::Content;
+use std::alloc::Global;
+
+/// The schema of a text.
+pub(crate) fn schema_of(alloc: Global, text: &[u8]) -> Result<Compiled, Failure<String>> {
+    match compile_schema(alloc, text) {
+        Ok(compiled) => Ok(compiled),
+        Err(Failure::Fault(fault)) => Err(Failure::Fault(words_of_fault(alloc, text, fault)?)),
+        Err(Failure::NoMemory) => Err(Failure::NoMemory),
+    }
+}
+
+/// The tree of an exchange file.
+fn raw_of(alloc: Global, text: &[u8]) -> Result<Raw<'_>, Failure<String>> {
+    match read_raw(alloc, text) {
+        Ok(raw) => Ok(raw),
+        Err(Failure::Fault(fault)) => Err(Failure::Fault(
+            format!(in alloc; "no exchange file: byte {}", fault.at)?,
+        )),
+        Err(Failure::NoMemory) => Err(Failure::NoMemory),
+    }
+}
+
+/// What an exchange file of a schema holds.
+pub(crate) fn content_of<'s>(
+    alloc: Global,
+    schema: &'s Dictionary<'s>,
+    text: &[u8],
+) -> Result<Content, Failure<String>> {
+    let raw = raw_of(alloc, text)?;
+    if !is_of_schema(alloc, &raw, schema.name().as_bytes())? {
+        return Err(Failure::Fault(String::from_str(
+            alloc,
+            "a file of another schema",
+        )?));
+    }
+    match bind(alloc, schema, &[], raw) {
+        Ok(content) => Ok(content),
+        Err(Failure::Fault(fault)) => Err(Failure::Fault(
+            format!(in alloc; "a faulty instance: #{}", fault.instance)?,
+        )),
+        Err(Failure::NoMemory) => Err(Failure::NoMemory),
+    }
+}
