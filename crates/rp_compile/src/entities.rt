@@ -21,6 +21,7 @@ use rp_compile_names::{Rederived, derivations, explicit_of, joined, rederived_of
 use rp_compile_trees::{Declared, copied_type};
 use rp_meaning::{
     Derivation, Entity, Explicit, ExplicitAttribute, Expression, Given, Inverse, Redeclaration,
+    Role,
 };
 use std::alloc::{AllocError, Global};
 
@@ -220,6 +221,14 @@ fn entity_rules(
     Ok((derivations, conditions))
 }
 
+/// The role in which an inverse attribute finds its users.
+fn inverse_role(alloc: Global, inverse: &NamedInverse) -> Result<Role, AllocError>
+    ensures { IfOk result (λ found. found ≡ (compiled.inverse inverse.now).role) }
+{
+    let attribute = declaration(&inverse.attribute);
+    Ok(Role::Of(inverse.entity, Items::from_slice(alloc, &[attribute])?))
+}
+
 fn inverse_attributes(alloc: Global, list: &[NamedInverse]) -> Result<Items<Inverse>, AllocError>
     ensures { IfOk result (λ found. found ≡ map compiled.inverse list.now) }
 {
@@ -227,8 +236,7 @@ fn inverse_attributes(alloc: Global, list: &[NamedInverse]) -> Result<Items<Inve
     for inverse in list {
         found.push(Inverse {
             aggregate: inverse.aggregate,
-            entity: inverse.entity,
-            attribute: declaration(&inverse.attribute),
+            role: inverse_role(alloc, inverse)?,
         })?;
     }
     Ok(found)

@@ -107,6 +107,6 @@ role_of_name schema [] h = absurd (h refl)
 role_of_name schema (x ∷ xs) h = refl
 
 -- each user once
-pub inverse_set : (population : List Instance) (x : Inverse) (place : ℕ) (all found : List Value) → spec.is_bag x.aggregate ≡ false → all ≡ uses.users population (spec.inverse_role x) place → found ≡ once_after None all
+pub inverse_set : (population : List Instance) (x : Inverse) (place : ℕ) (all found : List Value) → spec.is_bag x.aggregate ≡ false → all ≡ uses.users population x.role place → found ≡ once_after None all
     → found ≡ instances (spec.inverse_places population x place)
-inverse_set population x place all found set from each = rw (each, from, set) (once (uses.user_places population (spec.inverse_role x) place))
+inverse_set population x place all found set from each = rw (each, from, set) (once (uses.user_places population x.role place))

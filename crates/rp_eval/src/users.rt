@@ -10,7 +10,7 @@ ghost use Rattle.rp_eval.specs.Counts as counts;
 
 use ex_tree::{InverseAggregate, SetOrBag};
 use plain_data::Items;
-use rp_meaning::{Domain, Inverse, Role};
+use rp_meaning::{Domain, Inverse};
 use rp_value::{AggregateKind, Value};
 use std::alloc::{AllocError, Global};
 
@@ -85,11 +85,7 @@ pub(crate) fn inverse_users<D: Domain>(
 ) -> Result<Items<Value>, AllocError>
     ensures { IfOk result (λ found. found ≡ instances (spec.inverse_places (D.population domain.now) inverse.now place)) }
 {
-    let role = Role::Of(
-        inverse.entity,
-        Items::from_slice(alloc, &[inverse.attribute])?,
-    );
-    let users = domain.users(alloc, place, &role)?;
+    let users = domain.users(alloc, place, &inverse.role)?;
     if is_bag(inverse.aggregate) {
         return Ok(users);
     }

@@ -64,13 +64,10 @@ abbrev pub is_bag : Option InverseAggregate → Bool
 is_bag None = false
 is_bag (Some aggregate) = elim (aggregate.kind) [ a.Bag ↦ true | a.Set ↦ false ]
 
-abbrev pub inverse_role : Inverse → Role
-inverse_role x = r.Of x.entity (x.attribute ∷ [])
-
 -- the places of its users: for a BAG once for each use, else each once
 abbrev pub inverse_places : List Instance → Inverse → ℕ → List ℕ
 inverse_places population x place =
-    if is_bag x.aggregate then user_places population (inverse_role x) place else each_once (user_places population (inverse_role x) place)
+    if is_bag x.aggregate then user_places population x.role place else each_once (user_places population x.role place)
 
 abbrev pub only_one : List ℕ → Value
 only_one (x ∷ []) = v.Inst x

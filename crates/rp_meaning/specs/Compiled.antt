@@ -28,6 +28,7 @@ use Rattle.ex_typing.specs.Expressions.{TypingScope}
 use Rattle.graphs.specs.Graphs.{family, numbers_from}
 use Rattle.plain_data.specs.Numbers.{numbered}
 use Rattle.rp_meaning.specs.declared.role.NamedRole.{NamedRole}
+use Rattle.rp_meaning.specs.declared.role.Role.TheVariants as role
 use Rattle.rp_meaning.specs.declared.schema.Algorithm.{Algorithm}
 use Rattle.rp_meaning.specs.declared.schema.DefinedType.{DefinedType}
 use Rattle.rp_meaning.specs.declared.schema.Derivation.{Derivation}
@@ -66,7 +67,7 @@ abbrev pub redeclarations_in : NamedExplicit → List Redeclaration
 redeclarations_in x = map (λ r. record { attribute = declaration r.attribute; declaration = explicit_declaration x }) (filter_map redeclaration x.attributes)
 
 abbrev pub inverse : NamedInverse → Inverse
-inverse x = record { aggregate = x.aggregate; entity = x.entity; attribute = declaration x.attribute }
+inverse x = record { aggregate = x.aggregate; role = role.Of x.entity (declaration x.attribute ∷ []) }
 
 -- ---- DERIVE
 

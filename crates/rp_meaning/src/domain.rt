@@ -7,6 +7,13 @@ use rp_value::Value;
 use std::alloc::{AllocError, Global};
 use std::marker::Model;
 
+/// What is read at a place in place of the value that is written there.
+#[derive(Drop)]
+pub struct ReadValue {
+    pub place: usize,
+    pub value: Value,
+}
+
 /// An instance of a population.
 #[derive(Drop)]
 pub struct Seen<'d> {
@@ -16,12 +23,12 @@ pub struct Seen<'d> {
     pub attributes: &'d [AttributePlace],
     /// Their values as they are written.
     pub written: &'d [Value],
-    /// Their values as they are read.
-    pub read: &'d [Value],
+    /// What is read in place of some of them; the others are read as they are written.
+    pub differing: &'d [ReadValue],
 }
 
 impl<'d> Model for Seen<'d> {
-    ghost use Rattle.rp_meaning.specs.Populations.{Instance, stored};
+    ghost use Rattle.rp_meaning.specs.Populations.{Instance, as_read, stored};
     ghost use Rattle.std.specs.Coded.{codes};
     ghost use Rattle.rp_value.specs.contracts.value.Value as value;
 
@@ -29,7 +36,7 @@ impl<'d> Model for Seen<'d> {
 
     ghost coded = { Prim.hlevel (codes, value.the_row.coded) };
 
-    ghost view = { λ s. record { entities = s.entities.now; values = stored s.attributes.now s.written.now s.read.now } };
+    ghost view = { λ s. record { entities = s.entities.now; values = stored s.attributes.now s.written.now (as_read s.differing.now s.written.now) } };
 }
 
 /// The instances of one population, however they are kept.

@@ -17,7 +17,7 @@ mod tree;
 pub use body::Body;
 pub use compiled::compiled_as_typed;
 pub use counter::Counter;
-pub use domain::{Domain, Seen};
+pub use domain::{Domain, ReadValue, Seen};
 pub use laws::{
     a_limit_is_of_steps, kept_values_serve, limits_only_cut, outcomes_are_of_steps_and_bodies,
     steps_are_bounded,

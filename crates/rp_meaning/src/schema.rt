@@ -1,7 +1,7 @@
 //! What evaluation looks at of a schema. Entities, defined types, constants, functions and rules are numbered from 0, each
 //! sort by itself, in the order of their declarations.
 
-use crate::role::NamedRole;
+use crate::role::{NamedRole, Role};
 use crate::tree::{Expression, Statement};
 use ex_named::{AttributePlace, NamedDataType, TypeName};
 use ex_tree::InverseAggregate;
@@ -67,13 +67,12 @@ pub struct Given {
     pub value: Expression,
 }
 
-/// An inverse attribute: the instances of an entity that use an instance in an attribute. Without an aggregate it is the
-/// only one.
+/// An inverse attribute: the instances that use an instance in its role, which is one attribute in the instances of an entity.
+/// Without an aggregate it is the only one.
 #[derive(Drop)]
 pub struct Inverse {
     pub aggregate: Option<InverseAggregate>,
-    pub entity: usize,
-    pub attribute: AttributePlace,
+    pub role: Role,
 }
 
 /// An entity (9.2).
