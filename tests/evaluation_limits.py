@@ -191,13 +191,14 @@ def nested_attributes(it):
 
 class Form(NamedTuple):
     """A form around a part: its text, where {} is the part and @ a number that no other level has; how many levels it nests, how many
-    steps it takes beside the part, and what it gives of the part's value (None is `?`)."""
+    steps it takes beside the part, and what it gives of the part's value (None is `?`). Beside is how many levels open next to the part."""
 
     kind: str
     text: str
     levels: int
     steps: int
     gives: Callable
+    beside: int = 0
 
 
 def power(exponent):
@@ -240,9 +241,9 @@ FORMS = {
     "NVL of no value": Form("INTEGER", "NVL(?, {})", 1, 2, same),
     "ABS": Form("INTEGER", "ABS({})", 1, 1, same),
     "TYPEOF": Form("INTEGER", "SIZEOF(TYPEOF({}))", 2, 1 + 1 + 1, lambda _: 1),
-    "VALUE_IN": Form("BOOLEAN", "VALUE_IN([TRUE], {})", 1, 1 + (1 + 1 + 2) + 1, same),
+    "VALUE_IN": Form("BOOLEAN", "VALUE_IN([TRUE], {})", 1, 1 + (1 + 1 + 2) + 1, same, 1),
     "the source of a QUERY": Form("INTEGER", "SIZEOF(QUERY(z@ <* [{}] | TRUE))", 3, 1 + 1 + (1 + 2) + (1 + 1), lambda _: 1),
-    "the condition of a QUERY": Form("INTEGER", "SIZEOF(QUERY(z@ <* [1] | z@ = {}))", 2, 1 + 1 + (1 + 1 + 2) + (1 + 1 + 1), same),
+    "the condition of a QUERY": Form("INTEGER", "SIZEOF(QUERY(z@ <* [1] | z@ = {}))", 2, 1 + 1 + (1 + 1 + 2) + (1 + 1 + 1), same, 1),
     "a call": Form("INTEGER", "h({})", 1, 1 + (1 + 1), same),
 }
 # (statements return what is within them; each ends at the RETURN)
@@ -270,7 +271,7 @@ def told(value):
 
 def nested(form, part, room):
     """A part within as many of a form as nest in so many levels, and how many these are."""
-    count = room // form.levels
+    count = (room - form.beside) // form.levels
     for number in range(count):
         part = form.text.replace("@", str(number)).format(part)
     return part, count
@@ -302,7 +303,7 @@ def by_names(form, bodies, declared, heading, where):
         counts += count
     text = heading.format(" ".join(f"{declared}{k} : {form.kind} := {text};" for k, text in enumerate(texts, 1)))
     given = {"parts": text} if where else {}
-    return schema(H + ("" if where else text), w=f"{declared}{bodies}", **given), 1 + 1 + (bodies - 1) + counts * form.steps, counts
+    return schema(("" if where else text) + H, w=f"{declared}{bodies}", **given), 1 + 1 + (bodies - 1) + counts * form.steps, counts
 
 
 def deep_cases(name, form):

@@ -6,7 +6,7 @@
 PROGRAM is as for evaluation.py. The run compiles a small schema that has each sort of declaration and of expression, makes the
 domain of a small file, and evaluates each clause at two limits. It is run once for each of its allocations with that one refused
 by tools/refuse.c, and once with that one and all later ones refused. Then it writes the exact lines, or none, and says that it is
-out of memory with status 2. The last line is 'evaluation_refusals: N passed, M failed', and the status is 0 only if none failed.
+out of memory with status 2; where the words of its command line find no room, that these can't be read. The last line is 'evaluation_refusals: N passed, M failed', and the status is 0 only if none failed.
 """
 import collections
 import os
@@ -90,6 +90,8 @@ WANTED = {
 LIMITS = (200_000, 9)
 COMMAND = ("schema.exp", "file.step", *map(str, LIMITS))
 OUT_OF_MEMORY = (2, b"", b"rule_trial: out of memory\n")
+# (what the system gives of words tells want of memory by no name of its own)
+NO_WORDS = (2, b"", b"rule_trial: the command line isn't UTF-8\n")
 
 
 def lines():
@@ -108,6 +110,9 @@ def each_refusal(it):
     exact = (0, lines(), b"")
     it.expect("with no refusal", (whole.status, whole.output, whole.errors, whole.refusals), (*exact, 0))
 
+    # (a run that reads no file takes only what comes before that, and the words of its fault)
+    words = run(Folder.program, folder, [], ("nothing.ex", *COMMAND[1:])).allocations
+
     def one(turn):
         key, place = turn
         try:
@@ -121,10 +126,10 @@ def each_refusal(it):
     counts = collections.Counter()
     for key, place, told, refusals in it.pool.map(one, turns):
         is_last = place > whole.allocations
-        may_be = [exact] if is_last else [OUT_OF_MEMORY, exact]
+        may_be = [exact] if is_last else [OUT_OF_MEMORY, exact, *([NO_WORDS] if place < words else [])]
         it.expect(f"{key}={place} of {whole.allocations}", told if told not in may_be else None, None)
         it.expect(f"{key}={place}: whether anything was refused", refusals > 0, not is_last)
-        counts[key, "out of memory" if told == OUT_OF_MEMORY else "the exact lines"] += 1
+        counts[key, {OUT_OF_MEMORY: "out of memory", NO_WORDS: "no words"}.get(told, "the exact lines")] += 1
     for (key, outcome), count in sorted(counts.items()):
         print(f"    {key}: {outcome}: {count} runs")
     it.expect("a refusal that led to want of memory", all(counts[key, "out of memory"] > 0 for key in ("REFUSE_NTH", "REFUSE_FROM")), True)
