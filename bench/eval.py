@@ -44,8 +44,8 @@ TURNS = 250_000
 DECLARATIONS = """SCHEMA s;
 CONSTANT five : INTEGER := 5; END_CONSTANT;
 TYPE label = STRING; END_TYPE;
-TYPE length = REAL; END_TYPE;
-ENTITY p; x : length; n : label; INVERSE us : SET OF e FOR p; END_ENTITY;
+TYPE measure = REAL; END_TYPE;
+ENTITY p; x : measure; n : label; INVERSE us : SET OF e FOR p; END_ENTITY;
 ENTITY e; a, b : INTEGER; p : p; l : LIST OF INTEGER; DERIVE d : INTEGER := a + b; {} END_ENTITY;
 FUNCTION f (n : INTEGER) : INTEGER; RETURN (n + 1); END_FUNCTION;
 FUNCTION g (n : INTEGER) : INTEGER; LOCAL r : INTEGER := 0; END_LOCAL; REPEAT i := 1 TO n; r := r + i; END_REPEAT; RETURN (r); END_FUNCTION;
@@ -90,7 +90,7 @@ def numbers():
 KINDS = [
     Kind("stored, x.a > 3", 50, "e", "x.a > 3", 4, 0, INSTANCES - 3),
     Kind("stored, sums", 50, "e", "x.a + x.b * 2 - x.a > x.b + 3", 15, 0, sum(k % 7 > 3 for k in numbers())),
-    Kind("stored, logic", 50, "e", "{1 <= x.b <= 5} AND NOT (x.b = 2)", 10, 0, sum(k % 7 in (1, 3, 4, 5) for k in numbers())),
+    Kind("stored, logic", 50, "e", "{1 <= x.b <= 5} AND NOT (x.b = 2)", 11, 0, sum(k % 7 in (1, 3, 4, 5) for k in numbers())),
     Kind("stored, x.p.x", 50, "e", "x.p.x > 1.5", 5, 0, INSTANCES - 2),
     Kind("stored, strings", 50, "e", "x.p.n = 'n7'", 5, 0, 2),
     Kind("strings joined", None, "e", "x.p.n + 'x' = 'n7x'", 7, sum(len(str((k + 1) // 2)) + 2 for k in numbers()), 2),
