@@ -103,7 +103,7 @@ KINDS = [
     Kind("TYPEOF", None, "e", "'S.E' IN TYPEOF(x)", 4 + 1 + 1, 0, INSTANCES),
     Kind("index", None, "e", "x.l[2] = 1", 6, 0, INSTANCES),
     Kind("inner QUERY", None, "e", "SIZEOF(QUERY(z <* x.l | z > 1)) > 1", 6 + 3 * 4, 0, INSTANCES - 1),
-    Kind("initialisers", None, "e", "x.b IN [1, 2, 3]", 3 + (1 + 3 + 4) + 3 - 1, 0, sum(k % 7 in (1, 2, 3) for k in numbers())),
+    Kind("initialisers", None, "e", "x.b IN [1, 2, 3]", 3 + (1 + 3 + 4) + 3, 0, sum(k % 7 in (1, 2, 3) for k in numbers())),
     # (a call with a literal, LOCAL, REPEAT with its bounds, an assignment with a sum in each turn, RETURN)
     Kind("REPEAT, increment", None, "", f"g({TURNS})", 2 + 1 + 3 + 4 * TURNS + 2, 0, TURNS * (TURNS + 1) // 2),
     # (REPEAT, its condition in each turn and once more, in each turn an IF with its condition and an assignment with a sum)

@@ -187,6 +187,52 @@ def nested_attributes(it):
     expect(it, "attributes asked for twice", found, wanted)
 
 
+# ---- small schemas whose values and steps are told
+
+OPTIONAL = """SCHEMA s; ENTITY e; i : OPTIONAL INTEGER;
+WHERE a : i < 3; b : (i < 3) AND FALSE; c : (i < 3) OR TRUE; d : NVL(i, 7) = 7; f : SIZEOF(QUERY(z <* [1, 2] | z < i)) = 0;
+END_ENTITY; END_SCHEMA;"""
+USERS = """SCHEMA s; ENTITY p; x : REAL; n : OPTIONAL STRING; INVERSE u : SET [0:?] OF q FOR a; WHERE w1 : SIZEOF(u) <= 2; END_ENTITY;
+ENTITY q; a : p; END_ENTITY; END_SCHEMA;"""
+EXTENTS = """SCHEMA s; ENTITY e; END_ENTITY;
+RULE r1 FOR (e); WHERE q : SIZEOF(QUERY(p <* e | TRUE)) >= 0; END_RULE;
+RULE r2 FOR (e); WHERE q : NOT (SIZEOF(QUERY(p <* e | TRUE)) < 0); END_RULE; END_SCHEMA;"""
+MANY = 66_665
+CALLS = """SCHEMA s; FUNCTION f (n : INTEGER) : INTEGER; IF n <= 0 THEN RETURN (0); END_IF; RETURN (f(n - 1)); END_FUNCTION;
+ENTITY e; k : INTEGER; WHERE w : f(k) = 0; END_ENTITY; END_SCHEMA;"""
+BAGS = """SCHEMA s; ENTITY e; a, b : BAG OF INTEGER; WHERE both : a * b; less : a - 2; joined : [1, 2] + 3; same : (a + b) - b :=: a;
+END_ENTITY; END_SCHEMA;"""
+
+
+def told_schemas(it):
+    """What these come to at limits around their steps."""
+    wanted = {}
+    for label, value, steps in (("A", "UNKNOWN", 3), ("B", "FALSE", 5), ("C", "TRUE", 5), ("D", "TRUE", 5), ("F", "TRUE", 18)):
+        wanted |= outcomes(label, [2, 3, 4, 5, 17, 18, MOST_STEPS], value, steps)
+    expect(it, "an OPTIONAL attribute", evaluated(it.folder, OPTIONAL, file("#1=E($);"), [2, 3, 4, 5, 17, 18, MOST_STEPS]), wanted)
+    for users, value in ((0, "TRUE"), (1, "TRUE"), (2, "TRUE"), (3, "FALSE")):
+        wanted = {(limit, "P", "W1", "#1"): f"{value} {4 + users}" if limit >= 4 + users else "LIMIT" for limit in (3 + users, 4 + users, MOST_STEPS)}
+        data = "#1=P(1.,$);" + "".join(f"#{k + 2}=Q(#1);" for k in range(users))
+        expect(it, f"{users} users", evaluated(it.folder, USERS, file(data), [3 + users, 4 + users, MOST_STEPS]), wanted)
+    # (5 and 3 for each instance, and in R2 one more)
+    for more in (-1, 0, 1):
+        count = MANY + more
+        limits = [MOST_STEPS, 5 + 3 * count - 1, 5 + 3 * count, 6 + 3 * count]
+        wanted = {(limit, rule, "Q", "?"): f"TRUE {steps}" if steps <= limit else "LIMIT"
+                  for limit in limits for rule, steps in (("R1", 5 + 3 * count), ("R2", 6 + 3 * count))}
+        data = "".join(f"#{k}=E();" for k in range(1, count + 1))
+        expect(it, f"{count} instances", evaluated(it.folder, EXTENTS, file(data), limits), wanted)
+    wanted = limited("W", [MOST_STEPS, MOST_LIMIT], "#201") | limited("W", [MOST_STEPS, MOST_LIMIT], "#202")
+    for k in range(MOST_BODIES):
+        wanted |= outcomes("W", [MOST_STEPS, MOST_LIMIT], "TRUE", 10 + 9 * k, f"#{k + 1}")
+    data = "".join(f"#{k + 1}=E({k});" for k in range(MOST_BODIES + 2))
+    expect(it, "calls of itself", evaluated(it.folder, CALLS, file(data), [MOST_STEPS, MOST_LIMIT]), wanted)
+    wanted = outcomes("BOTH", [MOST_STEPS], "BAG[1: 2, 2]", 3 + (3 * 3 + 3 + 3)) | outcomes("LESS", [MOST_STEPS], "BAG[1: 1, 2]", 3)
+    wanted |= outcomes("JOINED", [MOST_STEPS], "[1: 1, 2, 3]", 1 + (1 + 2 + 3) + 1)
+    wanted |= outcomes("SAME", [MOST_STEPS], "TRUE", 1 + (1 + (3 + (3 * 3 + 3 + 3)) + 1 + (6 * 3 + 6 + 3)) + 1 + (3 * 3 + 3 + 3))
+    expect(it, "bags", evaluated(it.folder, BAGS, file("#1=E((1,2,2),(2,2,3));"), [MOST_STEPS]), wanted)
+
+
 # ---- as deep as a schema may be nested
 
 class Form(NamedTuple):
@@ -427,5 +473,5 @@ def expect_rows(it, name, setting, rows, more, data, namings):
 
 
 if __name__ == "__main__":
-    run_parts("evaluation_limits", (endless, chains_of_bodies, nested_attributes, deeply_nested, deep_values, beside_others),
+    run_parts("evaluation_limits", (endless, chains_of_bodies, nested_attributes, told_schemas, deeply_nested, deep_values, beside_others),
               program_of(sys.argv[1:]))
