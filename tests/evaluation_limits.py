@@ -18,7 +18,7 @@ from expression_rows import HEAD, MOST_BODIES, MOST_STEPS, TAIL, Setting, read_r
 from lib.harness import run_parts
 
 # The greatest limit that the program takes.
-MOST_LIMIT = 2**63 - 1
+MOST_LIMIT = 2**64 - 1
 
 
 def schema(declarations, **clauses):
