@@ -6,9 +6,9 @@
 PROGRAM is that of the trial, crates/rule_trial/out/rule_trial where it is left out. The first table has a rule's clause for each
 sort of expression, over 100,000 instances: millions of steps in a second of a processor, the best of three runs and the middle
 one. Each run evaluates it so often that this takes some seconds, and what loading takes, with the limit of that run 0, is taken
-off. The second has what the process holds after 1,000 evaluations and after 1,000,000, and what it holds after as many of a literal.
-The third has the domain of 200,000 instances like those of a CAD exporter: the seconds of a processor that it takes, by runs with a limit and
-without one, and the bytes that it holds, against those of the content.
+off. The second has what the process holds after 1,000 evaluations and after 1,000,000, and what it holds after as many of a
+literal. The third has the domain of 200,000 instances like those of a CAD exporter: the seconds of a processor that it takes, by
+runs with a limit and without one, and the bytes that it holds, against those of the content.
 
 All values and steps are compared with what they must be.
 """
