@@ -50,6 +50,10 @@ rows-are {A = A} n us number h = row-all (replicate n []) us number (rw (length-
 pub as-many : {A : Type 0} (n : ℕ) (us : List (ℕ × A)) → length (put_all (replicate n []) us) ≡ n
 as-many n us = length-put_all (replicate n []) us ∙ length-replicate n []
 
+pub no-rows : {A : Type 0} (us : List (ℕ × A)) → put_all [] us ≡ []
+no-rows [] = refl
+no-rows (u ∷ us) = no-rows us
+
 -- a row that stands there
 pub row-read : {A : Type 0} (rows : List (List A)) (number : ℕ) (r : List A) → Some r ≡ slice_get rows number → (row rows number ≡ r) × (number < length rows)
 row-read [] number r is = absurd (cc)

@@ -15,7 +15,7 @@ use std::marker::Model;
 pub struct ListDomain {
     instances: Items<KeptInstance>,
     /// The places of its instances, by entities of the schema.
-    extents: Vec<Items<usize>>,
+    extents: Vec<Items<u32>>,
     /// By the places of what they use.
     users: Table<User>,
 }
