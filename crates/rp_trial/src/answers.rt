@@ -107,7 +107,7 @@ fn selves(alloc: Global, domain: &ListDomain, condition: Rule) -> Result<Items<V
     }
 }
 
-fn answer(
+fn answer_for(
     alloc: Global,
     code: &Code<'_>,
     domain: &ListDomain,
@@ -137,7 +137,7 @@ fn push_answers(
 {
     let selves = selves(alloc, domain, code.rule)?;
     for itself in selves.as_slice() {
-        found.push(answer(alloc, code, domain, limit, itself)?)?;
+        found.push(answer_for(alloc, code, domain, limit, itself)?)?;
     }
     Ok(())
 }

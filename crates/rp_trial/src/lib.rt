@@ -7,8 +7,8 @@ mod limits;
 mod lines;
 mod loading;
 mod places;
-mod trial;
+mod trials;
 mod values;
 
 pub use limits::limits_of;
-pub use trial::trial;
+pub use trials::trial;

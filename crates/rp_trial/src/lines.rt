@@ -18,7 +18,7 @@ struct Declared<'c> {
 }
 
 /// A condition of the WHERE clause of an owner of this name.
-fn declared<'c>(owner: &'c str, conditions: &'c [NamedDomainRule], place: usize) -> Declared<'c> {
+fn labelled<'c>(owner: &'c str, conditions: &'c [NamedDomainRule], place: usize) -> Declared<'c> {
     let label = match conditions.get(place) {
         Some(condition) => match &condition.label {
             Some(label) => Some(label.text.as_str()),
@@ -38,12 +38,12 @@ fn declared_of(schema: &CheckedSchema, condition: Rule) -> Option<Declared<'_>> 
         Rule::Entity(number, place) => {
             let entity = schema.entities().get(number)?;
             let conditions = entity.domain_rules.as_slice();
-            Some(declared(entity.name.text.as_str(), conditions, place))
+            Some(labelled(entity.name.text.as_str(), conditions, place))
         }
         Rule::Global(number, place) => {
             let rule = schema.rules().get(number)?;
             let conditions = rule.domain_rules.as_slice();
-            Some(declared(rule.name.text.as_str(), conditions, place))
+            Some(labelled(rule.name.text.as_str(), conditions, place))
         }
         _ => None,
     }

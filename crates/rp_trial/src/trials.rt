@@ -34,21 +34,39 @@ fn answers_by(
     answers(alloc, &schema, &domain, limits)
 }
 
-fn trial_of(
+/// The lines of all answers for what a file holds.
+fn lines_by(
     alloc: Global,
-    compiled: &Compiled,
-    file: &[u8],
+    loaded: &LoadedSchema<'_>,
+    instances: &[Instance],
     limits: &[usize],
-) -> Result<Vec<u8>, Failure<String>> {
-    let loaded = LoadedSchema::of(alloc, compiled)?;
-    let content = content_of(alloc, loaded.dictionary(), file)?;
-    let instances = content.instances.as_slice();
-    let answers = answers_by(alloc, &loaded, instances, limits)?;
+) -> Result<Vec<u8>, AllocError>
+    requires { AreAscending instances.now }
+{
+    let answers = answers_by(alloc, loaded, instances, limits)?;
     let names = Names {
         types: loaded.checked().types(),
         instances,
     };
-    Ok(lines(alloc, names, loaded.checked(), &answers)?)
+    lines(alloc, names, loaded.checked(), &answers)
+}
+
+fn trial_by<'s>(
+    alloc: Global,
+    loaded: &'s LoadedSchema<'s>,
+    file: &[u8],
+    limits: &[usize],
+) -> Result<Vec<u8>, Failure<String>> {
+    let content = content_of(alloc, loaded.dictionary(), file)?;
+    Ok(lines_by(alloc, loaded, content.instances.as_slice(), limits)?)
+}
+
+/// A schema with what is found in it once. This isn't let go of, since the process is to end with what it is lent to.
+fn lent<'s>(alloc: Global, schema: &'s Compiled) -> Result<&'s LoadedSchema<'s>, AllocError>
+    ensures { IfOk result (λ lent. lent.now ≡ schema.now) }
+{
+    let loaded = Box::new(alloc, LoadedSchema::of(alloc, schema)?)?;
+    Ok(Box::leak(loaded))
 }
 
 /// A line for each limit and condition of a schema's WHERE clauses and each SELF, `LIMIT OWNER.LABEL SELF VALUE STEPS` or
@@ -61,5 +79,5 @@ pub fn trial(
     limits: &[usize],
 ) -> Result<Vec<u8>, Failure<String>> {
     let compiled = schema_of(alloc, schema)?;
-    trial_of(alloc, &compiled, file, limits)
+    trial_by(alloc, lent(alloc, &compiled)?, file, limits)
 }
