@@ -4,7 +4,8 @@
     bench/all.py [--hostile] [PROGRAM]
 
 It runs the other scripts of this folder one after the other, on PROGRAM or else on the program that was built, and prints what they
-print. The hostile inputs take long, and come with --hostile alone.
+print; eval.py on the program of the trial of evaluation, where that was built. The hostile inputs take long, and come with --hostile
+alone.
 At the end stands the chart: the nanoseconds that each byte takes, of each kind of work at each size.
 """
 import os
@@ -19,6 +20,7 @@ import run
 from harness import PROGRAM, TOP, Folder, Table
 
 BENCH = os.path.join(TOP, "bench")
+TRIAL = os.path.join(TOP, "crates/rule_trial/out/rule_trial")
 NANOSECONDS_A_SIGN = 4
 
 
@@ -70,6 +72,8 @@ def measure(folder, program, with_hostile):
     failed = run_script("single.py", program) or failed
     failed = run_script("groups.py", program) or failed
     failed = run_script("legal.py", program) or failed
+    if os.access(TRIAL, os.X_OK):
+        failed = run_script("eval.py", TRIAL) or failed
     if with_hostile:
         failed = run_script("hostile.py", program) or failed
     show_chart([

@@ -3,6 +3,7 @@
 A benchmark is its families of inputs and the rows that it prints of them. It ends by `run_bench`. All that the program
 writes is compared with what it must be, and a difference ends the benchmark.
 """
+import fcntl
 import json
 import os
 import re
@@ -118,20 +119,34 @@ class Folder:
         """The least seconds of so many batches of these lines."""
         return min(self.seconds(BATCH, lines, wanted) for _ in range(times))
 
-    def check_memory(self):
-        """The most bytes that the check of the schema that was checked last holds. Its standard output is a pipe that is
-        full, so that it can be looked at when all its work is done and it waits to write."""
+    def processor_run(self, words):
+        """How long a processor ran the program, from its start to its end, and what it wrote."""
+        with subprocess.Popen([self.program, *words], cwd=self.path, stdin=subprocess.DEVNULL, stdout=subprocess.PIPE) as process:
+            written = process.stdout.read()
+            _, status, usage = os.wait4(process.pid, 0)
+            process.returncode = os.waitstatus_to_exitcode(status)
+        expect_success(process.returncode)
+        return usage.ru_utime + usage.ru_stime, written
+
+    def memory_of(self, words):
+        """The most bytes that a run holds, and what it writes. Its standard output is a pipe that is full, so that it can be
+        looked at when all its work is done and it waits to write."""
         reader, writer = full_pipe()
-        with subprocess.Popen([self.program, *CHECK], cwd=self.path, stdin=subprocess.DEVNULL, stdout=writer) as process:
+        filled = fcntl.fcntl(reader, fcntl.F_GETPIPE_SZ)
+        with subprocess.Popen([self.program, *words], cwd=self.path, stdin=subprocess.DEVNULL, stdout=writer) as process:
             os.close(writer)
             while process.poll() is None and not waits_to_write(process):
                 time.sleep(0.005)
             expect_success(process.returncode or 0)
             memory = most_memory(process)
             with open(reader, "rb") as it:
-                it.read()
+                written = it.read()[filled:]
         expect_success(process.returncode)
-        return memory
+        return memory, written
+
+    def check_memory(self):
+        """The most bytes that the check of the schema that was checked last holds."""
+        return self.memory_of(CHECK)[0]
 
 
 class Session:
@@ -182,10 +197,10 @@ class Table:
         print(" ".join(f"{value:>{form}}" for value, form in zip(values, self.forms, strict=True)), flush=True)
 
 
-def run_bench(measure, words):
+def run_bench(measure, words, built=PROGRAM):
     """Runs a benchmark in a new folder by the program that the words name, or else the one that was built, and ends the
     script. What the benchmark answers is the status, where that isn't 0."""
-    program = os.path.abspath(words[0] if words else PROGRAM)
+    program = os.path.abspath(words[0] if words else built)
     if not os.access(program, os.X_OK):
         sys.exit(f"bench: there is no program {program}: run rt ci first, or name it")
     with tempfile.TemporaryDirectory() as path:

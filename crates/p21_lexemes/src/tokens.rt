@@ -181,8 +181,14 @@ impl<'a> Tokens<'a> {
         let left = &self.left[self.len..];
         match usual(left) {
             Some((kind, len)) => *self = with_token(kind, len, left, self.end),
-            None if may_be_number(left) => self.go_to_number(left, self.end),
-            None => self.go_to(left, self.end),
+            None if may_be_number(left) => {
+                let end = self.end;
+                self.go_to_number(left, end)
+            }
+            None => {
+                let end = self.end;
+                self.go_to(left, end)
+            }
         }
     }
 

@@ -1,6 +1,8 @@
 pub mod Characters
 pub mod Integers
 pub mod Sights
+pub mod Scales
+pub mod Alike
 pub mod Parts
 pub mod Staying
 pub mod Powers

@@ -6,7 +6,7 @@ use Rattle.std.specs.Option.{is_some}
 use Rattle.rp_numbers.specs.Decimals.{Decimal, scaled, scaled_whole}
 use Rattle.rp_numbers.specs.declared.Logical.{Logical}
 use Rattle.rp_meaning.specs.Bare.{bare, carried, carried_by, itself_and_bare}
-use Rattle.rp_operations.specs.Seen.{Seen, Indeterminate, Number, Text, Bits, Truth, Item, Instance, Aggregate, with_seen, seen}
+use Rattle.rp_operations.specs.Seen.{Seen, Indeterminate, Number, Text, Bits, Truth, Item, Instance, Aggregate, with_seen, seen, instance_layer, holds_instance}
 use Rattle.rp_value.specs.Elements.{Elements}
 use Rattle.rp_value.specs.declared.value.AggregateKind.{AggregateKind}
 use Rattle.rp_value.specs.declared.value.Value.{Value, out-Value}
@@ -130,6 +130,33 @@ unless_some (Some n) none is so = absurd (true≢false (is ∙ ap not so))
 pub named-alone : (x : Value) (n m : ℕ) (y : Value) → x ≡ v.Named n y → n ≡ m → carried y ≡ None → v.Named m (bare x) ≡ x
 named-alone x n m y is same none = ap (v.Named m) (sym (bare-under x n y is) ∙ bare-itself y none) ∙ ap (λ k. v.Named k y) (sym same) ∙ sym is
 
+-- ---- beneath the names
+
+-- what a name changes nothing of is that of the value beneath
+module _ {B : Type 0} (of : Value → B) (passes : (n : ℕ) (y : Value) → of y ≡ of (v.Named n y)) where
+  abbrev Alike : Value → Type 0
+  Alike x = of (bare x) ≡ of x
+
+  layer_alike : (y : Value-F ((x : Value) × Alike x)) → Alike (roll-Value (map-Value ((x : Value) × Alike x) Value (λ p. p.0) y))
+  layer_alike (Value-F.Named n p) = ap of (sym (bare-under _ n p.0 (v.rolls-Named n p.0))) ∙ p.1 ∙ passes n p.0 ∙ ap of (sym (v.rolls-Named n p.0))
+  layer_alike y = ap of (lone _ refl)
+
+  pub alike : (x : Value) → Alike x
+  alike = ind-Value Alike (λ x y is. subst (λ z. Alike (roll-Value z)) is (layer_alike y))
+
+abbrev IsBare : Value → Type 0
+IsBare x = carried (bare x) ≡ None
+
+layer_bare : (y : Value-F ((x : Value) × IsBare x)) → IsBare (roll-Value (map-Value ((x : Value) × IsBare x) Value (λ p. p.0) y))
+layer_bare (Value-F.Named n p) = ap carried (sym (bare-under _ n p.0 (v.rolls-Named n p.0))) ∙ p.1
+layer_bare y = ap carried (lone _ refl) ∙ ap carried_by (out-roll-Value _)
+
+pub is_bare : (x : Value) → carried (bare x) ≡ None
+is_bare = ind-Value IsBare (λ x y is. subst (λ z. IsBare (roll-Value z)) is (layer_bare y))
+
+pub carries : (x : Value) (n : ℕ) (y : Value) → x ≡ v.Named n y → carried x ≡ None → ⊥
+carries x n y is none = none-some n (sym none ∙ ap carried (is ∙ sym (v.rolls-Named n y)) ∙ ap carried_by (out-roll-Value (Value-F.Named n y)))
+
 -- ---- variant by variant
 
 module _ (x : Value) where
@@ -199,6 +226,29 @@ module _ (x : Value) where
   pub bare-Named : (n : ℕ) (y : Value) → x ≡ v.Named n y → out-Value (bare y) ≡ out-Value (bare x)
   unfolding bare
   bare-Named n y is = ap out-Value (bare-rolls (Value-F.Named n y) ∙ ap bare (v.rolls-Named n y ∙ sym is))
+
+pub seen-bare : (x : Value) → seen (bare x) ≡ seen x
+seen-bare = alike seen (λ n y. sees-Named (v.Named n y) n y refl)
+
+held-rolls : (y : Value-F Value) → holds_instance (roll-Value y) ≡ instance_layer (map-Value Value Bool holds_instance y)
+unfolding holds_instance
+held-rolls y = fold-roll-Value Bool instance_layer y
+
+held-bare : (x : Value) → holds_instance (bare x) ≡ holds_instance x
+held-bare = alike holds_instance (λ n y. sym (ap holds_instance (sym (v.rolls-Named n y)) ∙ held-rolls (Value-F.Named n y)))
+
+-- what a value is beneath its names, and what is seen of it
+pub record IsBeneath (x : Value) (y : Value-F Value) : Type 0 where
+  pub is : out-Value (bare x) ≡ y
+  pub sees : seen x ≡ (with_seen (map-Value Value (Value × Seen) sight y)).1
+  pub holds : holds_instance x ≡ instance_layer (map-Value Value Bool holds_instance y)
+
+pub beneath : (x z : Value) (y : Value-F Value) → z ≡ bare x → z ≡ roll-Value y → IsBeneath x y
+beneath x z y at rolled = record {
+  is = ap out-Value (sym at ∙ rolled) ∙ out-roll-Value y;
+  sees = sym (seen-bare x) ∙ ap seen (sym at ∙ rolled) ∙ sym (seen-rolls y);
+  holds = sym (held-bare x) ∙ ap holds_instance (sym at ∙ rolled) ∙ held-rolls y;
+}
 
 pub ruleset bares = (
   sees-Indet,

@@ -1,6 +1,6 @@
 //! Values without the names of defined types.
 
-ghost use Rattle.std.specs.Prelude.{◌≡◌, IfOk};
+ghost use Rattle.std.specs.Prelude.{◌≡◌, IfOk, None};
 ghost use Rattle.std.specs.Option.{option_copied, option_map};
 ghost use Rattle.rp_meaning.specs.Bare as spec;
 ghost use Rattle.rp_meaning.specs.Operators.{truth_in};
@@ -25,9 +25,26 @@ pub(crate) enum Bare<'v> {
     Aggregate(AggregateKind, &'v Elements<Value>),
 }
 
-/// What is beneath the names of a value.
+/// The value beneath the names of a value.
+#[inline]
+#[tactic(auto, using(crate::proofs::Sights::bare_values))]
+pub(crate) fn beneath(value: &Value) -> &Value
+    ensures { result.now ≡ spec.bare value.now }
+{
+    match value {
+        Value::Named {
+            defined_type: _,
+            value,
+        } => beneath(value.get()),
+        _ => value,
+    }
+}
+
+/// What a value without a name is.
+#[inline]
 #[tactic(auto, using(crate::proofs::Sights::bares))]
-pub(crate) fn beneath_names(value: &Value) -> Bare<'_>
+fn unnamed(value: &Value) -> Bare<'_>
+    requires { spec.carried value.now ≡ None }
     ensures value { opened result ≡ out-Value (spec.bare value.now) }
     ensures sight { seen_by result ≡ seen value.now }
 {
@@ -43,23 +60,25 @@ pub(crate) fn beneath_names(value: &Value) -> Bare<'_>
         Value::Agg { kind, elements } => Bare::Aggregate(*kind, elements),
         Value::Named {
             defined_type: _,
-            value,
-        } => beneath_names(value.get()),
+            value: _,
+        } => unreachable!(),
     }
 }
 
+/// What is beneath the names of a value.
+#[inline]
+pub(crate) fn beneath_names(value: &Value) -> Bare<'_>
+    ensures value { opened result ≡ out-Value (spec.bare value.now) }
+    ensures sight { seen_by result ≡ seen value.now }
+{
+    unnamed(beneath(value))
+}
+
 /// A value without the names that stand around it.
-#[tactic(auto, using(crate::proofs::Sights::bare_values))]
 pub(crate) fn without_names(value: &Value) -> Result<Value, AllocError>
     ensures { IfOk result (λ x. x ≡ spec.bare value.now) }
 {
-    match value {
-        Value::Named {
-            defined_type: _,
-            value,
-        } => without_names(value.get()),
-        _ => value.copy(),
-    }
+    beneath(value).copy()
 }
 
 /// The defined type that a value carries.
@@ -75,6 +94,7 @@ pub(crate) fn carried(value: &Value) -> Option<usize>
     }
 }
 
+#[inline]
 pub(crate) fn is_indeterminate(value: &Value) -> bool
     ensures { result ≡ spec.is_indeterminate value.now }
 {
@@ -85,6 +105,7 @@ pub(crate) fn is_indeterminate(value: &Value) -> bool
 }
 
 /// Of a value of INTEGER.
+#[inline]
 pub fn integer_of(value: &Value) -> Option<i64>
     ensures { result ≡ spec.integer_of value.now }
 {
@@ -95,6 +116,7 @@ pub fn integer_of(value: &Value) -> Option<i64>
 }
 
 /// Of a value of LOGICAL, and UNKNOWN of `?`.
+#[inline]
 pub(crate) fn truth_of(value: &Value) -> Option<Logical>
     ensures { result ≡ truth_in (seen value.now) }
 {
@@ -106,6 +128,7 @@ pub(crate) fn truth_of(value: &Value) -> Option<Logical>
 }
 
 /// Of a value of STRING.
+#[inline]
 pub fn text_of(value: &Value) -> Option<&Characters>
     ensures { option_copied result ≡ spec.text_of value.now }
 {
@@ -126,6 +149,7 @@ pub(crate) fn bits_of(value: &Value) -> Option<&Bits>
 }
 
 /// Where an instance stands in its population.
+#[inline]
 pub fn place_of(value: &Value) -> Option<u64>
     ensures { result ≡ spec.place_of value.now }
 {
@@ -136,6 +160,7 @@ pub fn place_of(value: &Value) -> Option<u64>
 }
 
 /// The kind and the elements of an aggregate.
+#[inline]
 pub fn aggregate_of(value: &Value) -> Option<(AggregateKind, &Elements<Value>)>
     ensures { option_map aggregate_behind result ≡ spec.aggregate_of value.now }
 {
@@ -146,6 +171,7 @@ pub fn aggregate_of(value: &Value) -> Option<(AggregateKind, &Elements<Value>)>
 }
 
 /// Whether a condition holds: for TRUE alone.
+#[inline]
 pub fn is_true(value: &Value) -> bool
     ensures { result ≡ spec.is_true value.now }
 {

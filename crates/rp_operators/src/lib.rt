@@ -4,6 +4,7 @@
 mod bare;
 mod built_ins;
 mod costs;
+mod decimals;
 mod declared;
 mod ends;
 mod naming;
@@ -11,6 +12,7 @@ mod numbers;
 mod operators;
 mod qualifiers;
 mod relations;
+mod scalars;
 
 pub use bare::{aggregate_of, integer_of, is_true, place_of, text_of};
 pub use built_ins::{

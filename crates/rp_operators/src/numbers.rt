@@ -38,50 +38,43 @@ pub(crate) fn natural(count: usize) -> Value
     integer(count as i128)
 }
 
-pub(crate) fn plus(x: &Value, y: &Value) -> Value
-    ensures { result ≡ spec.on_integers (λ a b. spec.integer (a +ℤ b)) x.now y.now }
+pub(crate) fn plus(x: i64, y: i64) -> Value
+    ensures { result ≡ spec.integer (x +ℤ y) }
 {
-    match (integer_of(x), integer_of(y)) {
-        (Some(x), Some(y)) => checked(x.checked_add(y)),
-        _ => Value::Indet,
-    }
+    checked(x.checked_add(y))
 }
 
-pub(crate) fn minus(x: &Value, y: &Value) -> Value
-    ensures { result ≡ spec.on_integers (λ a b. spec.integer (a -ℤ b)) x.now y.now }
+pub(crate) fn minus(x: i64, y: i64) -> Value
+    ensures { result ≡ spec.integer (x -ℤ y) }
 {
-    match (integer_of(x), integer_of(y)) {
-        (Some(x), Some(y)) => checked(x.checked_sub(y)),
-        _ => Value::Indet,
-    }
+    checked(x.checked_sub(y))
 }
 
-pub(crate) fn times(x: &Value, y: &Value) -> Value
-    ensures { result ≡ spec.on_integers (λ a b. spec.integer (a *ℤ b)) x.now y.now }
+pub(crate) fn times(x: i64, y: i64) -> Value
+    ensures { result ≡ spec.integer (x *ℤ y) }
 {
-    match (integer_of(x), integer_of(y)) {
-        (Some(x), Some(y)) => checked(x.checked_mul(y)),
-        _ => Value::Indet,
-    }
+    checked(x.checked_mul(y))
 }
 
 /// `DIV`
-pub(crate) fn quotient(x: &Value, y: &Value) -> Value
-    ensures { result ≡ spec.on_integers (spec.of_natural int_div) x.now y.now }
+pub(crate) fn quotient(x: i64, y: i64) -> Value
+    ensures { result ≡ spec.of_natural int_div x y }
 {
-    match (integer_of(x), integer_of(y)) {
-        (Some(x), Some(y)) if 0 <= x && 0 < y => integer(i128::from(x / y)),
-        _ => Value::Indet,
+    if 0 <= x && 0 < y {
+        integer(i128::from(x / y))
+    } else {
+        Value::Indet
     }
 }
 
 /// `MOD`
-pub(crate) fn rest(x: &Value, y: &Value) -> Value
-    ensures { result ≡ spec.on_integers (spec.of_natural int_rem) x.now y.now }
+pub(crate) fn rest(x: i64, y: i64) -> Value
+    ensures { result ≡ spec.of_natural int_rem x y }
 {
-    match (integer_of(x), integer_of(y)) {
-        (Some(x), Some(y)) if 0 <= x && 0 < y => integer(i128::from(x % y)),
-        _ => Value::Indet,
+    if 0 <= x && 0 < y {
+        integer(i128::from(x % y))
+    } else {
+        Value::Indet
     }
 }
 
@@ -107,12 +100,13 @@ fn raised(number: i64, exponent: u64) -> Value
 
 /// `**`
 #[tactic(auto, using(crate::proofs::Powers::power_by_size))]
-pub(crate) fn power(x: &Value, y: &Value) -> Value
-    ensures { result ≡ spec.on_integers spec.power x.now y.now }
+pub(crate) fn power(x: i64, y: i64) -> Value
+    ensures { result ≡ spec.power x y }
 {
-    match (integer_of(x), integer_of(y)) {
-        (Some(x), Some(y)) if 0 <= y => raised(x, y.unsigned_abs()),
-        _ => Value::Indet,
+    if 0 <= y {
+        raised(x, y.unsigned_abs())
+    } else {
+        Value::Indet
     }
 }
 

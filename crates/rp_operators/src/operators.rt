@@ -1,29 +1,22 @@
 //! Operators.
 
-ghost use Rattle.std.specs.Prelude.{◌≡◌, ◌++◌, IfOk};
+ghost use Rattle.std.specs.Prelude.{◌≡◌, ◌++◌, IfOk, int_div, int_rem};
 ghost use Rattle.ex_tree.specs.declared.expression.UnaryOperator.TheVariants as n;
 ghost use Rattle.rp_meaning.specs.Operators as spec;
 ghost use Rattle.rp_numbers.specs.Logical as logical;
 ghost use Rattle.rp_operators.specs.Sights.{seen_by};
 ghost use Rattle.rp_value.specs.declared.value.Value.TheVariants as v;
 
-use crate::bare::{Bare, beneath_names, truth_of};
+use crate::bare::{Bare, beneath, beneath_names, integer_of, truth_of};
+use crate::decimals::{compare_decimals, compare_whole, compare_with_whole};
 use crate::numbers::{minus, negated, plain, plus, power, quotient, rest, times};
 use crate::relations::{at_least, at_most, equal, greater, less, unequal};
+use crate::scalars::{by_order, joined_texts, of_integers, of_texts, of_truths};
 use ex_tree::{BinaryOperator, IntervalOperator, UnaryOperator};
-use plain_data::{Items, Text};
+use plain_data::Items;
 use rp_operations::{aggregate_union, intersect, is_in, minus as less_elements, same};
-use rp_value::{Bits, Characters, Value};
+use rp_value::{Bits, Value};
 use std::alloc::{AllocError, Global};
-
-/// One text behind the other.
-fn joined_texts(alloc: Global, s: &Characters, t: &Characters) -> Result<Value, AllocError>
-    ensures { IfOk result (λ a. a ≡ v.Str (s.now ++ t.now)) }
-{
-    let mut text = String::from_str(alloc, s.as_str())?;
-    text.push_str(t.as_str())?;
-    Value::text(alloc, Text::new(text))
-}
 
 /// The bits of the one behind those of the other.
 fn joined_bits(alloc: Global, s: &Bits, t: &Bits) -> Result<Value, AllocError>
@@ -42,7 +35,8 @@ fn sum(alloc: Global, x: &Value, y: &Value) -> Result<Value, AllocError>
         (Bare::Text(s), Bare::Text(t)) => joined_texts(alloc, s, t),
         (Bare::Bits(s), Bare::Bits(t)) => joined_bits(alloc, s, t),
         (Bare::Aggregate(_, _), _) | (_, Bare::Aggregate(_, _)) => aggregate_union(alloc, x, y),
-        _ => Ok(plus(x, y)),
+        (Bare::Integer(m), Bare::Integer(n)) => Ok(plus(m, n)),
+        _ => Ok(Value::Indet),
     }
 }
 
@@ -52,7 +46,8 @@ fn product(alloc: Global, x: &Value, y: &Value) -> Result<Value, AllocError>
 {
     match (beneath_names(x), beneath_names(y)) {
         (Bare::Aggregate(_, _), Bare::Aggregate(_, _)) => intersect(alloc, x, y),
-        _ => Ok(times(x, y)),
+        (Bare::Integer(m), Bare::Integer(n)) => Ok(times(m, n)),
+        _ => Ok(Value::Indet),
     }
 }
 
@@ -60,9 +55,40 @@ fn product(alloc: Global, x: &Value, y: &Value) -> Result<Value, AllocError>
 fn remainder(alloc: Global, x: &Value, y: &Value) -> Result<Value, AllocError>
     ensures { IfOk result (λ a. a ≡ spec.remainder x.now y.now) }
 {
-    match beneath_names(x) {
-        Bare::Aggregate(_, _) => less_elements(alloc, x, y),
-        _ => Ok(minus(x, y)),
+    match (beneath_names(x), beneath_names(y)) {
+        (Bare::Aggregate(_, _), _) => less_elements(alloc, x, y),
+        (Bare::Integer(m), Bare::Integer(n)) => Ok(minus(m, n)),
+        _ => Ok(Value::Indet),
+    }
+}
+
+/// `**`
+fn power_of(x: &Value, y: &Value) -> Value
+    ensures { result ≡ spec.on_integers spec.power x.now y.now }
+{
+    match (integer_of(x), integer_of(y)) {
+        (Some(m), Some(n)) => power(m, n),
+        _ => Value::Indet,
+    }
+}
+
+/// `DIV`
+fn quotient_of(x: &Value, y: &Value) -> Value
+    ensures { result ≡ spec.on_integers (spec.of_natural int_div) x.now y.now }
+{
+    match (integer_of(x), integer_of(y)) {
+        (Some(m), Some(n)) => quotient(m, n),
+        _ => Value::Indet,
+    }
+}
+
+/// `MOD`
+fn rest_of(x: &Value, y: &Value) -> Value
+    ensures { result ≡ spec.on_integers (spec.of_natural int_rem) x.now y.now }
+{
+    match (integer_of(x), integer_of(y)) {
+        (Some(m), Some(n)) => rest(m, n),
+        _ => Value::Indet,
     }
 }
 
@@ -102,8 +128,8 @@ fn negation(x: &Value) -> Value
     }
 }
 
-/// What a binary operator gives of two values.
-pub fn applied(
+/// What a binary operator gives of two values, whatever they are.
+fn applied_to_any(
     alloc: Global,
     operator: BinaryOperator,
     x: &Value,
@@ -112,11 +138,11 @@ pub fn applied(
     ensures { IfOk result (λ a. a ≡ spec.applied operator x.now y.now) }
 {
     Ok(match operator {
-        BinaryOperator::Power => power(x, y),
+        BinaryOperator::Power => power_of(x, y),
         BinaryOperator::Multiply => return product(alloc, x, y),
         BinaryOperator::Divide => Value::Indet,
-        BinaryOperator::Div => quotient(x, y),
-        BinaryOperator::Mod => rest(x, y),
+        BinaryOperator::Div => quotient_of(x, y),
+        BinaryOperator::Mod => rest_of(x, y),
         BinaryOperator::And => conjunction(x, y),
         BinaryOperator::Add => return sum(alloc, x, y),
         BinaryOperator::Subtract => return remainder(alloc, x, y),
@@ -132,6 +158,26 @@ pub fn applied(
         BinaryOperator::InstanceEqual => Value::Log(same(x, y)),
         BinaryOperator::In => is_in(x, y),
     })
+}
+
+/// What a binary operator gives of two values. What is asked most stands first.
+pub fn applied(
+    alloc: Global,
+    operator: BinaryOperator,
+    x: &Value,
+    y: &Value,
+) -> Result<Value, AllocError>
+    ensures { IfOk result (λ a. a ≡ spec.applied operator x.now y.now) }
+{
+    match (beneath(x), beneath(y)) {
+        (Value::Int(m), Value::Int(n)) => Ok(of_integers(operator, *m, *n)),
+        (Value::Log(m), Value::Log(n)) => Ok(of_truths(operator, *m, *n)),
+        (Value::Dec(m), Value::Dec(n)) => Ok(by_order(operator, compare_decimals(m, n))),
+        (Value::Int(m), Value::Dec(n)) => Ok(by_order(operator, compare_whole(*m, n))),
+        (Value::Dec(m), Value::Int(n)) => Ok(by_order(operator, compare_with_whole(m, *n))),
+        (Value::Str(s), Value::Str(t)) => of_texts(alloc, operator, s, t),
+        _ => applied_to_any(alloc, operator, x, y),
+    }
 }
 
 /// What a sign or NOT gives of a value.

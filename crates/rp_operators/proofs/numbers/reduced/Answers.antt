@@ -1,4 +1,4 @@
-use Rattle.std.proofs.Common.{sym, arith}
+use Rattle.std.proofs.Common.{arith}
 use Rattle.rp_operators.proofs.Powers.{reduces}
 use Rattle.rp_operators.proofs.numbers.reduced.Goals as goal
 

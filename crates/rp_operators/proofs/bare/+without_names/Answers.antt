@@ -1,5 +1,0 @@
-use Rattle.rp_operators.proofs.Sights.{bare-unnamed}
-use Rattle.rp_operators.proofs.bare.+without_names.Goals as goal
-
-pub returns-in_default : goal.returns-in_default
-returns-in_default t c = rw (bare-unnamed c.args.value.now c.in_default.not-Named) c.copy.ensures

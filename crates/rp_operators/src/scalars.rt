@@ -1,0 +1,85 @@
+//! What operators give of two values of one kind that are no aggregates.
+
+ghost use Rattle.std.specs.Prelude.{◌≡◌, ◌++◌, IfOk};
+ghost use Rattle.rp_operators.specs.Scalars as spec;
+ghost use Rattle.rp_value.specs.declared.value.Value.TheVariants as v;
+
+use crate::numbers::{minus, plus, power, quotient, rest, times};
+use ex_tree::BinaryOperator;
+use plain_data::Text;
+use rp_value::{Characters, Logical, Value};
+use std::alloc::{AllocError, Global};
+use std::cmp::Ordering;
+
+/// What a relation says of two that stand in this order; `?` for what is no relation, as between decimals, with which no
+/// arithmetic is done.
+#[inline]
+pub(crate) fn by_order(operator: BinaryOperator, ordering: Ordering) -> Value
+    ensures { result ≡ spec.by_order operator ordering }
+{
+    let holds = match operator {
+        BinaryOperator::Less => ordering.is_lt(),
+        BinaryOperator::Greater => ordering.is_gt(),
+        BinaryOperator::LessEqual => ordering.is_le(),
+        BinaryOperator::GreaterEqual => ordering.is_ge(),
+        BinaryOperator::Equal | BinaryOperator::InstanceEqual => ordering.is_eq(),
+        BinaryOperator::NotEqual | BinaryOperator::InstanceNotEqual => ordering.is_ne(),
+        _ => return Value::Indet,
+    };
+    Value::Log(Logical::of(holds))
+}
+
+/// Of two whole numbers.
+pub(crate) fn of_integers(operator: BinaryOperator, x: i64, y: i64) -> Value
+    ensures { result ≡ spec.of_integers operator x y }
+{
+    match operator {
+        BinaryOperator::Power => power(x, y),
+        BinaryOperator::Multiply => times(x, y),
+        BinaryOperator::Div => quotient(x, y),
+        BinaryOperator::Mod => rest(x, y),
+        BinaryOperator::Add => plus(x, y),
+        BinaryOperator::Subtract => minus(x, y),
+        _ => by_order(operator, x.cmp(&y)),
+    }
+}
+
+/// Of two values of LOGICAL.
+pub(crate) fn of_truths(operator: BinaryOperator, x: Logical, y: Logical) -> Value
+    ensures { result ≡ spec.of_truths operator x y }
+{
+    match operator {
+        BinaryOperator::And => Value::Log(x.and(y)),
+        BinaryOperator::Or => Value::Log(x.or(y)),
+        BinaryOperator::Xor => Value::Log(x.xor(y)),
+        _ => by_order(operator, x.cmp(y)),
+    }
+}
+
+/// One text behind the other.
+pub(crate) fn joined_texts(
+    alloc: Global,
+    s: &Characters,
+    t: &Characters,
+) -> Result<Value, AllocError>
+    ensures { IfOk result (λ a. a ≡ v.Str (s.now ++ t.now)) }
+{
+    let mut text = String::from_str(alloc, s.as_str())?;
+    text.push_str(t.as_str())?;
+    Value::text(alloc, Text::new(text))
+}
+
+/// Of two texts.
+pub(crate) fn of_texts(
+    alloc: Global,
+    operator: BinaryOperator,
+    s: &Characters,
+    t: &Characters,
+) -> Result<Value, AllocError>
+    ensures { IfOk result (λ a. a ≡ spec.of_texts operator s.now t.now) }
+{
+    match operator {
+        BinaryOperator::Add => joined_texts(alloc, s, t),
+        _ => Ok(by_order(operator, s.as_bytes().cmp(t.as_bytes()))),
+    }
+}
