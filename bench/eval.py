@@ -6,9 +6,9 @@
 PROGRAM is that of the trial, crates/rule_trial/out/rule_trial where it is left out. The first table has a rule's clause for each
 sort of expression, over 100,000 instances: millions of steps in a second of a processor, the best of three runs and the middle
 one. Each run evaluates it so often that this takes some seconds, and what loading takes, with the limit of that run 0, is taken
-off. The second has what the process holds after 1,000 evaluations and after 1,000,000, less the lines that it writes. The third has
-the domain of 200,000 instances like those of a CAD exporter: the seconds of a processor that it takes, by runs with a limit and
-without one, and the bytes that it holds, against those of the content.
+off. The second has what the process holds after 1,000 evaluations and after 1,000,000, and what it holds after as many of a
+literal. The third has the domain of 200,000 instances like those of a CAD exporter: the seconds of a processor that it takes, by
+runs with a limit and without one, and the bytes that it holds, against those of the content.
 
 All values and steps are compared with what they must be.
 """
@@ -140,18 +140,23 @@ CLAUSE = ("SIZEOF(QUERY(z <* l | z + d > five)) + SIZEOF(USEDIN(p, 'S.E.P')) + L
           "+ g(f(b)) + SIZEOF(TYPEOF(SELF) * ['S.E']) > 0")
 
 
+def held_by(folder, clause, times):
+    """The most bytes that are held by so many evaluations of a clause that is TRUE for each of the instances, less the lines."""
+    folder.write("schema.exp", DECLARATIONS.format(f"WHERE w : {clause};", ""))
+    memory, written = folder.memory_of(words(*[LIMIT] * times))
+    lines = written.splitlines()
+    compare(b"%d" % sum(b" TRUE " in line for line in lines), b"%d" % (times * EVALUATED))
+    return memory - len(written)
+
+
 def measure_memory(folder):
-    """What is held beside the lines that a run writes at its end: with the first so many evaluations, and with a thousand times as
-    many."""
-    table = Table({"evaluations": "12,", "held": "12,", "lines": "12,", "held beside": "12,"})
-    folder.write("schema.exp", DECLARATIONS.format(f"WHERE w : {CLAUSE};", ""))
+    """What is held beside the lines that a run writes at its end, with the first so many evaluations, and with a thousand times as
+    many. What came of each evaluation is held too: it is the same of a clause that is a literal."""
+    table = Table({"evaluations": "12,", "held": "12,", "of a literal": "12,", "beside that": "12,"})
     folder.write("file.step", instances(EVALUATED, EVALUATED))
     for times in (1, 1_000):
-        memory, written = folder.memory_of(words(*[LIMIT] * times))
-        lines = written.splitlines()
-        compare(b"\n".join(line for line in lines if b" TRUE " not in line), b"")
-        compare(b"%d" % len(lines), b"%d" % (times * EVALUATED))
-        table.row(times * EVALUATED, memory, len(written), memory - len(written))
+        memory, literal = held_by(folder, CLAUSE, times), held_by(folder, "TRUE", times)
+        table.row(times * EVALUATED, memory, literal, memory - literal)
 
 
 # ---- the domain

@@ -1,13 +1,11 @@
 -- Who uses whom, turn by turn.
-use Rattle.std.proofs.Common.{◌≡◌, ℕ, zero, suc, slice_get, append_assoc, ◌+◌, ◌<◌, ◌≤◌, ◌||◌, IsFalse, nat_lt, Bool, true, false, List, [], ◌∷◌, ◌++◌, map, length, drop, drop-cons, add-one, if◌then◌else◌, get_or, refl, sym, ◌∙◌, ap, arith}
+use Rattle.std.proofs.Common.{◌≡◌, ℕ, zero, suc, slice_get, ◌+◌, ◌<◌, ◌≤◌, nat_lt, Bool, true, false, List, [], ◌∷◌, ◌++◌, map, length, drop, drop-cons, add-one, if◌then◌else◌, get_or, refl, sym, ◌∙◌, ap, arith}
 use Rattle.std.proofs.lemmas.List.{map-append}
-use Rattle.std.proofs.lemmas.Simd.{map-map}
 use Rattle.std.proofs.lemmas.List.Concat.{flat_map-append}
 use Rattle.std.proofs.lemmas.List.Folds.{flat_map-map}
 use Rattle.std.proofs.lemmas.Bool.Decides.{nat_tests}
 use Rattle.std.specs.List.{flat_map, zip}
 use Rattle.std.specs.Option.{option_to_list}
-use Rattle.ex_named.specs.declared.reference.AttributePlace.{AttributePlace}
 use Rattle.rp_value.specs.Elements.{Elements}
 use Rattle.rp_value.specs.declared.value.AggregateKind.{AggregateKind}
 use Rattle.rp_value.specs.declared.value.Value.{Value}
@@ -19,8 +17,7 @@ use Rattle.rp_meaning.specs.Populations.{Instance, instances}
 use Rattle.rp_meaning.specs.Uses.{User, Use, references, referred, uses_of, uses_from, uses_at, users, places_among}
 use Rattle.rp_domain.specs.declared.combination.AttributeOf.{AttributeOf}
 use Rattle.rp_domain.specs.Combinations.{used_of}
-use Rattle.rp_domain.specs.Rows.{put_all, used_by, uses_by, uses_in, read_all, read_value}
-use Rattle.rp_meaning.specs.declared.schema.Schema.{Schema}
+use Rattle.rp_domain.specs.Rows.{put_all, used_by, uses_by, uses_in}
 use Rattle.rp_domain.proofs.Put.{put_all-append}
 
 pub references-elements : (x : Value) (kind : AggregateKind) (elements : Elements Value) → x ≡ v.Agg kind elements → references x ≡ flat_map references elements.items
@@ -77,17 +74,6 @@ attributes_step rows place xs ys i x h is =
     ∙ ap (λ us. put_all rows (us ++ uses_in place others)) (flat_map-map (λ (a : AttributeOf × Value). uses_by place a.0 a.1) (λ y. (x, y)) here)
     ∙ put_all-append rows (flat_map (λ y. uses_by place x y) here) (uses_in place others)
 
-pub reads_step : (schema : Schema) (count : ℕ) (found : List Value) (xs : List AttributePlace) (ys : List Value) (i : ℕ) (x : AttributePlace) → i < length xs → x ≡ get_or xs i x
-    → found ++ read_all schema count (zip (drop i xs) (drop i ys))
-    ≡ (found ++ map (λ y. read_value schema count x y) (option_to_list (slice_get ys i))) ++ read_all schema count (zip (drop (i + 1) xs) (drop (i + 1) ys))
-reads_step schema count found xs ys i x h is =
-    let here = option_to_list (slice_get ys i) in
-    let others = zip (drop (i + 1) xs) (drop (i + 1) ys) in
-    ap (λ zs. found ++ read_all schema count zs) (zip_step xs ys i x h is)
-    ∙ ap (λ zs. found ++ zs) (map-append (λ a. read_value schema count a.0 a.1) (map (λ y. (x, y)) here) others)
-    ∙ ap (λ zs. found ++ (zs ++ read_all schema count others)) (map-map (λ (a : AttributePlace × Value). read_value schema count a.0 a.1) (λ y. (x, y)) here)
-    ∙ sym (append_assoc found (map (λ y. read_value schema count x y) here) (read_all schema count others))
-
 -- ---- the users of a place
 
 pub users_at : (role : Role) (place : ℕ) (population : List Instance) → place < length population → users population role place ≡ instances (places_among role (uses_at place (uses_from 0 population)))
@@ -95,24 +81,3 @@ users_at role place population h = let is : nat_lt place (length population) ≡
 
 pub no_users : (role : Role) (place : ℕ) (population : List Instance) → length population ≤ place → users population role place ≡ []
 no_users role place population h = let is : nat_lt place (length population) ≡ false = grind (arith, nat_tests, h) in ap (λ (t : Bool). instances (if t then places_among role (uses_at place (uses_from 0 population)) else [])) is
-
--- ---- where values are read as they are written
-
-abbrev pub seconds : List (AttributePlace × Value) → List Value
-seconds = map (λ (p : AttributePlace × Value). p.1)
-
-seconds-zip : (xs : List AttributePlace) (ys : List Value) (i : ℕ) → i < length xs → seconds (zip (drop i xs) (drop i ys)) ≡ option_to_list (slice_get ys i) ++ seconds (zip (drop (suc i) xs) (drop (suc i) ys))
-seconds-zip [] ys i h = absurd (omega (arith, h))
-seconds-zip (x ∷ xs) [] zero h = sym (ap seconds (zip-none {A = AttributePlace} {B = Value} xs))
-seconds-zip (x ∷ xs) [] (suc i) h = ap seconds (zip-none {A = AttributePlace} {B = Value} (drop i xs)) ∙ sym (ap seconds (zip-none {A = AttributePlace} {B = Value} (drop (suc i) xs)))
-seconds-zip (x ∷ xs) (y ∷ ys) zero h = refl
-seconds-zip (x ∷ xs) (y ∷ ys) (suc i) h = seconds-zip xs ys i (omega (arith, h))
-
-pub writes_step : (found : List Value) (xs : List AttributePlace) (ys : List Value) (i : ℕ) → i < length xs
-    → found ++ seconds (zip (drop i xs) (drop i ys)) ≡ (found ++ option_to_list (slice_get ys i)) ++ seconds (zip (drop (i + 1) xs) (drop (i + 1) ys))
-writes_step found xs ys i h =
-    rw (add-one) (ap (λ zs. found ++ zs) (seconds-zip xs ys i h) ∙ sym (append_assoc found (option_to_list (slice_get ys i)) (seconds (zip (drop (suc i) xs) (drop (suc i) ys)))))
-
-pub neither : (a b : Bool) → IsFalse (a || b) → IsFalse a × IsFalse b
-neither true b h = (h, cc)
-neither false b h = (refl, h)

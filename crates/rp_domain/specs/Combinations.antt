@@ -1,11 +1,11 @@
 -- What instances of the same entities share, and their values.
-use Rattle.std.specs.Prelude.{◌≡◌, ℕ, Bool, List, [], ◌∷◌, map, Option, if◌then◌else◌, slice_get, slice_set, IfSome}
-use Rattle.std.specs.Option.{unwrap_or}
+use Rattle.std.specs.Prelude.{◌≡◌, ℕ, Bool, List, [], ◌∷◌, map, Option, Some, None, if◌then◌else◌, slice_get, slice_set, IfSome}
 use Rattle.ex_named.specs.declared.reference.AttributePlace.{AttributePlace}
 use Rattle.rp_value.specs.declared.value.Value.{Value}
 use Rattle.rp_value.specs.declared.value.Value.TheVariants as v
 use Rattle.rp_meaning.specs.declared.schema.Schema.{Schema}
-use Rattle.rp_meaning.specs.Populations.{Stored, stored}
+use Rattle.rp_meaning.specs.declared.domain.ReadValue.{ReadValue}
+use Rattle.rp_meaning.specs.Populations.{Stored, as_read, stored}
 use Rattle.rp_meaning.specs.Reading.{attributes, is_derived}
 use Rattle.rp_domain.specs.declared.combination.AttributeOf.{AttributeOf}
 use Rattle.rp_domain.specs.declared.combination.Combination.{Combination}
@@ -39,12 +39,14 @@ without_derived (d ∷ ds) (x ∷ xs) = (if d then v.Indet else x) ∷ without_d
 abbrev pub without_one : Bool → List Value → ℕ → List Value
 without_one derived xs at = if derived then slice_set xs at v.Indet else xs
 
--- attributes with their values, which are read as they are written unless others are said
-abbrev pub values_of : List AttributePlace → List Value → Option (List Value) → List Stored
-values_of attributes written read = stored attributes written (unwrap_or read written)
+-- attributes with their values, of which some are read otherwise than they are written
+abbrev pub values_of : List AttributePlace → List Value → List ReadValue → List Stored
+values_of attributes written differing = stored attributes written (as_read differing written)
 
-abbrev pub written_of : Stored → AttributePlace × Value
-written_of x = (x.attribute, x.written)
+-- what is read in place of the value at a place, if that is another one
+abbrev pub differing_at : ℕ → Option Value → List ReadValue
+differing_at place None = []
+differing_at place (Some x) = record { place = place; value = x } ∷ []
 
 abbrev pub used_of : List ℕ → Stored → AttributeOf × Value
 used_of entities x = (attribute_of entities x.attribute, x.written)

@@ -1,6 +1,7 @@
 -- Things put into rows by a number, who uses whom by attributes with their values, and these as they are read.
-use Rattle.std.specs.Prelude.{ℕ, ◌==◌, List, [], ◌∷◌, ◌++◌, map, filter, slice_set, slice_index_or}
+use Rattle.std.specs.Prelude.{◌≡◌, ℕ, ◌==◌, List, [], ◌∷◌, ◌++◌, map, filter, Option, slice_get, slice_set, slice_index_or}
 use Rattle.std.specs.List.{flat_map}
+use Rattle.std.specs.Option.{option_map, unwrap_or}
 use Rattle.ex_named.specs.declared.reference.AttributePlace.{AttributePlace}
 use Rattle.rp_value.specs.declared.value.Value.{Value}
 use Rattle.rp_meaning.specs.declared.schema.Schema.{Schema}
@@ -51,3 +52,7 @@ read_value schema count attribute x = read_as schema count attribute x
 -- attributes' values as they are read
 abbrev pub read_all : Schema → ℕ → List (AttributePlace × Value) → List Value
 read_all schema count attributes = map (λ a. read_value schema count a.0 a.1) attributes
+
+-- what is read in place of the value at a place, which is an attribute's; none where it is read as it is written
+abbrev pub IsReadAt : Schema → ℕ → AttributePlace → List Value → ℕ → Option Value → Type 0
+IsReadAt schema count attribute written at other = option_map (read_value schema count attribute) (slice_get written at) ≡ option_map (unwrap_or other) (slice_get written at)

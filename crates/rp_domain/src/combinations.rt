@@ -3,8 +3,9 @@
 ghost use Rattle.std.specs.Prelude.{◌≡◌, IsTrue};
 
 use crate::combination::{Combination, shared_by};
+use crate::others::are_same_others;
 use plain_data::Items;
-use rp_meaning::Schema;
+use rp_meaning::{ReadValue, Schema};
 use shared::Shared;
 use std::alloc::{AllocError, Global};
 use std::collections::BTreeMap;
@@ -18,6 +19,8 @@ pub(crate) struct Combinations<'s> {
     places: BTreeMap<Vec<usize>, usize>,
     /// Of the instance before.
     last: usize,
+    // By their places, what is read in the last of the instances that share it. Nothing is proved of this either.
+    others: Vec<Shared<Items<ReadValue>>>,
 }
 
 impl<'s> Drop for Combinations<'s> {
@@ -27,9 +30,11 @@ impl<'s> Drop for Combinations<'s> {
             found,
             places,
             last: _,
+            others,
         } = self;
         drop(found);
         drop(places);
+        drop(others);
     }
 }
 
@@ -67,6 +72,7 @@ impl<'s> Combinations<'s> {
             found: Vec::new(alloc),
             places: BTreeMap::new(alloc),
             last: 0,
+            others: Vec::new(alloc),
         }
     }
 
@@ -121,5 +127,52 @@ impl<'s> Combinations<'s> {
             return found.share();
         }
         self.find(alloc, entities)
+    }
+
+    /// What is read in the last instance of the same entities.
+    pub(crate) fn others(&self) -> &[ReadValue] {
+        match self.others.get(self.last) {
+            Some(others) => others.get().as_slice(),
+            None => &[],
+        }
+    }
+
+    /// What was found to be read in an instance, which it shares with the last one of the same entities where the same is read in
+    /// that.
+    pub(crate) fn shared(
+        &mut self,
+        alloc: Global,
+        found: &mut Vec<ReadValue>,
+    ) -> Result<Shared<Items<ReadValue>>, AllocError>
+        ensures same { self.new ≡ self.old }
+        ensures shared { IfOk result (λ s. s ≡ found.old.items) }
+    {
+        match self.others.get(self.last) {
+            Some(others) if are_same_others(others.get().as_slice(), found.as_slice()) => {
+                others.share()
+            }
+            _ => self.keep(alloc, found),
+        }
+    }
+
+    /// Keeps what was found to be read in an instance.
+    fn keep(
+        &mut self,
+        alloc: Global,
+        found: &mut Vec<ReadValue>,
+    ) -> Result<Shared<Items<ReadValue>>, AllocError>
+        ensures same { self.new ≡ self.old }
+        ensures shared { IfOk result (λ s. s ≡ found.old.items) }
+    {
+        let mut items = Vec::with_capacity(alloc, found.len())?;
+        items.append(found)?;
+        let found = Shared::new(alloc, Items::from_vec(items))?;
+        let kept = found.share()?;
+        if self.last < self.others.len() {
+            self.others[self.last] = kept;
+        } else {
+            self.others.push(kept)?;
+        }
+        Ok(found)
     }
 }

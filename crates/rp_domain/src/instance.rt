@@ -1,11 +1,11 @@
 //! An instance of a population.
 
 ghost use Rattle.std.specs.Prelude.{◌≡◌, slice_get};
-ghost use Rattle.std.specs.Option.{option_copied, unwrap_or};
+ghost use Rattle.std.specs.Option.{option_copied};
 
 use crate::combination::{AttributeOf, Combination};
 use plain_data::Items;
-use rp_meaning::Seen;
+use rp_meaning::{ReadValue, Seen};
 use rp_value::Value;
 use shared::Shared;
 use std::marker::Model;
@@ -18,11 +18,12 @@ pub struct WrittenInstance {
     pub values: Items<Value>,
 }
 
-/// An instance with its values as they are written, and as they are read where these are others.
+/// An instance with its values as they are written, and with those that are read in place of some of them.
 pub(crate) struct KeptInstance {
     combination: Shared<Combination>,
     written: Items<Value>,
-    read: Option<Items<Value>>,
+    // Instances in which the same is read share one list.
+    differing: Shared<Items<ReadValue>>,
 }
 
 impl Drop for KeptInstance {
@@ -30,11 +31,11 @@ impl Drop for KeptInstance {
         let KeptInstance {
             combination,
             written,
-            read,
+            differing,
         } = self;
         drop(combination);
         drop(written);
-        drop(read);
+        drop(differing);
     }
 }
 
@@ -50,25 +51,15 @@ impl Model for KeptInstance {
 
     ghost coded = { Prim.hlevel (codes, value.the_row.coded) };
 
-    ghost view = { λ i. record { entities = i.combination.entities; values = values_of i.combination.attributes i.written i.read } };
+    ghost view = { λ i. record { entities = i.combination.entities; values = values_of i.combination.attributes i.written i.differing } };
 
-    ghost invariant = { λ i. zip i.combination.uses i.written ≡ map (used_of i.combination.entities) (values_of i.combination.attributes i.written i.read) };
+    ghost invariant = { λ i. zip i.combination.uses i.written ≡ map (used_of i.combination.entities) (values_of i.combination.attributes i.written i.differing) };
 }
 
 pub(crate) fn value_at(values: &[Value], at: usize) -> Option<&Value>
     ensures { option_copied result ≡ slice_get values.now at }
 {
     values.get(at)
-}
-
-/// The values as they are read.
-fn read_by<'v>(written: &'v Items<Value>, read: &'v Option<Items<Value>>) -> &'v [Value]
-    ensures { result.now ≡ unwrap_or read.now written.now }
-{
-    match read {
-        None => written.as_slice(),
-        Some(read) => read.as_slice(),
-    }
 }
 
 impl KeptInstance {
@@ -80,15 +71,15 @@ impl KeptInstance {
     pub(crate) fn new(
         combination: Shared<Combination>,
         written: Items<Value>,
-        read: Option<Items<Value>>,
+        differing: Shared<Items<ReadValue>>,
     ) -> KeptInstance
-        requires { zip combination.uses written ≡ map (used_of combination.entities) (values_of combination.attributes written read) }
-        ensures { result ≡ (record { entities = combination.entities; values = values_of combination.attributes written read }) }
+        requires { zip combination.uses written ≡ map (used_of combination.entities) (values_of combination.attributes written differing) }
+        ensures { result ≡ (record { entities = combination.entities; values = values_of combination.attributes written differing }) }
     {
         KeptInstance {
             combination,
             written,
-            read,
+            differing,
         }
     }
 
@@ -100,7 +91,7 @@ impl KeptInstance {
             entities: combination.entities.get().as_slice(),
             attributes: combination.attributes.as_slice(),
             written: self.written.as_slice(),
-            read: read_by(&self.written, &self.read),
+            differing: self.differing.get().as_slice(),
         }
     }
 

@@ -7,6 +7,7 @@ mod combinations;
 mod domain;
 mod extents;
 mod instance;
+mod others;
 mod read;
 mod references;
 mod room;

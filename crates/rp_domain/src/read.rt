@@ -1,23 +1,24 @@
 //! Instances as they are kept, with their values as they are read.
 
-ghost use Rattle.std.specs.Prelude.{◌≡◌, ◌||◌, [], ◌∷◌, IfOk, IsFalse, ◌++◌, map, length, slice_get};
+ghost use Rattle.std.specs.Prelude.{◌≡◌, IfOk, OnOk, map, length};
 ghost use Rattle.std.specs.List.{zip};
-ghost use Rattle.std.specs.Option.{option_to_list, unwrap_or};
+ghost use Rattle.std.specs.Option.{unwrap_or};
 ghost use Rattle.rp_meaning.specs.Populations.{stored};
 ghost use Rattle.rp_meaning.specs.Reading as spec;
 ghost use Rattle.rp_domain.specs.Combinations as combinations_spec;
 ghost use Rattle.rp_domain.specs.Combinations.{values_of};
-ghost use Rattle.rp_domain.specs.Rows.{read_all, read_value};
+ghost use Rattle.rp_domain.specs.Rows.{IsReadAt, read_all, read_value};
 
 use crate::attributes::declaration;
 use crate::combinations::Combinations;
 use crate::instance::{KeptInstance, WrittenInstance, value_at};
-use crate::references::within;
+use crate::others::push_other;
+use crate::references::{leaves, present};
 use crate::rows::with_room;
 use crate::sameness::is_same;
 use ex_named::AttributePlace;
 use plain_data::Items;
-use rp_meaning::Schema;
+use rp_meaning::{ReadValue, Schema};
 use rp_operators::given;
 use rp_value::Value;
 use std::alloc::{AllocError, Global};
@@ -35,74 +36,71 @@ fn read_value(
     match declaration(schema, attribute) {
         None => Ok(Value::Indet),
         Some(declared) => {
-            let value = within(alloc, value, count)?;
+            let types = schema.types.as_slice();
             let data_type = &declared.declaration.data_type;
-            given(alloc, schema.types.as_slice(), data_type, &value)
+            if leaves(value, count) {
+                given(alloc, types, data_type, &present(value, alloc, count)?)
+            } else {
+                given(alloc, types, data_type, value)
+            }
         }
     }
 }
 
-/// Adds the value of an attribute as it is read, and tells whether that is another one than is written. Where it isn't, the two
-/// share what they hold.
+/// What is read in place of the value of an attribute, if that is another one than is written.
 #[tactic(auto, unfolding(crate::specs::Rows::read_value))]
-fn push_value(
-    found: &mut Items<Value>,
+fn read_other(
     alloc: Global,
     schema: &Schema,
     count: usize,
     attribute: &AttributePlace,
     value: &Value,
-) -> Result<bool, AllocError>
-    ensures { IfOk result (λ differs. (found.new ≡ found.old ++ read_value schema.now count attribute.now value.now ∷ []) × (IsFalse differs → read_value schema.now count attribute.now value.now ≡ value.now)) }
+) -> Result<Option<Value>, AllocError>
+    ensures { IfOk result (λ other. read_value schema.now count attribute.now value.now ≡ unwrap_or other value.now) }
 {
     let read = read_value(alloc, schema, count, attribute, value)?;
-    let differs = !is_same(&read, value);
-    found.push(if differs { read } else { value.copy()? })?;
-    Ok(differs)
+    if is_same(&read, value) {
+        Ok(None)
+    } else {
+        Ok(Some(read))
+    }
 }
 
-/// Adds the value at a place, which is an attribute's, as it is read, if there is one, and tells whether that is another one.
-fn push_read(
-    found: &mut Items<Value>,
+/// The same of the value at a place, which is an attribute's, if there is one.
+fn read_at(
     alloc: Global,
     schema: &Schema,
     count: usize,
     attribute: &AttributePlace,
     written: &[Value],
     at: usize,
-) -> Result<bool, AllocError>
-    ensures read { IfOk result (λ differs. found.new ≡ found.old ++ map (λ x. read_value schema.now count attribute.now x) (option_to_list (slice_get written.now at))) }
-    ensures same { IfOk result (λ differs. IsFalse differs → map (λ x. read_value schema.now count attribute.now x) (option_to_list (slice_get written.now at)) ≡ option_to_list (slice_get written.now at)) }
+) -> Result<Option<Value>, AllocError>
+    ensures { IfOk result (λ other. IsReadAt schema.now count attribute.now written.now at other) }
 {
     match value_at(written, at) {
-        None => Ok(false),
-        Some(value) => push_value(found, alloc, schema, count, attribute, value),
+        None => Ok(None),
+        Some(value) => read_other(alloc, schema, count, attribute, value),
     }
 }
 
-fn either(one: bool, other: bool) -> bool
-    ensures { result ≡ (one || other) }
-{
-    one || other
-}
-
-/// The values of attributes as they are read, if one of them is another than is written.
-fn read_values(
+/// Finds what is read in place of some values of attributes.
+fn find_others(
+    found: &mut Vec<ReadValue>,
     alloc: Global,
     schema: &Schema,
     count: usize,
     attributes: &[AttributePlace],
     written: &[Value],
-) -> Result<Option<Items<Value>>, AllocError>
-    ensures { IfOk result (λ found. values_of attributes.now written.now found ≡ stored attributes.now written.now (read_all schema.now count (zip attributes.now written.now))) }
+    others: &[ReadValue],
+) -> Result<(), AllocError>
+    ensures { OnOk result (values_of attributes.now written.now found.new.items ≡ stored attributes.now written.now (read_all schema.now count (zip attributes.now written.now))) }
 {
-    let mut found = with_room(alloc, written.len())?;
-    let mut differs = false;
+    found.clear();
     for (at, attribute) in attributes.iter().enumerate() {
-        let other = push_read(&mut found, alloc, schema, count, attribute, written, at)?;
-        differs = either(differs, other);
+        let other = read_at(alloc, schema, count, attribute, written, at)?;
+        push_other(found, at, other, others)?;
     }
-    if differs { Ok(Some(found)) } else { Ok(None) }
+    Ok(())
 }
 
 /// Makes the value at a place `?` if it is derived, and if there is one.
@@ -124,11 +122,25 @@ fn without_derived(mut values: Items<Value>, derived: &[bool]) -> Items<Value>
     values
 }
 
+/// The values as they are kept: without those of which it is said that they are derived, and in no more room than they take.
+fn kept_values(
+    alloc: Global,
+    values: Items<Value>,
+    derived: &[bool],
+) -> Result<Items<Value>, AllocError>
+    ensures { IfOk result (λ found. found ≡ combinations_spec.without_derived derived.now values) }
+{
+    let mut found = with_room(alloc, values.len())?;
+    found.append(without_derived(values, derived))?;
+    Ok(found)
+}
+
 /// An instance of a population of so many.
 fn kept(
     alloc: Global,
     schema: &Schema,
     combinations: &mut Combinations<'_>,
+    found: &mut Vec<ReadValue>,
     count: usize,
     instance: WrittenInstance,
 ) -> Result<KeptInstance, AllocError>
@@ -138,15 +150,18 @@ fn kept(
 {
     let WrittenInstance { entities, values } = instance;
     let combination = combinations.of(alloc, entities)?;
-    let written = without_derived(values, combination.get().derived.as_slice());
-    let read = read_values(
+    let written = kept_values(alloc, values, combination.get().derived.as_slice())?;
+    find_others(
+        found,
         alloc,
         schema,
         count,
         combination.get().attributes.as_slice(),
         written.as_slice(),
+        combinations.others(),
     )?;
-    Ok(KeptInstance::new(combination, written, read))
+    let differing = combinations.shared(alloc, found)?;
+    Ok(KeptInstance::new(combination, written, differing))
 }
 
 /// The instances of a population, in their order.
@@ -159,9 +174,18 @@ pub(crate) fn kept_instances(
 {
     let count = instances.len();
     let mut combinations = Combinations::new(alloc, schema);
+    let mut others = Vec::new(alloc);
     let mut found = with_room(alloc, count)?;
     for instance in instances {
-        found.push(kept(alloc, schema, &mut combinations, count, instance)?)?;
+        let instance = kept(
+            alloc,
+            schema,
+            &mut combinations,
+            &mut others,
+            count,
+            instance,
+        )?;
+        found.push(instance)?;
     }
     Ok(found)
 }

@@ -11,7 +11,7 @@ use std::alloc::{AllocError, Global};
 /// Whether a reference of the value leaves a population of so many instances.
 #[cycle(leaving)]
 #[tactic(auto, unfolding(rp_meaning::specs::Reading::present))]
-fn leaves(value: &Value, count: usize) -> bool
+pub(crate) fn leaves(value: &Value, count: usize) -> bool
     ensures { IsFalse result → spec.present count value.now ≡ value.now }
 {
     match value {
@@ -41,7 +41,7 @@ fn one_leaves(values: &[Value], count: usize) -> bool
 /// The value, in which each reference that leaves a population of so many instances is `?`.
 #[cycle(present)]
 #[tactic(auto, unfolding(rp_meaning::specs::Reading::present))]
-fn present(value: &Value, alloc: Global, count: usize) -> Result<Value, AllocError>
+pub(crate) fn present(value: &Value, alloc: Global, count: usize) -> Result<Value, AllocError>
     ensures { IfOk result (λ x. x ≡ spec.present count value.now) }
 {
     match value {
@@ -93,15 +93,4 @@ fn present_elements(
         found.push(present(value, alloc, count)?)?;
     }
     Ok(found)
-}
-
-/// The value, in which each reference that leaves a population of so many instances is `?`. Where none does, it copies nothing.
-pub(crate) fn within(alloc: Global, value: &Value, count: usize) -> Result<Value, AllocError>
-    ensures { IfOk result (λ x. x ≡ spec.present count value.now) }
-{
-    if leaves(value, count) {
-        present(value, alloc, count)
-    } else {
-        value.copy()
-    }
 }
