@@ -2,6 +2,7 @@
 
 ghost use Rattle.std.specs.Prelude.{◌≡◌, IfOk};
 ghost use Rattle.p21_bind.specs.Files.{AreAscending};
+ghost use Rattle.rp_meaning.specs.Compiled.{compiled};
 ghost use Rattle.rp_trial.specs.Answers as spec;
 
 use crate::answers::{Answer, answers};
@@ -15,10 +16,29 @@ use plain_data::{Failure, Items};
 use rp_compile::compile;
 use rp_content::Instance;
 use rp_domain::ListDomain;
+use rp_meaning::Schema;
 use std::alloc::{AllocError, Global};
 
-/// What comes of each condition of a schema for each SELF among instances in order of name, with each limit.
+/// What comes of each condition of a schema, which is compiled, for each SELF among instances in order of name, with each limit.
 #[tactic(auto, unfolding(crate::specs::Answers::world))]
+fn answers_over(
+    alloc: Global,
+    loaded: &LoadedSchema<'_>,
+    schema: &Schema,
+    instances: &[Instance],
+    limits: &[usize],
+) -> Result<Items<Answer>, AllocError>
+    requires order { AreAscending instances.now }
+    requires schema { schema.now ≡ compiled loaded.now }
+    ensures { IfOk result (λ found. found ≡ spec.answers (spec.world loaded.now instances.now) limits.now) }
+{
+    let written = all_written(alloc, loaded.dictionary(), instances)?;
+    let domain = ListDomain::new(alloc, schema, written)?;
+    answers(alloc, schema, &domain, limits)
+}
+
+/// The same of a schema that isn't compiled yet. Without a limit no population is made.
+#[tactic(auto, unfolding(crate::specs::Answers::answers))]
 fn answers_by(
     alloc: Global,
     loaded: &LoadedSchema<'_>,
@@ -28,10 +48,11 @@ fn answers_by(
     requires { AreAscending instances.now }
     ensures { IfOk result (λ found. found ≡ spec.answers (spec.world loaded.now instances.now) limits.now) }
 {
-    let written = all_written(alloc, loaded.dictionary(), instances)?;
     let schema = compile(alloc, loaded.checked())?;
-    let domain = ListDomain::new(alloc, &schema, written)?;
-    answers(alloc, &schema, &domain, limits)
+    if limits.is_empty() {
+        return Ok(Items::new(alloc));
+    }
+    answers_over(alloc, loaded, &schema, instances, limits)
 }
 
 /// The lines of all answers for what a file holds.
