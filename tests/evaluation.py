@@ -115,8 +115,11 @@ def faulty_input(it):
     """One line, and status 2."""
     good = FILE.format("S", "#1=E(1);")
     words = ["schema.exp", "file.step", "1"]
+    no_limit = b"a limit is no number up to 18446744073709551615"
     for name, schema, file, given, told in (
-            ("no words", SCHEMA, good, [], b"rule_trial SCHEMA FILE LIMIT.."), ("no number", SCHEMA, good, [*words, "-1"], b"a limit is no number"),
+            ("no words", SCHEMA, good, [], b"rule_trial SCHEMA FILE LIMIT.."), ("no number", SCHEMA, good, [*words, "-1"], no_limit),
+            ("a number with a blank", SCHEMA, good, [*words, "1 "], no_limit), ("an empty word", SCHEMA, good, [*words, ""], no_limit),
+            ("a limit of 65 bits", SCHEMA, good, [*words, str(2**64)], no_limit),
             ("no file", SCHEMA, good, ["schema.exp", "none.step", "1"], b"a file can't be read or is over 8 MiB"),
             ("no schema", "SCHEMA", good, words, b"Syntax line 1 column 7"), ("no exchange file", SCHEMA, "ISO", words, b"no exchange file: byte 0"),
             ("another schema", SCHEMA, FILE.format("T", ""), words, b"a file of another schema"),
@@ -129,6 +132,10 @@ def faulty_input(it):
     lines = b"1 E.W #1 1 1\n1 E.W #9 ? 1\n1 E.#2 #1 7 1\n1 E.#2 #9 7 1\n1 R.#1 ? TRUE 1\n"
     limited = b"0 E.W #1 LIMIT\n0 E.W #9 LIMIT\n0 E.#2 #1 LIMIT\n0 E.#2 #9 LIMIT\n0 R.#1 ? LIMIT\n"
     it.expect("two limits", it.folder.run("schema.exp", "file.step", "1", "0"), (0, lines + limited, b""))
+    most = str(2**64 - 1).encode()
+    greatest = b"".join(most + line[1:] for line in lines.splitlines(True))
+    it.expect("the greatest limit", it.folder.run("schema.exp", "file.step", most.decode()), (0, greatest, b""))
+    it.expect("no limit", it.folder.run("schema.exp", "file.step"), (0, b"", b""))
 
 
 def program_of(words):

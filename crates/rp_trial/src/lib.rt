@@ -2,9 +2,13 @@
 //! exchange file.
 #![tactic(auto)]
 
+mod answers;
+mod limits;
+mod lines;
 mod loading;
 mod places;
-mod trial;
+mod trials;
 mod values;
 
-pub use trial::trial;
+pub use limits::limits_of;
+pub use trials::trial;

@@ -1,5 +1,8 @@
 //! A schema, and what a file holds by it; else what is wrong, in words.
 
+ghost use Rattle.std.specs.Prelude.{IfOk};
+ghost use Rattle.p21_bind.specs.Files.{AreAscending};
+
 use ex_check::{compile_schema, words_of_fault};
 use ex_compiled::Compiled;
 use ex_layouts::Dictionary;
@@ -24,9 +27,10 @@ pub(crate) fn schema_of(alloc: Global, text: &[u8]) -> Result<Compiled, Failure<
 fn raw_of(alloc: Global, text: &[u8]) -> Result<Raw<'_>, Failure<String>> {
     match read_raw(alloc, text) {
         Ok(raw) => Ok(raw),
-        Err(Failure::Fault(fault)) => Err(Failure::Fault(
-            format!(in alloc; "no exchange file: byte {}", fault.at)?,
-        )),
+        Err(Failure::Fault(fault)) => Err(Failure::Fault(format!(in alloc;
+            "no exchange file: byte {}",
+            fault.at
+        )?)),
         Err(Failure::NoMemory) => Err(Failure::NoMemory),
     }
 }
@@ -36,19 +40,19 @@ pub(crate) fn content_of<'s>(
     alloc: Global,
     schema: &'s Dictionary<'s>,
     text: &[u8],
-) -> Result<Content, Failure<String>> {
+) -> Result<Content, Failure<String>>
+    ensures { IfOk result (λ content. AreAscending content.instances) }
+{
     let raw = raw_of(alloc, text)?;
     if !is_of_schema(alloc, &raw, schema.name().as_bytes())? {
-        return Err(Failure::Fault(String::from_str(
-            alloc,
-            "a file of another schema",
-        )?));
+        return Err(Failure::Fault(String::from_str(alloc, "a file of another schema")?));
     }
     match bind(alloc, schema, &[], raw) {
         Ok(content) => Ok(content),
-        Err(Failure::Fault(fault)) => Err(Failure::Fault(
-            format!(in alloc; "a faulty instance: #{}", fault.instance)?,
-        )),
+        Err(Failure::Fault(fault)) => Err(Failure::Fault(format!(in alloc;
+            "a faulty instance: #{}",
+            fault.instance
+        )?)),
         Err(Failure::NoMemory) => Err(Failure::NoMemory),
     }
 }

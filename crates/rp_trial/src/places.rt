@@ -1,49 +1,75 @@
 //! Instances whose references are places in a population.
 
+ghost use Rattle.std.specs.Prelude.{◌≡◌, map, IfOk};
+ghost use Rattle.ex_layouts.specs.Entities as layouts;
+ghost use Rattle.p21_bind.specs.Files.{AreAscending};
+ghost use Rattle.rp_value.specs.declared.value.Value.TheVariants as v;
+ghost use Rattle.rp_trial.specs.Places as spec;
+
 use ex_layouts::Dictionary;
 use plain_data::Items;
 use rp_content::{Entities, Instance};
 use rp_domain::WrittenInstance;
-use rp_value::Value;
+use rp_value::{AggregateKind, Elements, Value};
 use std::alloc::{AllocError, Global};
 
-/// Where the instance of a name stands among these, which are in order of name; behind the last where none has the name.
-fn place_of(instances: &[Instance], name: u64) -> u64 {
-    match instances.binary_search_by(|instance| instance.name.cmp(&name)) {
+/// Where the instance of a name stands among these; behind the last where none has the name.
+fn place_of(instances: &[Instance], name: u64) -> u64
+    requires { AreAscending instances.now }
+    ensures { result ≡ spec.place_of instances.now name }
+{
+    match instances.binary_search_by_key(&name, |instance| instance.name) {
         Ok(place) => place as u64,
         Err(_) => instances.len() as u64,
     }
 }
 
-/// A value whose references are places.
+/// A value, in which each reference is the place of the instance that it names.
 #[cycle(placed)]
-fn placed(alloc: Global, instances: &[Instance], value: &Value) -> Result<Value, AllocError> {
+#[tactic(auto, unfolding(crate::specs::Places::placed))]
+fn placed(value: &Value, alloc: Global, instances: &[Instance]) -> Result<Value, AllocError>
+    requires { AreAscending instances.now }
+    ensures { IfOk result (λ x. x ≡ spec.placed instances.now value.now) }
+{
     match value {
         Value::Inst(name) => Ok(Value::Inst(place_of(instances, *name))),
-        Value::Agg { kind, elements } => {
-            let items = all_placed(alloc, instances, elements.as_slice())?;
-            Value::aggregate(alloc, *kind, elements.low(), items)
-        }
+        Value::Agg { kind, elements } => placed_aggregate(elements, *kind, alloc, instances),
         Value::Named {
             defined_type,
             value,
-        } => {
-            let value = placed(alloc, instances, value.get())?;
-            Value::named(alloc, *defined_type, value)
-        }
+        } => Value::named(alloc, *defined_type, placed(value.get(), alloc, instances)?),
         _ => value.copy(),
     }
 }
 
+/// The aggregate of the elements, in which references are places.
 #[cycle(placed)]
-fn all_placed(
+fn placed_aggregate(
+    elements: &Elements<Value>,
+    kind: AggregateKind,
     alloc: Global,
     instances: &[Instance],
+) -> Result<Value, AllocError>
+    requires { AreAscending instances.now }
+    ensures { IfOk result (λ x. x ≡ v.Agg kind (record { low = elements.now.low; items = map (spec.placed instances.now) elements.now.items })) }
+{
+    let items = all_placed(elements.as_slice(), alloc, instances)?;
+    Value::aggregate(alloc, kind, elements.low(), items)
+}
+
+/// Values, in which references are places.
+#[cycle(placed)]
+fn all_placed(
     values: &[Value],
-) -> Result<Items<Value>, AllocError> {
+    alloc: Global,
+    instances: &[Instance],
+) -> Result<Items<Value>, AllocError>
+    requires { AreAscending instances.now }
+    ensures { IfOk result (λ found. found ≡ map (spec.placed instances.now) values.now) }
+{
     let mut found = Items::new(alloc);
     for value in values {
-        found.push(placed(alloc, instances, value)?)?;
+        found.push(placed(value, alloc, instances)?)?;
     }
     Ok(found)
 }
@@ -53,24 +79,42 @@ fn entities_of(
     alloc: Global,
     schema: &Dictionary<'_>,
     entities: &Entities,
-) -> Result<Items<usize>, AllocError> {
+) -> Result<Items<usize>, AllocError>
+    ensures { IfOk result (λ found. found ≡ layouts.entities_of schema.now entities.now) }
+{
     match entities {
         Entities::Leaf(entity) => Ok(Items::from_vec(schema.line_of(alloc, *entity)?.into_vec())),
         Entities::Several(all) => Items::from_slice(alloc, all.as_slice()),
     }
 }
 
-/// Instances in order of name, as a population has them.
-pub(crate) fn written_instances(
+/// One of these instances, as a population has it.
+fn written(
     alloc: Global,
     schema: &Dictionary<'_>,
     instances: &[Instance],
-) -> Result<Vec<WrittenInstance>, AllocError> {
+    instance: &Instance,
+) -> Result<WrittenInstance, AllocError>
+    requires { AreAscending instances.now }
+    ensures { IfOk result (λ i. i ≡ spec.written schema.now instances.now instance.now) }
+{
+    let values = all_placed(instance.values.as_slice(), alloc, instances)?;
+    let entities = entities_of(alloc, schema, &instance.entities)?;
+    Ok(WrittenInstance { entities, values })
+}
+
+/// Instances in order of name, as a population has them.
+pub(crate) fn all_written(
+    alloc: Global,
+    schema: &Dictionary<'_>,
+    instances: &[Instance],
+) -> Result<Vec<WrittenInstance>, AllocError>
+    requires { AreAscending instances.now }
+    ensures { IfOk result (λ found. found.items ≡ spec.all_written schema.now instances.now) }
+{
     let mut found = Vec::with_capacity(alloc, instances.len())?;
     for instance in instances {
-        let values = all_placed(alloc, instances, instance.values.as_slice())?;
-        let entities = entities_of(alloc, schema, &instance.entities)?;
-        found.push(WrittenInstance { entities, values })?;
+        found.push(written(alloc, schema, instances, instance)?)?;
     }
     Ok(found)
 }

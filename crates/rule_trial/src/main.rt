@@ -6,9 +6,8 @@
 use plain_data::Failure;
 use rp_config::{FromFiles, file_bytes};
 use rp_io::{ToWriter, write_all};
-use rp_numbers::whole_number;
-use rp_trial::trial;
-use std::alloc::{AllocError, Global};
+use rp_trial::{limits_of, trial};
+use std::alloc::Global;
 use std::process::ExitCode;
 use std::rt::{Env, Files};
 use std::{env, io};
@@ -34,18 +33,6 @@ fn fault(alloc: Global, words: &str) -> Failure<String> {
     }
 }
 
-/// The limits that words name; none where one is no number.
-fn limits_of(alloc: Global, words: &[String]) -> Result<Option<Vec<usize>>, AllocError> {
-    let mut limits = Vec::new(alloc);
-    for word in words {
-        match whole_number(word.as_bytes()) {
-            Some(limit) => limits.push(limit as usize)?,
-            None => return Ok(None),
-        }
-    }
-    Ok(Some(limits))
-}
-
 fn bytes_of<R: AllocGlobal + Files>(rt: &R, path: &str) -> Result<Vec<u8>, Failure<String>> {
     match file_bytes(rt.alloc(), &FromFiles::new(rt), path) {
         Ok(bytes) => Ok(bytes),
@@ -65,7 +52,7 @@ fn run<R: AllocGlobal + Files + Env + Print>(rt: &R) -> Result<(), Failure<Strin
         return Err(fault(alloc, "rule_trial SCHEMA FILE LIMIT.."));
     };
     let Some(limits) = limits_of(alloc, limits)? else {
-        return Err(fault(alloc, "a limit is no number"));
+        return Err(fault(alloc, "a limit is no number up to 18446744073709551615"));
     };
     let schema = bytes_of(rt, schema.as_str())?;
     let file = bytes_of(rt, file.as_str())?;

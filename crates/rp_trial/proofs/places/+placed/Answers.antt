@@ -1,0 +1,6 @@
+use Rattle.std.proofs.Common.{sym}
+use Rattle.rp_trial.proofs.Placing.{placed-aggregate}
+use Rattle.rp_trial.proofs.places.+placed.Goals as goal
+
+pub placed-returns-in-Agg : goal.placed-returns-in-Agg
+placed-returns-in-Agg t c = rw (sym (placed-aggregate c.args.instances.now c.args.value.now c.in-Agg.kind c.in-Agg.elements c.in-Agg.is)) at c.placed_aggregate.ensures

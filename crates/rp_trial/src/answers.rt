@@ -1,0 +1,189 @@
+//! All conditions of the WHERE clauses of entities and of rules, evaluated.
+
+ghost use Rattle.std.specs.Prelude.{◌≡◌, ◌++◌, map, IfOk, OnOk};
+ghost use Rattle.std.specs.List.{flat_map};
+ghost use Rattle.plain_data.specs.Numbers.{numbered};
+ghost use Rattle.rp_eval.specs.Bodies.{world};
+ghost use Rattle.rp_trial.specs.Answers as spec;
+
+use plain_data::Items;
+use rp_domain::ListDomain;
+use rp_eval::{Code, eval};
+use rp_meaning::{Domain, Entity, Expression, GlobalRule, Outcome, Rule, Schema};
+use rp_value::Value;
+use std::alloc::{AllocError, Global};
+
+/// What came of a condition for SELF with at most so many steps.
+pub struct Answer {
+    pub limit: usize,
+    pub condition: Rule,
+    pub itself: Value,
+    pub outcome: Outcome,
+}
+
+impl Drop for Answer {
+    fn drop(self) {
+        let Answer {
+            limit: _,
+            condition: _,
+            itself,
+            outcome,
+        } = self;
+        drop(itself);
+        drop(outcome);
+    }
+}
+
+/// Adds the conditions of an entity.
+fn push_entity(
+    found: &mut Items<Rule>,
+    number: usize,
+    conditions: &[Expression],
+) -> Result<(), AllocError>
+    ensures { OnOk result (found.new ≡ found.old ++ numbered (spec.entity_condition number) conditions.now) }
+{
+    for (place, _) in conditions.iter().enumerate() {
+        found.push(Rule::Entity(number, place))?;
+    }
+    Ok(())
+}
+
+/// Adds the conditions of a rule.
+fn push_rule(
+    found: &mut Items<Rule>,
+    number: usize,
+    conditions: &[Expression],
+) -> Result<(), AllocError>
+    ensures { OnOk result (found.new ≡ found.old ++ numbered (spec.rule_condition number) conditions.now) }
+{
+    for (place, _) in conditions.iter().enumerate() {
+        found.push(Rule::Global(number, place))?;
+    }
+    Ok(())
+}
+
+/// Adds the conditions of entities.
+fn push_entities(found: &mut Items<Rule>, entities: &[Entity]) -> Result<(), AllocError>
+    ensures { OnOk result (found.new ≡ found.old ++ flat_map (λ rules. rules) (numbered spec.entity_conditions entities.now)) }
+{
+    for (number, entity) in entities.iter().enumerate() {
+        push_entity(found, number, entity.domain_rules.as_slice())?;
+    }
+    Ok(())
+}
+
+/// Adds the conditions of rules.
+fn push_rules(found: &mut Items<Rule>, rules: &[GlobalRule]) -> Result<(), AllocError>
+    ensures { OnOk result (found.new ≡ found.old ++ flat_map (λ rules. rules) (numbered spec.rule_conditions rules.now)) }
+{
+    for (number, rule) in rules.iter().enumerate() {
+        push_rule(found, number, rule.domain_rules.as_slice())?;
+    }
+    Ok(())
+}
+
+/// All conditions, in the order of their declarations.
+#[tactic(auto, unfolding(crate::specs::Answers::conditions))]
+fn conditions(alloc: Global, schema: &Schema) -> Result<Items<Rule>, AllocError>
+    ensures { IfOk result (λ found. found ≡ spec.conditions schema.now) }
+{
+    let mut found = Items::new(alloc);
+    push_entities(&mut found, schema.entities.as_slice())?;
+    push_rules(&mut found, schema.rules.as_slice())?;
+    Ok(found)
+}
+
+/// What SELF is in turn: of a rule it is nothing.
+fn selves(alloc: Global, domain: &ListDomain, condition: Rule) -> Result<Items<Value>, AllocError>
+    ensures { IfOk result (λ found. found ≡ spec.selves domain.now condition) }
+{
+    match condition {
+        Rule::Entity(entity, _) => domain.extent(alloc, entity),
+        _ => {
+            let mut nothing = Items::new(alloc);
+            nothing.push(Value::Indet)?;
+            Ok(nothing)
+        }
+    }
+}
+
+fn answer_for(
+    alloc: Global,
+    code: &Code<'_>,
+    domain: &ListDomain,
+    limit: usize,
+    itself: &Value,
+) -> Result<Answer, AllocError>
+    ensures { IfOk result (λ found. found ≡ spec.answer (world code.now.schema.now domain.now) limit code.now.rule itself.now) }
+{
+    let outcome = eval(alloc, code, domain, itself.copy()?, limit)?;
+    Ok(Answer {
+        limit,
+        condition: code.rule,
+        itself: itself.copy()?,
+        outcome,
+    })
+}
+
+/// Adds the answers of a condition.
+fn push_answers(
+    found: &mut Items<Answer>,
+    alloc: Global,
+    code: &Code<'_>,
+    domain: &ListDomain,
+    limit: usize,
+) -> Result<(), AllocError>
+    ensures { OnOk result (found.new ≡ found.old ++ spec.answers_of (world code.now.schema.now domain.now) limit code.now.rule) }
+{
+    let selves = selves(alloc, domain, code.rule)?;
+    for itself in selves.as_slice() {
+        found.push(answer_for(alloc, code, domain, limit, itself)?)?;
+    }
+    Ok(())
+}
+
+/// Adds the answers of conditions.
+fn push_within(
+    found: &mut Items<Answer>,
+    alloc: Global,
+    schema: &Schema,
+    conditions: &[Rule],
+    domain: &ListDomain,
+    limit: usize,
+) -> Result<(), AllocError>
+    ensures { OnOk result (found.new ≡ found.old ++ spec.answers_within (world schema.now domain.now) conditions.now limit) }
+{
+    for condition in conditions {
+        let code = Code {
+            schema,
+            rule: *condition,
+        };
+        push_answers(found, alloc, &code, domain, limit)?;
+    }
+    Ok(())
+}
+
+/// What comes of each condition for each SELF with each limit.
+#[tactic(auto, unfolding(crate::specs::Answers::answers))]
+pub(crate) fn answers(
+    alloc: Global,
+    schema: &Schema,
+    domain: &ListDomain,
+    limits: &[usize],
+) -> Result<Items<Answer>, AllocError>
+    ensures { IfOk result (λ found. found ≡ spec.answers (world schema.now domain.now) limits.now) }
+{
+    let conditions = conditions(alloc, schema)?;
+    let mut found = Items::new(alloc);
+    for limit in limits {
+        push_within(
+            &mut found,
+            alloc,
+            schema,
+            conditions.as_slice(),
+            domain,
+            *limit,
+        )?;
+    }
+    Ok(found)
+}

@@ -1,0 +1,104 @@
+//! A trial of a schema with a file.
+
+ghost use Rattle.std.specs.Prelude.{◌≡◌, IfOk};
+ghost use Rattle.p21_bind.specs.Files.{AreAscending};
+ghost use Rattle.rp_meaning.specs.Compiled.{compiled};
+ghost use Rattle.rp_trial.specs.Answers as spec;
+
+use crate::answers::{Answer, answers};
+use crate::lines::lines;
+use crate::loading::{content_of, schema_of};
+use crate::places::all_written;
+use crate::values::Names;
+use ex_compiled::Compiled;
+use ex_loaded::LoadedSchema;
+use plain_data::{Failure, Items};
+use rp_compile::compile;
+use rp_content::Instance;
+use rp_domain::ListDomain;
+use rp_meaning::Schema;
+use std::alloc::{AllocError, Global};
+
+/// What comes of each condition of a schema, which is compiled, for each SELF among instances in order of name, with each limit.
+#[tactic(auto, unfolding(crate::specs::Answers::world))]
+fn answers_over(
+    alloc: Global,
+    loaded: &LoadedSchema<'_>,
+    schema: &Schema,
+    instances: &[Instance],
+    limits: &[usize],
+) -> Result<Items<Answer>, AllocError>
+    requires order { AreAscending instances.now }
+    requires schema { schema.now ≡ compiled loaded.now }
+    ensures { IfOk result (λ found. found ≡ spec.answers (spec.world loaded.now instances.now) limits.now) }
+{
+    let written = all_written(alloc, loaded.dictionary(), instances)?;
+    let domain = ListDomain::new(alloc, schema, written)?;
+    answers(alloc, schema, &domain, limits)
+}
+
+/// The same of a schema that isn't compiled yet. Without a limit no population is made.
+#[tactic(auto, unfolding(crate::specs::Answers::answers))]
+fn answers_by(
+    alloc: Global,
+    loaded: &LoadedSchema<'_>,
+    instances: &[Instance],
+    limits: &[usize],
+) -> Result<Items<Answer>, AllocError>
+    requires { AreAscending instances.now }
+    ensures { IfOk result (λ found. found ≡ spec.answers (spec.world loaded.now instances.now) limits.now) }
+{
+    let schema = compile(alloc, loaded.checked())?;
+    if limits.is_empty() {
+        return Ok(Items::new(alloc));
+    }
+    answers_over(alloc, loaded, &schema, instances, limits)
+}
+
+/// The lines of all answers for what a file holds.
+fn lines_by(
+    alloc: Global,
+    loaded: &LoadedSchema<'_>,
+    instances: &[Instance],
+    limits: &[usize],
+) -> Result<Vec<u8>, AllocError>
+    requires { AreAscending instances.now }
+{
+    let answers = answers_by(alloc, loaded, instances, limits)?;
+    let names = Names {
+        types: loaded.checked().types(),
+        instances,
+    };
+    lines(alloc, names, loaded.checked(), &answers)
+}
+
+fn trial_by<'s>(
+    alloc: Global,
+    loaded: &'s LoadedSchema<'s>,
+    file: &[u8],
+    limits: &[usize],
+) -> Result<Vec<u8>, Failure<String>> {
+    let content = content_of(alloc, loaded.dictionary(), file)?;
+    Ok(lines_by(alloc, loaded, content.instances.as_slice(), limits)?)
+}
+
+/// A schema with what is found in it once. This isn't let go of, since the process is to end with what it is lent to.
+fn lent<'s>(alloc: Global, schema: &'s Compiled) -> Result<&'s LoadedSchema<'s>, AllocError>
+    ensures { IfOk result (λ lent. lent.now ≡ schema.now) }
+{
+    let loaded = Box::new(alloc, LoadedSchema::of(alloc, schema)?)?;
+    Ok(Box::leak(loaded))
+}
+
+/// A line for each limit and condition of a schema's WHERE clauses and each SELF, `LIMIT OWNER.LABEL SELF VALUE STEPS` or
+/// `LIMIT OWNER.LABEL SELF LIMIT`: SELF are the entity's instances in an exchange file, and `?` of a rule. Else what is wrong with
+/// the schema or the file, in words.
+pub fn trial(
+    alloc: Global,
+    schema: &[u8],
+    file: &[u8],
+    limits: &[usize],
+) -> Result<Vec<u8>, Failure<String>> {
+    let compiled = schema_of(alloc, schema)?;
+    trial_by(alloc, lent(alloc, &compiled)?, file, limits)
+}
