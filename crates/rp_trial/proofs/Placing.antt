@@ -71,3 +71,17 @@ unfolding placed
 placed-aggregate is x kind elements same =
     ap (placed is) same ∙ ap (placed is) (sym (v.rolls-Agg kind elements)) ∙ fold-roll-Value Value (placed_in is) (Value-F.Agg kind elements)
     ∙ v.rolls-Agg kind (record { low = elements.low; items = map (placed is) elements.items })
+
+placed-named : (is : List Instance) (defined_type : ℕ) (x : Value) → placed is (v.Named defined_type x) ≡ v.Named defined_type (placed is x)
+unfolding placed
+placed-named is defined_type x =
+    ap (placed is) (sym (v.rolls-Named defined_type x)) ∙ fold-roll-Value Value (placed_in is) (Value-F.Named defined_type x) ∙ v.rolls-Named defined_type (placed is x)
+
+-- where nothing in it changes, a value is as it was
+pub itself-aggregate : (is : List Instance) (x : Value) (kind : AggregateKind) (elements : Elements Value) → x ≡ v.Agg kind elements
+    → map (placed is) elements.items ≡ elements.items → placed is x ≡ x
+itself-aggregate is x kind elements same all =
+    placed-aggregate is x kind elements same ∙ ap (λ (xs : List Value). v.Agg kind (record { low = elements.low; items = xs })) all ∙ sym same
+
+pub itself-named : (is : List Instance) (x : Value) (defined_type : ℕ) (y : Value) → x ≡ v.Named defined_type y → placed is y ≡ y → placed is x ≡ x
+itself-named is x defined_type y same inner = ap (placed is) same ∙ placed-named is defined_type y ∙ ap (v.Named defined_type) inner ∙ sym same

@@ -1,8 +1,9 @@
 //! Instances whose references are places in a population.
 
-ghost use Rattle.std.specs.Prelude.{◌≡◌, map, IfOk};
+ghost use Rattle.std.specs.Prelude.{◌≡◌, List, map, IfOk, IsFalse};
 ghost use Rattle.ex_layouts.specs.Entities as layouts;
 ghost use Rattle.p21_bind.specs.Files.{AreAscending};
+ghost use Rattle.rp_content.specs.declared.instance.Instance.{Instance};
 ghost use Rattle.rp_value.specs.declared.value.Value.TheVariants as v;
 ghost use Rattle.rp_trial.specs.Places as spec;
 
@@ -24,13 +25,47 @@ fn place_of(instances: &[Instance], name: u64) -> u64
     }
 }
 
-/// A value, in which each reference is the place of the instance that it names.
+/// Whether there is a reference in the value.
+#[cycle(referring)]
+#[tactic(auto, unfolding(crate::specs::Places::placed))]
+fn has_reference(value: &Value) -> bool
+    ensures { IsFalse result → (instances : List Instance) → spec.placed instances value.now ≡ value.now }
+{
+    match value {
+        Value::Inst(_) => true,
+        Value::Agg { kind: _, elements } => one_has_reference(elements.as_slice()),
+        Value::Named {
+            defined_type: _,
+            value,
+        } => has_reference(value.get()),
+        _ => false,
+    }
+}
+
+/// Whether there is a reference in one of the values.
+#[cycle(referring)]
+fn one_has_reference(values: &[Value]) -> bool
+    ensures { IsFalse result → (instances : List Instance) → map (spec.placed instances) values.now ≡ values.now }
+{
+    for value in values {
+        if has_reference(value) {
+            return true;
+        }
+    }
+    false
+}
+
+/// A value, in which each reference is the place of the instance that it names. It shares what it holds with the value where
+/// there is no reference in that.
 #[cycle(placed)]
 #[tactic(auto, unfolding(crate::specs::Places::placed))]
 fn placed(value: &Value, alloc: Global, instances: &[Instance]) -> Result<Value, AllocError>
     requires { AreAscending instances.now }
     ensures { IfOk result (λ x. x ≡ spec.placed instances.now value.now) }
 {
+    if !has_reference(value) {
+        return value.copy();
+    }
     match value {
         Value::Inst(name) => Ok(Value::Inst(place_of(instances, *name))),
         Value::Agg { kind, elements } => placed_aggregate(elements, *kind, alloc, instances),
@@ -67,7 +102,7 @@ fn all_placed(
     requires { AreAscending instances.now }
     ensures { IfOk result (λ found. found ≡ map (spec.placed instances.now) values.now) }
 {
-    let mut found = Items::new(alloc);
+    let mut found = Items::from_vec(Vec::with_capacity(alloc, values.len())?);
     for value in values {
         found.push(placed(value, alloc, instances)?)?;
     }
