@@ -3,3 +3,4 @@ pub mod Uses
 pub mod Reading
 pub mod Sharing
 pub mod Standing
+pub mod Divided

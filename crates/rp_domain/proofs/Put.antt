@@ -1,7 +1,8 @@
 -- What was put into rows stands in the rows of its numbers.
-use Rattle.std.proofs.Common.{◌≡◌, ℕ, zero, suc, ◌<◌, ◌≢◌, ◌==◌, Bool, true, false, List, [], ◌∷◌, ◌++◌, map, filter, length, replicate, if◌then◌else◌, refl, sym, ◌∙◌, ap, arith, append-nil, append_assoc}
+use Rattle.std.proofs.Common.{◌≡◌, ℕ, zero, suc, ◌<◌, ◌≤◌, ◌≢◌, ◌==◌, Bool, true, false, List, [], ◌∷◌, ◌++◌, map, filter, length, replicate, if◌then◌else◌, Some, None, slice_get, refl, sym, ◌∙◌, ap, arith, append-nil, append_assoc}
 use Rattle.std.proofs.lemmas.List.{get_or-set_same, get_or-set_other, length-set, length-replicate}
 use Rattle.std.proofs.lemmas.Bool.Decides.{nat_tests}
+use Rattle.std.specs.Option.{unwrap_or}
 use Rattle.rp_domain.specs.Rows.{row, put, put_all, of_number}
 
 pub put_all-append : {A : Type 0} (rows : List (List A)) (us ws : List (ℕ × A)) → put_all rows (us ++ ws) ≡ put_all (put_all rows us) ws
@@ -48,3 +49,18 @@ rows-are {A = A} n us number h = row-all (replicate n []) us number (rw (length-
 
 pub as-many : {A : Type 0} (n : ℕ) (us : List (ℕ × A)) → length (put_all (replicate n []) us) ≡ n
 as-many n us = length-put_all (replicate n []) us ∙ length-replicate n []
+
+pub no-rows : {A : Type 0} (us : List (ℕ × A)) → put_all [] us ≡ []
+no-rows [] = refl
+no-rows (u ∷ us) = no-rows us
+
+-- a row that stands there
+pub row-read : {A : Type 0} (rows : List (List A)) (number : ℕ) (r : List A) → Some r ≡ slice_get rows number → (row rows number ≡ r) × (number < length rows)
+row-read [] number r is = absurd (cc)
+row-read (x ∷ rows) zero r is = (ap (λ o. unwrap_or o r) (sym is), omega arith)
+row-read (x ∷ rows) (suc number) r is = let rest = row-read rows number r is in (rest.0, let h = rest.1 in omega (arith, h))
+
+pub none-stands : {A : Type 0} (rows : List (List A)) (number : ℕ) → None ≡ slice_get rows number → length rows ≤ number
+none-stands [] number is = omega arith
+none-stands (x ∷ rows) zero is = absurd (cc)
+none-stands (x ∷ rows) (suc number) is = let h = none-stands rows number is in omega (arith, h)

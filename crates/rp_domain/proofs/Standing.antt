@@ -9,7 +9,7 @@ use Rattle.rp_meaning.specs.Populations.{Instance, instances, places_from}
 use Rattle.rp_meaning.specs.Uses.{each_once, once_after}
 use Rattle.rp_domain.specs.Rows.{of_number, put_all}
 use Rattle.rp_domain.specs.Standing.{standing, standing_from, once_behind}
-use Rattle.rp_domain.proofs.Put.{as-many, put_all-append}
+use Rattle.rp_domain.proofs.Put.{as-many, no-rows, put_all-append}
 use Rattle.rp_domain.proofs.Uses.{drop-read}
 
 either : {A : Type 0} (t : Bool) (a b c d : A) → a ≡ c → b ≡ d → (if t then a else b) ≡ (if t then c else d)
@@ -109,3 +109,6 @@ once_step found last places i place h is =
 -- rows that were filled, by how many they are
 pub rows_of : (n : ℕ) (rows : List (List ℕ)) (pairs : List (ℕ × ℕ)) → rows ≡ put_all (replicate n []) pairs → rows ≡ put_all (replicate (length rows) []) pairs
 rows_of n rows pairs is = is ∙ ap (λ (m : ℕ). put_all (replicate m []) pairs) (sym (ap length is ∙ as-many n pairs))
+
+pub none-of : (rows : List (List ℕ)) (pairs : List (ℕ × ℕ)) → rows ≡ [] → rows ≡ put_all (replicate (length rows) []) pairs
+none-of rows pairs none = rw none (sym (no-rows pairs))

@@ -3,6 +3,7 @@
 use crate::extents::{extents_of, found_extent, instances_once};
 use crate::instance::{KeptInstance, WrittenInstance};
 use crate::read::kept_instances;
+use crate::table::{Table, table_of};
 use crate::users::{User, users_among, users_of};
 use plain_data::Items;
 use rp_meaning::{Domain, Role, Schema, Seen};
@@ -14,9 +15,9 @@ use std::marker::Model;
 pub struct ListDomain {
     instances: Items<KeptInstance>,
     /// The places of its instances, by entities of the schema.
-    extents: Vec<Items<usize>>,
+    extents: Vec<Items<u32>>,
     /// By the places of what they use.
-    users: Vec<Items<User>>,
+    users: Table<User>,
 }
 
 impl Drop for ListDomain {
@@ -49,7 +50,7 @@ impl Model for ListDomain {
 
     ghost invariant = { λ d. record {
       extents : d.extents.items ≡ put_all (replicate (length d.extents.items) []) (standing_from 0 d.instances);
-      users : d.users.items ≡ put_all (replicate (length d.instances) []) (uses_from 0 d.instances);
+      users : d.users ≡ put_all (replicate (length d.instances) []) (uses_from 0 d.instances);
     } };
 }
 
@@ -68,7 +69,7 @@ impl ListDomain {
     {
         let instances = kept_instances(alloc, schema, instances)?;
         let extents = extents_of(alloc, schema.entities.len(), instances.as_slice())?;
-        let users = users_of(alloc, instances.as_slice())?;
+        let users = table_of(alloc, users_of(alloc, instances.as_slice())?)?;
         Ok(ListDomain {
             instances,
             extents,
@@ -100,10 +101,9 @@ impl Domain for ListDomain {
     }
 
     fn users(&self, alloc: Global, at: usize, role: &Role) -> Result<Items<Value>, AllocError> {
-        if at < self.users.len() {
-            users_among(alloc, self.users[at].as_slice(), role)
-        } else {
-            Ok(Items::new(alloc))
+        match self.users.row(at) {
+            Some(users) => users_among(alloc, users, role),
+            None => Ok(Items::new(alloc)),
         }
     }
 }

@@ -1,6 +1,6 @@
 //! The instances of entities.
 
-ghost use Rattle.std.specs.Prelude.{◌≡◌, [], ◌∷◌, ◌++◌, IfOk, OnOk, length, replicate};
+ghost use Rattle.std.specs.Prelude.{◌≡◌, ◌<◌, ◌^◌, [], ◌∷◌, ◌++◌, IfOk, OnOk, length, replicate};
 ghost use Rattle.rp_meaning.specs.Populations.{instances as values_of, places_from};
 ghost use Rattle.rp_meaning.specs.Uses.{each_once};
 ghost use Rattle.rp_domain.specs.Rows.{put_all};
@@ -14,11 +14,7 @@ use rp_value::Value;
 use std::alloc::{AllocError, Global};
 
 /// Puts the place of an instance behind those of each of its entities.
-fn put_place(
-    rows: &mut Vec<Items<usize>>,
-    place: usize,
-    entities: &[usize],
-) -> Result<(), AllocError>
+fn put_place(rows: &mut Vec<Items<u32>>, place: u32, entities: &[usize]) -> Result<(), AllocError>
     ensures { OnOk result (rows.new.items ≡ put_all rows.old.items (spec.standing place entities.now)) }
 {
     for entity in entities {
@@ -33,25 +29,29 @@ fn filled(
     alloc: Global,
     count: usize,
     instances: &[KeptInstance],
-) -> Result<Vec<Items<usize>>, AllocError>
+) -> Result<Vec<Items<u32>>, AllocError>
+    requires { length instances.now < 2 ^ 32 }
     ensures { IfOk result (λ rows. rows.items ≡ put_all (replicate count []) (spec.standing_from 0 instances.now)) }
 {
     let room = room_of_extents(alloc, count, instances)?;
     let mut rows = empty_rows(alloc, room.as_slice())?;
     for (place, instance) in instances.iter().enumerate() {
-        put_place(&mut rows, place, instance.entities())?;
+        put_place(&mut rows, place as u32, instance.entities())?;
     }
     Ok(rows)
 }
 
-/// The places of the instances of each entity, by entities of a schema of so many.
+/// The places of the instances of each entity, by entities of a schema of so many; no rows where 32 bits are too few for a place.
 pub(crate) fn extents_of(
     alloc: Global,
     count: usize,
     instances: &[KeptInstance],
-) -> Result<Vec<Items<usize>>, AllocError>
+) -> Result<Vec<Items<u32>>, AllocError>
     ensures { IfOk result (λ rows. rows.items ≡ put_all (replicate (length rows.items) []) (spec.standing_from 0 instances.now)) }
 {
+    if instances.len() > u32::MAX as usize {
+        return Ok(Vec::new(alloc));
+    }
     let rows = filled(alloc, count, instances)?;
     Ok(rows)
 }
@@ -67,14 +67,15 @@ fn push_once(found: &mut Items<Value>, last: Option<usize>, place: usize) -> Res
 }
 
 /// The instances at these places, each once of those that stand together.
-pub(crate) fn instances_once(alloc: Global, places: &[usize]) -> Result<Items<Value>, AllocError>
+pub(crate) fn instances_once(alloc: Global, places: &[u32]) -> Result<Items<Value>, AllocError>
     ensures { IfOk result (λ found. found ≡ values_of (each_once places.now)) }
 {
     let mut found = with_room(alloc, places.len())?;
     let mut last = None;
     for place in places {
-        push_once(&mut found, last, *place)?;
-        last = Some(*place);
+        let place = *place as usize;
+        push_once(&mut found, last, place)?;
+        last = Some(place);
     }
     Ok(found)
 }

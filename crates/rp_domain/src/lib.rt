@@ -13,6 +13,7 @@ mod references;
 mod room;
 mod rows;
 mod sameness;
+mod table;
 mod users;
 
 pub use domain::ListDomain;
