@@ -1,6 +1,7 @@
 -- What is found in lists.
-use Rattle.std.proofs.Common.{◌≡◌, ℕ, zero, suc, ◌<◌, ◌≤◌, Bool, true, false, Option, Some, None, List, [], ◌∷◌, length, drop, get_or, set, refl, sym, ap, arith, cond, slice_get, ◌==◌}
+use Rattle.std.proofs.Common.{◌≡◌, ℕ, zero, suc, ◌<◌, ◌≤◌, Bool, true, false, Option, Some, None, List, [], ◌∷◌, length, drop, get_or, set, refl, sym, ap, arith, cond, slice_get, slice_set, ◌==◌}
 use Rattle.std.proofs.Math.ListN.{drop_of_length-le}
+use Rattle.std.proofs.lemmas.Bool.Decides.{nat_tests}
 use Rattle.ex_named.specs.declared.reference.AttributePlace.{AttributePlace}
 use Rattle.rp_value.specs.declared.value.Value.{Value, out-Value}
 use Rattle.rp_value.specs.declared.value.Value.TheVariants as v
@@ -11,11 +12,12 @@ use Rattle.rp_meaning.specs.declared.schema.Schema.{Schema}
 use Rattle.rp_meaning.specs.Attributes as spec
 use Rattle.rp_meaning.specs.TypeNames.{texts}
 use Rattle.rp_meaning.specs.Bare.{place_in}
-use Rattle.rp_meaning.specs.Populations.{Instance, stored, instances}
+use Rattle.rp_meaning.specs.declared.domain.ReadValue.{ReadValue}
+use Rattle.rp_meaning.specs.Populations.{Instance, as_read, stored, instances}
 use Rattle.rp_meaning.specs.Uses.{same_attribute}
 use Rattle.rp_meaning.specs.Uses as uses
 use Rattle.rp_eval.specs.Counts as counts
-use Rattle.rp_eval.specs.Counts.{read_at, read_in, is_at, once_after, again_after, value_in}
+use Rattle.rp_eval.specs.Counts.{last_read, read_at, read_in, is_at, once_after, again_after, value_in}
 
 -- ---- stored values
 
@@ -58,6 +60,25 @@ value-miss a d (y ∷ xs) (w ∷ written) (r ∷ read) (suc k) h same = value-mi
 -- past the end there is none
 pub value-none : (a : AttributePlace) (xs : List AttributePlace) (written read : List Value) (k : ℕ) → length xs ≤ k → value_in a (drop k xs) (drop k written) (drop k read) ≡ v.Indet
 value-none a xs written read k h = let e : drop k xs ≡ [] = drop_of_length-le xs h in rw e refl
+
+-- ---- values that are read in place of others
+
+get-set : (xs : List Value) (i k : ℕ) (x y : Value) → slice_get xs k ≡ Some x → slice_get (slice_set xs i y) k ≡ Some (cond (i == k) y x)
+get-set [] i k x y h = absurd (cc)
+get-set (z ∷ xs) zero zero x y h = refl
+get-set (z ∷ xs) zero (suc k) x y h = let e : (zero == suc k) ≡ false = grind (arith, nat_tests) in rw e h
+get-set (z ∷ xs) (suc i) zero x y h = let e : (suc i == zero) ≡ false = grind (arith, nat_tests) in rw e h
+get-set (z ∷ xs) (suc i) (suc k) x y h = let e : (suc i == suc k) ≡ (i == k) = grind (arith, nat_tests) in rw e (get-set xs i k x y h)
+
+get-read : (differing : List ReadValue) (xs : List Value) (k : ℕ) (x : Value) → slice_get xs k ≡ Some x → slice_get (as_read differing xs) k ≡ Some (last_read x differing k)
+get-read [] xs k x h = h
+get-read (r ∷ differing) xs k x h = get-read differing (slice_set xs r.place r.value) k (cond (r.place == k) r.value x) (get-set xs r.place k x r.value h)
+
+pub read-last : (written : List Value) (differing : List ReadValue) (k : ℕ) (x : Value) → slice_get written k ≡ Some x → read_at written (as_read differing written) k ≡ last_read x differing k
+read-last written differing k x h = rw (h, get-read differing written k x h) refl
+
+pub read-nowhere : (written read : List Value) (k : ℕ) → slice_get written k ≡ None → read_at written read k ≡ v.Indet
+read-nowhere written read k h = rw h refl
 
 -- ---- instances that stand together
 

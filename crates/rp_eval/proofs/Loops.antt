@@ -20,6 +20,7 @@ use Rattle.rp_meaning.specs.Operators.{equal}
 use Rattle.rp_meaning.specs.Statements.{Action, Next, Turn, Labelled, Running, going_on, one_by_one, turn, again, from_start, started, advanced, running, step_value, counted, repeated, repeats, any_equal, is_hit, matched, statement_layer, action_layer, statement, labelled, statements, given_value, initialized, all_assigned}
 use Rattle.rp_eval.specs.declared.statements.Ending.{Ending}
 use Rattle.rp_eval.specs.declared.statements.Ending.TheVariants as n
+use Rattle.rp_eval.specs.Beginnings.{begins}
 use Rattle.rp_eval.specs.Endings.{after, Starts}
 
 pub drop-read : {A : Type 0} (xs : List A) (i : ℕ) (x : A) → i < length xs → x ≡ get_or xs i x → drop i xs ≡ x ∷ drop (i + 1) xs
@@ -89,11 +90,11 @@ unfolding most_turns
 past_most i h = h
 
 -- what does not go on is how the statements end
-pub going_on_over : (next : Action) (e : Ending) (s : Scope) (left : Counter) → ¬ (e ≡ n.Next) → going_on next (after e s) left ≡ Some (after e s, left)
-going_on_over next n.Next s left h = absurd (h refl)
-going_on_over next n.Skipped s left h = refl
-going_on_over next n.Escaped s left h = refl
-going_on_over next (n.Returned x) s left h = refl
+pub going_on_over : (next : Action) (e : Ending) (x : Value) (s : Scope) (left : Counter) → ¬ (e ≡ n.Next) → going_on next (after e x s) left ≡ Some (after e x s, left)
+going_on_over next n.Next x s left h = absurd (h refl)
+going_on_over next n.Skipped x s left h = refl
+going_on_over next n.Escaped x s left h = refl
+going_on_over next n.Returned x s left h = refl
 
 -- ---- turns
 
@@ -113,10 +114,25 @@ pub turn_on : (turns i : ℕ) (one : Scope → Computation Turn) (r : Option Run
     → repeated (turns - i) one r s left ≡ and_then (one t left) (again (repeated (turns - (i + 1)) one (advanced r)))
 turn_on turns i one r s t left h on = repeated_turn turns i one r s left h ∙ ap (λ o. from_start one (repeated (turns - (i + 1)) one (advanced r)) s o left) on
 
-pub repeats_some : (turns : ℕ) (value : Expression → Meaning) (one : Scope → Computation Turn) (i : Increment) (s : Scope) (c0 c1 c2 c3 : Counter) (a b d : Value) (r : Running)
-    → value i.first s c0 ≡ Some (a, c1) → value i.last s c1 ≡ Some (b, c2) → step_value value i.step s c2 ≡ Some (d, c3) → running a b d ≡ Some r
-    → repeats turns value one (Some i) s c0 ≡ counted turns one (Some r) s c3
-repeats_some turns value one i s c0 c1 c2 c3 a b d r first last step is = rw (first, last, step, is) refl
+module _ (turns : ℕ) (value : Expression → Meaning) (one : Scope → Computation Turn) (i : Increment) (s : Scope) where
+  third-by : (a b : Value) (found : Option (Value × Counter)) → and_then found (λ d. counted turns one (running a b d) s) ≡ and_then (and_then found (λ d. pure (running a b d))) (λ r. counted turns one r s)
+  third-by a b None = refl
+  third-by a b (Some p) = refl
+
+  second-by : (a : Value) (found : Option (Value × Counter))
+      → and_then found (λ b. step_value value i.step s >>= (λ d. counted turns one (running a b d) s)) ≡ and_then (and_then found (λ b. step_value value i.step s >>= (λ d. pure (running a b d)))) (λ r. counted turns one r s)
+  second-by a None = refl
+  second-by a (Some p) = third-by a p.0 (step_value value i.step s p.1)
+
+  first-by : (found : Option (Value × Counter))
+      → and_then found (λ a. value i.last s >>= (λ b. step_value value i.step s >>= (λ d. counted turns one (running a b d) s)))
+      ≡ and_then (and_then found (λ a. value i.last s >>= (λ b. step_value value i.step s >>= (λ d. pure (running a b d))))) (λ r. counted turns one r s)
+  first-by None = refl
+  first-by (Some p) = second-by p.0 (value i.last s p.1)
+
+  -- turns behind what begins them
+  pub repeats_begins : (left : Counter) → repeats turns value one (Some i) s left ≡ and_then (begins value i s left) (λ r. counted turns one r s)
+  repeats_begins left = first-by (value i.first s left)
 
 pub off : (b : Bool) → not b ≡ true → b ≡ false
 off false h = refl

@@ -47,11 +47,40 @@ of-one means next s x left = one-by next (means x s left)
 behind : (m : Computation Value) (u : Unit {0}) (left : Counter) (found : Option (Unit {0} × Counter)) → found ≡ Some (u, left) → and_then found (λ v. m) ≡ m left
 behind m u left found is = rw is refl
 
+-- of several behind a step
+pub called-list : (means : Expression → Meaning) (next : List Value → Computation Value) (s : Scope) (trees : List Expression) (none : List Value) (u : Unit {0}) (old left : Counter) → none ≡ [] → steps 1 old ≡ Some (u, left)
+    → charged 1 (followed (each_after s [] (map means trees)) next) old ≡ and_then (each_after s none (map means trees) left) next
+called-list means next s trees none u old left is step =
+    behind (each_after s [] (map means trees) >>= next) u left (steps 1 old) step
+    ∙ ap (λ found. and_then (each_after s found (map means trees) left) next) (sym is)
+
 pub called-one : (means : Expression → Meaning) (next : List Value → Computation Value) (s : Scope) (trees : List Expression) (x : Expression) (u : Unit {0}) (old left : Counter) → trees ≡ x ∷ [] → steps 1 old ≡ Some (u, left)
     → charged 1 (followed (each_after s [] (map means trees)) next) old ≡ and_then (means x s left) (λ a. next (a ∷ []))
 called-one means next s trees x u old left is step =
     behind (each_after s [] (map means trees) >>= next) u left (steps 1 old) step
     ∙ (ap (λ ts. and_then (each_after s [] (map means ts) left) next) is ∙ of-one means next s x left)
+
+module _ (means : Expression → Meaning) (next : List Value → Computation Value) (s : Scope) where
+  second-by : (a : Value) (found : Option (Value × Counter)) → and_then (and_then found (λ b. pure (a ∷ b ∷ []))) next ≡ and_then found (λ b. next (a ∷ b ∷ []))
+  second-by a None = refl
+  second-by a (Some p) = refl
+
+  first-by : (y : Expression) (found : Option (Value × Counter))
+      → and_then (and_then found (λ a. means y s >>= (λ b. pure (a ∷ b ∷ [])))) next ≡ and_then found (λ a. means y s >>= (λ b. next (a ∷ b ∷ [])))
+  first-by y None = refl
+  first-by y (Some p) = second-by p.0 (means y s p.1)
+
+  pub called-two : (trees : List Expression) (x y : Expression) (u : Unit {0}) (old left : Counter) → trees ≡ x ∷ y ∷ [] → steps 1 old ≡ Some (u, left)
+      → charged 1 (followed (each_after s [] (map means trees)) next) old ≡ and_then (means x s left) (λ a. means y s >>= (λ b. next (a ∷ b ∷ [])))
+  called-two trees x y u old left is step =
+      behind (each_after s [] (map means trees) >>= next) u left (steps 1 old) step
+      ∙ (ap (λ ts. and_then (each_after s [] (map means ts) left) next) is ∙ first-by y (means x s left))
+
+pub two_are : {A : Type 0} (xs : List A) (x y : A) → length xs ≡ 2 → x ≡ get_or xs 0 x → y ≡ get_or xs 1 y → xs ≡ x ∷ y ∷ []
+two_are [] x y few first second = absurd (omega (arith, few))
+two_are (a ∷ []) x y few first second = absurd (omega (arith, few))
+two_are (a ∷ b ∷ []) x y few first second = rw (first, second) refl
+two_are (a ∷ b ∷ c ∷ xs) x y few first second = absurd (omega (arith, few))
 
 pub only_is : {A : Type 0} (xs : List A) (x : A) → 1 ≤ length xs → length xs < 2 → x ≡ get_or xs 0 x → xs ≡ x ∷ []
 only_is [] x some few is = absurd (omega (arith, some))

@@ -8,6 +8,7 @@ use Rattle.rp_value.specs.declared.value.AggregateKind.TheVariants as k
 use Rattle.ex_tree.specs.declared.declaration.InverseAggregate.{InverseAggregate}
 use Rattle.ex_tree.specs.declared.declaration.SetOrBag.TheVariants as a
 use Rattle.rp_meaning.specs.Attributes.{aggregate}
+use Rattle.rp_meaning.specs.declared.domain.ReadValue.{ReadValue}
 use Rattle.rp_meaning.specs.declared.role.NamedRole.{NamedRole}
 use Rattle.rp_meaning.specs.declared.role.Role.{Role}
 use Rattle.rp_value.specs.declared.value.Value.{Value, out-Value}
@@ -39,6 +40,11 @@ read_in _ _ = v.Indet
 -- the value that is read at a place, where one is written
 abbrev pub read_at : List Value → List Value → ℕ → Value
 read_at written read place = read_in (slice_get written place) (slice_get read place)
+
+-- the value that is read at a place where this one is written: the last of those that are read there
+abbrev pub last_read : Value → List ReadValue → ℕ → Value
+last_read x [] place = x
+last_read x (r ∷ others) place = last_read (if r.place == place then r.value else x) others place
 
 abbrev pub is_stored : AttributePlace → Stored → Bool
 is_stored a x = same_attribute x.attribute a

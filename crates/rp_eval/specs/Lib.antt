@@ -4,3 +4,5 @@ pub mod Callings
 pub mod Counts
 pub mod Limits
 pub mod Charges
+pub mod Written
+pub mod Beginnings

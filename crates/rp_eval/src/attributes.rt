@@ -1,15 +1,17 @@
 //! Attributes of instances: which are meant, what gives their values, and what is stored of them.
 
-ghost use Rattle.std.specs.Prelude.{◌≡◌, true, IfOk, IfSome};
+ghost use Rattle.std.specs.Prelude.{◌≡◌, true, slice_get, IfOk, IfSome};
 ghost use Rattle.std.specs.List.{find};
-ghost use Rattle.std.specs.Option.{option_copied};
+ghost use Rattle.std.specs.Option.{option_copied, unwrap_or};
 ghost use Rattle.rp_meaning.specs.Attributes as spec;
 ghost use Rattle.rp_meaning.specs.Populations as populations;
+ghost use Rattle.rp_meaning.specs.Populations.{as_read};
 ghost use Rattle.rp_meaning.specs.Uses as uses;
+ghost use Rattle.rp_value.specs.declared.value.Value.TheVariants as v;
 ghost use Rattle.rp_eval.specs.Counts as counts;
 
 use ex_named::{AttributePlace, AttributeSort};
-use rp_meaning::{Derivation, Given, Inverse, NamedRole, Role, Schema, Seen};
+use rp_meaning::{Derivation, Given, Inverse, NamedRole, ReadValue, Role, Schema, Seen};
 use rp_value::Value;
 use std::alloc::AllocError;
 
@@ -21,13 +23,16 @@ pub(crate) fn is_of(instance: &Seen<'_>, entity: usize) -> bool
 }
 
 /// Which of these attributes is meant in an instance: the first of which it has the entity.
-pub(crate) fn chosen(attributes: &[AttributePlace], instance: &Seen<'_>) -> Option<AttributePlace>
-    ensures value { result ≡ spec.chosen attributes.now instance.now }
-    ensures has { IfSome result (λ a. populations.is_of instance.now a.entity ≡ true) }
+pub(crate) fn chosen<'a>(
+    attributes: &'a [AttributePlace],
+    instance: &Seen<'_>,
+) -> Option<&'a AttributePlace>
+    ensures value { option_copied result ≡ spec.chosen attributes.now instance.now }
+    ensures has { IfSome result (λ a. populations.is_of instance.now a.now.entity ≡ true) }
 {
     for attribute in attributes {
         if is_of(instance, attribute.entity) {
-            return Some(*attribute);
+            return Some(attribute);
         }
     }
     None
@@ -44,59 +49,85 @@ fn same_sort(first: AttributeSort, second: AttributeSort) -> bool
     }
 }
 
-fn same_attribute(first: AttributePlace, second: AttributePlace) -> bool
-    ensures { result ≡ uses.same_attribute first second }
+fn same_attribute(first: &AttributePlace, second: &AttributePlace) -> bool
+    ensures { result ≡ uses.same_attribute first.now second.now }
 {
     first.entity == second.entity
-        && same_sort(first.sort, second.sort)
         && first.place == second.place
+        && same_sort(first.sort, second.sort)
 }
 
-/// The value that is read, where one is written.
-fn read_at(written: &[Value], read: &[Value], place: usize) -> Result<Value, AllocError>
-    ensures { IfOk result (λ value. value ≡ counts.read_at written.now read.now place) }
+/// The value that is read at a place, where this one is written: the last of those that are read there.
+fn last_read<'d>(written: &'d Value, differing: &'d [ReadValue], place: usize) -> &'d Value
+    ensures { result.now ≡ counts.last_read written.now differing.now place }
 {
-    match (written.get(place), read.get(place)) {
-        (Some(_), Some(value)) => value.copy(),
-        _ => Ok(Value::Indet),
-    }
-}
-
-/// The value of the first of these attributes that is the one.
-fn value_in(
-    attributes: &[AttributePlace],
-    written: &[Value],
-    read: &[Value],
-    attribute: AttributePlace,
-) -> Result<Value, AllocError>
-    ensures { IfOk result (λ value. value ≡ counts.value_in attribute attributes.now written.now read.now) }
-{
-    for place in 0..attributes.len() {
-        if same_attribute(attributes[place], attribute) {
-            return read_at(written, read, place);
+    let mut found = written;
+    for read in differing {
+        if read.place == place {
+            found = &read.value;
         }
     }
-    Ok(Value::Indet)
+    found
+}
+
+fn value_at(values: &[Value], place: usize) -> Option<&Value>
+    ensures { option_copied result ≡ slice_get values.now place }
+{
+    values.get(place)
+}
+
+/// The value that is read at a place.
+fn read_at<'d>(written: &'d [Value], differing: &'d [ReadValue], place: usize) -> Option<&'d Value>
+    ensures { unwrap_or (option_copied result) v.Indet ≡ counts.read_at written.now (as_read differing.now written.now) place }
+{
+    match value_at(written, place) {
+        Some(value) => Some(last_read(value, differing, place)),
+        None => None,
+    }
+}
+
+/// The value of the first of these attributes that is the one, as it is read.
+fn value_in<'d>(
+    attributes: &[AttributePlace],
+    written: &'d [Value],
+    differing: &'d [ReadValue],
+    attribute: &AttributePlace,
+) -> Option<&'d Value>
+    ensures { unwrap_or (option_copied result) v.Indet ≡ counts.value_in attribute.now attributes.now written.now (as_read differing.now written.now) }
+{
+    for place in 0..attributes.len() {
+        if same_attribute(&attributes[place], attribute) {
+            return read_at(written, differing, place);
+        }
+    }
+    None
 }
 
 /// The value that is stored in an instance, as it is read.
 pub(crate) fn stored_value(
     instance: &Seen<'_>,
-    attribute: AttributePlace,
+    attribute: &AttributePlace,
 ) -> Result<Value, AllocError>
-    ensures { IfOk result (λ value. value ≡ spec.stored_value instance.now attribute) }
+    ensures { IfOk result (λ value. value ≡ spec.stored_value instance.now attribute.now) }
 {
-    value_in(
+    let found = value_in(
         instance.attributes,
         instance.written,
-        instance.read,
+        instance.differing,
         attribute,
-    )
+    );
+    match found {
+        Some(value) => value.copy(),
+        None => Ok(Value::Indet),
+    }
 }
 
 /// What redeclares an explicit attribute in DERIVE.
-pub(crate) fn explicit_derivations(schema: &Schema, attribute: AttributePlace) -> &[Derivation]
-    ensures { result.now ≡ spec.explicit_derivations schema.now attribute }
+pub(crate) fn explicit_derivations<'s>(
+    schema: &'s Schema,
+    attribute: &AttributePlace,
+) -> &'s [Derivation]
+    ensures { result.now ≡ spec.explicit_derivations schema.now attribute.now }
 {
     let Some(entity) = schema.entities.get(attribute.entity) else {
         return &[];
@@ -108,8 +139,11 @@ pub(crate) fn explicit_derivations(schema: &Schema, attribute: AttributePlace) -
 }
 
 /// What gives a derived attribute.
-pub(crate) fn own_derivations(schema: &Schema, attribute: AttributePlace) -> &[Derivation]
-    ensures { result.now ≡ spec.own_derivations schema.now attribute }
+pub(crate) fn own_derivations<'s>(
+    schema: &'s Schema,
+    attribute: &AttributePlace,
+) -> &'s [Derivation]
+    ensures { result.now ≡ spec.own_derivations schema.now attribute.now }
 {
     let Some(entity) = schema.entities.get(attribute.entity) else {
         return &[];

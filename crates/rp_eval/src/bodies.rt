@@ -38,7 +38,7 @@ impl<'a, D: Domain, B: Fn(Global, &Schema, &D, u8, &mut Counter, Body) -> Result
         ensures value { Runs (spec.given_value (world self.now.schema.now (D.population self.now.domain.now)) most_turns (bodies_at self.now.schema.now (D.population self.now.domain.now) self.now.levels) declared.now frame.old counter.old) result counter.new }
         ensures frame { OnOk result (frame.new ≡ frame.old) }
     {
-        let value = self.expression(&declared.value, frame, counter)?;
+        let value = self.value(&declared.value, frame, counter)?;
         Ok(given(
             self.alloc,
             self.schema.types.as_slice(),
@@ -84,12 +84,13 @@ impl<'a, D: Domain, B: Fn(Global, &Schema, &D, u8, &mut Counter, Body) -> Result
         algorithm: &Algorithm,
         frame: &mut Frame,
         counter: &mut Counter,
+        into: &mut Value,
     ) -> Result<Ending, Stop>
         requires { RunsBodies D.population self.now.alloc self.now.schema self.now.domain self.now.levels (B.pre self.now.below) (B.post self.now.below) }
-        ensures { Ends (spec.algorithm (world self.now.schema.now (D.population self.now.domain.now)) most_turns (bodies_at self.now.schema.now (D.population self.now.domain.now) self.now.levels) algorithm.now frame.old counter.old) result frame.new counter.new }
+        ensures { Ends (spec.algorithm (world self.now.schema.now (D.population self.now.domain.now)) most_turns (bodies_at self.now.schema.now (D.population self.now.domain.now) self.now.levels) algorithm.now frame.old counter.old) result into.new frame.new counter.new }
     {
         self.initials(algorithm.initial.as_slice(), frame, counter)?;
-        self.statements(algorithm.statements.as_slice(), frame, counter)
+        self.statements(algorithm.statements.as_slice(), frame, counter, into)
     }
 
     /// The arguments of a function, by the types of its parameters.
@@ -112,12 +113,17 @@ impl<'a, D: Domain, B: Fn(Global, &Schema, &D, u8, &mut Counter, Body) -> Result
     }
 
     /// What a function gives that ends so.
-    fn result_by(&self, data_type: &NamedDataType, ending: Ending) -> Result<Value, AllocError>
-        ensures { (s : _) → IfOk result (λ value. value ≡ level.result_by (world self.now.schema.now (D.population self.now.domain.now)) most_turns data_type.now (after ending s)) }
+    fn result_by(
+        &self,
+        data_type: &NamedDataType,
+        ending: Ending,
+        value: &Value,
+    ) -> Result<Value, AllocError>
+        ensures { (s : _) → IfOk result (λ found. found ≡ level.result_by (world self.now.schema.now (D.population self.now.domain.now)) most_turns data_type.now (after ending value.now s)) }
     {
         match ending {
-            Ending::Returned(value) => {
-                given(self.alloc, self.schema.types.as_slice(), data_type, &value)
+            Ending::Returned => {
+                given(self.alloc, self.schema.types.as_slice(), data_type, value)
             }
             _ => Ok(Value::Indet),
         }
@@ -135,8 +141,9 @@ impl<'a, D: Domain, B: Fn(Global, &Schema, &D, u8, &mut Counter, Body) -> Result
     {
         let parameters = self.parameters(function.parameters.as_slice(), arguments)?;
         let mut frame = Frame::of_locals(parameters, function.algorithm.locals)?;
-        let ending = self.algorithm(&function.algorithm, &mut frame, counter)?;
-        Ok(self.result_by(&function.result, ending)?)
+        let mut value = Value::Indet;
+        let ending = self.algorithm(&function.algorithm, &mut frame, counter, &mut value)?;
+        Ok(self.result_by(&function.result, ending, &value)?)
     }
 
     /// A value that is declared with an expression.

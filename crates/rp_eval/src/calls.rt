@@ -5,8 +5,8 @@ ghost use Rattle.rp_meaning.specs.Computations.{Runs};
 ghost use Rattle.rp_meaning.specs.Expressions as spec;
 ghost use Rattle.rp_eval.specs.Bodies.{RunsBodies, bodies_at, world};
 ghost use Rattle.rp_eval.specs.Callings as callings;
+ghost use Rattle.rp_eval.specs.Written.{RunsInto};
 ghost use Rattle.ex_tree.specs.declared.expression.BuiltInFunction.TheVariants as f;
-ghost use Rattle.rp_eval.specs.declared.calls.Calling.TheVariants as k;
 
 use crate::steps::{charge, charge_initializer};
 use crate::walk::Walk;
@@ -20,138 +20,150 @@ use rp_operators::{
 use rp_value::{AggregateKind, Value};
 use std::alloc::Global;
 
-/// What is called.
-#[derive(Clone, Copy)]
-pub(crate) enum Calling {
-    Function(usize),
-    /// `[ .. ]`
-    Initializer,
-}
-
 impl<'a, D: Domain, B: Fn(Global, &Schema, &D, u8, &mut Counter, Body) -> Result<Value, Stop>> Walk<
     'a,
     D,
     B,
 > {
-    /// The names of the types of a value.
+    /// The names of the types of the value that is there.
     #[tactic(auto, using(crate::proofs::Found::texts_count))]
-    fn type_names_value(&self, value: &Value, counter: &mut Counter) -> Result<Value, Stop>
-        ensures { Runs (spec.type_names_value (world self.now.schema.now (D.population self.now.domain.now)) (bodies_at self.now.schema.now (D.population self.now.domain.now) self.now.levels) value.now counter.old) result counter.new }
+    fn type_names_value(&self, counter: &mut Counter, into: &mut Value) -> Result<(), Stop>
+        ensures { RunsInto (spec.type_names_value (world self.now.schema.now (D.population self.now.domain.now)) (bodies_at self.now.schema.now (D.population self.now.domain.now) self.now.levels) into.old counter.old) result into.new counter.new }
     {
-        let names = type_names(self.alloc, self.schema, self.domain, value)?;
+        let names = type_names(self.alloc, self.schema, self.domain, into)?;
         charge(counter, names.len())?;
-        Ok(Value::aggregate(self.alloc, AggregateKind::Set, 1, names)?)
+        *into = Value::aggregate(self.alloc, AggregateKind::Set, 1, names)?;
+        Ok(())
     }
 
-    /// The users of an instance in the role that a text names.
-    fn used_in_by(
-        &self,
-        instance: &Value,
-        role: &Value,
-        counter: &mut Counter,
-    ) -> Result<Value, Stop>
-        ensures { Runs (spec.of_two (world self.now.schema.now (D.population self.now.domain.now)) (bodies_at self.now.schema.now (D.population self.now.domain.now) self.now.levels) f.UsedIn instance.now role.now counter.old) result counter.new }
+    /// The users of the instance that is there in the role that a text names.
+    fn used_in_by(&self, role: &Value, counter: &mut Counter, into: &mut Value) -> Result<(), Stop>
+        ensures { RunsInto (spec.of_two (world self.now.schema.now (D.population self.now.domain.now)) (bodies_at self.now.schema.now (D.population self.now.domain.now) self.now.levels) f.UsedIn into.old role.now counter.old) result into.new counter.new }
     {
         match text_of(role) {
-            Some(name) => self.used_in_named(name.as_str(), place_of(instance), counter),
-            None => Ok(Value::Indet),
+            Some(name) => self.used_in_named(name.as_str(), place_of(into), counter, into),
+            None => {
+                *into = Value::Indet;
+                Ok(())
+            }
         }
     }
 
-    /// Whether a value is an element of an aggregate, for a step of each element.
-    fn value_in(
-        &self,
-        aggregate: &Value,
-        value: &Value,
-        counter: &mut Counter,
-    ) -> Result<Value, Stop>
-        ensures { Runs (spec.of_two (world self.now.schema.now (D.population self.now.domain.now)) (bodies_at self.now.schema.now (D.population self.now.domain.now) self.now.levels) f.ValueIn aggregate.now value.now counter.old) result counter.new }
+    /// Whether a value is an element of the aggregate that is there, for a step of each element.
+    fn value_in(&self, value: &Value, counter: &mut Counter, into: &mut Value) -> Result<(), Stop>
+        ensures { RunsInto (spec.of_two (world self.now.schema.now (D.population self.now.domain.now)) (bodies_at self.now.schema.now (D.population self.now.domain.now) self.now.levels) f.ValueIn into.old value.now counter.old) result into.new counter.new }
     {
-        charge(counter, count(aggregate))?;
-        Ok(value_in(aggregate, value))
+        charge(counter, count(into))?;
+        *into = value_in(into, value);
+        Ok(())
     }
 
-    /// A function of the language of one argument.
+    /// A function of the language of the one argument that is there.
+    #[inline(never)]
     pub(crate) fn of_one(
         &self,
         function: BuiltInFunction,
-        value: &Value,
         counter: &mut Counter,
-    ) -> Result<Value, Stop>
-        ensures { Runs (spec.of_one (world self.now.schema.now (D.population self.now.domain.now)) (bodies_at self.now.schema.now (D.population self.now.domain.now) self.now.levels) function value.now counter.old) result counter.new }
+        into: &mut Value,
+    ) -> Result<(), Stop>
+        ensures { RunsInto (spec.of_one (world self.now.schema.now (D.population self.now.domain.now)) (bodies_at self.now.schema.now (D.population self.now.domain.now) self.now.levels) function into.old counter.old) result into.new counter.new }
     {
-        Ok(match function {
-            BuiltInFunction::Abs => absolute(value),
-            BuiltInFunction::BLength => binary_length(value),
-            BuiltInFunction::Exists => exists(value),
-            BuiltInFunction::HiIndex => high_index(value),
-            BuiltInFunction::Length => text_length(value),
-            BuiltInFunction::LoIndex => low_index(value),
-            BuiltInFunction::Odd => odd(value),
-            BuiltInFunction::SizeOf => size_of(value),
-            BuiltInFunction::TypeOf => return self.type_names_value(value, counter),
+        *into = match function {
+            BuiltInFunction::Abs => absolute(into),
+            BuiltInFunction::BLength => binary_length(into),
+            BuiltInFunction::Exists => exists(into),
+            BuiltInFunction::HiIndex => high_index(into),
+            BuiltInFunction::Length => text_length(into),
+            BuiltInFunction::LoIndex => low_index(into),
+            BuiltInFunction::Odd => odd(into),
+            BuiltInFunction::SizeOf => size_of(into),
+            BuiltInFunction::TypeOf => return self.type_names_value(counter, into),
             BuiltInFunction::Nvl | BuiltInFunction::UsedIn | BuiltInFunction::ValueIn => {
                 Value::Indet
             }
-        })
+        };
+        Ok(())
     }
 
-    /// A function of the language of two arguments.
-    fn of_two(
+    /// A function of the language of the argument that is there and of a second one.
+    #[inline(never)]
+    pub(crate) fn of_two(
         &self,
         function: BuiltInFunction,
-        first: &Value,
         second: &Value,
         counter: &mut Counter,
-    ) -> Result<Value, Stop>
-        ensures { Runs (spec.of_two (world self.now.schema.now (D.population self.now.domain.now)) (bodies_at self.now.schema.now (D.population self.now.domain.now) self.now.levels) function first.now second.now counter.old) result counter.new }
+        into: &mut Value,
+    ) -> Result<(), Stop>
+        ensures { RunsInto (spec.of_two (world self.now.schema.now (D.population self.now.domain.now)) (bodies_at self.now.schema.now (D.population self.now.domain.now) self.now.levels) function into.old second.now counter.old) result into.new counter.new }
     {
         match function {
-            BuiltInFunction::Nvl => Ok(null_value(first, second)?),
-            BuiltInFunction::UsedIn => self.used_in_by(first, second, counter),
-            BuiltInFunction::ValueIn => self.value_in(first, second, counter),
-            _ => Ok(Value::Indet),
+            BuiltInFunction::Nvl => {
+                *into = null_value(into, second)?;
+                Ok(())
+            }
+            BuiltInFunction::UsedIn => self.used_in_by(second, counter, into),
+            BuiltInFunction::ValueIn => self.value_in(second, counter, into),
+            _ => {
+                *into = Value::Indet;
+                Ok(())
+            }
         }
     }
 
     /// A function of the language, with the values of its arguments.
+    #[inline(never)]
     pub(crate) fn of_values(
         &self,
         function: BuiltInFunction,
         values: &[Value],
         counter: &mut Counter,
-    ) -> Result<Value, Stop>
-        ensures { Runs (spec.built_in (world self.now.schema.now (D.population self.now.domain.now)) (bodies_at self.now.schema.now (D.population self.now.domain.now) self.now.levels) function values.now counter.old) result counter.new }
+        into: &mut Value,
+    ) -> Result<(), Stop>
+        ensures { RunsInto (spec.built_in (world self.now.schema.now (D.population self.now.domain.now)) (bodies_at self.now.schema.now (D.population self.now.domain.now) self.now.levels) function values.now counter.old) result into.new counter.new }
     {
         match values {
-            [value] => self.of_one(function, value, counter),
-            [first, second] => self.of_two(function, first, second, counter),
-            _ => Ok(Value::Indet),
+            [value] => {
+                *into = value.copy()?;
+                self.of_one(function, counter, into)
+            }
+            [first, second] => {
+                *into = first.copy()?;
+                self.of_two(function, second, counter, into)
+            }
+            _ => {
+                *into = Value::Indet;
+                Ok(())
+            }
         }
     }
 
     /// An initialiser of these elements.
-    fn initialized(&self, values: Items<Value>, counter: &mut Counter) -> Result<Value, Stop>
-        ensures { Runs (callings.calling (world self.now.schema.now (D.population self.now.domain.now)) (bodies_at self.now.schema.now (D.population self.now.domain.now) self.now.levels) k.Initializer values counter.old) result counter.new }
-    {
-        let value = initializer(self.alloc, values)?;
-        charge_initializer(counter, &value)?;
-        Ok(value)
-    }
-
-    /// What is called, with the values of its arguments.
-    pub(crate) fn calling(
+    #[inline(never)]
+    pub(crate) fn initialized(
         &self,
-        calling: Calling,
         values: Items<Value>,
         counter: &mut Counter,
-    ) -> Result<Value, Stop>
-        requires { RunsBodies D.population self.now.alloc self.now.schema self.now.domain self.now.levels (B.pre self.now.below) (B.post self.now.below) }
-        ensures { Runs (callings.calling (world self.now.schema.now (D.population self.now.domain.now)) (bodies_at self.now.schema.now (D.population self.now.domain.now) self.now.levels) calling values counter.old) result counter.new }
+        into: &mut Value,
+    ) -> Result<(), Stop>
+        ensures { RunsInto (callings.initialized values counter.old) result into.new counter.new }
     {
-        match calling {
-            Calling::Function(number) => self.body_below(Body::Function(number, values), counter),
-            Calling::Initializer => self.initialized(values, counter),
-        }
+        *into = initializer(self.alloc, values)?;
+        charge_initializer(counter, into)
+    }
+
+    /// A function by its number, with the values of its arguments.
+    #[inline(never)]
+    pub(crate) fn function_below(
+        &self,
+        number: usize,
+        values: Items<Value>,
+        counter: &mut Counter,
+        into: &mut Value,
+    ) -> Result<(), Stop>
+        requires { RunsBodies D.population self.now.alloc self.now.schema self.now.domain self.now.levels (B.pre self.now.below) (B.post self.now.below) }
+        ensures { RunsInto (callings.function (bodies_at self.now.schema.now (D.population self.now.domain.now) self.now.levels) number values counter.old) result into.new counter.new }
+    {
+        *into = self.body_below(Body::Function(number, values), counter)?;
+        Ok(())
     }
 }

@@ -4,15 +4,14 @@
 ghost use Rattle.std.specs.Prelude.{◌≡◌, [], map, OnOk};
 ghost use Rattle.rp_meaning.specs.Computations as computations;
 ghost use Rattle.rp_meaning.specs.Computations.{Runs, pure};
-ghost use Rattle.std.specs.Option.{option_copied};
 ghost use Rattle.rp_meaning.specs.Bare.{place_of};
 ghost use Rattle.rp_meaning.specs.Expressions as spec;
 ghost use Rattle.rp_meaning.specs.Operators as operators;
 ghost use Rattle.rp_eval.specs.Charges.{charged, followed};
 ghost use Rattle.rp_eval.specs.Bodies.{RunsBodies, bodies_at, interval_at, operation_at, qualifier_at, query_at, value_at, world};
-ghost use Rattle.rp_eval.specs.Callings.{calling};
+ghost use Rattle.rp_eval.specs.Callings as callings;
+ghost use Rattle.rp_eval.specs.Written.{RunsInto};
 
-use crate::calls::Calling;
 use crate::frame::Frame;
 use crate::steps::{charge, charge_interval, charge_operator, known, variable};
 use crate::walk::Walk;
@@ -25,9 +24,17 @@ use rp_operators::{aggregate_of, applied, applied_to, index, is_true, place_of, 
 use rp_value::Value;
 use std::alloc::{AllocError, Global};
 
+/// Puts what a sign or NOT gives of a value in its place.
+#[inline(never)]
+fn sign(operator: UnaryOperator, into: &mut Value)
+    ensures { into.new ≡ operators.applied_to operator into.old }
+{
+    *into = applied_to(operator, into);
+}
+
 /// Puts an element behind the others, where the condition holds.
-fn keep(found: &mut Vec<Value>, element: &Value, holds: bool) -> Result<(), AllocError>
-    ensures { OnOk result (found.new.items ≡ spec.kept_one found.old.items element.now holds) }
+fn keep(found: &mut Items<Value>, element: &Value, holds: bool) -> Result<(), AllocError>
+    ensures { OnOk result (found.new ≡ spec.kept_one found.old element.now holds) }
 {
     if holds {
         found.push(element.copy()?)?;
@@ -40,211 +47,248 @@ impl<'a, D: Domain, B: Fn(Global, &Schema, &D, u8, &mut Counter, Body) -> Result
     D,
     B,
 > {
-    /// What an operator gives of two values.
-    fn operated(
+    /// What an operator gives of the value that is there and of another.
+    #[inline(never)]
+    fn operate(
         &self,
         operation: &Operation,
-        left: &Value,
         right: &Value,
         counter: &mut Counter,
-    ) -> Result<Value, Stop>
-        ensures { Runs (spec.operated operation.now.operator left.now right.now counter.old) result counter.new }
+        into: &mut Value,
+    ) -> Result<(), Stop>
+        ensures { RunsInto (spec.operated operation.now.operator into.old right.now counter.old) result into.new counter.new }
     {
-        charge_operator(counter, operation.operator, left, right)?;
-        Ok(applied(self.alloc, operation.operator, left, right)?)
+        charge_operator(counter, operation.operator, into, right)?;
+        *into = applied(self.alloc, operation.operator, into, right)?;
+        Ok(())
     }
 
-    /// Whether a value is between two others.
+    /// Whether a value is between the one that is there and another.
+    #[inline(never)]
     fn bounded(
         &self,
         interval: &Interval,
-        low: &Value,
         item: &Value,
         high: &Value,
         counter: &mut Counter,
-    ) -> Result<Value, Stop>
-        ensures { Runs (spec.costing (operators.interval_cost low.now item.now high.now) (operators.within interval.now.low_operator interval.now.high_operator low.now item.now high.now) counter.old) result counter.new }
+        into: &mut Value,
+    ) -> Result<(), Stop>
+        ensures { RunsInto (spec.costing (operators.interval_cost into.old item.now high.now) (operators.within interval.now.low_operator interval.now.high_operator into.old item.now high.now) counter.old) result into.new counter.new }
     {
-        charge_interval(counter, low, item, high)?;
-        Ok(within(
+        charge_interval(counter, into, item, high)?;
+        *into = within(
             self.alloc,
             interval.low_operator,
             interval.high_operator,
-            low,
+            into,
             item,
             high,
-        )?)
+        )?;
+        Ok(())
     }
 
-    /// The value of an expression.
+    /// The value of an expression is written in place: a frame on the way to a part holds no value but those that wait for it.
     #[cycle(expressions)]
     pub(crate) fn expression(
         &self,
         tree: &Expression,
         frame: &mut Frame,
         counter: &mut Counter,
-    ) -> Result<Value, Stop>
+        into: &mut Value,
+    ) -> Result<(), Stop>
         requires { RunsBodies D.population self.now.alloc self.now.schema self.now.domain self.now.levels (B.pre self.now.below) (B.post self.now.below) }
-        ensures value { Runs (value_at self.now.schema.now (D.population self.now.domain.now) self.now.levels tree.now frame.old counter.old) result counter.new }
+        ensures value { RunsInto (value_at self.now.schema.now (D.population self.now.domain.now) self.now.levels tree.now frame.old counter.old) result into.new counter.new }
         ensures frame { OnOk result (frame.new ≡ frame.old) }
     {
         match tree {
-            Expression::Literal(value) => known(value, counter),
-            Expression::Itself => known(frame.itself(), counter),
-            Expression::Variable(slot) => variable(frame, *slot, counter),
-            Expression::Attribute(attribute) => self.own_attribute(*attribute, frame, counter),
-            Expression::Constant(number) => self.constant(*number, counter),
-            Expression::Population(entity) => self.extent(*entity, counter),
+            Expression::Literal(value) => known(value, counter, into),
+            Expression::Itself => known(frame.itself(), counter, into),
+            Expression::Variable(slot) => variable(frame, *slot, counter, into),
+            Expression::Attribute(attribute) => self.own_attribute(attribute, frame, counter, into),
+            Expression::Constant(number) => self.constant(*number, counter, into),
+            Expression::Population(entity) => self.extent(*entity, counter, into),
             Expression::Call(number, arguments) => {
-                self.called(
-                    arguments.as_slice(),
-                    Calling::Function(*number),
-                    frame,
-                    counter,
-                )
+                self.called(arguments, *number, frame, counter, into)
             }
             Expression::BuiltIn(function, arguments) => {
-                self.built_in(arguments.as_slice(), *function, frame, counter)
+                self.built_in(arguments, *function, frame, counter, into)
             }
-            Expression::Initializer(elements) => {
-                self.called(elements.as_slice(), Calling::Initializer, frame, counter)
-            }
+            Expression::Initializer(elements) => self.initializer(elements, frame, counter, into),
             Expression::UsedIn(instance, role) => {
-                self.used_in(instance.get(), role.as_ref(), frame, counter)
+                self.used_in(instance.get(), role, frame, counter, into)
             }
             Expression::Unary(operator, right) => {
-                self.unary(right.get(), *operator, frame, counter)
+                self.unary(right.get(), *operator, frame, counter, into)
             }
-            Expression::Interval(interval) => self.interval(interval.get(), frame, counter),
-            Expression::Query(query) => self.query(query.get(), frame, counter),
+            Expression::Interval(interval) => self.interval(interval.get(), frame, counter, into),
+            Expression::Query(query) => self.query(query.get(), frame, counter, into),
             Expression::Qualified(base, qualifiers) => {
-                let value = self.expression(base.get(), frame, counter)?;
-                self.qualifiers(qualifiers.as_slice(), value, frame, counter)
+                self.expression(base.get(), frame, counter, into)?;
+                self.qualifiers(qualifiers.as_slice(), frame, counter, into)
             }
             Expression::Chain(first, operations) => {
-                let value = self.expression(first.get(), frame, counter)?;
-                self.operations(operations.as_slice(), value, frame, counter)
+                self.expression(first.get(), frame, counter, into)?;
+                self.operations(operations.as_slice(), frame, counter, into)
             }
         }
     }
 
-    /// The values of several.
+    /// The values of several, behind those that are there.
     #[cycle(expressions)]
     fn expressions(
         &self,
         trees: &[Expression],
         frame: &mut Frame,
         counter: &mut Counter,
-    ) -> Result<Items<Value>, Stop>
+        values: &mut Items<Value>,
+    ) -> Result<(), Stop>
         requires { RunsBodies D.population self.now.alloc self.now.schema self.now.domain self.now.levels (B.pre self.now.below) (B.post self.now.below) }
-        ensures value { Runs (spec.each_after frame.old [] (map (value_at self.now.schema.now (D.population self.now.domain.now) self.now.levels) trees.now) counter.old) result counter.new }
+        ensures value { RunsInto (spec.each_after frame.old values.old (map (value_at self.now.schema.now (D.population self.now.domain.now) self.now.levels) trees.now) counter.old) result values.new counter.new }
         ensures frame { OnOk result (frame.new ≡ frame.old) }
     {
-        let mut values = Vec::new(self.alloc);
         for tree in trees {
-            values.push(self.expression(tree, frame, counter)?)?;
+            let mut value = Value::Indet;
+            self.expression(tree, frame, counter, &mut value)?;
+            values.push(value)?;
         }
-        Ok(Items::from_vec(values))
+        Ok(())
     }
 
-    /// What is called with arguments, for a step.
+    /// A function with its arguments, for a step.
     #[cycle(expressions)]
+    #[inline(never)]
     fn called(
         &self,
-        arguments: &[Expression],
-        called: Calling,
+        arguments: &Items<Expression>,
+        number: usize,
         frame: &mut Frame,
         counter: &mut Counter,
-    ) -> Result<Value, Stop>
+        into: &mut Value,
+    ) -> Result<(), Stop>
         requires { RunsBodies D.population self.now.alloc self.now.schema self.now.domain self.now.levels (B.pre self.now.below) (B.post self.now.below) }
-        ensures value { Runs (charged 1 (followed (spec.each_after frame.old [] (map (value_at self.now.schema.now (D.population self.now.domain.now) self.now.levels) arguments.now)) (calling (world self.now.schema.now (D.population self.now.domain.now)) (bodies_at self.now.schema.now (D.population self.now.domain.now) self.now.levels) called)) counter.old) result counter.new }
+        ensures value { RunsInto (charged 1 (followed (spec.each_after frame.old [] (map (value_at self.now.schema.now (D.population self.now.domain.now) self.now.levels) arguments.now)) (callings.function (bodies_at self.now.schema.now (D.population self.now.domain.now) self.now.levels) number)) counter.old) result into.new counter.new }
         ensures frame { OnOk result (frame.new ≡ frame.old) }
     {
         charge(counter, 1)?;
-        let values = self.expressions(arguments, frame, counter)?;
-        self.calling(called, values, counter)
+        let mut values = Items::new(self.alloc);
+        self.expressions(arguments.as_slice(), frame, counter, &mut values)?;
+        self.function_below(number, values, counter, into)
     }
 
-    /// A function of the language, for a step. A single argument stands in no list.
+    /// An initialiser, for a step.
     #[cycle(expressions)]
+    #[inline(never)]
+    fn initializer(
+        &self,
+        arguments: &Items<Expression>,
+        frame: &mut Frame,
+        counter: &mut Counter,
+        into: &mut Value,
+    ) -> Result<(), Stop>
+        requires { RunsBodies D.population self.now.alloc self.now.schema self.now.domain self.now.levels (B.pre self.now.below) (B.post self.now.below) }
+        ensures value { RunsInto (charged 1 (followed (spec.each_after frame.old [] (map (value_at self.now.schema.now (D.population self.now.domain.now) self.now.levels) arguments.now)) callings.initialized) counter.old) result into.new counter.new }
+        ensures frame { OnOk result (frame.new ≡ frame.old) }
+    {
+        charge(counter, 1)?;
+        let mut values = Items::new(self.alloc);
+        self.expressions(arguments.as_slice(), frame, counter, &mut values)?;
+        self.initialized(values, counter, into)
+    }
+
+    /// A function of the language, for a step. One argument and two stand in no list.
+    #[cycle(expressions)]
+    #[inline(never)]
     fn built_in(
         &self,
-        arguments: &[Expression],
+        arguments: &Items<Expression>,
         function: BuiltInFunction,
         frame: &mut Frame,
         counter: &mut Counter,
-    ) -> Result<Value, Stop>
+        into: &mut Value,
+    ) -> Result<(), Stop>
         requires { RunsBodies D.population self.now.alloc self.now.schema self.now.domain self.now.levels (B.pre self.now.below) (B.post self.now.below) }
-        ensures value { Runs (charged 1 (followed (spec.each_after frame.old [] (map (value_at self.now.schema.now (D.population self.now.domain.now) self.now.levels) arguments.now)) (spec.built_in (world self.now.schema.now (D.population self.now.domain.now)) (bodies_at self.now.schema.now (D.population self.now.domain.now) self.now.levels) function)) counter.old) result counter.new }
+        ensures value { RunsInto (charged 1 (followed (spec.each_after frame.old [] (map (value_at self.now.schema.now (D.population self.now.domain.now) self.now.levels) arguments.now)) (spec.built_in (world self.now.schema.now (D.population self.now.domain.now)) (bodies_at self.now.schema.now (D.population self.now.domain.now) self.now.levels) function)) counter.old) result into.new counter.new }
         ensures frame { OnOk result (frame.new ≡ frame.old) }
     {
         charge(counter, 1)?;
-        match arguments {
+        match arguments.as_slice() {
             [value] => {
-                let value = self.expression(value, frame, counter)?;
-                self.of_one(function, &value, counter)
+                self.expression(value, frame, counter, into)?;
+                self.of_one(function, counter, into)
             }
-            _ => {
-                let values = self.expressions(arguments, frame, counter)?;
-                self.of_values(function, values.as_slice(), counter)
+            [first, second] => {
+                self.expression(first, frame, counter, into)?;
+                let mut value = Value::Indet;
+                self.expression(second, frame, counter, &mut value)?;
+                self.of_two(function, &value, counter, into)
+            }
+            arguments => {
+                let mut values = Items::new(self.alloc);
+                self.expressions(arguments, frame, counter, &mut values)?;
+                self.of_values(function, values.as_slice(), counter, into)
             }
         }
     }
 
     /// The users of an instance in a role.
     #[cycle(expressions)]
+    #[inline(never)]
     fn used_in(
         &self,
         instance: &Expression,
-        role: Option<&Role>,
+        role: &Option<Role>,
         frame: &mut Frame,
         counter: &mut Counter,
-    ) -> Result<Value, Stop>
+        into: &mut Value,
+    ) -> Result<(), Stop>
         requires { RunsBodies D.population self.now.alloc self.now.schema self.now.domain self.now.levels (B.pre self.now.below) (B.post self.now.below) }
-        ensures value { Runs (charged 2 (followed (value_at self.now.schema.now (D.population self.now.domain.now) self.now.levels instance.now frame.old) (λ a. spec.used_in_role (world self.now.schema.now (D.population self.now.domain.now)) (bodies_at self.now.schema.now (D.population self.now.domain.now) self.now.levels) (option_copied role.entry) (place_of a))) counter.old) result counter.new }
+        ensures value { RunsInto (charged 2 (followed (value_at self.now.schema.now (D.population self.now.domain.now) self.now.levels instance.now frame.old) (λ a. spec.used_in_role (world self.now.schema.now (D.population self.now.domain.now)) (bodies_at self.now.schema.now (D.population self.now.domain.now) self.now.levels) role.now (place_of a))) counter.old) result into.new counter.new }
         ensures frame { OnOk result (frame.new ≡ frame.old) }
     {
         charge(counter, 2)?;
-        let value = self.expression(instance, frame, counter)?;
-        self.used_in_role(role, place_of(&value), counter)
+        self.expression(instance, frame, counter, into)?;
+        self.used_in_role(role.as_ref(), place_of(into), counter, into)
     }
 
     /// A sign or NOT before an operand.
     #[cycle(expressions)]
+    #[inline(never)]
     fn unary(
         &self,
         right: &Expression,
         operator: UnaryOperator,
         frame: &mut Frame,
         counter: &mut Counter,
-    ) -> Result<Value, Stop>
+        into: &mut Value,
+    ) -> Result<(), Stop>
         requires { RunsBodies D.population self.now.alloc self.now.schema self.now.domain self.now.levels (B.pre self.now.below) (B.post self.now.below) }
-        ensures value { Runs (charged 1 (followed (value_at self.now.schema.now (D.population self.now.domain.now) self.now.levels right.now frame.old) (λ a. pure (operators.applied_to operator a))) counter.old) result counter.new }
+        ensures value { RunsInto (charged 1 (followed (value_at self.now.schema.now (D.population self.now.domain.now) self.now.levels right.now frame.old) (λ a. pure (operators.applied_to operator a))) counter.old) result into.new counter.new }
         ensures frame { OnOk result (frame.new ≡ frame.old) }
     {
         charge(counter, 1)?;
-        let value = self.expression(right, frame, counter)?;
-        Ok(applied_to(operator, &value))
+        self.expression(right, frame, counter, into)?;
+        sign(operator, into);
+        Ok(())
     }
 
     /// Operators of one level, from left to right.
     #[cycle(expressions)]
+    #[inline(never)]
     fn operations(
         &self,
         operations: &[Operation],
-        first: Value,
         frame: &mut Frame,
         counter: &mut Counter,
-    ) -> Result<Value, Stop>
+        into: &mut Value,
+    ) -> Result<(), Stop>
         requires { RunsBodies D.population self.now.alloc self.now.schema self.now.domain self.now.levels (B.pre self.now.below) (B.post self.now.below) }
-        ensures value { Runs (spec.in_turn frame.old (map (operation_at self.now.schema.now (D.population self.now.domain.now) self.now.levels) operations.now) first counter.old) result counter.new }
+        ensures value { RunsInto (spec.in_turn frame.old (map (operation_at self.now.schema.now (D.population self.now.domain.now) self.now.levels) operations.now) into.old counter.old) result into.new counter.new }
         ensures frame { OnOk result (frame.new ≡ frame.old) }
     {
-        let mut value = first;
         for operation in operations {
-            value = self.operation(operation, &value, frame, counter)?;
+            self.operation(operation, frame, counter, into)?;
         }
-        Ok(value)
+        Ok(())
     }
 
     /// An operator and its right operand.
@@ -252,103 +296,151 @@ impl<'a, D: Domain, B: Fn(Global, &Schema, &D, u8, &mut Counter, Body) -> Result
     fn operation(
         &self,
         operation: &Operation,
-        left: &Value,
         frame: &mut Frame,
         counter: &mut Counter,
-    ) -> Result<Value, Stop>
+        into: &mut Value,
+    ) -> Result<(), Stop>
         requires { RunsBodies D.population self.now.alloc self.now.schema self.now.domain self.now.levels (B.pre self.now.below) (B.post self.now.below) }
-        ensures value { Runs (operation_at self.now.schema.now (D.population self.now.domain.now) self.now.levels operation.now frame.old left.now counter.old) result counter.new }
+        ensures value { RunsInto (operation_at self.now.schema.now (D.population self.now.domain.now) self.now.levels operation.now frame.old into.old counter.old) result into.new counter.new }
+        ensures frame { OnOk result (frame.new ≡ frame.old) }
+    {
+        let mut right = Value::Indet;
+        self.operation_with(operation, &mut right, frame, counter, into)
+    }
+
+    /// An operator and its right operand, which is written where there is room for it.
+    #[cycle(expressions)]
+    fn operation_with(
+        &self,
+        operation: &Operation,
+        right: &mut Value,
+        frame: &mut Frame,
+        counter: &mut Counter,
+        into: &mut Value,
+    ) -> Result<(), Stop>
+        requires { RunsBodies D.population self.now.alloc self.now.schema self.now.domain self.now.levels (B.pre self.now.below) (B.post self.now.below) }
+        ensures value { RunsInto (operation_at self.now.schema.now (D.population self.now.domain.now) self.now.levels operation.now frame.old into.old counter.old) result into.new counter.new }
         ensures frame { OnOk result (frame.new ≡ frame.old) }
     {
         charge(counter, 1)?;
-        let right = self.expression(&operation.right, frame, counter)?;
-        self.operated(operation, left, &right, counter)
+        self.expression(&operation.right, frame, counter, right)?;
+        self.operate(operation, right, counter, into)
     }
 
     /// Qualifiers from left to right.
     #[cycle(expressions)]
+    #[inline(never)]
     fn qualifiers(
         &self,
         qualifiers: &[Qualifier],
-        base: Value,
         frame: &mut Frame,
         counter: &mut Counter,
-    ) -> Result<Value, Stop>
+        into: &mut Value,
+    ) -> Result<(), Stop>
         requires { RunsBodies D.population self.now.alloc self.now.schema self.now.domain self.now.levels (B.pre self.now.below) (B.post self.now.below) }
-        ensures value { Runs (spec.in_turn frame.old (map (qualifier_at self.now.schema.now (D.population self.now.domain.now) self.now.levels) qualifiers.now) base counter.old) result counter.new }
+        ensures value { RunsInto (spec.in_turn frame.old (map (qualifier_at self.now.schema.now (D.population self.now.domain.now) self.now.levels) qualifiers.now) into.old counter.old) result into.new counter.new }
         ensures frame { OnOk result (frame.new ≡ frame.old) }
     {
-        let mut value = base;
         for qualifier in qualifiers {
-            value = self.qualifier(qualifier, &value, frame, counter)?;
+            self.qualifier(qualifier, frame, counter, into)?;
         }
-        Ok(value)
+        Ok(())
     }
 
-    /// What a qualifier takes of a value.
+    /// What a qualifier takes of the value that is there.
     #[cycle(expressions)]
     fn qualifier(
         &self,
         qualifier: &Qualifier,
-        value: &Value,
         frame: &mut Frame,
         counter: &mut Counter,
-    ) -> Result<Value, Stop>
+        into: &mut Value,
+    ) -> Result<(), Stop>
         requires { RunsBodies D.population self.now.alloc self.now.schema self.now.domain self.now.levels (B.pre self.now.below) (B.post self.now.below) }
-        ensures value { Runs (qualifier_at self.now.schema.now (D.population self.now.domain.now) self.now.levels qualifier.now frame.old value.now counter.old) result counter.new }
+        ensures value { RunsInto (qualifier_at self.now.schema.now (D.population self.now.domain.now) self.now.levels qualifier.now frame.old into.old counter.old) result into.new counter.new }
         ensures frame { OnOk result (frame.new ≡ frame.old) }
     {
         charge(counter, 1)?;
         match qualifier {
-            Qualifier::Attribute(attributes) => {
-                self.attribute(attributes.as_slice(), value, counter)
+            Qualifier::Attribute(attributes) => self.attribute(
+                attributes.as_slice(),
+                counter,
+                into,
+            ),
+            Qualifier::Group(entity) => {
+                self.group(*entity, into);
+                Ok(())
             }
-            Qualifier::Group(entity) => Ok(self.group(*entity, value)?),
             Qualifier::Index(at) => {
-                let at = self.expression(at, frame, counter)?;
-                Ok(index(self.alloc, value, &at)?)
+                let mut place = Value::Indet;
+                self.expression(at, frame, counter, &mut place)?;
+                *into = index(self.alloc, into, &place)?;
+                Ok(())
             }
             Qualifier::Range(first, last) => {
-                let first = self.expression(first.get(), frame, counter)?;
-                let last = self.expression(last.get(), frame, counter)?;
-                Ok(range(self.alloc, value, &first, &last)?)
+                let mut low = Value::Indet;
+                self.expression(first.get(), frame, counter, &mut low)?;
+                let mut high = Value::Indet;
+                self.expression(last.get(), frame, counter, &mut high)?;
+                *into = range(self.alloc, into, &low, &high)?;
+                Ok(())
             }
         }
     }
 
     /// An interval, for a step.
     #[cycle(expressions)]
+    #[inline(never)]
     fn interval(
         &self,
         interval: &Interval,
         frame: &mut Frame,
         counter: &mut Counter,
-    ) -> Result<Value, Stop>
+        into: &mut Value,
+    ) -> Result<(), Stop>
         requires { RunsBodies D.population self.now.alloc self.now.schema self.now.domain self.now.levels (B.pre self.now.below) (B.post self.now.below) }
-        ensures value { Runs (charged 1 (interval_at self.now.schema.now (D.population self.now.domain.now) self.now.levels interval.now frame.old) counter.old) result counter.new }
+        ensures value { RunsInto (charged 1 (interval_at self.now.schema.now (D.population self.now.domain.now) self.now.levels interval.now frame.old) counter.old) result into.new counter.new }
         ensures frame { OnOk result (frame.new ≡ frame.old) }
     {
         charge(counter, 1)?;
-        let low = self.expression(&interval.low, frame, counter)?;
-        let item = self.expression(&interval.item, frame, counter)?;
-        let high = self.expression(&interval.high, frame, counter)?;
-        self.bounded(interval, &low, &item, &high, counter)
+        self.expression(&interval.low, frame, counter, into)?;
+        let mut item = Value::Indet;
+        self.expression(&interval.item, frame, counter, &mut item)?;
+        let mut high = Value::Indet;
+        self.expression(&interval.high, frame, counter, &mut high)?;
+        self.bounded(interval, &item, &high, counter, into)
     }
 
     /// A QUERY, for a step.
     #[cycle(expressions)]
-    fn query(&self, query: &Query, frame: &mut Frame, counter: &mut Counter) -> Result<Value, Stop>
+    #[inline(never)]
+    fn query(
+        &self,
+        query: &Query,
+        frame: &mut Frame,
+        counter: &mut Counter,
+        into: &mut Value,
+    ) -> Result<(), Stop>
         requires { RunsBodies D.population self.now.alloc self.now.schema self.now.domain self.now.levels (B.pre self.now.below) (B.post self.now.below) }
-        ensures value { Runs (charged 1 (query_at self.now.schema.now (D.population self.now.domain.now) self.now.levels query.now frame.old) counter.old) result counter.new }
+        ensures value { RunsInto (charged 1 (query_at self.now.schema.now (D.population self.now.domain.now) self.now.levels query.now frame.old) counter.old) result into.new counter.new }
         ensures frame { OnOk result (frame.new ≡ frame.old) }
     {
         charge(counter, 1)?;
-        let source = self.expression(&query.source, frame, counter)?;
-        let Some((kind, elements)) = aggregate_of(&source) else {
-            return Ok(Value::Indet);
+        self.expression(&query.source, frame, counter, into)?;
+        let Some((kind, elements)) = aggregate_of(into) else {
+            *into = Value::Indet;
+            return Ok(());
         };
-        let kept = self.kept(&query.condition, elements.as_slice(), frame, counter)?;
-        Ok(Value::aggregate(self.alloc, kind, elements.low(), kept)?)
+        let mut found = Items::new(self.alloc);
+        self.kept(
+            &query.condition,
+            elements.as_slice(),
+            frame,
+            counter,
+            &mut found,
+        )?;
+        *into = Value::aggregate(self.alloc, kind, elements.low(), found)?;
+        Ok(())
     }
 
     /// Whether the condition is TRUE for an element, for a step.
@@ -366,12 +458,13 @@ impl<'a, D: Domain, B: Fn(Global, &Schema, &D, u8, &mut Counter, Body) -> Result
     {
         charge(counter, 1)?;
         frame.open(element.copy()?)?;
-        let value = self.expression(condition, frame, counter)?;
+        let mut value = Value::Indet;
+        self.expression(condition, frame, counter, &mut value)?;
         frame.close();
         Ok(is_true(&value))
     }
 
-    /// The elements for which the condition is TRUE.
+    /// The elements for which the condition is TRUE, behind those that are there.
     #[cycle(expressions)]
     fn kept(
         &self,
@@ -379,16 +472,32 @@ impl<'a, D: Domain, B: Fn(Global, &Schema, &D, u8, &mut Counter, Body) -> Result
         elements: &[Value],
         frame: &mut Frame,
         counter: &mut Counter,
-    ) -> Result<Items<Value>, Stop>
+        found: &mut Items<Value>,
+    ) -> Result<(), Stop>
         requires { RunsBodies D.population self.now.alloc self.now.schema self.now.domain self.now.levels (B.pre self.now.below) (B.post self.now.below) }
-        ensures value { Runs (spec.kept_after (value_at self.now.schema.now (D.population self.now.domain.now) self.now.levels condition.now) frame.old [] elements.now counter.old) result counter.new }
+        ensures value { RunsInto (spec.kept_after (value_at self.now.schema.now (D.population self.now.domain.now) self.now.levels condition.now) frame.old found.old elements.now counter.old) result found.new counter.new }
         ensures frame { OnOk result (frame.new ≡ frame.old) }
     {
-        let mut found = Vec::new(self.alloc);
         for element in elements {
             let holds = self.test(condition, element, frame, counter)?;
-            keep(&mut found, element, holds)?;
+            keep(found, element, holds)?;
         }
-        Ok(Items::from_vec(found))
+        Ok(())
+    }
+
+    /// The value of an expression.
+    pub(crate) fn value(
+        &self,
+        tree: &Expression,
+        frame: &mut Frame,
+        counter: &mut Counter,
+    ) -> Result<Value, Stop>
+        requires { RunsBodies D.population self.now.alloc self.now.schema self.now.domain self.now.levels (B.pre self.now.below) (B.post self.now.below) }
+        ensures value { Runs (value_at self.now.schema.now (D.population self.now.domain.now) self.now.levels tree.now frame.old counter.old) result counter.new }
+        ensures frame { OnOk result (frame.new ≡ frame.old) }
+    {
+        let mut value = Value::Indet;
+        self.expression(tree, frame, counter, &mut value)?;
+        Ok(value)
     }
 }

@@ -106,7 +106,7 @@ impl<'a, D: Domain, B: Fn(Global, &Schema, &D, u8, &mut Counter, Body) -> Result
         ensures { Runs (spec.value_by (world self.now.schema.now (D.population self.now.domain.now)) (bodies_at self.now.schema.now (D.population self.now.domain.now) self.now.levels) (option_copied condition.entry) frame.old counter.old) result counter.new }
     {
         match condition {
-            Some(condition) => self.expression(condition, frame, counter),
+            Some(condition) => self.value(condition, frame, counter),
             None => Ok(Value::Indet),
         }
     }
@@ -138,7 +138,9 @@ impl<'a, D: Domain, B: Fn(Global, &Schema, &D, u8, &mut Counter, Body) -> Result
         match attribute {
             Some(attribute) => {
                 let frame = Frame::alone(self.alloc, itself);
-                self.own_attribute(attribute, &frame, counter)
+                let mut value = Value::Indet;
+                self.own_attribute(&attribute, &frame, counter, &mut value)?;
+                Ok(value)
             }
             None => Ok(Value::Indet),
         }
@@ -171,7 +173,7 @@ impl<'a, D: Domain, B: Fn(Global, &Schema, &D, u8, &mut Counter, Body) -> Result
         counter: &mut Counter,
     ) -> Result<Value, Stop>
         requires { RunsBodies D.population self.now.alloc self.now.schema self.now.domain self.now.levels (B.pre self.now.below) (B.post self.now.below) }
-        ensures { Runs (spec.condition_after (world self.now.schema.now (D.population self.now.domain.now)) (bodies_at self.now.schema.now (D.population self.now.domain.now) self.now.levels) (option_copied condition.entry) (after ending frame.old) counter.old) result counter.new }
+        ensures { (x : _) → Runs (spec.condition_after (world self.now.schema.now (D.population self.now.domain.now)) (bodies_at self.now.schema.now (D.population self.now.domain.now) self.now.levels) (option_copied condition.entry) (after ending x frame.old) counter.old) result counter.new }
     {
         match ending {
             Ending::Next => self.value_by(condition, frame, counter),
@@ -193,7 +195,8 @@ impl<'a, D: Domain, B: Fn(Global, &Schema, &D, u8, &mut Counter, Body) -> Result
             return Ok(Value::Indet);
         };
         let mut frame = Frame::of_locals(Items::new(self.alloc), rule.algorithm.locals)?;
-        let ending = self.algorithm(&rule.algorithm, &mut frame, counter)?;
+        let mut value = Value::Indet;
+        let ending = self.algorithm(&rule.algorithm, &mut frame, counter, &mut value)?;
         self.condition_after(rule.domain_rules.get(place), ending, &mut frame, counter)
     }
 

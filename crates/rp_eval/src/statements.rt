@@ -11,6 +11,7 @@ ghost use Rattle.rp_meaning.specs.Types.{given};
 ghost use Rattle.rp_eval.specs.Charges.{followed};
 ghost use Rattle.rp_eval.specs.Bodies.{RunsBodies, bodies_at, world, value_at, action_at, labelled_at};
 ghost use Rattle.rp_eval.specs.Endings.{Ends, Turns};
+ghost use Rattle.rp_eval.specs.Beginnings.{begins};
 
 use crate::frame::Frame;
 use crate::steps::charge;
@@ -27,17 +28,18 @@ use rp_value::Value;
 use std::alloc::Global;
 
 /// How statements end.
-#[derive(Drop)]
+#[derive(Clone, Copy)]
 pub(crate) enum Ending {
     /// The next one follows.
     Next,
     Skipped,
     Escaped,
-    Returned(Value),
+    /// The value stands where there is room for it.
+    Returned,
 }
 
 /// How a turn of a REPEAT ends.
-#[derive(Drop)]
+#[derive(Clone, Copy)]
 enum Turning {
     /// Another may follow.
     Again,
@@ -50,19 +52,21 @@ impl<'a, D: Domain, B: Fn(Global, &Schema, &D, u8, &mut Counter, Body) -> Result
     D,
     B,
 > {
-    /// One after the other.
+    /// One after the other. The place of the value that is returned serves for other values until then.
     #[cycle(statements)]
+    #[inline(never)]
     pub(crate) fn statements(
         &self,
         list: &[Statement],
         frame: &mut Frame,
         counter: &mut Counter,
+        into: &mut Value,
     ) -> Result<Ending, Stop>
         requires { RunsBodies D.population self.now.alloc self.now.schema self.now.domain self.now.levels (B.pre self.now.below) (B.post self.now.below) }
-        ensures { Ends (action_at self.now.schema.now (D.population self.now.domain.now) self.now.levels list.now frame.old counter.old) result frame.new counter.new }
+        ensures { Ends (action_at self.now.schema.now (D.population self.now.domain.now) self.now.levels list.now frame.old counter.old) result into.new frame.new counter.new }
     {
         for item in list {
-            match self.statement(item, frame, counter)? {
+            match self.statement(item, frame, counter, into)? {
                 Ending::Next => {}
                 ending => return Ok(ending),
             }
@@ -70,61 +74,64 @@ impl<'a, D: Domain, B: Fn(Global, &Schema, &D, u8, &mut Counter, Body) -> Result
         Ok(Ending::Next)
     }
 
+    /// A statement, for a step.
     #[cycle(statements)]
     fn statement(
         &self,
         item: &Statement,
         frame: &mut Frame,
         counter: &mut Counter,
+        into: &mut Value,
     ) -> Result<Ending, Stop>
         requires { RunsBodies D.population self.now.alloc self.now.schema self.now.domain self.now.levels (B.pre self.now.below) (B.post self.now.below) }
-        ensures { Ends (spec.statement (world self.now.schema.now (D.population self.now.domain.now)) most_turns (bodies_at self.now.schema.now (D.population self.now.domain.now) self.now.levels) item.now frame.old counter.old) result frame.new counter.new }
+        ensures { Ends (spec.statement (world self.now.schema.now (D.population self.now.domain.now)) most_turns (bodies_at self.now.schema.now (D.population self.now.domain.now) self.now.levels) item.now frame.old counter.old) result into.new frame.new counter.new }
     {
         charge(counter, 1)?;
         match item {
             Statement::Null => Ok(Ending::Next),
             Statement::Assignment(slot, data_type, value) => {
-                self.assignment(*slot, data_type, value, frame, counter)
+                self.assignment(value, *slot, data_type, frame, counter)
             }
             Statement::Case(selector, actions) => {
-                let selector = self.expression(selector, frame, counter)?;
-                self.matched(actions.as_slice(), &selector, frame, counter)
+                self.case(actions, selector, frame, counter, into)
             }
             Statement::Compound(statements) => {
-                self.statements(statements.as_slice(), frame, counter)
+                self.statements(statements.as_slice(), frame, counter, into)
             }
             Statement::Escape => Ok(Ending::Escaped),
             Statement::If(condition, then_part, else_part) => {
-                let test = self.expression(condition, frame, counter)?;
-                if is_true(&test) {
-                    self.statements(then_part.as_slice(), frame, counter)
+                self.expression(condition, frame, counter, into)?;
+                if is_true(into) {
+                    self.statements(then_part.as_slice(), frame, counter, into)
                 } else {
-                    self.statements(else_part.as_slice(), frame, counter)
+                    self.statements(else_part.as_slice(), frame, counter, into)
                 }
             }
             Statement::Repeat(control, body) => {
-                self.repeat(body.as_slice(), control.get(), frame, counter)
+                self.repeat(body, control.get(), frame, counter, into)
             }
             Statement::Return(value) => {
-                Ok(Ending::Returned(self.expression(value, frame, counter)?))
+                self.expression(value, frame, counter, into)?;
+                Ok(Ending::Returned)
             }
             Statement::Skip => Ok(Ending::Skipped),
         }
     }
 
     /// What an assignment does behind its step.
+    #[inline(never)]
     fn assignment(
         &self,
+        value: &Expression,
         slot: usize,
         data_type: &NamedDataType,
-        value: &Expression,
         frame: &mut Frame,
         counter: &mut Counter,
     ) -> Result<Ending, Stop>
         requires { RunsBodies D.population self.now.alloc self.now.schema self.now.domain self.now.levels (B.pre self.now.below) (B.post self.now.below) }
-        ensures { Ends ((followed (value_at self.now.schema.now (D.population self.now.domain.now) self.now.levels value.now frame.old) (λ a. pure (spec.Next (spec.assigned frame.old slot (given self.now.schema.now.types data_type.now a))))) counter.old) result frame.new counter.new }
+        ensures { (x : _) → Ends ((followed (value_at self.now.schema.now (D.population self.now.domain.now) self.now.levels value.now frame.old) (λ a. pure (spec.Next (spec.assigned frame.old slot (given self.now.schema.now.types data_type.now a))))) counter.old) result x frame.new counter.new }
     {
-        let value = self.expression(value, frame, counter)?;
+        let value = self.value(value, frame, counter)?;
         let value = given(self.alloc, self.schema.types.as_slice(), data_type, &value)?;
         frame.assign(slot, value);
         Ok(Ending::Next)
@@ -145,7 +152,7 @@ impl<'a, D: Domain, B: Fn(Global, &Schema, &D, u8, &mut Counter, Body) -> Result
         match condition {
             None => Ok(none),
             Some(tree) => {
-                let value = self.expression(tree, frame, counter)?;
+                let value = self.value(tree, frame, counter)?;
                 Ok(is_true(&value))
             }
         }
@@ -164,7 +171,7 @@ impl<'a, D: Domain, B: Fn(Global, &Schema, &D, u8, &mut Counter, Body) -> Result
     {
         match step {
             None => Ok(Value::Int(1)),
-            Some(tree) => self.expression(tree, frame, counter),
+            Some(tree) => self.value(tree, frame, counter),
         }
     }
 
@@ -180,7 +187,7 @@ impl<'a, D: Domain, B: Fn(Global, &Schema, &D, u8, &mut Counter, Body) -> Result
         ensures value { Runs ((followed (value_at self.now.schema.now (D.population self.now.domain.now) self.now.levels label.now frame.old) (λ b. pure (bare.is_true (operators.equal selector.now b)))) counter.old) result counter.new }
         ensures frame { OnOk result (frame.new ≡ frame.old) }
     {
-        let value = self.expression(label, frame, counter)?;
+        let value = self.value(label, frame, counter)?;
         let equal = applied(self.alloc, BinaryOperator::Equal, selector, &value)?;
         Ok(is_true(&equal))
     }
@@ -223,21 +230,41 @@ impl<'a, D: Domain, B: Fn(Global, &Schema, &D, u8, &mut Counter, Body) -> Result
         }
     }
 
+    /// A CASE behind its step.
+    #[cycle(statements)]
+    #[inline(never)]
+    fn case(
+        &self,
+        actions: &Items<CaseAction>,
+        selector: &Expression,
+        frame: &mut Frame,
+        counter: &mut Counter,
+        into: &mut Value,
+    ) -> Result<Ending, Stop>
+        requires { RunsBodies D.population self.now.alloc self.now.schema self.now.domain self.now.levels (B.pre self.now.below) (B.post self.now.below) }
+        ensures { Ends (followed (value_at self.now.schema.now (D.population self.now.domain.now) self.now.levels selector.now frame.old) (λ a. spec.matched (value_at self.now.schema.now (D.population self.now.domain.now) self.now.levels) a (map (labelled_at self.now.schema.now (D.population self.now.domain.now) self.now.levels) actions.now) frame.old) counter.old) result into.new frame.new counter.new }
+    {
+        let selector = self.value(selector, frame, counter)?;
+        self.matched(actions.as_slice(), &selector, frame, counter, into)
+    }
+
     /// The first action of which a label is equal.
     #[cycle(statements)]
+    #[inline(never)]
     fn matched(
         &self,
         actions: &[CaseAction],
         selector: &Value,
         frame: &mut Frame,
         counter: &mut Counter,
+        into: &mut Value,
     ) -> Result<Ending, Stop>
         requires { RunsBodies D.population self.now.alloc self.now.schema self.now.domain self.now.levels (B.pre self.now.below) (B.post self.now.below) }
-        ensures { Ends (spec.matched (value_at self.now.schema.now (D.population self.now.domain.now) self.now.levels) selector.now (map (labelled_at self.now.schema.now (D.population self.now.domain.now) self.now.levels) actions.now) frame.old counter.old) result frame.new counter.new }
+        ensures { Ends (spec.matched (value_at self.now.schema.now (D.population self.now.domain.now) self.now.levels) selector.now (map (labelled_at self.now.schema.now (D.population self.now.domain.now) self.now.levels) actions.now) frame.old counter.old) result into.new frame.new counter.new }
     {
         for action in actions {
             if self.is_hit(selector, &action.labels, frame, counter)? {
-                return self.statement(&action.statement, frame, counter);
+                return self.statement(&action.statement, frame, counter, into);
             }
         }
         Ok(Ending::Next)
@@ -251,7 +278,7 @@ impl<'a, D: Domain, B: Fn(Global, &Schema, &D, u8, &mut Counter, Body) -> Result
         counter: &mut Counter,
     ) -> Result<Turning, Stop>
         requires { RunsBodies D.population self.now.alloc self.now.schema self.now.domain self.now.levels (B.pre self.now.below) (B.post self.now.below) }
-        ensures { Turns (spec.turned (spec.asked (value_at self.now.schema.now (D.population self.now.domain.now) self.now.levels) false control.now.until_condition) (spec.Next frame.old) counter.old) result frame.new counter.new }
+        ensures { (x : _) → Turns (spec.turned (spec.asked (value_at self.now.schema.now (D.population self.now.domain.now) self.now.levels) false control.now.until_condition) (spec.Next frame.old) counter.old) result x frame.new counter.new }
     {
         if self.asked(false, &control.until_condition, frame, counter)? {
             Ok(Turning::Over(Ending::Next))
@@ -260,6 +287,7 @@ impl<'a, D: Domain, B: Fn(Global, &Schema, &D, u8, &mut Counter, Body) -> Result
         }
     }
 
+    /// A turn of a REPEAT.
     #[cycle(statements)]
     fn turn(
         &self,
@@ -267,22 +295,24 @@ impl<'a, D: Domain, B: Fn(Global, &Schema, &D, u8, &mut Counter, Body) -> Result
         control: &Control,
         frame: &mut Frame,
         counter: &mut Counter,
+        into: &mut Value,
     ) -> Result<Turning, Stop>
         requires { RunsBodies D.population self.now.alloc self.now.schema self.now.domain self.now.levels (B.pre self.now.below) (B.post self.now.below) }
-        ensures { Turns (spec.turn (value_at self.now.schema.now (D.population self.now.domain.now) self.now.levels) control.now (action_at self.now.schema.now (D.population self.now.domain.now) self.now.levels body.now) frame.old counter.old) result frame.new counter.new }
+        ensures { Turns (spec.turn (value_at self.now.schema.now (D.population self.now.domain.now) self.now.levels) control.now (action_at self.now.schema.now (D.population self.now.domain.now) self.now.levels body.now) frame.old counter.old) result into.new frame.new counter.new }
     {
         if !self.asked(true, &control.while_condition, frame, counter)? {
             return Ok(Turning::Over(Ending::Next));
         }
-        match self.statements(body, frame, counter)? {
+        match self.statements(body, frame, counter, into)? {
             Ending::Next | Ending::Skipped => self.until(control, frame, counter),
             Ending::Escaped => Ok(Turning::Over(Ending::Next)),
-            Ending::Returned(value) => Ok(Turning::Over(Ending::Returned(value))),
+            Ending::Returned => Ok(Turning::Over(Ending::Returned)),
         }
     }
 
     /// Turns, as many as there are.
     #[cycle(statements)]
+    #[inline(never)]
     fn turns(
         &self,
         body: &[Statement],
@@ -290,16 +320,17 @@ impl<'a, D: Domain, B: Fn(Global, &Schema, &D, u8, &mut Counter, Body) -> Result
         running: Option<Running>,
         frame: &mut Frame,
         counter: &mut Counter,
+        into: &mut Value,
     ) -> Result<Ending, Stop>
         requires { RunsBodies D.population self.now.alloc self.now.schema self.now.domain self.now.levels (B.pre self.now.below) (B.post self.now.below) }
-        ensures { Ends (spec.repeated most_turns (spec.turn (value_at self.now.schema.now (D.population self.now.domain.now) self.now.levels) control.now (action_at self.now.schema.now (D.population self.now.domain.now) self.now.levels body.now)) running frame.old counter.old) result frame.new counter.new }
+        ensures { Ends (spec.repeated most_turns (spec.turn (value_at self.now.schema.now (D.population self.now.domain.now) self.now.levels) control.now (action_at self.now.schema.now (D.population self.now.domain.now) self.now.levels body.now)) running frame.old counter.old) result into.new frame.new counter.new }
     {
         let mut running = running;
         for _turn in 0..usize::MAX {
             if !start(&running, frame) {
                 return Ok(Ending::Next);
             }
-            match self.turn(body, control, frame, counter)? {
+            match self.turn(body, control, frame, counter, into)? {
                 Turning::Again => running = advanced(running),
                 Turning::Over(ending) => return Ok(ending),
             }
@@ -316,18 +347,38 @@ impl<'a, D: Domain, B: Fn(Global, &Schema, &D, u8, &mut Counter, Body) -> Result
         running: Running,
         frame: &mut Frame,
         counter: &mut Counter,
+        into: &mut Value,
     ) -> Result<Ending, Stop>
         requires { RunsBodies D.population self.now.alloc self.now.schema self.now.domain self.now.levels (B.pre self.now.below) (B.post self.now.below) }
-        ensures { Ends (spec.counted most_turns (spec.turn (value_at self.now.schema.now (D.population self.now.domain.now) self.now.levels) control.now (action_at self.now.schema.now (D.population self.now.domain.now) self.now.levels body.now)) (Some running) frame.old counter.old) result frame.new counter.new }
+        ensures { Ends (spec.counted most_turns (spec.turn (value_at self.now.schema.now (D.population self.now.domain.now) self.now.levels) control.now (action_at self.now.schema.now (D.population self.now.domain.now) self.now.levels body.now)) (Some running) frame.old counter.old) result into.new frame.new counter.new }
     {
         frame.open(Value::Indet)?;
-        let ending = self.turns(body, control, Some(running), frame, counter)?;
+        let ending = self.turns(body, control, Some(running), frame, counter, into)?;
         frame.close();
         Ok(ending)
     }
 
+    /// An increment before its first turn, if there is one.
+    #[inline(never)]
+    fn running(
+        &self,
+        increment: &Increment,
+        frame: &mut Frame,
+        counter: &mut Counter,
+    ) -> Result<Option<Running>, Stop>
+        requires { RunsBodies D.population self.now.alloc self.now.schema self.now.domain self.now.levels (B.pre self.now.below) (B.post self.now.below) }
+        ensures value { Runs (begins (value_at self.now.schema.now (D.population self.now.domain.now) self.now.levels) increment.now frame.old counter.old) result counter.new }
+        ensures frame { OnOk result (frame.new ≡ frame.old) }
+    {
+        let first = self.value(&increment.first, frame, counter)?;
+        let last = self.value(&increment.last, frame, counter)?;
+        let step = self.step_value(&increment.step, frame, counter)?;
+        Ok(begun(&first, &last, &step))
+    }
+
     /// The turns of an increment.
     #[cycle(statements)]
+    #[inline(never)]
     fn counted(
         &self,
         body: &[Statement],
@@ -335,33 +386,36 @@ impl<'a, D: Domain, B: Fn(Global, &Schema, &D, u8, &mut Counter, Body) -> Result
         increment: &Increment,
         frame: &mut Frame,
         counter: &mut Counter,
+        into: &mut Value,
     ) -> Result<Ending, Stop>
         requires { RunsBodies D.population self.now.alloc self.now.schema self.now.domain self.now.levels (B.pre self.now.below) (B.post self.now.below) }
-        ensures { Ends (spec.repeats most_turns (value_at self.now.schema.now (D.population self.now.domain.now) self.now.levels) (spec.turn (value_at self.now.schema.now (D.population self.now.domain.now) self.now.levels) control.now (action_at self.now.schema.now (D.population self.now.domain.now) self.now.levels body.now)) (Some increment.now) frame.old counter.old) result frame.new counter.new }
+        ensures { Ends (spec.repeats most_turns (value_at self.now.schema.now (D.population self.now.domain.now) self.now.levels) (spec.turn (value_at self.now.schema.now (D.population self.now.domain.now) self.now.levels) control.now (action_at self.now.schema.now (D.population self.now.domain.now) self.now.levels body.now)) (Some increment.now) frame.old counter.old) result into.new frame.new counter.new }
     {
-        let first = self.expression(&increment.first, frame, counter)?;
-        let last = self.expression(&increment.last, frame, counter)?;
-        let step = self.step_value(&increment.step, frame, counter)?;
-        match begun(&first, &last, &step) {
+        match self.running(increment, frame, counter)? {
             None => Ok(Ending::Next),
-            Some(running) => self.with_variable(body, control, running, frame, counter),
+            Some(running) => self.with_variable(body, control, running, frame, counter, into),
         }
     }
 
+    /// A REPEAT behind its step.
     #[cycle(statements)]
+    #[inline(never)]
     fn repeat(
         &self,
-        body: &[Statement],
+        body: &Items<Statement>,
         control: &Control,
         frame: &mut Frame,
         counter: &mut Counter,
+        into: &mut Value,
     ) -> Result<Ending, Stop>
         requires { RunsBodies D.population self.now.alloc self.now.schema self.now.domain self.now.levels (B.pre self.now.below) (B.post self.now.below) }
-        ensures { Ends (spec.repeats most_turns (value_at self.now.schema.now (D.population self.now.domain.now) self.now.levels) (spec.turn (value_at self.now.schema.now (D.population self.now.domain.now) self.now.levels) control.now (action_at self.now.schema.now (D.population self.now.domain.now) self.now.levels body.now)) control.now.increment frame.old counter.old) result frame.new counter.new }
+        ensures { Ends (spec.repeats most_turns (value_at self.now.schema.now (D.population self.now.domain.now) self.now.levels) (spec.turn (value_at self.now.schema.now (D.population self.now.domain.now) self.now.levels) control.now (action_at self.now.schema.now (D.population self.now.domain.now) self.now.levels body.now)) control.now.increment frame.old counter.old) result into.new frame.new counter.new }
     {
         match &control.increment {
-            None => self.turns(body, control, None, frame, counter),
-            Some(increment) => self.counted(body, control, increment, frame, counter),
+            None => self.turns(body.as_slice(), control, None, frame, counter, into),
+            Some(increment) => {
+                self.counted(body.as_slice(), control, increment, frame, counter, into)
+            }
         }
     }
 }

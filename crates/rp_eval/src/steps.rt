@@ -4,6 +4,7 @@ ghost use Rattle.std.specs.Prelude.{◌≡◌, slice_index_or};
 ghost use Rattle.rp_meaning.specs.Computations as computations;
 ghost use Rattle.rp_meaning.specs.Computations.{Runs, pure};
 ghost use Rattle.rp_eval.specs.Charges.{charged};
+ghost use Rattle.rp_eval.specs.Written.{RunsInto};
 ghost use Rattle.rp_meaning.specs.BuiltIns as built_ins;
 ghost use Rattle.rp_meaning.specs.Operators as operators;
 ghost use Rattle.rp_value.specs.declared.value.Value.TheVariants as v;
@@ -66,17 +67,26 @@ pub(crate) fn charge_initializer(counter: &mut Counter, value: &Value) -> Result
 }
 
 /// A value that is there, for a step.
-pub(crate) fn known(value: &Value, counter: &mut Counter) -> Result<Value, Stop>
-    ensures { Runs (charged 1 (pure value.now) counter.old) result counter.new }
+#[inline(never)]
+pub(crate) fn known(value: &Value, counter: &mut Counter, into: &mut Value) -> Result<(), Stop>
+    ensures { RunsInto (charged 1 (pure value.now) counter.old) result into.new counter.new }
 {
     charge(counter, 1)?;
-    Ok(value.copy()?)
+    *into = value.copy()?;
+    Ok(())
 }
 
 /// The variable of a slot, for a step.
-pub(crate) fn variable(frame: &Frame, slot: usize, counter: &mut Counter) -> Result<Value, Stop>
-    ensures { Runs (charged 1 (pure (slice_index_or frame.now.variables slot v.Indet)) counter.old) result counter.new }
+#[inline(never)]
+pub(crate) fn variable(
+    frame: &Frame,
+    slot: usize,
+    counter: &mut Counter,
+    into: &mut Value,
+) -> Result<(), Stop>
+    ensures { RunsInto (charged 1 (pure (slice_index_or frame.now.variables slot v.Indet)) counter.old) result into.new counter.new }
 {
     charge(counter, 1)?;
-    Ok(frame.variable(slot)?)
+    *into = frame.variable(slot)?;
+    Ok(())
 }

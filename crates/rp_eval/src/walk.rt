@@ -1,6 +1,6 @@
 //! One level of bodies. What the bodies beneath do is a parameter, so that a level is proved by itself.
 
-ghost use Rattle.std.specs.Prelude.{◌≡◌, [], ◌∷◌, None, Some, IfOk};
+ghost use Rattle.std.specs.Prelude.{◌≡◌, [], ◌∷◌, if◌then◌else◌};
 ghost use Rattle.std.specs.Option.{option_copied};
 ghost use Rattle.ex_tree.specs.declared.expression.BuiltInFunction.{BuiltInFunction};
 ghost use Rattle.rp_meaning.specs.Attributes.{derivation_in, explicit_derivations, own_derivations, role_named};
@@ -10,6 +10,7 @@ ghost use Rattle.rp_meaning.specs.Expressions as spec;
 ghost use Rattle.rp_meaning.specs.declared.body.Body.TheVariants as b;
 ghost use Rattle.rp_value.specs.declared.value.Value.TheVariants as v;
 ghost use Rattle.rp_eval.specs.Charges.{charged};
+ghost use Rattle.rp_eval.specs.Written.{RunsInto};
 ghost use Rattle.rp_eval.specs.Bodies.{RunsBodies, bodies_at, world};
 
 use crate::attributes::{
@@ -58,158 +59,219 @@ impl<'a, D: Domain, B: Fn(Global, &Schema, &D, u8, &mut Counter, Body) -> Result
     }
 
     /// What a derivation gives for the instance at a place.
+    #[inline(never)]
     fn derived(
         &self,
         derivation: Derivation,
         place: u64,
         counter: &mut Counter,
-    ) -> Result<Value, Stop>
+        into: &mut Value,
+    ) -> Result<(), Stop>
         requires { RunsBodies D.population self.now.alloc self.now.schema self.now.domain self.now.levels (B.pre self.now.below) (B.post self.now.below) }
-        ensures { Runs (bodies_at self.now.schema.now (D.population self.now.domain.now) self.now.levels (b.Derived derivation.entity derivation.place place) counter.old) result counter.new }
+        ensures { RunsInto (bodies_at self.now.schema.now (D.population self.now.domain.now) self.now.levels (b.Derived derivation.entity derivation.place place) counter.old) result into.new counter.new }
     {
-        self.body_below(
-            Body::Derived(derivation.entity, derivation.place, place),
-            counter,
-        )
+        let body = Body::Derived(derivation.entity, derivation.place, place);
+        *into = self.body_below(body, counter)?;
+        Ok(())
     }
 
     /// The users of what stands at a place.
+    #[inline(never)]
     #[tactic(auto, using(crate::proofs::Found::instances_count, crate::proofs::Found::users_give))]
     fn inverse_by(
         &self,
         inverse: Option<&Inverse>,
         place: u64,
         counter: &mut Counter,
-    ) -> Result<Value, Stop>
-        ensures { Runs (spec.inverse_by (world self.now.schema.now (D.population self.now.domain.now)) (bodies_at self.now.schema.now (D.population self.now.domain.now) self.now.levels) (option_copied inverse.entry) place counter.old) result counter.new }
+        into: &mut Value,
+    ) -> Result<(), Stop>
+        ensures { RunsInto (spec.inverse_by (world self.now.schema.now (D.population self.now.domain.now)) (bodies_at self.now.schema.now (D.population self.now.domain.now) self.now.levels) (option_copied inverse.entry) place counter.old) result into.new counter.new }
     {
         let Some(inverse) = inverse else {
-            return Ok(Value::Indet);
+            *into = Value::Indet;
+            return Ok(());
         };
         let users = inverse_users(self.alloc, self.domain, inverse, place as usize)?;
         charge(counter, users.len())?;
-        Ok(of_users(self.alloc, inverse.aggregate, users)?)
+        *into = of_users(self.alloc, inverse.aggregate, users)?;
+        Ok(())
     }
 
     /// The value of an attribute of the instance at a place.
     fn attribute_by(
         &self,
-        attribute: AttributePlace,
+        attribute: &AttributePlace,
         instance: &Seen<'_>,
         place: u64,
         counter: &mut Counter,
-    ) -> Result<Value, Stop>
+        into: &mut Value,
+    ) -> Result<(), Stop>
         requires { RunsBodies D.population self.now.alloc self.now.schema self.now.domain self.now.levels (B.pre self.now.below) (B.post self.now.below) }
-        ensures { Runs (spec.attribute_by (world self.now.schema.now (D.population self.now.domain.now)) (bodies_at self.now.schema.now (D.population self.now.domain.now) self.now.levels) attribute.sort attribute instance.now place counter.old) result counter.new }
+        ensures { RunsInto (spec.attribute_by (world self.now.schema.now (D.population self.now.domain.now)) (bodies_at self.now.schema.now (D.population self.now.domain.now) self.now.levels) attribute.now.sort attribute.now instance.now place counter.old) result into.new counter.new }
     {
         match attribute.sort {
             AttributeSort::Explicit => {
                 let derivations = explicit_derivations(self.schema, attribute);
                 match derivation_in(derivations, instance) {
-                    Some(derivation) => self.derived(derivation, place, counter),
-                    None => Ok(stored_value(instance, attribute)?),
+                    Some(derivation) => self.derived(derivation, place, counter, into),
+                    None => {
+                        *into = stored_value(instance, attribute)?;
+                        Ok(())
+                    }
                 }
             }
             AttributeSort::Derived => {
                 let derivations = own_derivations(self.schema, attribute);
                 match derivation_in(derivations, instance) {
-                    Some(derivation) => self.derived(derivation, place, counter),
-                    None => Ok(Value::Indet),
+                    Some(derivation) => self.derived(derivation, place, counter, into),
+                    None => {
+                        *into = Value::Indet;
+                        Ok(())
+                    }
                 }
             }
             AttributeSort::Inverse => {
                 let inverse = inverse_at(self.schema, attribute.entity, attribute.place);
-                self.inverse_by(inverse, place, counter)
+                self.inverse_by(inverse, place, counter, into)
             }
         }
     }
 
-    /// The value of the first of these attributes of which an instance has the entity.
-    pub(crate) fn attribute(
+    /// The value of the first of these attributes of which the instance at a place has the entity.
+    fn attribute_in(
         &self,
         attributes: &[AttributePlace],
-        value: &Value,
+        place: Option<u64>,
         counter: &mut Counter,
-    ) -> Result<Value, Stop>
+        into: &mut Value,
+    ) -> Result<(), Stop>
         requires { RunsBodies D.population self.now.alloc self.now.schema self.now.domain self.now.levels (B.pre self.now.below) (B.post self.now.below) }
-        ensures { Runs (spec.attribute (world self.now.schema.now (D.population self.now.domain.now)) (bodies_at self.now.schema.now (D.population self.now.domain.now) self.now.levels) attributes.now value.now counter.old) result counter.new }
+        ensures { RunsInto (spec.attribute_in (world self.now.schema.now (D.population self.now.domain.now)) (bodies_at self.now.schema.now (D.population self.now.domain.now) self.now.levels) attributes.now place counter.old) result into.new counter.new }
     {
-        let Some(place) = place_of(value) else {
-            return Ok(Value::Indet);
+        let Some(place) = place else {
+            *into = Value::Indet;
+            return Ok(());
         };
         let Some(instance) = self.domain.instance(place as usize) else {
-            return Ok(Value::Indet);
+            *into = Value::Indet;
+            return Ok(());
         };
         match chosen(attributes, &instance) {
-            Some(attribute) => self.attribute_by(attribute, &instance, place, counter),
-            None => Ok(Value::Indet),
+            Some(attribute) => self.attribute_by(attribute, &instance, place, counter, into),
+            None => {
+                *into = Value::Indet;
+                Ok(())
+            }
         }
     }
 
+    /// The value of the first of these attributes of which the instance that is there has the entity.
+    #[inline(never)]
+    pub(crate) fn attribute(
+        &self,
+        attributes: &[AttributePlace],
+        counter: &mut Counter,
+        into: &mut Value,
+    ) -> Result<(), Stop>
+        requires { RunsBodies D.population self.now.alloc self.now.schema self.now.domain self.now.levels (B.pre self.now.below) (B.post self.now.below) }
+        ensures { RunsInto (spec.attribute (world self.now.schema.now (D.population self.now.domain.now)) (bodies_at self.now.schema.now (D.population self.now.domain.now) self.now.levels) attributes.now into.old counter.old) result into.new counter.new }
+    {
+        self.attribute_in(attributes, place_of(into), counter, into)
+    }
+
     /// An attribute of SELF, for a step.
+    #[inline(never)]
     pub(crate) fn own_attribute(
         &self,
-        attribute: AttributePlace,
+        attribute: &AttributePlace,
         frame: &Frame,
         counter: &mut Counter,
-    ) -> Result<Value, Stop>
+        into: &mut Value,
+    ) -> Result<(), Stop>
         requires { RunsBodies D.population self.now.alloc self.now.schema self.now.domain self.now.levels (B.pre self.now.below) (B.post self.now.below) }
-        ensures { Runs (charged 1 (spec.attribute (world self.now.schema.now (D.population self.now.domain.now)) (bodies_at self.now.schema.now (D.population self.now.domain.now) self.now.levels) (attribute ∷ []) frame.now.itself) counter.old) result counter.new }
+        ensures { RunsInto (charged 1 (spec.attribute (world self.now.schema.now (D.population self.now.domain.now)) (bodies_at self.now.schema.now (D.population self.now.domain.now) self.now.levels) (attribute.now ∷ []) frame.now.itself) counter.old) result into.new counter.new }
     {
         charge(counter, 1)?;
-        self.attribute(&[attribute], frame.itself(), counter)
+        self.attribute_in(&[*attribute], place_of(frame.itself()), counter, into)
     }
 
     /// A constant, for a step.
-    pub(crate) fn constant(&self, number: usize, counter: &mut Counter) -> Result<Value, Stop>
+    #[inline(never)]
+    pub(crate) fn constant(
+        &self,
+        number: usize,
+        counter: &mut Counter,
+        into: &mut Value,
+    ) -> Result<(), Stop>
         requires { RunsBodies D.population self.now.alloc self.now.schema self.now.domain self.now.levels (B.pre self.now.below) (B.post self.now.below) }
-        ensures { Runs (charged 1 (bodies_at self.now.schema.now (D.population self.now.domain.now) self.now.levels (b.Constant number)) counter.old) result counter.new }
+        ensures { RunsInto (charged 1 (bodies_at self.now.schema.now (D.population self.now.domain.now) self.now.levels (b.Constant number)) counter.old) result into.new counter.new }
     {
         charge(counter, 1)?;
-        self.body_below(Body::Constant(number), counter)
+        *into = self.body_below(Body::Constant(number), counter)?;
+        Ok(())
     }
 
-    /// The same instance, if it is of the entity.
-    pub(crate) fn group(&self, entity: usize, value: &Value) -> Result<Value, AllocError>
-        ensures { IfOk result (λ found. found ≡ spec.group (world self.now.schema.now (D.population self.now.domain.now)) (bodies_at self.now.schema.now (D.population self.now.domain.now) self.now.levels) entity value.now) }
+    /// Whether the instance that is there is of the entity.
+    fn is_of_entity(&self, entity: usize, value: &Value) -> bool
+        ensures { spec.group (world self.now.schema.now (D.population self.now.domain.now)) (bodies_at self.now.schema.now (D.population self.now.domain.now) self.now.levels) entity value.now ≡ if result then value.now else v.Indet }
     {
         let Some(place) = place_of(value) else {
-            return Ok(Value::Indet);
+            return false;
         };
         match self.domain.instance(place as usize) {
-            Some(instance) if is_of(&instance, entity) => value.copy(),
-            _ => Ok(Value::Indet),
+            Some(instance) => is_of(&instance, entity),
+            None => false,
+        }
+    }
+
+    /// The instance that is there stays, if it is of the entity.
+    pub(crate) fn group(&self, entity: usize, into: &mut Value)
+        ensures { into.new ≡ spec.group (world self.now.schema.now (D.population self.now.domain.now)) (bodies_at self.now.schema.now (D.population self.now.domain.now) self.now.levels) entity into.old }
+    {
+        if !self.is_of_entity(entity, into) {
+            *into = Value::Indet;
         }
     }
 
     /// The instances of an entity, for a step and one for each.
-    pub(crate) fn extent(&self, entity: usize, counter: &mut Counter) -> Result<Value, Stop>
-        ensures { Runs (charged 1 (spec.extent_value (world self.now.schema.now (D.population self.now.domain.now)) (bodies_at self.now.schema.now (D.population self.now.domain.now) self.now.levels) entity) counter.old) result counter.new }
+    #[inline(never)]
+    pub(crate) fn extent(
+        &self,
+        entity: usize,
+        counter: &mut Counter,
+        into: &mut Value,
+    ) -> Result<(), Stop>
+        ensures { RunsInto (charged 1 (spec.extent_value (world self.now.schema.now (D.population self.now.domain.now)) (bodies_at self.now.schema.now (D.population self.now.domain.now) self.now.levels) entity) counter.old) result into.new counter.new }
     {
         charge(counter, 1)?;
         let found = self.domain.extent(self.alloc, entity)?;
         charge(counter, found.len())?;
-        Ok(Value::aggregate(self.alloc, AggregateKind::Set, 1, found)?)
+        *into = Value::aggregate(self.alloc, AggregateKind::Set, 1, found)?;
+        Ok(())
     }
 
     /// The users of an instance in a role; in what is no role there are none.
+    #[inline(never)]
     pub(crate) fn used_in_role(
         &self,
         role: Option<&Role>,
         place: Option<u64>,
         counter: &mut Counter,
-    ) -> Result<Value, Stop>
-        ensures { Runs (spec.used_in_role (world self.now.schema.now (D.population self.now.domain.now)) (bodies_at self.now.schema.now (D.population self.now.domain.now) self.now.levels) (option_copied role.entry) place counter.old) result counter.new }
+        into: &mut Value,
+    ) -> Result<(), Stop>
+        ensures { RunsInto (spec.used_in_role (world self.now.schema.now (D.population self.now.domain.now)) (bodies_at self.now.schema.now (D.population self.now.domain.now) self.now.levels) (option_copied role.entry) place counter.old) result into.new counter.new }
     {
         let Some(place) = place else {
-            return Ok(Value::Indet);
+            *into = Value::Indet;
+            return Ok(());
         };
         let found = match role {
             Some(role) => self.domain.users(self.alloc, place as usize, role)?,
             None => Items::new(self.alloc),
         };
         charge(counter, found.len())?;
-        Ok(Value::aggregate(self.alloc, AggregateKind::Bag, 1, found)?)
+        *into = Value::aggregate(self.alloc, AggregateKind::Bag, 1, found)?;
+        Ok(())
     }
 
     /// The users of an instance in the role of a name.
@@ -219,14 +281,15 @@ impl<'a, D: Domain, B: Fn(Global, &Schema, &D, u8, &mut Counter, Body) -> Result
         name: &str,
         place: Option<u64>,
         counter: &mut Counter,
-    ) -> Result<Value, Stop>
-        ensures { Runs (spec.used_in_role (world self.now.schema.now (D.population self.now.domain.now)) (bodies_at self.now.schema.now (D.population self.now.domain.now) self.now.levels) (role_named self.now.schema.now.roles name.now) place counter.old) result counter.new }
+        into: &mut Value,
+    ) -> Result<(), Stop>
+        ensures { RunsInto (spec.used_in_role (world self.now.schema.now (D.population self.now.domain.now)) (bodies_at self.now.schema.now (D.population self.now.domain.now) self.now.levels) (role_named self.now.schema.now.roles name.now) place counter.old) result into.new counter.new }
     {
         if name.is_empty() {
-            self.used_in_role(Some(&Role::Every), place, counter)
+            self.used_in_role(Some(&Role::Every), place, counter, into)
         } else {
             let role = named_role(self.schema.roles.as_slice(), name);
-            self.used_in_role(role, place, counter)
+            self.used_in_role(role, place, counter, into)
         }
     }
 }

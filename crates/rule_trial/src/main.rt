@@ -26,17 +26,15 @@ fn main(rt: HostRuntime) -> ExitCode {
     }
 }
 
-fn fault(alloc: Global, words: &str) -> Failure<String> {
-    match String::from_str(alloc, words) {
-        Ok(words) => Failure::Fault(words),
-        Err(_) => Failure::NoMemory,
-    }
+/// What is wrong, in words.
+fn fault<T>(alloc: Global, words: &str) -> Result<T, Failure<String>> {
+    Err(Failure::Fault(String::from_str(alloc, words)?))
 }
 
 fn bytes_of<R: AllocGlobal + Files>(rt: &R, path: &str) -> Result<Vec<u8>, Failure<String>> {
     match file_bytes(rt.alloc(), &FromFiles::new(rt), path) {
         Ok(bytes) => Ok(bytes),
-        Err(Failure::Fault(_)) => Err(fault(rt.alloc(), "a file can't be read or is over 8 MiB")),
+        Err(Failure::Fault(_)) => fault(rt.alloc(), "a file can't be read or is over 8 MiB"),
         Err(Failure::NoMemory) => Err(Failure::NoMemory),
     }
 }
@@ -45,20 +43,20 @@ fn bytes_of<R: AllocGlobal + Files>(rt: &R, path: &str) -> Result<Vec<u8>, Failu
 fn run<R: AllocGlobal + Files + Env + Print>(rt: &R) -> Result<(), Failure<String>> {
     let alloc = rt.alloc();
     let Ok(args) = env::args(rt) else {
-        return Err(fault(alloc, "the command line isn't UTF-8"));
+        return fault(alloc, "the command line isn't UTF-8");
     };
     let words: Vec<String> = args.collect(alloc)?;
     let [_, schema, file, limits @ ..] = words.as_slice() else {
-        return Err(fault(alloc, "rule_trial SCHEMA FILE LIMIT.."));
+        return fault(alloc, "rule_trial SCHEMA FILE LIMIT..");
     };
     let Some(limits) = limits_of(alloc, limits)? else {
-        return Err(fault(alloc, "a limit is no number up to 18446744073709551615"));
+        return fault(alloc, "a limit is no number up to 18446744073709551615");
     };
     let schema = bytes_of(rt, schema.as_str())?;
     let file = bytes_of(rt, file.as_str())?;
     let lines = trial(alloc, &schema, &file, &limits)?;
     match write_all(&mut ToWriter::new(io::writer(rt)), &lines) {
         Ok(()) => Ok(()),
-        Err(_) => Err(fault(alloc, "standard output can't be written")),
+        Err(_) => fault(alloc, "standard output can't be written"),
     }
 }

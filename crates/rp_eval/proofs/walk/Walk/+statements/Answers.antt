@@ -3,7 +3,7 @@ use Rattle.rp_meaning.specs.Expressions.{expression}
 use Rattle.rp_meaning.specs.Statements as spec
 use Rattle.rp_meaning.specs.Levels.{bodies, most_turns}
 use Rattle.rp_eval.specs.Bodies.{world}
-use Rattle.rp_eval.proofs.Loops.{statements_step, statement-repeat, statement-case, case_step, repeats_some, turn_off, turn_on, starts_off, starts_on, off, on, repeated_end, below_most, past_most, going_on_over}
+use Rattle.rp_eval.proofs.Loops.{statements_step, statement-repeat, statement-case, case_step, repeats_begins, turn_off, turn_on, starts_off, starts_on, off, on, repeated_end, below_most, past_most, going_on_over}
 use Rattle.rp_eval.proofs.walk.Walk.+statements.Goals as goal
 
 pub statements-returns-in_err-ending : goal.statements-returns-in_err-ending
@@ -16,7 +16,7 @@ pub statements-returns-in_default : goal.statements-returns-in_default
 statements-returns-in_default g t c =
     let w = world c.args.self.now.schema.now (g.D.Domain.population c.args.self.now.domain.now) in
     let step = statements_step (spec.statement w most_turns (bodies w c.args.self.now.levels)) c.args.list.now c.loop-item.item-index c.item-item.result c.loop-item.frame c.loop-item.counter (omega arith) c.item-item.is in
-    sym c.loop-item.invariant ∙ (step ∙ rw c.in_ok-ending.ensures (going_on_over _ c.in_ok-ending.ending c.statement.new.frame c.statement.new.counter c.in_default.not-Next))
+    sym c.loop-item.invariant ∙ (step ∙ rw c.in_ok-ending.ensures (going_on_over _ c.in_ok-ending.ending c.statement.new.into c.statement.new.frame c.statement.new.counter c.in_default.not-Next))
 
 pub statements-loop-item-preserved : goal.statements-loop-item-preserved
 statements-loop-item-preserved g t c =
@@ -33,7 +33,7 @@ statement-returns-in-Case g t c =
 pub statement-returns-in-Repeat : goal.statement-returns-in-Repeat
 statement-returns-in-Repeat g t c =
     let w = world c.args.self.now.schema.now (g.D.Domain.population c.args.self.now.domain.now) in
-    rw (statement-repeat w most_turns (bodies w c.args.self.now.levels) c.args.frame.now c.args.item.now c.in-Repeat.control c.in-Repeat.body c.in-Repeat.is, sym c.as_slice-in-Repeat.ensures, sym c.get.ensures) (search rules)
+    rw (statement-repeat w most_turns (bodies w c.args.self.now.levels) c.args.frame.now c.args.item.now c.in-Repeat.control c.in-Repeat.body c.in-Repeat.is, sym c.get.ensures) (search rules)
 
 pub matched-returns-in_err-is_hit : goal.matched-returns-in_err-is_hit
 matched-returns-in_err-is_hit g t c =
@@ -64,22 +64,19 @@ matched-loop-action-preserved g t c =
       runs = sym missed ∙ c.loop-action.invariant.runs;
     }
 
-pub counted-returns : goal.counted-returns
-counted-returns g t c =
+pub counted-returns-in-Some : goal.counted-returns-in-Some
+counted-returns-in-Some g t c =
     let w = world c.args.self.now.schema.now (g.D.Domain.population c.args.self.now.domain.now) in
     let below = bodies w c.args.self.now.levels in
     let one = spec.turn (expression w below) c.args.control.now (spec.statements w most_turns below c.args.body.now) in
-    let first = c.in_ok-first.ensures.frame in
-    let second = c.in_ok-last.ensures.frame ∙ first in
-    let third = c.in_ok-step.ensures.frame ∙ second in
-    let last = rw first at c.in_ok-last.ensures.value in
-    let by = rw second at c.in_ok-step.ensures.value in
-    let all = repeats_some most_turns (expression w below) one c.args.increment.now c.args.frame.now c.args.counter.now c.expression.new.counter c.expression-2.new.counter c.step_value.new.counter
-    c.in_ok-first.first c.in_ok-last.last c.in_ok-step.step c.in-Some.running c.in_ok-first.ensures.value last by (sym c.begun.ensures ∙ c.in-Some.is) in
-    rw all (rw third at c.with_variable.ensures)
+    let all = repeats_begins most_turns (expression w below) one c.args.increment.now c.args.frame.now c.args.counter.now in
+    rw (all, c.in_ok-running.ensures.value, c.in-Some.is) (rw c.in_ok-running.ensures.frame at c.with_variable.ensures)
 
 pub repeat-returns-in-None : goal.repeat-returns-in-None
-repeat-returns-in-None g t c = rw c.in-None.is c.turns.ensures
+repeat-returns-in-None g t c = rw (sym c.as_slice.ensures, c.in-None.is) c.turns.ensures
+
+pub repeat-returns-in-Some : goal.repeat-returns-in-Some
+repeat-returns-in-Some g t c = rw (sym c.as_slice-in-Some.ensures, c.in-Some.is) c.counted.ensures
 
 pub turns-returns-then-not-start : goal.turns-returns-then-not-start
 turns-returns-then-not-start g t c =

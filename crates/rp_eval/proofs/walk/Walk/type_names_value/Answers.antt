@@ -7,4 +7,4 @@ pub returns-in_err-charge : goal.returns-in_err-charge
 returns-in_err-charge g c =
     let schema = c.args.self.now.schema.now in
     let population = g.D.Domain.population c.args.self.now.domain.now in
-    rw (sym (texts_count schema population (type_names schema population c.args.value.now)), sym c.in_ok-names.ensures) (search rules)
+    rw (sym (texts_count schema population (type_names schema population c.args.into.now)), sym c.in_ok-names.ensures) (search rules)
