@@ -8,3 +8,4 @@ pub mod Sizes
 pub mod Sums
 pub mod Texts
 pub mod Sets
+pub mod Present

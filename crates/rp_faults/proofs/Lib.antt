@@ -1,0 +1,4 @@
+pub mod Twice
+pub mod Faulty
+pub mod Astray
+pub mod Held

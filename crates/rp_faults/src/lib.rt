@@ -1,0 +1,15 @@
+//! What declared types ask of the values of attributes: that they are set, that bounds and widths hold, and where references lead.
+#![tactic(auto)]
+
+mod asked;
+mod attributes;
+mod declared;
+mod faults;
+mod held;
+mod references;
+
+pub use attributes::is_checked;
+pub use declared::{declared_types, read_at};
+pub use faults::is_type;
+pub use held::{Fault, culprits};
+pub use references::allows_choice;

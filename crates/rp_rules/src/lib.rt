@@ -1,0 +1,19 @@
+//! The checks of a population by the rules of a schema, in their order and within the steps that a validation may use.
+#![tactic(auto)]
+
+mod choices;
+mod conditions;
+mod culprits;
+mod ended;
+mod order;
+mod rows;
+mod rules;
+mod tried;
+mod types;
+mod unique;
+mod used;
+mod validate;
+mod validation;
+mod verdicts;
+
+pub use validate::validate;
