@@ -1,4 +1,4 @@
 pub mod Twice
 pub mod Faulty
 pub mod Astray
-pub mod Held
+pub mod Checked

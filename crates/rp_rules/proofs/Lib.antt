@@ -1,6 +1,6 @@
 pub mod Within
 pub mod Tallied
 pub mod Gatherings
-pub mod Order
-pub mod Tried
+pub mod Sequences
+pub mod Values
 pub mod TypeTallies

@@ -2,7 +2,7 @@ use Rattle.std.proofs.Common.{◌≡◌, [], drop, map}
 use Rattle.rp_meaning.specs.Report.{world}
 use Rattle.rp_rules.specs.Endings.{verdicts_of}
 use Rattle.rp_rules.proofs.TypeTallies.{noted}
-use Rattle.rp_rules.proofs.types.Validation.verdicts_of_values.Given as goal
+use Rattle.rp_rules.proofs.validation.Validation.verdicts_of_values.Given as goal
 
 -- what is left of the values comes to what all come to
 abbrev pub invariant-loop-value : goal.invariant-loop-value

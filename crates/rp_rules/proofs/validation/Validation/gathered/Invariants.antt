@@ -3,7 +3,7 @@ use Rattle.std.specs.List.{range_with_len}
 use Rattle.rp_meaning.specs.declared.rule.Rule.TheVariants as r
 use Rattle.rp_meaning.specs.Report.{world}
 use Rattle.rp_rules.specs.Gatherings.{gathered_after, gathered_of, trials_of, unique_rules}
-use Rattle.rp_rules.proofs.unique.Validation.gathered.Given as goal
+use Rattle.rp_rules.proofs.validation.Validation.gathered.Given as goal
 
 -- what is left of the attributes comes to what all come to
 abbrev pub invariant-loop-at : goal.invariant-loop-at

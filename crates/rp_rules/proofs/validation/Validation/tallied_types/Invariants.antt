@@ -3,7 +3,7 @@ use Rattle.rp_meaning.specs.Faults.{held_from}
 use Rattle.rp_meaning.specs.Report.{type_candidates, world}
 use Rattle.rp_rules.specs.Tallies.{no_culprits, tallied}
 use Rattle.rp_rules.specs.TypeTallies.{candidates_of}
-use Rattle.rp_rules.proofs.types.Validation.tallied_types.Given as goal
+use Rattle.rp_rules.proofs.validation.Validation.tallied_types.Given as goal
 
 -- what is left of the instances comes to what all come to
 abbrev pub invariant-loop-at : goal.invariant-loop-at

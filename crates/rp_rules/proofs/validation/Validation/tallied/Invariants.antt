@@ -1,7 +1,7 @@
 use Rattle.std.proofs.Common.{◌≡◌, drop, map}
 use Rattle.rp_meaning.specs.Report.{world}
 use Rattle.rp_rules.specs.Tallies.{candidate_by, no_culprits, tallied}
-use Rattle.rp_rules.proofs.conditions.Validation.tallied.Given as goal
+use Rattle.rp_rules.proofs.validation.Validation.tallied.Given as goal
 
 -- what is left of the instances comes to what all come to
 abbrev pub invariant-loop-instance : goal.invariant-loop-instance

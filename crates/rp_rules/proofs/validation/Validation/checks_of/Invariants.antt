@@ -1,7 +1,7 @@
 use Rattle.std.proofs.Common.{◌≡◌, drop}
 use Rattle.rp_meaning.specs.Sequence.{in_sequence_after}
 use Rattle.rp_rules.specs.Order.{checks_of}
-use Rattle.rp_rules.proofs.order.Validation.checks_of.Given as goal
+use Rattle.rp_rules.proofs.validation.Validation.checks_of.Given as goal
 
 -- what is left of the numbers comes to what all come to
 abbrev pub invariant-loop-number : goal.invariant-loop-number

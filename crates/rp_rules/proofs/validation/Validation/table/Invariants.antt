@@ -1,7 +1,7 @@
 use Rattle.std.proofs.Common.{◌≡◌, [], drop}
 use Rattle.rp_meaning.specs.Report.{world}
 use Rattle.rp_rules.specs.Gatherings.{table_after, table_of, unique_rules}
-use Rattle.rp_rules.proofs.unique.Validation.table.Given as goal
+use Rattle.rp_rules.proofs.validation.Validation.table.Given as goal
 
 -- what is left of the instances comes to what all come to
 abbrev pub invariant-loop-instance : goal.invariant-loop-instance

@@ -2,7 +2,7 @@ use Rattle.std.proofs.Common.{◌≡◌, ◌-◌, map}
 use Rattle.std.specs.List.{range_with_len}
 use Rattle.rp_meaning.specs.Sequence.{in_sequence_after}
 use Rattle.rp_rules.specs.Order.{check_at, checks_at, count_of}
-use Rattle.rp_rules.proofs.order.Validation.checks_at.Given as goal
+use Rattle.rp_rules.proofs.validation.Validation.checks_at.Given as goal
 
 -- what is left of the rules comes to what all come to
 abbrev pub invariant-loop-place : goal.invariant-loop-place

@@ -1,7 +1,7 @@
 use Rattle.std.proofs.Common.{◌≡◌, ◌++◌, drop}
 use Rattle.rp_faults.specs.Declared.{all_now}
 use Rattle.rp_rules.specs.Tried.{elements_at}
-use Rattle.rp_rules.proofs.tried.+trying.Given as goal
+use Rattle.rp_rules.proofs.tried.Trying.+trying.Given as goal
 
 abbrev pub invariant-push_elements-loop-place : goal.invariant-push_elements-loop-place
 invariant-push_elements-loop-place g l =

@@ -2,7 +2,7 @@ use Rattle.std.proofs.Common.{◌≡◌, drop}
 use Rattle.rp_meaning.specs.Report.{world}
 use Rattle.rp_rules.specs.Tallies.{tallied}
 use Rattle.rp_rules.specs.TypeTallies.{candidates_among}
-use Rattle.rp_rules.proofs.types.Validation.tally_attributes.Given as goal
+use Rattle.rp_rules.proofs.validation.Validation.tally_attributes.Given as goal
 
 -- what is left of the attributes comes to what all come to
 abbrev pub invariant-loop-slot : goal.invariant-loop-slot
