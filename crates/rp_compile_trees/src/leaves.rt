@@ -39,17 +39,23 @@ fn integer(number: u64) -> Value
     }
 }
 
-/// The value of a literal.
-pub(crate) fn literal(alloc: Global, tree: &Literal) -> Result<Value, AllocError>
-    ensures { IfOk result (λ value. value ≡ spec.literal tree.now) }
+fn literal_value(alloc: Global, literal: &Literal) -> Result<Value, AllocError>
+    ensures { IfOk result (λ value. value ≡ spec.literal literal.now) }
 {
-    match tree {
+    match literal {
         Literal::Integer(number) => Ok(integer(*number)),
         Literal::Real(decimal) => Value::decimal(alloc, *decimal),
         Literal::String(text, _) => Value::text(alloc, text.copy(alloc)?),
         Literal::Binary(digits) => Value::binary(alloc, bits(alloc, digits.as_bytes())?),
         Literal::Logical(logical) => Ok(Value::Log(*logical)),
     }
+}
+
+/// A literal.
+pub(crate) fn literal(alloc: Global, literal: &Literal) -> Result<Expression, AllocError>
+    ensures { IfOk result (λ found. found ≡ tree.Literal (spec.literal literal.now)) }
+{
+    Ok(Expression::Literal(literal_value(alloc, literal)?))
 }
 
 /// An attribute of SELF, by its name alone.
