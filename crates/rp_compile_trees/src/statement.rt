@@ -149,9 +149,9 @@ fn case_statement(
 ) -> Result<Statement, AllocError>
     ensures { IfOk result (λ found. found ≡ parts.case_statement schema.now (map (λ t. t.now) types.now) scope.now tree.now) }
 {
-    let selector = expression(alloc, schema, scope, &tree.selector)?;
     let mut actions = case_actions(alloc, schema, scope, tree.actions.as_slice(), types)?;
     actions.append(otherwise(alloc, schema, scope, &tree.otherwise, types)?)?;
+    let selector = expression(alloc, schema, scope, &tree.selector)?;
     Ok(Statement::Case(selector, actions))
 }
 
