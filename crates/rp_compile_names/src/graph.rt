@@ -10,7 +10,7 @@ use std::alloc::{AllocError, Global};
 pub fn supertypes(alloc: Global, entities: &[NamedEntity]) -> Result<Vec<Rows<usize>>, AllocError>
     ensures { IfOk result (λ graph. graph.items ≡ map (λ e. e.supertypes) entities.now) }
 {
-    let mut graph = Vec::with_capacity(alloc, entities.len())?;
+    let mut graph = Vec::new(alloc);
     for entity in entities {
         let above = Vec::from_slice(alloc, entity.supertypes.as_slice())?;
         graph.push(Rows::from_vec(above))?;
