@@ -287,6 +287,7 @@ fn interval(
     Ok(Expression::Interval(Boxed::new(alloc, interval)?))
 }
 
+/// The variable, which stands in the condition, is one of the source's elements.
 #[cycle(trees)]
 fn query(
     alloc: Global,
@@ -296,24 +297,25 @@ fn query(
 ) -> Result<Expression, AllocError>
     ensures { IfOk result (λ found. found ≡ tree_of.Query (parts.query schema.now scope.now tree.now)) }
 {
+    let elements = elements(alloc, schema, scope, &tree.source)?;
+    let condition = condition(alloc, schema, scope, elements, &tree.condition)?;
     let source = expression(alloc, schema, scope, &tree.source)?;
-    let condition = condition(alloc, schema, scope, tree)?;
     let query = Query { source, condition };
     Ok(Expression::Query(Boxed::new(alloc, query)?))
 }
 
-/// The condition of a QUERY: the variable, which stands in it, is one of the source's elements.
+/// A condition in which a variable of these kinds stands.
 #[cycle(trees)]
 fn condition(
     alloc: Global,
     schema: &Declared<'_>,
     scope: &TypingScope<'_>,
-    tree: &NamedQuery,
+    variable: Kinds,
+    tree: &NamedExpression,
 ) -> Result<Expression, AllocError>
-    ensures { IfOk result (λ found. found ≡ spec.expression schema.now (within scope.now (parts.elements schema.now scope.now tree.now.source)) tree.now.condition) }
+    ensures { IfOk result (λ found. found ≡ spec.expression schema.now (within scope.now variable) tree.now) }
 {
-    let elements = elements(alloc, schema, scope, &tree.source)?;
-    // Lent again, for as long as the elements.
-    let within = (&*scope).within(alloc, elements.as_slice())?;
-    expression(alloc, schema, &within, &tree.condition)
+    // Lent again, for as long as the variable.
+    let within = (&*scope).within(alloc, variable.as_slice())?;
+    expression(alloc, schema, &within, tree)
 }

@@ -53,7 +53,7 @@ abbrev pub decreases-interval : goal.decreases-interval
 decreases-interval l = 3 * goal.size-interval l
 
 abbrev pub decreases-query : goal.decreases-query
-decreases-query l = 3 * goal.size-query l + 1
+decreases-query l = 3 * goal.size-query l
 
 abbrev pub decreases-condition : goal.decreases-condition
-decreases-condition l = 3 * goal.size-condition l
+decreases-condition l = 3 * goal.size-condition l + 1
