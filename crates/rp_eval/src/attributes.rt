@@ -10,6 +10,7 @@ ghost use Rattle.rp_meaning.specs.Uses as uses;
 ghost use Rattle.rp_value.specs.declared.value.Value.TheVariants as v;
 ghost use Rattle.rp_eval.specs.Counts as counts;
 
+use crate::copies::copied;
 use ex_named::{AttributePlace, AttributeSort};
 use rp_meaning::{Derivation, Given, Inverse, NamedRole, ReadValue, Role, Schema, Seen};
 use rp_value::Value;
@@ -117,7 +118,7 @@ pub(crate) fn stored_value(
         attribute,
     );
     match found {
-        Some(value) => value.copy(),
+        Some(value) => copied(value),
         None => Ok(Value::Indet),
     }
 }

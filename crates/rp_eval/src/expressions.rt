@@ -12,6 +12,7 @@ ghost use Rattle.rp_eval.specs.Bodies.{RunsBodies, bodies_at, interval_at, opera
 ghost use Rattle.rp_eval.specs.Callings as callings;
 ghost use Rattle.rp_eval.specs.Written.{RunsInto};
 
+use crate::copies::copied;
 use crate::frame::Frame;
 use crate::steps::{charge, charge_interval, charge_operator, known, variable};
 use crate::walk::Walk;
@@ -37,7 +38,7 @@ fn keep(found: &mut Items<Value>, element: &Value, holds: bool) -> Result<(), Al
     ensures { OnOk result (found.new ≡ spec.kept_one found.old element.now holds) }
 {
     if holds {
-        found.push(element.copy()?)?;
+        found.push(copied(element)?)?;
     }
     Ok(())
 }
@@ -457,7 +458,7 @@ impl<'a, D: Domain, B: Fn(Global, &Schema, &D, u8, &mut Counter, Body) -> Result
         ensures frame { OnOk result (frame.new ≡ frame.old) }
     {
         charge(counter, 1)?;
-        frame.open(element.copy()?)?;
+        frame.open(copied(element)?)?;
         let mut value = Value::Indet;
         self.expression(condition, frame, counter, &mut value)?;
         frame.close();

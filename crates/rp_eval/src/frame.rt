@@ -1,5 +1,6 @@
 //! What an expression stands in.
 
+use crate::copies::copied;
 use plain_data::Items;
 use rp_value::Value;
 use std::alloc::{AllocError, Global};
@@ -68,7 +69,7 @@ impl Frame {
         ensures { IfOk result (λ value. value ≡ slice_index_or self.now.variables slot v.Indet) }
     {
         match self.variables.as_slice().get(slot) {
-            Some(value) => value.copy(),
+            Some(value) => copied(value),
             None => Ok(Value::Indet),
         }
     }

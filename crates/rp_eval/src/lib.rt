@@ -4,6 +4,7 @@
 mod attributes;
 mod bodies;
 mod calls;
+mod copies;
 mod expressions;
 mod frame;
 mod laws;

@@ -9,6 +9,7 @@ ghost use Rattle.rp_meaning.specs.BuiltIns as built_ins;
 ghost use Rattle.rp_meaning.specs.Operators as operators;
 ghost use Rattle.rp_value.specs.declared.value.Value.TheVariants as v;
 
+use crate::copies::copied;
 use crate::frame::Frame;
 use ex_tree::BinaryOperator;
 use rp_meaning::{Counter, Stop};
@@ -72,7 +73,7 @@ pub(crate) fn known(value: &Value, counter: &mut Counter, into: &mut Value) -> R
     ensures { RunsInto (charged 1 (pure value.now) counter.old) result into.new counter.new }
 {
     charge(counter, 1)?;
-    *into = value.copy()?;
+    *into = copied(value)?;
     Ok(())
 }
 
