@@ -68,8 +68,9 @@ impl ListDomain {
         ensures { IfOk result (λ domain. domain ≡ map (λ i. instance_of schema.now (length instances.items) i.entities i.values) instances.items) }
     {
         let instances = kept_instances(alloc, schema, instances)?;
-        let extents = extents_of(alloc, schema.entities.len(), instances.as_slice())?;
+        // The rows of the users are given back before the extents are made.
         let users = table_of(alloc, users_of(alloc, instances.as_slice())?)?;
+        let extents = extents_of(alloc, schema.entities.len(), instances.as_slice())?;
         Ok(ListDomain {
             instances,
             extents,
