@@ -90,8 +90,31 @@ impl<'a, D: Domain, B: Fn(Global, &Schema, &D, u8, &mut Counter, Body) -> Result
     }
 
     /// The value of an expression is written in place: a frame on the way to a part holds no value but those that wait for it.
+    /// The commonest expressions without parts are told apart first, and take no frame.
     #[cycle(expressions)]
     pub(crate) fn expression(
+        &self,
+        tree: &Expression,
+        frame: &mut Frame,
+        counter: &mut Counter,
+        into: &mut Value,
+    ) -> Result<(), Stop>
+        requires { RunsBodies D.population self.now.alloc self.now.schema self.now.domain self.now.levels (B.pre self.now.below) (B.post self.now.below) }
+        ensures value { RunsInto (value_at self.now.schema.now (D.population self.now.domain.now) self.now.levels tree.now frame.old counter.old) result into.new counter.new }
+        ensures frame { OnOk result (frame.new ≡ frame.old) }
+    {
+        match tree {
+            Expression::Literal(value) => known(value, counter, into),
+            Expression::Variable(slot) => variable(frame, *slot, counter, into),
+            Expression::Attribute(attribute) => self.own_attribute(attribute, frame, counter, into),
+            _ => self.compound(tree, frame, counter, into),
+        }
+    }
+
+    /// The same of every expression, with a frame in which also the operators and the qualifiers behind a first part are taken.
+    #[cycle(expressions)]
+    #[inline(never)]
+    fn compound(
         &self,
         tree: &Expression,
         frame: &mut Frame,
@@ -275,7 +298,7 @@ impl<'a, D: Domain, B: Fn(Global, &Schema, &D, u8, &mut Counter, Body) -> Result
 
     /// Operators of one level, from left to right.
     #[cycle(expressions)]
-    #[inline(never)]
+    #[inline(always)]
     fn operations(
         &self,
         operations: &[Operation],
@@ -331,7 +354,7 @@ impl<'a, D: Domain, B: Fn(Global, &Schema, &D, u8, &mut Counter, Body) -> Result
 
     /// Qualifiers from left to right.
     #[cycle(expressions)]
-    #[inline(never)]
+    #[inline(always)]
     fn qualifiers(
         &self,
         qualifiers: &[Qualifier],
