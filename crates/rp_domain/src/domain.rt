@@ -1,7 +1,8 @@
 //! A population in a list.
 
 use crate::extents::{extents_of, found_extent, instances_once};
-use crate::instance::{KeptInstance, WrittenInstance};
+use crate::instance::WrittenInstance;
+use crate::instances::{Instances, instances_of};
 use crate::read::kept_instances;
 use crate::table::{Table, table_of};
 use crate::users::{User, users_among, users_of};
@@ -13,7 +14,7 @@ use std::marker::Model;
 
 /// A population in a list, with its values as they are read, and with the instances of each entity and who uses whom.
 pub struct ListDomain {
-    instances: Items<KeptInstance>,
+    instances: Instances,
     /// The places of its instances, by entities of the schema.
     extents: Vec<Items<u32>>,
     /// By the places of what they use.
@@ -67,9 +68,10 @@ impl ListDomain {
     ) -> Result<ListDomain, AllocError>
         ensures { IfOk result (λ domain. domain ≡ map (λ i. instance_of schema.now (length instances.items) i.entities i.values) instances.items) }
     {
-        let instances = kept_instances(alloc, schema, instances)?;
-        let extents = extents_of(alloc, schema.entities.len(), instances.as_slice())?;
-        let users = table_of(alloc, users_of(alloc, instances.as_slice())?)?;
+        let kept = kept_instances(alloc, schema, instances)?;
+        let extents = extents_of(alloc, schema.entities.len(), kept.as_slice())?;
+        let users = table_of(alloc, users_of(alloc, kept.as_slice())?)?;
+        let instances = instances_of(alloc, kept)?;
         Ok(ListDomain {
             instances,
             extents,
@@ -86,17 +88,14 @@ impl Domain for ListDomain {
     }
 
     fn instance(&self, at: usize) -> Option<Seen<'_>> {
-        match self.instances.get(at) {
-            None => None,
-            Some(instance) => Some(instance.seen()),
-        }
+        self.instances.seen(at)
     }
 
     fn extent(&self, alloc: Global, entity: usize) -> Result<Items<Value>, AllocError> {
         if entity < self.extents.len() {
             instances_once(alloc, self.extents[entity].as_slice())
         } else {
-            found_extent(alloc, self.instances.as_slice(), entity)
+            found_extent(alloc, &self.instances, entity)
         }
     }
 

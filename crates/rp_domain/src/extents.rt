@@ -1,15 +1,18 @@
 //! The instances of entities.
 
 ghost use Rattle.std.specs.Prelude.{◌≡◌, ◌<◌, ◌^◌, [], ◌∷◌, ◌++◌, IfOk, OnOk, length, replicate};
-ghost use Rattle.rp_meaning.specs.Populations.{instances as values_of, places_from};
+ghost use Rattle.std.specs.Option.{option_to_list};
+ghost use Rattle.rp_meaning.specs.Populations.{instances as values_of, is_of as spec_is_of, places_from};
 ghost use Rattle.rp_meaning.specs.Uses.{each_once};
 ghost use Rattle.rp_domain.specs.Rows.{put_all};
 ghost use Rattle.rp_domain.specs.Standing as spec;
 
 use crate::instance::KeptInstance;
+use crate::instances::Instances;
 use crate::room::room_of_extents;
 use crate::rows::{empty_rows, put, with_room};
 use plain_data::Items;
+use rp_meaning::Seen;
 use rp_value::Value;
 use std::alloc::{AllocError, Global};
 
@@ -80,20 +83,39 @@ pub(crate) fn instances_once(alloc: Global, places: &[u32]) -> Result<Items<Valu
     Ok(found)
 }
 
-/// The instances of an entity, in their order, by a walk over all instances.
+/// Adds the instance at a place, if there is one, and if it is of an entity.
 #[tactic(auto, unfolding(rp_meaning::specs::Populations::places_from))]
+fn push_of(
+    found: &mut Items<Value>,
+    entity: usize,
+    at: usize,
+    instance: Option<Seen<'_>>,
+) -> Result<(), AllocError>
+    ensures { OnOk result (found.new ≡ found.old ++ values_of (places_from entity at (option_to_list instance.entry))) }
+{
+    match instance {
+        Some(seen) if is_of(&seen, entity) => found.push(Value::Inst(at as u64)),
+        _ => Ok(()),
+    }
+}
+
+fn is_of(seen: &Seen<'_>, entity: usize) -> bool
+    ensures { result ≡ spec_is_of seen.now entity }
+{
+    seen.entities.contains(&entity)
+}
+
+/// The instances of an entity, in their order, by a walk over all instances.
 pub(crate) fn found_extent(
     alloc: Global,
-    instances: &[KeptInstance],
+    instances: &Instances,
     entity: usize,
 ) -> Result<Items<Value>, AllocError>
     ensures { IfOk result (λ found. found ≡ values_of (places_from entity 0 instances.now)) }
 {
     let mut found = Items::new(alloc);
-    for (at, instance) in instances.iter().enumerate() {
-        if instance.is_of(entity) {
-            found.push(Value::Inst(at as u64))?;
-        }
+    for at in 0..instances.len() {
+        push_of(&mut found, entity, at, instances.seen(at))?;
     }
     Ok(found)
 }

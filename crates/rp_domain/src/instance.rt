@@ -18,11 +18,46 @@ pub struct WrittenInstance {
     pub values: Items<Value>,
 }
 
+/// How the values of an instance are read.
+pub(crate) struct Reading {
+    combination: Shared<Combination>,
+    // Instances in which the same is read share one list.
+    differing: Shared<Items<ReadValue>>,
+}
+
+impl Drop for Reading {
+    fn drop(self) {
+        let Reading {
+            combination,
+            differing,
+        } = self;
+        drop(combination);
+        drop(differing);
+    }
+}
+
+impl Reading {
+    ghost use Rattle.std.specs.Prelude.{◌≡◌};
+    ghost use Rattle.rp_domain.specs.Kept as spec;
+
+    /// The instance whose values are written so.
+    pub(crate) fn seen<'d>(&'d self, written: &'d [Value]) -> Seen<'d>
+        ensures { result ≡ spec.kept self.now written.now }
+    {
+        let combination = self.combination.get();
+        Seen {
+            entities: combination.entities.get().as_slice(),
+            attributes: combination.attributes.as_slice(),
+            written,
+            differing: self.differing.get().as_slice(),
+        }
+    }
+}
+
 /// An instance with its values as they are written, and with those that are read in place of some of them.
 pub(crate) struct KeptInstance {
     combination: Shared<Combination>,
     written: Items<Value>,
-    // Instances in which the same is read share one list.
     differing: Shared<Items<ReadValue>>,
 }
 
@@ -65,8 +100,8 @@ pub(crate) fn value_at(values: &[Value], at: usize) -> Option<&Value>
 impl KeptInstance {
     ghost use Rattle.std.specs.Prelude.{◌≡◌, map};
     ghost use Rattle.std.specs.List.{zip};
-    ghost use Rattle.rp_meaning.specs.Populations.{is_of};
     ghost use Rattle.rp_domain.specs.Combinations.{used_of, values_of};
+    ghost use Rattle.rp_domain.specs.Kept.{kept};
 
     pub(crate) fn new(
         combination: Shared<Combination>,
@@ -83,16 +118,20 @@ impl KeptInstance {
         }
     }
 
-    pub(crate) fn seen(&self) -> Seen<'_>
-        ensures { result ≡ self.now }
+    /// How its values are read, and these as they are written.
+    pub(crate) fn into_parts(self) -> (Reading, Items<Value>)
+        ensures { kept result.0 result.1 ≡ self }
     {
-        let combination = self.combination.get();
-        Seen {
-            entities: combination.entities.get().as_slice(),
-            attributes: combination.attributes.as_slice(),
-            written: self.written.as_slice(),
-            differing: self.differing.get().as_slice(),
-        }
+        let KeptInstance {
+            combination,
+            written,
+            differing,
+        } = self;
+        let reading = Reading {
+            combination,
+            differing,
+        };
+        (reading, written)
     }
 
     pub(crate) fn entities(&self) -> &[usize]
@@ -107,11 +146,5 @@ impl KeptInstance {
     {
         let attributes = self.combination.get().uses.as_slice();
         (attributes, self.written.as_slice())
-    }
-
-    pub(crate) fn is_of(&self, entity: usize) -> bool
-        ensures { result ≡ is_of self.now entity }
-    {
-        self.entities().contains(&entity)
     }
 }

@@ -7,6 +7,7 @@ mod combinations;
 mod domain;
 mod extents;
 mod instance;
+mod instances;
 mod others;
 mod read;
 mod references;

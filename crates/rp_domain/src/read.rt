@@ -14,7 +14,6 @@ use crate::combinations::Combinations;
 use crate::instance::{KeptInstance, WrittenInstance, value_at};
 use crate::others::push_other;
 use crate::references::{leaves, present};
-use crate::rows::with_room;
 use crate::sameness::is_same;
 use ex_named::AttributePlace;
 use plain_data::Items;
@@ -122,19 +121,6 @@ fn without_derived(mut values: Items<Value>, derived: &[bool]) -> Items<Value>
     values
 }
 
-/// The values as they are kept: without those of which it is said that they are derived, and in no more room than they take.
-fn kept_values(
-    alloc: Global,
-    values: Items<Value>,
-    derived: &[bool],
-) -> Result<Items<Value>, AllocError>
-    ensures { IfOk result (λ found. found ≡ combinations_spec.without_derived derived.now values) }
-{
-    let mut found = with_room(alloc, values.len())?;
-    found.append(without_derived(values, derived))?;
-    Ok(found)
-}
-
 /// An instance of a population of so many.
 fn kept(
     alloc: Global,
@@ -150,7 +136,7 @@ fn kept(
 {
     let WrittenInstance { entities, values } = instance;
     let combination = combinations.of(alloc, entities)?;
-    let written = kept_values(alloc, values, combination.get().derived.as_slice())?;
+    let written = without_derived(values, combination.get().derived.as_slice());
     find_others(
         found,
         alloc,
@@ -169,13 +155,13 @@ pub(crate) fn kept_instances(
     alloc: Global,
     schema: &Schema,
     instances: Vec<WrittenInstance>,
-) -> Result<Items<KeptInstance>, AllocError>
-    ensures { IfOk result (λ found. found ≡ map (λ i. spec.instance_of schema.now (length instances.items) i.entities i.values) instances.items) }
+) -> Result<Vec<KeptInstance>, AllocError>
+    ensures { IfOk result (λ found. found.items ≡ map (λ i. spec.instance_of schema.now (length instances.items) i.entities i.values) instances.items) }
 {
     let count = instances.len();
     let mut combinations = Combinations::new(alloc, schema);
     let mut others = Vec::new(alloc);
-    let mut found = with_room(alloc, count)?;
+    let mut found = Vec::with_capacity(alloc, count)?;
     for instance in instances {
         let instance = kept(
             alloc,

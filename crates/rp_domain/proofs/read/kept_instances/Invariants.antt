@@ -5,5 +5,5 @@ use Rattle.rp_domain.proofs.read.kept_instances.Given as goal
 abbrev pub invariant-loop-instance : goal.invariant-loop-instance
 invariant-loop-instance l = record {
   schema : l.combinations ≡ l.schema;
-  found : l.found ++ map (λ i. instance_of l.schema l.count i.entities i.values) l.instance-iterator.rest.items ≡ map (λ i. instance_of l.schema l.count i.entities i.values) l.fn.instances.items;
+  found : l.found.items ++ map (λ i. instance_of l.schema l.count i.entities i.values) l.instance-iterator.rest.items ≡ map (λ i. instance_of l.schema l.count i.entities i.values) l.fn.instances.items;
 }
