@@ -6,3 +6,4 @@ pub mod Assigned
 pub mod Runnings
 pub mod Parameters
 pub mod Trees
+pub mod Whole

@@ -5,6 +5,7 @@ ghost use Rattle.std.specs.Prelude.{◌≡◌, [], map, OnOk};
 ghost use Rattle.rp_meaning.specs.Computations as computations;
 ghost use Rattle.rp_meaning.specs.Computations.{Runs, pure};
 ghost use Rattle.rp_meaning.specs.Bare.{place_of};
+ghost use Rattle.rp_meaning.specs.BuiltIns as built_ins;
 ghost use Rattle.rp_meaning.specs.Expressions as spec;
 ghost use Rattle.rp_meaning.specs.Operators as operators;
 ghost use Rattle.rp_eval.specs.Charges.{charged, followed};
@@ -89,8 +90,31 @@ impl<'a, D: Domain, B: Fn(Global, &Schema, &D, u8, &mut Counter, Body) -> Result
     }
 
     /// The value of an expression is written in place: a frame on the way to a part holds no value but those that wait for it.
+    /// The commonest expressions without parts are told apart first, and take no frame.
     #[cycle(expressions)]
     pub(crate) fn expression(
+        &self,
+        tree: &Expression,
+        frame: &mut Frame,
+        counter: &mut Counter,
+        into: &mut Value,
+    ) -> Result<(), Stop>
+        requires { RunsBodies D.population self.now.alloc self.now.schema self.now.domain self.now.levels (B.pre self.now.below) (B.post self.now.below) }
+        ensures value { RunsInto (value_at self.now.schema.now (D.population self.now.domain.now) self.now.levels tree.now frame.old counter.old) result into.new counter.new }
+        ensures frame { OnOk result (frame.new ≡ frame.old) }
+    {
+        match tree {
+            Expression::Literal(value) => known(value, counter, into),
+            Expression::Variable(slot) => variable(frame, *slot, counter, into),
+            Expression::Attribute(attribute) => self.own_attribute(attribute, frame, counter, into),
+            _ => self.compound(tree, frame, counter, into),
+        }
+    }
+
+    /// The same of every expression, with a frame in which also the operators and the qualifiers behind a first part are taken.
+    #[cycle(expressions)]
+    #[inline(never)]
+    fn compound(
         &self,
         tree: &Expression,
         frame: &mut Frame,
@@ -274,7 +298,7 @@ impl<'a, D: Domain, B: Fn(Global, &Schema, &D, u8, &mut Counter, Body) -> Result
 
     /// Operators of one level, from left to right.
     #[cycle(expressions)]
-    #[inline(never)]
+    #[inline(always)]
     fn operations(
         &self,
         operations: &[Operation],
@@ -330,7 +354,7 @@ impl<'a, D: Domain, B: Fn(Global, &Schema, &D, u8, &mut Counter, Body) -> Result
 
     /// Qualifiers from left to right.
     #[cycle(expressions)]
-    #[inline(never)]
+    #[inline(always)]
     fn qualifiers(
         &self,
         qualifiers: &[Qualifier],
@@ -372,21 +396,54 @@ impl<'a, D: Domain, B: Fn(Global, &Schema, &D, u8, &mut Counter, Body) -> Result
                 self.group(*entity, into);
                 Ok(())
             }
-            Qualifier::Index(at) => {
-                let mut place = Value::Indet;
-                self.expression(at, frame, counter, &mut place)?;
-                *into = index(self.alloc, into, &place)?;
-                Ok(())
-            }
+            Qualifier::Index(at) => self.indexed(at, frame, counter, into),
             Qualifier::Range(first, last) => {
                 let mut low = Value::Indet;
                 self.expression(first.get(), frame, counter, &mut low)?;
-                let mut high = Value::Indet;
-                self.expression(last.get(), frame, counter, &mut high)?;
-                *into = range(self.alloc, into, &low, &high)?;
-                Ok(())
+                self.ranged(last.get(), &low, frame, counter, into)
             }
         }
+    }
+
+    /// What stands at an index of the value that is there.
+    #[cycle(expressions)]
+    #[inline(never)]
+    fn indexed(
+        &self,
+        at: &Expression,
+        frame: &mut Frame,
+        counter: &mut Counter,
+        into: &mut Value,
+    ) -> Result<(), Stop>
+        requires { RunsBodies D.population self.now.alloc self.now.schema self.now.domain self.now.levels (B.pre self.now.below) (B.post self.now.below) }
+        ensures value { RunsInto (followed (value_at self.now.schema.now (D.population self.now.domain.now) self.now.levels at.now frame.old) (λ place. pure (built_ins.index into.old place)) counter.old) result into.new counter.new }
+        ensures frame { OnOk result (frame.new ≡ frame.old) }
+    {
+        let mut place = Value::Indet;
+        self.expression(at, frame, counter, &mut place)?;
+        *into = index(self.alloc, into, &place)?;
+        Ok(())
+    }
+
+    /// What stands from an index to another of the value that is there.
+    #[cycle(expressions)]
+    #[inline(never)]
+    fn ranged(
+        &self,
+        last: &Expression,
+        low: &Value,
+        frame: &mut Frame,
+        counter: &mut Counter,
+        into: &mut Value,
+    ) -> Result<(), Stop>
+        requires { RunsBodies D.population self.now.alloc self.now.schema self.now.domain self.now.levels (B.pre self.now.below) (B.post self.now.below) }
+        ensures value { RunsInto (followed (value_at self.now.schema.now (D.population self.now.domain.now) self.now.levels last.now frame.old) (λ high. pure (built_ins.range into.old low.now high)) counter.old) result into.new counter.new }
+        ensures frame { OnOk result (frame.new ≡ frame.old) }
+    {
+        let mut high = Value::Indet;
+        self.expression(last, frame, counter, &mut high)?;
+        *into = range(self.alloc, into, low, &high)?;
+        Ok(())
     }
 
     /// An interval, for a step.
@@ -444,7 +501,7 @@ impl<'a, D: Domain, B: Fn(Global, &Schema, &D, u8, &mut Counter, Body) -> Result
         Ok(())
     }
 
-    /// Whether the condition is TRUE for an element, for a step.
+    /// Whether the condition is TRUE for an element, for a step. Its value is written where there is room for it.
     #[cycle(expressions)]
     fn test(
         &self,
@@ -452,6 +509,7 @@ impl<'a, D: Domain, B: Fn(Global, &Schema, &D, u8, &mut Counter, Body) -> Result
         element: &Value,
         frame: &mut Frame,
         counter: &mut Counter,
+        room: &mut Value,
     ) -> Result<bool, Stop>
         requires { RunsBodies D.population self.now.alloc self.now.schema self.now.domain self.now.levels (B.pre self.now.below) (B.post self.now.below) }
         ensures value { Runs (spec.tested (value_at self.now.schema.now (D.population self.now.domain.now) self.now.levels condition.now) frame.old element.now counter.old) result counter.new }
@@ -459,10 +517,9 @@ impl<'a, D: Domain, B: Fn(Global, &Schema, &D, u8, &mut Counter, Body) -> Result
     {
         charge(counter, 1)?;
         frame.open(copied(element)?)?;
-        let mut value = Value::Indet;
-        self.expression(condition, frame, counter, &mut value)?;
+        self.expression(condition, frame, counter, room)?;
         frame.close();
-        Ok(is_true(&value))
+        Ok(is_true(room))
     }
 
     /// The elements for which the condition is TRUE, behind those that are there.
@@ -479,8 +536,9 @@ impl<'a, D: Domain, B: Fn(Global, &Schema, &D, u8, &mut Counter, Body) -> Result
         ensures value { RunsInto (spec.kept_after (value_at self.now.schema.now (D.population self.now.domain.now) self.now.levels condition.now) frame.old found.old elements.now counter.old) result found.new counter.new }
         ensures frame { OnOk result (frame.new ≡ frame.old) }
     {
+        let mut room = Value::Indet;
         for element in elements {
-            let holds = self.test(condition, element, frame, counter)?;
+            let holds = self.test(condition, element, frame, counter, &mut room)?;
             keep(found, element, holds)?;
         }
         Ok(())

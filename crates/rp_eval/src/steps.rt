@@ -27,7 +27,7 @@ pub(crate) fn charge(counter: &mut Counter, steps: usize) -> Result<(), Stop>
     Ok(())
 }
 
-/// Takes what an operator costs on two values.
+/// Takes what an operator costs on two values: nothing on two whole numbers.
 pub(crate) fn charge_operator(
     counter: &mut Counter,
     operator: BinaryOperator,
@@ -36,9 +36,12 @@ pub(crate) fn charge_operator(
 ) -> Result<(), Stop>
     ensures { Runs (computations.steps (operators.cost operator left.now right.now) counter.old) result counter.new }
 {
-    match cost(counter.left, operator, left, right) {
-        None => Err(Stop::Limit),
-        Some(steps) => charge(counter, steps),
+    match (left, right) {
+        (Value::Int(_), Value::Int(_)) => Ok(()),
+        _ => match cost(counter.left, operator, left, right) {
+            None => Err(Stop::Limit),
+            Some(steps) => charge(counter, steps),
+        },
     }
 }
 

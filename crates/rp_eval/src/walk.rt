@@ -1,6 +1,6 @@
 //! One level of bodies. What the bodies beneath do is a parameter, so that a level is proved by itself.
 
-ghost use Rattle.std.specs.Prelude.{◌≡◌, [], ◌∷◌, if◌then◌else◌};
+ghost use Rattle.std.specs.Prelude.{◌≡◌, [], ◌∷◌, if◌then◌else◌, Some};
 ghost use Rattle.std.specs.Option.{option_copied};
 ghost use Rattle.ex_tree.specs.declared.expression.BuiltInFunction.{BuiltInFunction};
 ghost use Rattle.rp_meaning.specs.Attributes.{derivation_in, explicit_derivations, own_derivations, role_named};
@@ -138,6 +138,7 @@ impl<'a, D: Domain, B: Fn(Global, &Schema, &D, u8, &mut Counter, Body) -> Result
     }
 
     /// The value of the first of these attributes of which the instance at a place has the entity.
+    #[inline(always)]
     fn attribute_in(
         &self,
         attributes: &[AttributePlace],
@@ -148,10 +149,27 @@ impl<'a, D: Domain, B: Fn(Global, &Schema, &D, u8, &mut Counter, Body) -> Result
         requires { RunsBodies D.population self.now.alloc self.now.schema self.now.domain self.now.levels (B.pre self.now.below) (B.post self.now.below) }
         ensures { RunsInto (spec.attribute_in (world self.now.schema.now (D.population self.now.domain.now)) (bodies_at self.now.schema.now (D.population self.now.domain.now) self.now.levels) attributes.now place counter.old) result into.new counter.new }
     {
-        let Some(place) = place else {
-            *into = Value::Indet;
-            return Ok(());
-        };
+        match place {
+            Some(place) => self.attribute_at(attributes, place, counter, into),
+            None => {
+                *into = Value::Indet;
+                Ok(())
+            }
+        }
+    }
+
+    /// The same, where something may stand at the place.
+    #[inline(never)]
+    fn attribute_at(
+        &self,
+        attributes: &[AttributePlace],
+        place: u64,
+        counter: &mut Counter,
+        into: &mut Value,
+    ) -> Result<(), Stop>
+        requires { RunsBodies D.population self.now.alloc self.now.schema self.now.domain self.now.levels (B.pre self.now.below) (B.post self.now.below) }
+        ensures { RunsInto (spec.attribute_in (world self.now.schema.now (D.population self.now.domain.now)) (bodies_at self.now.schema.now (D.population self.now.domain.now) self.now.levels) attributes.now (Some place) counter.old) result into.new counter.new }
+    {
         let Some(instance) = self.domain.instance(place as usize) else {
             *into = Value::Indet;
             return Ok(());
@@ -225,6 +243,7 @@ impl<'a, D: Domain, B: Fn(Global, &Schema, &D, u8, &mut Counter, Body) -> Result
     }
 
     /// The instance that is there stays, if it is of the entity.
+    #[inline(never)]
     pub(crate) fn group(&self, entity: usize, into: &mut Value)
         ensures { into.new ≡ spec.group (world self.now.schema.now (D.population self.now.domain.now)) (bodies_at self.now.schema.now (D.population self.now.domain.now) self.now.levels) entity into.old }
     {

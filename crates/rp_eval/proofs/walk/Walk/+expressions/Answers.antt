@@ -142,14 +142,14 @@ built_in-returns-in_ok-expressions-in_default-clause-value g t c =
     let below = bodies w c.args.self.now.levels in
     rw (sym c.as_slice.ensures, called-list (expression w below) (built_in w below c.args.function) c.args.frame.now c.as_slice.result.now _ c.in_ok-charge.field-0 c.args.counter.now c.charge.new.counter c.new-values.ensures c.in_ok-charge.ensures, c.in_ok-expressions-in_default.ensures.value, sym c.as_slice-in_default.ensures) c.of_values.ensures
 
-pub expression-returns-in-Call-clause-value : goal.expression-returns-in-Call-clause-value
-expression-returns-in-Call-clause-value g t c =
+pub compound-returns-in-Call-clause-value : goal.compound-returns-in-Call-clause-value
+compound-returns-in-Call-clause-value g t c =
     let w = world c.args.self.now.schema.now (g.D.Domain.population c.args.self.now.domain.now) in
     let below = bodies w c.args.self.now.levels in
     rw (expression-call w below c.args.frame.now c.args.tree.now c.in-Call.number c.in-Call.arguments c.in-Call.is) c.called.ensures.value
 
-pub expression-returns-in-BuiltIn-clause-value : goal.expression-returns-in-BuiltIn-clause-value
-expression-returns-in-BuiltIn-clause-value g t c =
+pub compound-returns-in-BuiltIn-clause-value : goal.compound-returns-in-BuiltIn-clause-value
+compound-returns-in-BuiltIn-clause-value g t c =
     let w = world c.args.self.now.schema.now (g.D.Domain.population c.args.self.now.domain.now) in
     let below = bodies w c.args.self.now.levels in
     rw (expression-built-in w below c.args.frame.now c.args.tree.now c.in-BuiltIn.function c.in-BuiltIn.arguments c.in-BuiltIn.is) c.built_in.ensures.value
