@@ -56,8 +56,25 @@ pub enum Value {
 const _: () = prove!(size_of::<Value>() <= 24);
 
 impl Drop for Value {
+    /// What has no block is told apart where a value is let go, since most values are such.
     #[cycle(value_drop)]
+    #[inline(always)]
     fn drop(self) {
+        match self {
+            Value::Indet | Value::Int(_) | Value::Log(_) | Value::Inst(_) => {}
+            Value::Item {
+                enumeration: _,
+                place: _,
+            } => {}
+            value => value.drop_block(),
+        }
+    }
+}
+
+impl Value {
+    #[cycle(value_drop)]
+    #[inline(never)]
+    fn drop_block(self) {
         match self {
             Value::Indet | Value::Int(_) | Value::Log(_) | Value::Inst(_) => {}
             Value::Item {
