@@ -7,7 +7,6 @@ use plain_data::{Boxed, Items};
 use rp_value::Value;
 
 /// An operator, and the operand on its right.
-#[derive(Drop)]
 #[cycle(expression)]
 pub struct Operation {
     pub operator: BinaryOperator,
@@ -27,7 +26,6 @@ pub enum Qualifier {
 }
 
 /// `{ low < item <= high }`
-#[derive(Drop)]
 #[cycle(expression)]
 pub struct Interval {
     pub low: Expression,
@@ -38,7 +36,6 @@ pub struct Interval {
 }
 
 /// `QUERY(variable <* source | condition)`. The variable has the next slot.
-#[derive(Drop)]
 #[cycle(expression)]
 pub struct Query {
     pub source: Expression,
@@ -77,7 +74,6 @@ pub enum Expression {
 }
 
 /// `variable := first TO last BY step`. The variable has the next slot.
-#[derive(Drop)]
 pub struct Increment {
     pub first: Expression,
     pub last: Expression,
@@ -85,7 +81,6 @@ pub struct Increment {
 }
 
 /// What governs the turns of a REPEAT.
-#[derive(Drop)]
 pub struct Control {
     pub increment: Option<Increment>,
     pub while_condition: Option<Expression>,
@@ -93,7 +88,6 @@ pub struct Control {
 }
 
 /// An action of a CASE; without labels what follows OTHERWISE.
-#[derive(Drop)]
 #[cycle(statement)]
 pub struct CaseAction {
     pub labels: Option<Items<Expression>>,
@@ -116,6 +110,14 @@ pub enum Statement {
     Skip,
 }
 
+impl Drop for Operation {
+    #[cycle(expression_drop)]
+    fn drop(self) {
+        let Operation { operator: _, right } = self;
+        drop(right);
+    }
+}
+
 impl Drop for Qualifier {
     #[cycle(expression_drop)]
     fn drop(self) {
@@ -128,6 +130,31 @@ impl Drop for Qualifier {
                 drop(last);
             }
         }
+    }
+}
+
+impl Drop for Interval {
+    #[cycle(expression_drop)]
+    fn drop(self) {
+        let Interval {
+            low,
+            low_operator: _,
+            item,
+            high_operator: _,
+            high,
+        } = self;
+        drop(low);
+        drop(item);
+        drop(high);
+    }
+}
+
+impl Drop for Query {
+    #[cycle(expression_drop)]
+    fn drop(self) {
+        let Query { source, condition } = self;
+        drop(source);
+        drop(condition);
     }
 }
 
@@ -157,6 +184,37 @@ impl Drop for Expression {
             Expression::Query(query) => drop(query),
             Expression::Initializer(elements) => drop(elements),
         }
+    }
+}
+
+impl Drop for Increment {
+    fn drop(self) {
+        let Increment { first, last, step } = self;
+        drop(first);
+        drop(last);
+        drop(step);
+    }
+}
+
+impl Drop for Control {
+    fn drop(self) {
+        let Control {
+            increment,
+            while_condition,
+            until_condition,
+        } = self;
+        drop(increment);
+        drop(while_condition);
+        drop(until_condition);
+    }
+}
+
+impl Drop for CaseAction {
+    #[cycle(statement_drop)]
+    fn drop(self) {
+        let CaseAction { labels, statement } = self;
+        drop(labels);
+        drop(statement);
     }
 }
 
