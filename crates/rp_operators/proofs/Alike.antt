@@ -1,5 +1,5 @@
 -- What operators give of two values of one kind that are no aggregates, from what is beneath the names of the two.
-use Rattle.std.proofs.Common.{◌≡◌, ℕ, ℤ, zero, suc, ◌+◌, Bool, true, false, ◌||◌, List, refl, sym, ◌∙◌, ap, if◌then◌else◌}
+use Rattle.std.proofs.Common.{◌≡◌, ℕ, ℤ, zero, suc, ◌+◌, Bool, true, false, not, ◌||◌, List, refl, sym, ◌∙◌, ap, if◌then◌else◌}
 use Rattle.std.proofs.lemmas.Bool.{true≢false}
 use Rattle.std.specs.Prelude.{◌+ℤ◌, ◌-ℤ◌, ◌*ℤ◌, int_div, int_rem}
 use Rattle.std.specs.Cmp.Lexicographic.{slice_cmp}
@@ -76,6 +76,13 @@ other_is : (c : Ordering) → of_test (is_ne c) ≡ negation (equals (of_orderin
 other_is Less = refl
 other_is Equal = refl
 other_is Greater = refl
+
+pub apart : (c : Ordering) → not (is_eq c) ≡ is_ne c
+apart Less = refl
+apart Equal = refl
+apart Greater = refl
+
+pub ruleset unequal = (apart)
 
 -- what is no relation, and no operator that gives `?` of all that is here
 computes : BinaryOperator → Bool

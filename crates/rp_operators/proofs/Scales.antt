@@ -1,12 +1,12 @@
 -- The order of whole numbers is that of their multiples, and that of decimals is that of their coefficients with as many zeros.
-use Rattle.std.proofs.Common.{◌≡◌, ℕ, suc, ◌*◌, ◌^◌, ◌<◌, ℤ, pos, negsuc, ◌*ℤ◌, ◌<ℤ◌, ◌≤ℤ◌, true, false, ap, sym, ◌∙◌, arith}
+use Rattle.std.proofs.Common.{◌≡◌, ℕ, suc, ◌*◌, ◌^◌, ◌<◌, ℤ, pos, negsuc, ◌+ℤ◌, ◌*ℤ◌, ◌<ℤ◌, ◌≤ℤ◌, true, false, ap, sym, ◌∙◌, arith}
 use Rattle.std.specs.Prelude.{int_lt, unsigned_abs}
 use Rattle.std.proofs.lemmas.Int.{ints}
 use Rattle.std.specs.Cmp.{int_cmp_is}
 use Rattle.std.specs.Ordering.{nat_cmp, int_cmp}
 use Rattle.std.specs.declared.cmp.Ordering.TheVariants.{Less, Greater}
 use Rattle.rp_numbers.proofs.Ranks.{positive, nat_cmp-mul, cmp-above, cmp-below, both_whole, both_negative, mixed-less, mixed-greater}
-use Rattle.rp_numbers.specs.Decimals.{scaled_whole}
+use Rattle.rp_numbers.specs.Decimals.{Decimal, places, scaled, scaled_whole}
 
 multiplied : (n m : ℤ) (t : ℕ) → 0 < t → int_cmp n m ≡ int_cmp (n *ℤ pos t) (m *ℤ pos t)
 multiplied (pos a) (pos b) t some = sym (cmp-above a b) ∙ nat_cmp-mul a b t some ∙ cmp-above (a * t) (b * t)
@@ -21,6 +21,12 @@ whole_numbers n m = multiplied n m (10 ^ 1000) (positive 1000)
 pub whole_scaled : (x z : ℤ) → z ≡ x → z *ℤ pos (10 ^ 1000) ≡ scaled_whole x
 unfolding scaled_whole
 whole_scaled x z is = ap (λ y. y *ℤ pos (10 ^ 1000)) is
+
+-- of as many places
+pub same_places : (x y : Decimal) → x.exponent ≡ y.exponent → int_cmp x.coefficient y.coefficient ≡ int_cmp (scaled x) (scaled y)
+same_places x y same =
+    multiplied x.coefficient y.coefficient (10 ^ places x) (positive (places x))
+    ∙ (λ i. int_cmp (scaled x) (y.coefficient *ℤ pos (10 ^ unsigned_abs (same i +ℤ pos 1000))))
 
 -- ---- with signs
 

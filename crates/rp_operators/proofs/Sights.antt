@@ -5,7 +5,7 @@ use Rattle.std.proofs.lemmas.Option.{none-some}
 use Rattle.std.specs.Option.{is_some}
 use Rattle.rp_numbers.specs.Decimals.{Decimal, scaled, scaled_whole}
 use Rattle.rp_numbers.specs.declared.Logical.{Logical}
-use Rattle.rp_meaning.specs.Bare.{bare, carried, carried_by, itself_and_bare}
+use Rattle.rp_meaning.specs.Bare.{bare, carried, carried_by, itself_and_bare, aggregate_in, aggregate_of}
 use Rattle.rp_operations.specs.Seen.{Seen, Indeterminate, Number, Text, Bits, Truth, Item, Instance, Aggregate, with_seen, seen, instance_layer, holds_instance}
 use Rattle.rp_value.specs.Elements.{Elements}
 use Rattle.rp_value.specs.declared.value.AggregateKind.{AggregateKind}
@@ -249,6 +249,32 @@ beneath x z y at rolled = record {
   sees = sym (seen-bare x) ∙ ap seen (sym at ∙ rolled) ∙ sym (seen-rolls y);
   holds = sym (held-bare x) ∙ ap holds_instance (sym at ∙ rolled) ∙ held-rolls y;
 }
+
+-- a whole number without a name
+pub whole : (x : Value) (n : ℤ) → x ≡ v.Int n → IsBeneath x (Value-F.Int n)
+whole x n is = record {
+  is = sym (bare-Int x n is);
+  sees = sym (sees-Int x n is);
+  holds = ap holds_instance (is ∙ sym (v.rolls-Int n)) ∙ held-rolls (Value-F.Int n);
+}
+
+aggregateless : (y : Value-F Value) → ((kind : AggregateKind) (xs : Elements Value) → roll-Value y ≡ v.Agg kind xs → ⊥) → aggregate_in y ≡ None
+aggregateless Value-F.Indet never = refl
+aggregateless (Value-F.Int n) never = refl
+aggregateless (Value-F.Dec d) never = refl
+aggregateless (Value-F.Str text) never = refl
+aggregateless (Value-F.Bin bits) never = refl
+aggregateless (Value-F.Log x) never = refl
+aggregateless (Value-F.Item n place) never = refl
+aggregateless (Value-F.Inst name) never = refl
+aggregateless (Value-F.Agg kind xs) never = absurd (never kind xs (v.rolls-Agg kind xs))
+aggregateless (Value-F.Named n x) never = refl
+
+-- what is neither an aggregate nor named
+pub no-aggregate : (x : Value) → ((kind : AggregateKind) (xs : Elements Value) → x ≡ v.Agg kind xs → ⊥) → ((n : ℕ) (y : Value) → x ≡ v.Named n y → ⊥) → aggregate_of x ≡ None
+no-aggregate x never other =
+    ap (λ z. aggregate_in (out-Value z)) (bare-unnamed x other)
+    ∙ aggregateless (out-Value x) (λ kind xs is. never kind xs (sym (roll-out-Value x) ∙ is))
 
 pub ruleset bares = (
   sees-Indet,

@@ -4,17 +4,18 @@ use Rattle.std.specs.List.{list_any}
 use Rattle.std.proofs.lemmas.Bool.{true≢false}
 use Rattle.ex_named.specs.declared.expression.NamedDataType.{NamedDataType, NamedDataType-F, out-NamedDataType}
 use Rattle.ex_named.specs.declared.expression.NamedDataType.TheVariants as d
+use Rattle.ex_named.specs.declared.expression.NamedDataType.TheViews.{roll-NamedDataType, roll-out-NamedDataType}
 use Rattle.ex_named.specs.declared.reference.TypeName.{TypeName}
 use Rattle.ex_named.specs.declared.reference.TypeName.TheVariants as t
 use Rattle.ex_tree.specs.declared.data_type.SimpleType.{SimpleType}
 use Rattle.ex_tree.specs.declared.data_type.SimpleType.TheVariants as s
-use Rattle.rp_meaning.specs.Bare.{bare, carried, is_indeterminate}
+use Rattle.rp_meaning.specs.Bare.{bare, carried, is_indeterminate, is_indeterminate_in}
 use Rattle.rp_meaning.specs.Types as types
-use Rattle.rp_meaning.specs.Types.{End, Select, is_of_end, is_of_choice, is_of_written, is_of_simple, end_of, fits}
+use Rattle.rp_meaning.specs.Types.{End, Select, is_of_end, is_of_choice, is_of_written, is_of_simple, is_instance, end_of, fits, given, part, part_under}
 use Rattle.rp_meaning.specs.declared.schema.DefinedType.{DefinedType}
-use Rattle.rp_operators.specs.Ends.{inside, under, element_under, elements_under, an_aggregate}
+use Rattle.rp_operators.specs.Ends.{inside, under, element_under, elements_under, an_aggregate, takes}
 use Rattle.rp_operators.proofs.Sights.{bare-Agg, bare-Named}
-use Rattle.rp_operators.proofs.Parts.{inside-rolls, inside-Agg, inside-Named}
+use Rattle.rp_operators.proofs.Parts.{inside-rolls, inside-Agg, inside-Named, under-part}
 use Rattle.rp_value.specs.Elements.{Elements}
 use Rattle.rp_value.specs.declared.value.AggregateKind.{AggregateKind}
 use Rattle.rp_value.specs.declared.value.Value.{Value, out-Value}
@@ -89,6 +90,59 @@ module _ (defined : List DefinedType) where
   pub all_stay : (data_type : NamedDataType) → ((x : Value) → element_under defined data_type x ≡ x) → (xs : List Value) → map (element_under defined data_type) xs ≡ xs
   all_stay data_type each [] = refl
   all_stay data_type each (x ∷ xs) = λ i. each x i ∷ all_stay data_type each xs i
+
+  -- ---- what is of a type without a name is given as it is
+
+  module _ (x : Value) (y : Value-F Value) (is : y ≡ out-Value (bare x)) (some : is_indeterminate_in y ≡ false) where
+    kept : (data_type : NamedDataType) → fits defined data_type x ≡ true → under defined data_type x ≡ inside defined None x → given defined data_type x ≡ x
+    unfolding given
+    kept data_type fit within =
+        (λ i. if (ap is_indeterminate_in (sym is) ∙ some) i || not (fit i) then v.Indet else part_under defined data_type (part defined x))
+        ∙ sym (under-part defined data_type x) ∙ within ∙ nothing x
+
+    pub kept-Simple : (data_type : NamedDataType) (simple : SimpleType) → data_type ≡ d.Simple simple → is_of_simple simple y ≡ true → given defined data_type x ≡ x
+    unfolding fits out-NamedDataType denote.Hole.Carrier.out
+    kept-Simple data_type simple at holds = subst (λ z. given defined z x ≡ x) (sym at) (kept (d.Simple simple) (ap (is_of_simple simple) (sym is) ∙ holds) (under-Simple simple x))
+
+    kept-Entity : (data_type : NamedDataType) (entity : ℕ) → data_type ≡ d.Named (t.Entity entity) → is_instance y ≡ true → given defined data_type x ≡ x
+    unfolding fits out-NamedDataType denote.Hole.Carrier.out
+    kept-Entity data_type entity at holds = subst (λ z. given defined z x ≡ x) (sym at) (kept (d.Named (t.Entity entity)) (ap is_instance (sym is) ∙ holds) (under-Entity entity x))
+
+    kept_by : (data_type : NamedDataType) (t : NamedDataType-F NamedDataType) → roll-NamedDataType t ≡ data_type → takes t y ≡ true → given defined data_type x ≡ x
+    kept_by data_type (NamedDataType-F.Simple simple) at holds = kept-Simple data_type simple (sym at ∙ d.rolls-Simple simple) holds
+    kept_by data_type (NamedDataType-F.Named (t.Entity entity)) at holds = kept-Entity data_type entity (sym at ∙ d.rolls-Named (t.Entity entity)) holds
+    kept_by data_type _ at holds = absurd (true≢false (sym holds))
+
+    pub kept-takes : (data_type : NamedDataType) → takes (out-NamedDataType data_type) y ≡ true → given defined data_type x ≡ x
+    kept-takes data_type = kept_by data_type (out-NamedDataType data_type) (roll-out-NamedDataType data_type)
+
+  either : (b : Bool) → (b || true) ≡ true
+  either true = refl
+  either false = refl
+
+  pub refused-Simple : (simple : SimpleType) (x : Value) → is_of_simple simple (out-Value (bare x)) ≡ false → given defined (d.Simple simple) x ≡ v.Indet
+  unfolding given fits out-NamedDataType denote.Hole.Carrier.out
+  refused-Simple simple x refused =
+      (λ i. if is_indeterminate x || not (refused i) then v.Indet else part_under defined (d.Simple simple) (part defined x))
+      ∙ (λ i. if either (is_indeterminate x) i then v.Indet else part_under defined (d.Simple simple) (part defined x))
+
+  pub simple_known : (simple : SimpleType) (y : Value-F Value) → is_of_simple simple y ≡ true → is_indeterminate_in y ≡ false
+  simple_known s.Integer Value-F.Indet holds = absurd (true≢false (sym holds))
+  simple_known s.Real Value-F.Indet holds = absurd (true≢false (sym holds))
+  simple_known s.Number Value-F.Indet holds = absurd (true≢false (sym holds))
+  simple_known (s.String width) Value-F.Indet holds = absurd (true≢false (sym holds))
+  simple_known (s.Binary width) Value-F.Indet holds = absurd (true≢false (sym holds))
+  simple_known s.Boolean Value-F.Indet holds = absurd (true≢false (sym holds))
+  simple_known s.Logical Value-F.Indet holds = absurd (true≢false (sym holds))
+  simple_known simple (Value-F.Int n) holds = refl
+  simple_known simple (Value-F.Dec d) holds = refl
+  simple_known simple (Value-F.Str text) holds = refl
+  simple_known simple (Value-F.Bin bits) holds = refl
+  simple_known simple (Value-F.Log x) holds = refl
+  simple_known simple (Value-F.Item n place) holds = refl
+  simple_known simple (Value-F.Inst name) holds = refl
+  simple_known simple (Value-F.Agg kind xs) holds = refl
+  simple_known simple (Value-F.Named n x) holds = refl
 
   -- ---- a SELECT that takes no aggregates
 

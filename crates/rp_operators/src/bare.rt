@@ -1,6 +1,6 @@
 //! Values without the names of defined types.
 
-ghost use Rattle.std.specs.Prelude.{◌≡◌, IfOk, None};
+ghost use Rattle.std.specs.Prelude.{◌≡◌, IfOk, None, true};
 ghost use Rattle.std.specs.Option.{option_copied, option_map};
 ghost use Rattle.rp_meaning.specs.Bare as spec;
 ghost use Rattle.rp_meaning.specs.Operators.{truth_in};
@@ -91,6 +91,24 @@ pub(crate) fn carried(value: &Value) -> Option<usize>
             value: _,
         } => Some(*defined_type),
         _ => None,
+    }
+}
+
+/// Whether a value is neither an aggregate nor under a name.
+#[inline(always)]
+pub(crate) fn is_scalar(value: &Value) -> bool
+    ensures { result ≡ true → spec.aggregate_of value.now ≡ None }
+{
+    match value {
+        Value::Agg {
+            kind: _,
+            elements: _,
+        } => false,
+        Value::Named {
+            defined_type: _,
+            value: _,
+        } => false,
+        _ => true,
     }
 }
 

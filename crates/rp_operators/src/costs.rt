@@ -10,7 +10,7 @@ ghost use Rattle.rp_meaning.specs.Bare.{aggregate_in};
 ghost use Rattle.rp_operators.specs.Amounts.{joined_length, unless_more};
 ghost use Rattle.rp_operators.specs.Sights.{opened, seen_by};
 
-use crate::bare::{Bare, aggregate_of, beneath_names};
+use crate::bare::{Bare, aggregate_of, beneath_names, is_scalar};
 use ex_tree::BinaryOperator;
 use rp_value::Value;
 
@@ -40,13 +40,25 @@ fn of_counts(most: usize, m: usize, n: usize) -> Option<usize>
 }
 
 /// Of two aggregates the product and the sum of their counts, unless it is more than `most`.
-fn of_two(most: usize, x: &Value, y: &Value) -> Option<usize>
+#[inline(never)]
+fn of_aggregates(most: usize, x: &Value, y: &Value) -> Option<usize>
     ensures { result ≡ unless_more most (spec.cost_of_two x.now y.now) }
 {
     match (aggregate_of(x), aggregate_of(y)) {
         (Some((_, xs)), Some((_, ys))) => of_counts(most, xs.as_slice().len(), ys.as_slice().len()),
         _ => Some(0),
     }
+}
+
+/// The same. Of what is surely no aggregate nothing more is asked.
+#[inline]
+fn of_two(most: usize, x: &Value, y: &Value) -> Option<usize>
+    ensures { result ≡ unless_more most (spec.cost_of_two x.now y.now) }
+{
+    if is_scalar(x) {
+        return Some(0);
+    }
+    of_aggregates(most, x, y)
 }
 
 /// The sum of two lengths, unless it is more than `most`.
@@ -81,6 +93,7 @@ fn of_sum(most: usize, x: &Value, y: &Value) -> Option<usize>
 }
 
 /// How many steps a binary operator costs on two values, unless it is more than `most`.
+#[inline]
 pub fn cost(most: usize, operator: BinaryOperator, x: &Value, y: &Value) -> Option<usize>
     ensures { result ≡ unless_more most (spec.cost operator x.now y.now) }
 {

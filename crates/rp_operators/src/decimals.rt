@@ -67,9 +67,13 @@ fn places(decimal: &HeldDecimal) -> u32
     (i32::from(decimal.exponent()) + 1000).unsigned_abs()
 }
 
+/// How two decimals stand to each other: of as many places as their coefficients do.
 pub(crate) fn compare_decimals(x: &HeldDecimal, y: &HeldDecimal) -> Ordering
     ensures { result ≡ int_cmp (scaled x.now) (scaled y.now) }
 {
+    if x.exponent() == y.exponent() {
+        return x.coefficient().cmp(&y.coefficient());
+    }
     compare_signed(x.coefficient(), places(x), y.coefficient(), places(y))
 }
 

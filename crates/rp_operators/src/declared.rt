@@ -1,17 +1,22 @@
 //! What values become by the types with which attributes, variables, parameters, results and constants are declared.
 
-ghost use Rattle.std.specs.Prelude.{◌≡◌, ◌++◌, IfOk, OnOk, map, true, ℤ, List};
+ghost use Rattle.std.specs.Prelude.{◌≡◌, ◌++◌, IfOk, OnOk, map, true, ℕ, ℤ, List};
 ghost use Rattle.std.specs.Option.{option_map};
 ghost use Rattle.ex_named.specs.declared.expression.NamedDataType.{out-NamedDataType};
+ghost use Rattle.ex_named.specs.declared.expression.NamedDataType.TheVariants as d;
 ghost use Rattle.rp_meaning.specs.Bare.{bare as spec_bare};
 ghost use Rattle.rp_meaning.specs.Types as spec;
-ghost use Rattle.rp_operators.specs.Ends.{aggregate_type_behind, element_under, elements_under, inside, under};
+ghost use Rattle.rp_meaning.specs.declared.schema.DefinedType.{DefinedType};
+ghost use Rattle.rp_numbers.specs.declared.Logical.{Logical};
+ghost use Rattle.rp_operators.specs.Ends.{aggregate_type_behind, element_under, elements_under, inside, takes, under};
 ghost use Rattle.rp_value.specs.declared.value.Value.{Value};
+ghost use Rattle.rp_value.specs.declared.value.Value.TheOpen.{Value-F};
 ghost use Rattle.rp_value.specs.declared.value.Value.TheVariants as v;
 
-use crate::bare::{carried, is_indeterminate, without_names};
-use crate::ends::{AggregateType, End, changes_nothing, end_of, fits, inner_type};
+use crate::bare::{beneath_names, carried, is_indeterminate, without_names};
+use crate::ends::{AggregateType, End, changes_nothing, end_of, fits, inner_type, is_of_simple};
 use ex_named::{NamedDataType, TypeName};
+use ex_tree::SimpleType;
 use plain_data::Items;
 use rp_meaning::DefinedType;
 use rp_operations::aggregate_union;
@@ -318,9 +323,19 @@ fn element_under(
     under(value, alloc, types, data_type)
 }
 
-/// A value once it is declared with a type: `?` where its kind doesn't fit.
+/// A value once it is declared with a simple type, which names nothing.
+#[inline]
+fn given_simple(simple: SimpleType, value: &Value) -> Result<Value, AllocError>
+    ensures { (types : List DefinedType) → IfOk result (λ x. x ≡ spec.given types (d.Simple simple) value.now) }
+{
+    if is_of_simple(simple, beneath_names(value)) {
+        return value.copy();
+    }
+    Ok(Value::Indet)
+}
+
 #[tactic(auto, using(crate::proofs::Parts::under_part), unfolding(rp_meaning::specs::Types::given))]
-pub fn given(
+fn given_by_name(
     alloc: Global,
     types: &[DefinedType],
     data_type: &NamedDataType,
@@ -332,4 +347,68 @@ pub fn given(
         return Ok(Value::Indet);
     }
     under(value, alloc, types, data_type)
+}
+
+#[inline(never)]
+fn given_any(
+    alloc: Global,
+    types: &[DefinedType],
+    data_type: &NamedDataType,
+    value: &Value,
+) -> Result<Value, AllocError>
+    ensures { IfOk result (λ x. x ≡ spec.given types.now data_type.now value.now) }
+{
+    match data_type {
+        NamedDataType::Simple(simple) => given_simple(*simple, value),
+        _ => given_by_name(alloc, types, data_type, value),
+    }
+}
+
+#[inline(always)]
+fn takes_integers(data_type: &NamedDataType) -> bool
+    ensures { (n : ℤ) → result ≡ takes (out-NamedDataType data_type.now) (Value-F.Int n) }
+{
+    match data_type {
+        NamedDataType::Simple(SimpleType::Integer | SimpleType::Real | SimpleType::Number) => true,
+        _ => false,
+    }
+}
+
+#[inline(always)]
+fn takes_truths(data_type: &NamedDataType) -> bool
+    ensures { (l : Logical) → result ≡ takes (out-NamedDataType data_type.now) (Value-F.Log l) }
+{
+    match data_type {
+        NamedDataType::Simple(SimpleType::Boolean | SimpleType::Logical) => true,
+        _ => false,
+    }
+}
+
+#[inline(always)]
+fn takes_instances(data_type: &NamedDataType) -> bool
+    ensures { (place : ℕ) → result ≡ takes (out-NamedDataType data_type.now) (Value-F.Inst place) }
+{
+    match data_type {
+        NamedDataType::Named(TypeName::Entity(_)) => true,
+        _ => false,
+    }
+}
+
+/// A value once it is declared with a type: `?` where its kind doesn't fit. What holds no block and is of a type without a name
+/// stays as it is, without a call.
+#[inline(always)]
+pub fn given(
+    alloc: Global,
+    types: &[DefinedType],
+    data_type: &NamedDataType,
+    value: &Value,
+) -> Result<Value, AllocError>
+    ensures { IfOk result (λ x. x ≡ spec.given types.now data_type.now value.now) }
+{
+    match value {
+        Value::Int(number) if takes_integers(data_type) => Ok(Value::Int(*number)),
+        Value::Log(logical) if takes_truths(data_type) => Ok(Value::Log(*logical)),
+        Value::Inst(place) if takes_instances(data_type) => Ok(Value::Inst(*place)),
+        _ => given_any(alloc, types, data_type, value),
+    }
 }

@@ -59,7 +59,8 @@ pub(crate) fn behind_names<'t>(types: &'t [DefinedType], data_type: &'t NamedDat
     }
 }
 
-fn is_of_simple(simple: SimpleType, x: Bare<'_>) -> bool
+#[inline]
+pub(crate) fn is_of_simple(simple: SimpleType, x: Bare<'_>) -> bool
     ensures { result ≡ spec.is_of_simple simple (opened x.entry) }
 {
     match (simple, x) {

@@ -129,6 +129,7 @@ fn negation(x: &Value) -> Value
 }
 
 /// What a binary operator gives of two values, whatever they are.
+#[inline(never)]
 fn applied_to_any(
     alloc: Global,
     operator: BinaryOperator,
@@ -160,8 +161,9 @@ fn applied_to_any(
     })
 }
 
-/// What a binary operator gives of two values. What is asked most stands first.
-pub fn applied(
+/// The same, by what is beneath the names of the two. What is asked most stands first.
+#[inline(never)]
+fn applied_beneath(
     alloc: Global,
     operator: BinaryOperator,
     x: &Value,
@@ -177,6 +179,22 @@ pub fn applied(
         (Value::Dec(m), Value::Int(n)) => Ok(by_order(operator, compare_with_whole(m, *n))),
         (Value::Str(s), Value::Str(t)) => of_texts(alloc, operator, s, t),
         _ => applied_to_any(alloc, operator, x, y),
+    }
+}
+
+/// What a binary operator gives of two values. Whole numbers without names are asked most.
+#[inline]
+pub fn applied(
+    alloc: Global,
+    operator: BinaryOperator,
+    x: &Value,
+    y: &Value,
+) -> Result<Value, AllocError>
+    ensures { IfOk result (λ a. a ≡ spec.applied operator x.now y.now) }
+{
+    match (x, y) {
+        (Value::Int(m), Value::Int(n)) => Ok(of_integers(operator, *m, *n)),
+        _ => applied_beneath(alloc, operator, x, y),
     }
 }
 

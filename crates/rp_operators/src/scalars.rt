@@ -1,6 +1,8 @@
 //! What operators give of two values of one kind that are no aggregates.
 
 ghost use Rattle.std.specs.Prelude.{◌≡◌, ◌++◌, IfOk};
+ghost use Rattle.std.specs.Cmp.Lexicographic.{slice_cmp};
+ghost use Rattle.std.specs.Ordering.{is_eq, nat_cmp};
 ghost use Rattle.rp_operators.specs.Scalars as spec;
 ghost use Rattle.rp_value.specs.declared.value.Value.TheVariants as v;
 
@@ -13,7 +15,7 @@ use std::cmp::Ordering;
 
 /// What a relation says of two that stand in this order; `?` for what is no relation, as between decimals, with which no
 /// arithmetic is done.
-#[inline]
+#[inline(always)]
 pub(crate) fn by_order(operator: BinaryOperator, ordering: Ordering) -> Value
     ensures { result ≡ spec.by_order operator ordering }
 {
@@ -30,6 +32,7 @@ pub(crate) fn by_order(operator: BinaryOperator, ordering: Ordering) -> Value
 }
 
 /// Of two whole numbers.
+#[inline]
 pub(crate) fn of_integers(operator: BinaryOperator, x: i64, y: i64) -> Value
     ensures { result ≡ spec.of_integers operator x y }
 {
@@ -45,6 +48,7 @@ pub(crate) fn of_integers(operator: BinaryOperator, x: i64, y: i64) -> Value
 }
 
 /// Of two values of LOGICAL.
+#[inline]
 pub(crate) fn of_truths(operator: BinaryOperator, x: Logical, y: Logical) -> Value
     ensures { result ≡ spec.of_truths operator x y }
 {
@@ -57,6 +61,7 @@ pub(crate) fn of_truths(operator: BinaryOperator, x: Logical, y: Logical) -> Val
 }
 
 /// One text behind the other.
+#[inline(never)]
 pub(crate) fn joined_texts(
     alloc: Global,
     s: &Characters,
@@ -69,7 +74,17 @@ pub(crate) fn joined_texts(
     Value::text(alloc, Text::new(text))
 }
 
+/// Whether two texts are the same, which their lengths may tell.
+#[inline(always)]
+fn are_equal(s: &Characters, t: &Characters) -> bool
+    ensures { result ≡ is_eq (slice_cmp nat_cmp s.now t.now) }
+{
+    s.as_bytes() == t.as_bytes()
+}
+
 /// Of two texts.
+#[inline]
+#[tactic(auto, using(crate::proofs::Alike::unequal))]
 pub(crate) fn of_texts(
     alloc: Global,
     operator: BinaryOperator,
@@ -80,6 +95,12 @@ pub(crate) fn of_texts(
 {
     match operator {
         BinaryOperator::Add => joined_texts(alloc, s, t),
+        BinaryOperator::Equal | BinaryOperator::InstanceEqual => {
+            Ok(Value::Log(Logical::of(are_equal(s, t))))
+        }
+        BinaryOperator::NotEqual | BinaryOperator::InstanceNotEqual => {
+            Ok(Value::Log(Logical::of(!are_equal(s, t))))
+        }
         _ => Ok(by_order(operator, s.as_bytes().cmp(t.as_bytes()))),
     }
 }
