@@ -82,7 +82,7 @@ pub(crate) fn without_names(value: &Value) -> Result<Value, AllocError>
 }
 
 /// The defined type that a value carries.
-pub(crate) fn carried(value: &Value) -> Option<usize>
+pub fn carried(value: &Value) -> Option<usize>
     ensures { result ≡ spec.carried value.now }
 {
     match value {
@@ -112,8 +112,9 @@ pub(crate) fn is_scalar(value: &Value) -> bool
     }
 }
 
+/// Whether there is nothing beneath the names of a value.
 #[inline]
-pub(crate) fn is_indeterminate(value: &Value) -> bool
+pub fn is_indeterminate(value: &Value) -> bool
     ensures { result ≡ spec.is_indeterminate value.now }
 {
     match beneath_names(value) {

@@ -19,7 +19,7 @@ use rp_value::{AggregateKind, Value};
 
 /// A type behind all names.
 #[derive(Clone, Copy)]
-pub(crate) enum End<'t> {
+pub enum End<'t> {
     /// By the number of the type that declares it.
     Enumeration(usize),
     /// By what it chooses from.
@@ -31,13 +31,14 @@ pub(crate) enum End<'t> {
 
 /// A type of aggregates: the kind and the first index that it says, and the type of its elements.
 #[derive(Clone, Copy)]
-pub(crate) struct AggregateType<'t> {
-    pub(crate) kind: Option<(AggregateKind, i64)>,
-    pub(crate) element: &'t NamedDataType,
+pub struct AggregateType<'t> {
+    pub kind: Option<(AggregateKind, i64)>,
+    pub element: &'t NamedDataType,
 }
 
+/// What stands behind the names of a defined type, by its number.
 #[tactic(auto, unfolding(rp_meaning::specs::Types::end_of))]
-pub(crate) fn end_of(types: &[DefinedType], number: usize) -> End<'_>
+pub fn end_of(types: &[DefinedType], number: usize) -> End<'_>
     ensures { end_behind result ≡ spec.end_of types.now number }
 {
     let Some(defined_type) = types.get(number) else {
@@ -50,7 +51,8 @@ pub(crate) fn end_of(types: &[DefinedType], number: usize) -> End<'_>
     }
 }
 
-pub(crate) fn behind_names<'t>(types: &'t [DefinedType], data_type: &'t NamedDataType) -> End<'t>
+/// What stands behind the names of a type.
+pub fn behind_names<'t>(types: &'t [DefinedType], data_type: &'t NamedDataType) -> End<'t>
     ensures { end_behind result ≡ spec.end types.now data_type.now }
 {
     match data_type {
@@ -149,7 +151,7 @@ fn is_of_kind(types: &[DefinedType], end: End<'_>, x: Bare<'_>) -> bool
 
 /// Whether a value, other than `?`, is of the kind of a type.
 #[tactic(auto, unfolding(rp_meaning::specs::Types::fits))]
-pub(crate) fn fits(types: &[DefinedType], data_type: &NamedDataType, value: &Value) -> bool
+pub fn fits(types: &[DefinedType], data_type: &NamedDataType, value: &Value) -> bool
     ensures { result ≡ spec.fits types.now data_type.now value.now }
 {
     is_of_kind(types, behind_names(types, data_type), beneath_names(value))
@@ -194,7 +196,7 @@ fn aggregate_by(data_type: &NamedDataType) -> Option<AggregateType<'_>>
 }
 
 /// What a type behind all names says of aggregates.
-pub(crate) fn aggregate_type(end: End<'_>) -> Option<AggregateType<'_>>
+pub fn aggregate_type(end: End<'_>) -> Option<AggregateType<'_>>
     ensures { option_map aggregate_type_behind result ≡ spec.aggregate_type (end_behind end.entry) }
 {
     match end {

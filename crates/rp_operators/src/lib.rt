@@ -14,13 +14,14 @@ mod qualifiers;
 mod relations;
 mod scalars;
 
-pub use bare::{aggregate_of, integer_of, is_true, place_of, text_of};
+pub use bare::{aggregate_of, carried, integer_of, is_indeterminate, is_true, place_of, text_of};
 pub use built_ins::{
     absolute, binary_length, exists, high_index, initializer, low_index, null_value, odd, size_of,
     text_length, value_in,
 };
 pub use costs::{cost, count, interval_cost, size};
 pub use declared::given;
+pub use ends::{AggregateType, End, aggregate_type, behind_names, end_of, fits};
 pub use naming::type_names;
 pub use operators::{applied, applied_to, within};
 pub use qualifiers::{index, range};
