@@ -48,7 +48,7 @@ fn explicit_names(alloc: Global, entity: &NamedEntity) -> Result<Vec<&str>, Allo
     ensures { IfOk result (λ names. map (λ n. n.now) names.items ≡ map (λ d. d.0.text) (slots.declared_by entity.now)) }
 {
     let rows = explicit_of(alloc, entity)?;
-    let mut names = Vec::with_capacity(alloc, rows.len())?;
+    let mut names = Vec::new(alloc);
     for (name, _) in &rows {
         names.push(name.text.as_str())?;
     }
@@ -70,7 +70,7 @@ fn derived_names(alloc: Global, list: &[NamedDerived]) -> Result<Vec<&str>, Allo
 fn inverse_names(alloc: Global, list: &[NamedInverse]) -> Result<Vec<&str>, AllocError>
     ensures { IfOk result (λ names. map (λ n. n.now) names.items ≡ map (λ x. x.name.text) list.now) }
 {
-    let mut names = Vec::with_capacity(alloc, list.len())?;
+    let mut names = Vec::new(alloc);
     for inverse in list {
         names.push(inverse.name.text.as_str())?;
     }

@@ -21,7 +21,7 @@ pub fn joined(alloc: Global, first: &str, second: &str) -> Result<Text, AllocErr
 pub(crate) fn type_names(alloc: Global, types: &[NamedType]) -> Result<Vec<&str>, AllocError>
     ensures { IfOk result (λ names. map (λ n. n.now) names.items ≡ names_of_types types.now) }
 {
-    let mut names = Vec::with_capacity(alloc, types.len())?;
+    let mut names = Vec::new(alloc);
     for declared in types {
         names.push(declared.name.text.as_str())?;
     }
@@ -31,7 +31,7 @@ pub(crate) fn type_names(alloc: Global, types: &[NamedType]) -> Result<Vec<&str>
 pub(crate) fn entity_names(alloc: Global, entities: &[NamedEntity]) -> Result<Vec<&str>, AllocError>
     ensures { IfOk result (λ names. map (λ n. n.now) names.items ≡ names_of_entities entities.now) }
 {
-    let mut names = Vec::with_capacity(alloc, entities.len())?;
+    let mut names = Vec::new(alloc);
     for entity in entities {
         names.push(entity.name.text.as_str())?;
     }
@@ -41,7 +41,7 @@ pub(crate) fn entity_names(alloc: Global, entities: &[NamedEntity]) -> Result<Ve
 pub(crate) fn rule_names(alloc: Global, rules: &[NamedRule]) -> Result<Vec<&str>, AllocError>
     ensures { IfOk result (λ names. map (λ n. n.now) names.items ≡ map (λ x. x.name.text) rules.now) }
 {
-    let mut names = Vec::with_capacity(alloc, rules.len())?;
+    let mut names = Vec::new(alloc);
     for rule in rules {
         names.push(rule.name.text.as_str())?;
     }

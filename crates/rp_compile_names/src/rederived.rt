@@ -115,6 +115,21 @@ fn deepest_first(
     concatenated(alloc, &rows)
 }
 
+/// What redeclares attributes in DERIVE in so many rows, each in that of the entity whose attribute it redeclares.
+fn rows_by_entity(
+    alloc: Global,
+    count: usize,
+    list: &[Rederived],
+) -> Result<Vec<Items<Rederived>>, AllocError>
+    ensures { IfOk result (λ rows. rows.items ≡ put_all (replicate count []) (spec.by_entity list.now)) }
+{
+    let mut rows = empty_rows(alloc, count)?;
+    for rederived in list {
+        put(&mut rows, rederived.0.entity, *rederived)?;
+    }
+    Ok(rows)
+}
+
 /// What redeclares attributes in DERIVE, those of each entity in its row.
 pub fn rederived_rows(
     alloc: Global,
@@ -126,11 +141,7 @@ pub fn rederived_rows(
 {
     let numbers = deepest_first(alloc, graph, order)?;
     let all = derived_by_all(alloc, entities, numbers.as_slice())?;
-    let mut rows = empty_rows(alloc, entities.len())?;
-    for rederived in &all {
-        put(&mut rows, rederived.0.entity, *rederived)?;
-    }
-    Ok(rows)
+    rows_by_entity(alloc, entities.len(), &all)
 }
 
 fn sort_number(sort: AttributeSort) -> usize

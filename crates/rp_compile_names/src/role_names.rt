@@ -9,10 +9,10 @@ ghost use Rattle.rp_meaning.specs.CompiledNames as names_spec;
 ghost use Rattle.rp_compile_names.specs.Found as spec;
 
 use crate::declared_names::explicit_of;
+use crate::graph::members_of_family;
 use crate::names::joined;
 use ex_named::{AttributePlace, AttributeSort, NamedEntity, NamedExplicit};
 use ex_tree::Name;
-use graphs::family;
 use name_tables::NameRows;
 use plain_data::{Items, Rows};
 use rp_meaning::{NamedRole, Role};
@@ -79,7 +79,7 @@ fn inherited<'s>(
 ) -> Result<Vec<(&'s str, AttributePlace)>, AllocError>
     ensures { IfOk result (λ found. rows_of found.items ≡ names_spec.inherited_rows entities.now graph.now entity) }
 {
-    let family: Vec<usize> = family(alloc, graph, entity)?.into_iter().collect(alloc)?;
+    let family = members_of_family(alloc, graph, entity)?;
     explicit_of_all(alloc, entities, &family)
 }
 

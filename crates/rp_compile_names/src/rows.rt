@@ -11,7 +11,7 @@ use std::alloc::{AllocError, Global};
 pub(crate) fn empty_rows<T: Drop>(alloc: Global, count: usize) -> Result<Vec<Items<T>>, AllocError>
     ensures { IfOk result (λ rows. rows.items ≡ replicate count []) }
 {
-    let mut rows = Vec::with_capacity(alloc, count)?;
+    let mut rows = Vec::new(alloc);
     for _row in 0..count {
         rows.push(Items::new(alloc))?;
     }

@@ -7,9 +7,10 @@ ghost use Rattle.ex_renamings.specs.Renamings.{is_select};
 ghost use Rattle.graphs.specs.Graphs as graphs;
 ghost use Rattle.rp_meaning.specs.CompiledTypes as spec;
 
+use crate::graph::members_of_family;
 use ex_named::{NamedDataType, NamedUnderlying, TypeName};
 use ex_renamings::Renamings;
-use graphs::{family, is_in};
+use graphs::is_in;
 use plain_data::{Items, Rows};
 use std::alloc::{AllocError, Global};
 use std::collections::BTreeSet;
@@ -69,7 +70,7 @@ fn entities_among(alloc: Global, members: &[TypeName]) -> Result<Rows<usize>, Al
 pub fn selection(alloc: Global, types: &Renamings<'_>) -> Result<Vec<Rows<usize>>, AllocError>
     ensures { IfOk result (λ graph. graph.items ≡ spec.selection types.now) }
 {
-    let mut graph = Vec::with_capacity(alloc, types.types().len())?;
+    let mut graph = Vec::new(alloc);
     for (number, _) in types.types().iter().enumerate() {
         graph.push(defined_among(alloc, members(types, number))?)?;
     }
@@ -120,7 +121,7 @@ pub fn selects(
     requires { graph.now ≡ spec.selection types.now }
     ensures { IfOk result (λ found. found ≡ spec.selects types.now number) }
 {
-    let family: Vec<usize> = family(alloc, graph, number)?.into_iter().collect(alloc)?;
+    let family = members_of_family(alloc, graph, number)?;
     selects_among(alloc, types, &family)
 }
 
@@ -174,25 +175,32 @@ fn push_types(found: &mut Items<TypeName>, numbers: &[usize]) -> Result<(), Allo
     Ok(())
 }
 
-/// The entities among members, each once.
-fn chosen_entities(alloc: Global, members: &[TypeName]) -> Result<Vec<usize>, AllocError>
-    ensures { IfOk result (λ found. found.items ≡ graphs.each_once (filter_map spec.entity_in members.now)) }
+/// Puts the entities among members, each once, behind the others.
+fn push_chosen_entities(
+    alloc: Global,
+    found: &mut Items<TypeName>,
+    members: &[TypeName],
+) -> Result<(), AllocError>
+    ensures { OnOk result (found.new ≡ found.old ++ map names.Entity (graphs.each_once (filter_map spec.entity_in members.now))) }
 {
     let entities = entities_among(alloc, members)?;
-    each_once(alloc, entities.as_slice())
+    let once = each_once(alloc, entities.as_slice())?;
+    push_entities(found, &once)
 }
 
-/// The defined types among members that are no SELECTs, each once.
-fn chosen_types(
+/// Puts the defined types among members that are no SELECTs, each once, behind the others.
+fn push_chosen_types(
     alloc: Global,
     types: &Renamings<'_>,
+    found: &mut Items<TypeName>,
     members: &[TypeName],
-) -> Result<Vec<usize>, AllocError>
-    ensures { IfOk result (λ found. found.items ≡ graphs.each_once (filter (λ k. not (is_select types.now k)) (filter_map spec.defined_in members.now))) }
+) -> Result<(), AllocError>
+    ensures { OnOk result (found.new ≡ found.old ++ map names.Defined (graphs.each_once (filter (λ k. not (is_select types.now k)) (filter_map spec.defined_in members.now)))) }
 {
     let defined = defined_among(alloc, members)?;
     let others = without_selects(alloc, types, defined.as_slice())?;
-    each_once(alloc, &others)
+    let once = each_once(alloc, &others)?;
+    push_types(found, &once)
 }
 
 /// What a SELECT chooses from, by the SELECTs that it and its members are.
@@ -204,10 +212,8 @@ pub fn choices(
     ensures { IfOk result (λ found. found ≡ map names.Entity (graphs.each_once (filter_map spec.entity_in (flat_map (spec.members types.now) selects.now))) ++ map names.Defined (graphs.each_once (filter (λ k. not (is_select types.now k)) (filter_map spec.defined_in (flat_map (spec.members types.now) selects.now))))) }
 {
     let members = all_members(alloc, types, selects)?;
-    let entities = chosen_entities(alloc, &members)?;
-    let defined = chosen_types(alloc, types, &members)?;
     let mut found = Items::new(alloc);
-    push_entities(&mut found, &entities)?;
-    push_types(&mut found, &defined)?;
+    push_chosen_entities(alloc, &mut found, &members)?;
+    push_chosen_types(alloc, types, &mut found, &members)?;
     Ok(found)
 }
