@@ -14,9 +14,9 @@ import sys
 from collections import defaultdict
 
 from evaluation import LISTS, evaluated, program_of
-from expression_rows import HEAD, MOST_STEPS, TAIL
+from expression_rows import MOST_STEPS
 from lib.harness import run_parts
-from reports_by_hand import read_reports
+from lib.report_rows import read_reports
 
 # of so many reports at least
 FEWEST = 25
@@ -24,14 +24,7 @@ FEWEST = 25
 
 def is_whole(one):
     """Whether the report is of one model without links, and everything was begun."""
-    return len(one.models) == 1 and not one.models[0][3] and not any("NOT_RUN" in entry or '"not_run"' in entry for entry in one.entries)
-
-
-def file_of(one):
-    """The exchange file of a report's model."""
-    instances = one.models[0][2]
-    schema = re.search(r"\bSCHEMA\s+(\w+)", one.schema)[1].upper()
-    return instances if "ISO-10303-21" in instances else HEAD.format(schema) + instances + TAIL
+    return len(one.models) == 1 and not one.models[0].links and not any("NOT_RUN" in entry or '"not_run"' in entry for entry in one.entries)
 
 
 def wanted_of(one):
@@ -61,7 +54,7 @@ def each_report(it):
     whole = [one for one in read_reports() if is_whole(one)]
     it.expect(f"{FEWEST} reports of one model", len(whole) >= FEWEST, True)
     for one in whole:
-        found, wanted = evaluated(it.folder, one.schema, file_of(one), [MOST_STEPS]), wanted_of(one)
+        found, wanted = evaluated(it.folder, one.schema, one.models[0].whole_file(one.schema_name()), [MOST_STEPS]), wanted_of(one)
         seen = found if isinstance(found, str) else seen_of(found, wanted)
         it.expect(f"{one.topic}, {one.name}", seen, wanted)
 
