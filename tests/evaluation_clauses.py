@@ -59,7 +59,8 @@ RULES = {
     "empty": ("(e); ; ;", [unlabelled(1, "TRUE", "TRUE", 2 + 1), unlabelled(2, "NOT TRUE", "FALSE", 2 + 2)]),
     # locals of the names that another rule has, of other types
     "others": ("(d, e); LOCAL n : LOGICAL; s : INTEGER := SIZEOF(d); END_LOCAL; n := s = 1;", [
-        labelled("a", "n", "TRUE", 3 + (1 + 3) + 1), labelled("b", "s", "1", 3 + (1 + 3) + 1), labelled("c", "SIZEOF(e) - s", "2", 3 + (1 + 3) + 1 + 5 + 1)]),
+        labelled("a", "n", "TRUE", 3 + (1 + 3) + 1), labelled("b", "s", "1", 3 + (1 + 3) + 1),
+        labelled("c", "SIZEOF(e) - s", "2", 3 + (1 + 3) + (1 + 5 + 1))]),
     # a call of 1, n, a local of 1, an assignment of 4 and a RETURN of 2
     "called": ("(e); LOCAL n : INTEGER := 4; END_LOCAL; n := next_of(n);", [
         labelled("a", "n", "5", 1 + (1 + (1 + 1 + 7)) + 1), labelled("b", "next_of(n)", "6", 1 + (1 + (1 + 1 + 7)) + (1 + 1 + 7)),
@@ -72,7 +73,8 @@ RULES = {
         labelled("a", "n", "2", 1 + 1 + 2 * (4 + 4) + 1 + 1), labelled("b", "absent", "SET[1: ]", 1 + 1 + 2 * (4 + 4) + 1 + 1),
         labelled("c", "n + SIZEOF(absent)", "2", 1 + 1 + 2 * (4 + 4) + 1 + (1 + 1 + 2))]),
     "unset": ("(e); LOCAL a : INTEGER := NVL(b, 3); b : INTEGER := 5; c : LOGICAL; END_LOCAL; IF c THEN a := 0; ELSE b := b - a; END_IF;", [
-        labelled("p", "a", "3", 3 + 1 + (1 + 1 + 4) + 1), labelled("q", "b", "2", 3 + 1 + (1 + 1 + 4) + 1), labelled("r", "c", "?", 3 + 1 + (1 + 1 + 4) + 1)]),
+        labelled("p", "a", "3", 3 + 1 + (1 + 1 + 4) + 1), labelled("q", "b", "2", 3 + 1 + (1 + 1 + 4) + 1),
+        labelled("r", "c", "?", 3 + 1 + (1 + 1 + 4) + 1)]),
 }
 
 
