@@ -67,9 +67,9 @@ LISTS = ("false", "limit", "not_run", "unknown")
 
 
 def list_of(outcome):
-    """The list of a report in which an outcome has its instance, if any."""
-    value = outcome.rpartition(" ")[0]
-    return {"LIMIT": "limit", "?": "unknown", "UNKNOWN": "unknown", "FALSE": "false"}.get(value or outcome)
+    """The list in which an outcome has its instance, if any: what is neither TRUE nor FALSE, whatever type it carries, can't be told."""
+    truth = re.fullmatch(r"(?:\w+\()*(TRUE|FALSE)\)* \d+", outcome)
+    return {None: "limit" if outcome == "LIMIT" else "unknown", "TRUE": None, "FALSE": "false"}[truth and truth[1]]
 
 
 def reported(name):

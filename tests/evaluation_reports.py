@@ -9,11 +9,10 @@ one file, and reckons each evaluation by itself. The last line is 'evaluation_re
 if none failed.
 """
 import json
-import re
 import sys
 from collections import defaultdict
 
-from evaluation import LISTS, evaluated, program_of
+from evaluation import LISTS, evaluated, list_of, program_of
 from expression_rows import MOST_STEPS
 from lib.harness import run_parts
 from lib.report_rows import read_reports
@@ -32,12 +31,6 @@ def wanted_of(one):
     checks = [json.loads(entry) for entry in one.entries]
     return {(check["of"], check["rule"]): (check["verdict"], {key: [f"#{it[2]}" for it in check[key]] for key in LISTS if key in check})
             for check in checks if check["check"] in ("where", "rule")}
-
-
-def list_of(outcome):
-    """The list in which an outcome has its instance, if any: what is neither TRUE nor FALSE, whatever type it carries, can't be told."""
-    truth = re.fullmatch(r"(?:\w+\()*(TRUE|FALSE)\)* \d+", outcome)
-    return {None: "limit" if outcome == "LIMIT" else "unknown", "TRUE": None, "FALSE": "false"}[truth and truth[1]]
 
 
 def seen_of(found, conditions):
