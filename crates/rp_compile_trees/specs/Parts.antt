@@ -1,6 +1,7 @@
 -- What the parts of expressions and of statements are compiled to.
 use Rattle.std.specs.Prelude.{List, [], map, Option, option_map}
 use Rattle.ex_kinds.specs.declared.typed.Typed.{Typed}
+use Rattle.ex_kinds.specs.Kinds.{Kinds}
 use Rattle.ex_named.specs.declared.expression.NamedDataType.{NamedDataType}
 use Rattle.ex_named.specs.declared.expression.NamedExpression.{NamedExpression}
 use Rattle.ex_named.specs.declared.expression.NamedInterval.{NamedInterval}
@@ -12,6 +13,7 @@ use Rattle.ex_named.specs.declared.statement.NamedCaseAction.{NamedCaseAction}
 use Rattle.ex_named.specs.declared.statement.NamedIncrement.{NamedIncrement}
 use Rattle.ex_named.specs.declared.statement.NamedRepeatControl.{NamedRepeatControl}
 use Rattle.ex_named.specs.declared.statement.NamedStatement.{NamedStatement}
+use Rattle.ex_operators.specs.Taken.{elements_of}
 use Rattle.ex_typing.specs.Expressions.{TypingScope}
 use Rattle.ex_typing_statements.specs.Statements.{in_turn}
 use Rattle.rp_meaning.specs.declared.tree.CaseAction.{CaseAction}
@@ -34,6 +36,10 @@ module _ (schema : Declared) where
   -- what is said of an expression's value
   abbrev pub typed : TypingScope → NamedExpression → Typed
   typed s x = (compiled_expression schema x).typed s
+
+  -- what the elements of an expression's value may be
+  abbrev pub elements : TypingScope → NamedExpression → Kinds
+  elements s x = elements_of schema.known.types (typed s x).kinds
 
   abbrev pub expressions : TypingScope → List NamedExpression → List Expression
   expressions s list = each s (map (compiled_expression schema) list)

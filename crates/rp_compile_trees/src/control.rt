@@ -67,9 +67,9 @@ pub(crate) fn control(
     requires { turn.now ≡ in_turn scope.now tree.now.increment }
     ensures { IfOk result (λ found. found ≡ spec.control schema.now scope.now tree.now) }
 {
-    let increment = optional_increment(alloc, schema, scope, &tree.increment)?;
     let while_condition = optional(alloc, schema, turn, &tree.while_condition)?;
     let until_condition = optional(alloc, schema, turn, &tree.until_condition)?;
+    let increment = optional_increment(alloc, schema, scope, &tree.increment)?;
     Ok(Control {
         increment,
         while_condition,

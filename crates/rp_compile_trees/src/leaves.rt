@@ -7,6 +7,7 @@ ghost use Rattle.plain_data.specs.Numbers.{is_among};
 ghost use Rattle.ex_tree.specs.declared.expression.Literal.TheVariants as literals;
 ghost use Rattle.rp_meaning.specs.CompiledExpressions as spec;
 ghost use Rattle.rp_meaning.specs.declared.tree.Expression.TheVariants as tree;
+ghost use Rattle.rp_value.specs.declared.value.Value.{out-Value};
 ghost use Rattle.rp_value.specs.declared.value.Value.TheVariants as value;
 
 use crate::declared::Declared;
@@ -39,17 +40,23 @@ fn integer(number: u64) -> Value
     }
 }
 
-/// The value of a literal.
-pub(crate) fn literal(alloc: Global, tree: &Literal) -> Result<Value, AllocError>
-    ensures { IfOk result (λ value. value ≡ spec.literal tree.now) }
+fn literal_value(alloc: Global, literal: &Literal) -> Result<Value, AllocError>
+    ensures { IfOk result (λ value. value ≡ spec.literal literal.now) }
 {
-    match tree {
+    match literal {
         Literal::Integer(number) => Ok(integer(*number)),
         Literal::Real(decimal) => Value::decimal(alloc, *decimal),
         Literal::String(text, _) => Value::text(alloc, text.copy(alloc)?),
         Literal::Binary(digits) => Value::binary(alloc, bits(alloc, digits.as_bytes())?),
         Literal::Logical(logical) => Ok(Value::Log(*logical)),
     }
+}
+
+/// A literal.
+pub(crate) fn literal(alloc: Global, literal: &Literal) -> Result<Expression, AllocError>
+    ensures { IfOk result (λ found. found ≡ tree.Literal (spec.literal literal.now)) }
+{
+    Ok(Expression::Literal(literal_value(alloc, literal)?))
 }
 
 /// An attribute of SELF, by its name alone.
@@ -197,12 +204,22 @@ fn role_named(alloc: Global, roles: &[NamedRole], name: &str) -> Result<Option<R
     Ok(None)
 }
 
+/// The text that a value is.
+fn text_in(value: &Value) -> Option<&str>
+    ensures { option_map (λ t. t.now) result ≡ spec.text_in (out-Value value.now) }
+{
+    match value {
+        Value::Str(text) => Some(text.as_str()),
+        _ => None,
+    }
+}
+
 /// The text that an expression is, where it is a literal.
 fn text_of(tree: &Expression) -> Option<&str>
     ensures { option_map (λ t. t.now) result ≡ spec.text_of tree.now }
 {
     match tree {
-        Expression::Literal(Value::Str(text)) => Some(text.as_str()),
+        Expression::Literal(value) => text_in(value),
         _ => None,
     }
 }

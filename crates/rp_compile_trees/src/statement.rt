@@ -1,5 +1,4 @@
 //! Statements.
-#![tactic(auto, unfolding(rp_meaning::specs::CompiledStatements::compiled_statement, rp_meaning::specs::CompiledTrees::compiled_case, rp_meaning::specs::CompiledTrees::compiled_case_action))]
 
 ghost use Rattle.std.specs.Prelude.{◌≡◌, map, Some, IfOk, slice_index_or};
 ghost use Rattle.ex_named.specs.declared.expression.NamedDataType.TheVariants as types_of;
@@ -58,7 +57,6 @@ fn assignment(
 }
 
 /// The labels of an action.
-#[tactic(auto)]
 fn labels(
     alloc: Global,
     schema: &Declared<'_>,
@@ -71,7 +69,6 @@ fn labels(
 }
 
 /// Statements as they are executed, where variables are declared with these types.
-#[tactic(auto)]
 pub fn statements(
     alloc: Global,
     schema: &Declared<'_>,
@@ -101,6 +98,7 @@ fn block(
     Ok(found)
 }
 
+#[tactic(auto, unfolding(rp_meaning::specs::CompiledStatements::compiled_statement, rp_meaning::specs::CompiledTrees::compiled_case, rp_meaning::specs::CompiledTrees::compiled_case_action))]
 #[cycle(statements)]
 fn statement(
     alloc: Global,
@@ -139,6 +137,7 @@ fn statement(
     }
 }
 
+#[tactic(auto, unfolding(rp_meaning::specs::CompiledStatements::compiled_statement, rp_meaning::specs::CompiledTrees::compiled_case, rp_meaning::specs::CompiledTrees::compiled_case_action))]
 #[cycle(statements)]
 fn case_statement(
     alloc: Global,
@@ -149,9 +148,9 @@ fn case_statement(
 ) -> Result<Statement, AllocError>
     ensures { IfOk result (λ found. found ≡ parts.case_statement schema.now (map (λ t. t.now) types.now) scope.now tree.now) }
 {
-    let selector = expression(alloc, schema, scope, &tree.selector)?;
     let mut actions = case_actions(alloc, schema, scope, tree.actions.as_slice(), types)?;
     actions.append(otherwise(alloc, schema, scope, &tree.otherwise, types)?)?;
+    let selector = expression(alloc, schema, scope, &tree.selector)?;
     Ok(Statement::Case(selector, actions))
 }
 
@@ -173,6 +172,7 @@ fn case_actions(
     Ok(found)
 }
 
+#[tactic(auto, unfolding(rp_meaning::specs::CompiledStatements::compiled_statement, rp_meaning::specs::CompiledTrees::compiled_case_action))]
 #[cycle(statements)]
 fn case_action(
     alloc: Global,

@@ -1,49 +1,23 @@
 //! Expressions.
-#![tactic(auto, unfolding(rp_meaning::specs::CompiledExpressions::compiled_expression, rp_meaning::specs::CompiledTrees::compiled_qualifier, rp_meaning::specs::CompiledTrees::compiled_interval, rp_meaning::specs::CompiledTrees::compiled_operation, rp_meaning::specs::CompiledTrees::compiled_query))]
 
 ghost use Rattle.std.specs.Prelude.{◌≡◌, IfOk};
 ghost use Rattle.ex_typing.specs.Expressions.{within};
 ghost use Rattle.rp_meaning.specs.declared.tree.Expression.TheVariants as tree_of;
-ghost use Rattle.rp_meaning.specs.declared.tree.Qualifier.TheVariants as qualifier_of;
 ghost use Rattle.rp_meaning.specs.CompiledExpressions as spec;
 ghost use Rattle.rp_compile_trees.specs.Parts as parts;
 
 use crate::declared::Declared;
 use crate::leaves::{built_in, indeterminate, item, literal, meant, own_attribute};
-use ex_kinds::{Typed, ValueKind};
+use ex_kinds::{Kinds, Typed};
 use ex_named::{NamedExpression, NamedInterval, NamedOperation, NamedQualifier, NamedQuery};
 use ex_operators::elements_of;
-use ex_tree::{BuiltInFunction, UnaryOperator};
+use ex_tree::BuiltInFunction;
 use ex_typing::TypingScope;
 use plain_data::{Boxed, Items};
 use rp_meaning::{Expression, Interval, Operation, Qualifier, Query, compiled_as_typed};
 use std::alloc::{AllocError, Global};
 
-fn qualified(
-    alloc: Global,
-    base: Expression,
-    list: Items<Qualifier>,
-) -> Result<Expression, AllocError>
-    ensures { IfOk result (λ found. found ≡ tree_of.Qualified base list) }
-{
-    Ok(Expression::Qualified(Boxed::new(alloc, base)?, list))
-}
-
-fn chain(alloc: Global, left: Expression, list: Items<Operation>) -> Result<Expression, AllocError>
-    ensures { IfOk result (λ found. found ≡ tree_of.Chain left list) }
-{
-    Ok(Expression::Chain(Boxed::new(alloc, left)?, list))
-}
-
-fn range(alloc: Global, low: Expression, high: Expression) -> Result<Qualifier, AllocError>
-    ensures { IfOk result (λ found. found ≡ qualifier_of.Range low high) }
-{
-    let low = Boxed::new(alloc, low)?;
-    Ok(Qualifier::Range(low, Boxed::new(alloc, high)?))
-}
-
 /// What is said of an expression's value.
-#[tactic(auto)]
 fn typed(
     alloc: Global,
     schema: &Declared<'_>,
@@ -56,8 +30,20 @@ fn typed(
     ex_typing::expression(alloc, schema.known(), scope, tree)
 }
 
+/// What the elements of an expression's value may be.
+fn elements(
+    alloc: Global,
+    schema: &Declared<'_>,
+    scope: &TypingScope<'_>,
+    tree: &NamedExpression,
+) -> Result<Kinds, AllocError>
+    ensures { IfOk result (λ kinds. kinds ≡ parts.elements schema.now scope.now tree.now) }
+{
+    let typed = typed(alloc, schema, scope, tree)?;
+    elements_of(alloc, schema.known().types(), typed.kinds.as_slice())
+}
+
 /// What is said of what a qualifier takes of a value of which this is said.
-#[tactic(auto)]
 fn behind(
     alloc: Global,
     schema: &Declared<'_>,
@@ -72,6 +58,7 @@ fn behind(
 }
 
 /// An expression as it is evaluated.
+#[tactic(auto, unfolding(rp_meaning::specs::CompiledExpressions::compiled_expression, rp_meaning::specs::CompiledTrees::compiled_qualifier, rp_meaning::specs::CompiledTrees::compiled_interval, rp_meaning::specs::CompiledTrees::compiled_operation, rp_meaning::specs::CompiledTrees::compiled_query))]
 #[cycle(trees)]
 pub fn expression(
     alloc: Global,
@@ -82,7 +69,7 @@ pub fn expression(
     ensures { IfOk result (λ found. found ≡ spec.expression schema.now scope.now tree.now) }
 {
     match tree {
-        NamedExpression::Literal(value) => Ok(Expression::Literal(literal(alloc, value)?)),
+        NamedExpression::Literal(value) => literal(alloc, value),
         NamedExpression::Itself => Ok(Expression::Itself),
         NamedExpression::Indeterminate => Ok(indeterminate()),
         NamedExpression::Variable(slot) => Ok(Expression::Variable(*slot)),
@@ -95,24 +82,29 @@ pub fn expression(
         NamedExpression::BuiltIn(function, _, list) => {
             call_built_in(alloc, schema, scope, *function, list)
         }
-        NamedExpression::Qualified(base, list) => {
-            let tree = expression(alloc, schema, scope, base.get())?;
-            let typed = typed(alloc, schema, scope, base.get())?;
-            let list = qualifiers(alloc, schema, scope, typed, list.as_slice())?;
-            qualified(alloc, tree, list)
-        }
+        NamedExpression::Qualified(base, list) => qualified(alloc, schema, scope, base, list),
         NamedExpression::Unary(operator, _, operand) => {
-            signed(alloc, schema, scope, *operator, operand.get())
+            Ok(Expression::Unary(*operator, boxed(alloc, schema, scope, operand)?))
         }
-        NamedExpression::Chain(left, list) => {
-            let left = expression(alloc, schema, scope, left.get())?;
-            let list = operations(alloc, schema, scope, list.as_slice())?;
-            chain(alloc, left, list)
-        }
+        NamedExpression::Chain(left, list) => chain(alloc, schema, scope, left, list),
         NamedExpression::Interval(tree) => interval(alloc, schema, scope, tree.get()),
         NamedExpression::Query(tree) => query(alloc, schema, scope, tree.get()),
         NamedExpression::Initializer(list) => initializer(alloc, schema, scope, list),
     }
+}
+
+/// An expression that stands in another.
+#[cycle(trees)]
+fn boxed(
+    alloc: Global,
+    schema: &Declared<'_>,
+    scope: &TypingScope<'_>,
+    tree: &Boxed<NamedExpression>,
+) -> Result<Boxed<Expression>, AllocError>
+    ensures { IfOk result (λ found. found ≡ spec.expression schema.now scope.now tree.now) }
+{
+    let tree = expression(alloc, schema, scope, tree.get())?;
+    Boxed::new(alloc, tree)
 }
 
 /// Several expressions.
@@ -173,18 +165,34 @@ fn initializer(
     Ok(Expression::Initializer(elements))
 }
 
+/// What qualifiers take of a value.
 #[cycle(trees)]
-fn signed(
+fn qualified(
     alloc: Global,
     schema: &Declared<'_>,
     scope: &TypingScope<'_>,
-    operator: UnaryOperator,
-    operand: &NamedExpression,
+    base: &Boxed<NamedExpression>,
+    list: &Items<NamedQualifier>,
 ) -> Result<Expression, AllocError>
-    ensures { IfOk result (λ found. found ≡ tree_of.Unary operator (spec.expression schema.now scope.now operand.now)) }
+    ensures { IfOk result (λ found. found ≡ tree_of.Qualified (spec.expression schema.now scope.now base.now) (parts.qualifiers schema.now scope.now (parts.typed schema.now scope.now base.now) list.now)) }
 {
-    let operand = expression(alloc, schema, scope, operand)?;
-    Ok(Expression::Unary(operator, Boxed::new(alloc, operand)?))
+    let typed = typed(alloc, schema, scope, base.get())?;
+    let list = qualifiers(alloc, schema, scope, typed, list.as_slice())?;
+    Ok(Expression::Qualified(boxed(alloc, schema, scope, base)?, list))
+}
+
+#[cycle(trees)]
+fn chain(
+    alloc: Global,
+    schema: &Declared<'_>,
+    scope: &TypingScope<'_>,
+    left: &Boxed<NamedExpression>,
+    list: &Items<NamedOperation>,
+) -> Result<Expression, AllocError>
+    ensures { IfOk result (λ found. found ≡ tree_of.Chain (spec.expression schema.now scope.now left.now) (parts.operations schema.now scope.now list.now)) }
+{
+    let list = operations(alloc, schema, scope, list.as_slice())?;
+    Ok(Expression::Chain(boxed(alloc, schema, scope, left)?, list))
 }
 
 /// What is taken one after the other of a value of which this is said.
@@ -207,6 +215,7 @@ fn qualifiers(
     Ok(found)
 }
 
+#[tactic(auto, unfolding(rp_meaning::specs::CompiledExpressions::compiled_expression, rp_meaning::specs::CompiledTrees::compiled_qualifier))]
 #[cycle(trees)]
 fn qualifier(
     alloc: Global,
@@ -228,13 +237,13 @@ fn qualifier(
             Ok(Qualifier::Index(index))
         }
         NamedQualifier::Range(_, low, high) => {
-            let low = expression(alloc, schema, scope, low.get())?;
-            let high = expression(alloc, schema, scope, high.get())?;
-            range(alloc, low, high)
+            let low = boxed(alloc, schema, scope, low)?;
+            Ok(Qualifier::Range(low, boxed(alloc, schema, scope, high)?))
         }
     }
 }
 
+#[tactic(auto, unfolding(rp_meaning::specs::CompiledExpressions::compiled_expression, rp_meaning::specs::CompiledTrees::compiled_operation))]
 #[cycle(trees)]
 fn operations(
     alloc: Global,
@@ -255,6 +264,7 @@ fn operations(
     Ok(found)
 }
 
+#[tactic(auto, unfolding(rp_meaning::specs::CompiledExpressions::compiled_expression, rp_meaning::specs::CompiledTrees::compiled_interval))]
 #[cycle(trees)]
 fn interval(
     alloc: Global,
@@ -278,6 +288,7 @@ fn interval(
 }
 
 /// The variable, which stands in the condition, is one of the source's elements.
+#[tactic(auto, unfolding(rp_meaning::specs::CompiledExpressions::compiled_expression, rp_meaning::specs::CompiledTrees::compiled_query))]
 #[cycle(trees)]
 fn query(
     alloc: Global,
@@ -287,9 +298,8 @@ fn query(
 ) -> Result<Expression, AllocError>
     ensures { IfOk result (λ found. found ≡ tree_of.Query (parts.query schema.now scope.now tree.now)) }
 {
-    let typed = typed(alloc, schema, scope, &tree.source)?;
-    let elements = elements_of(alloc, schema.known().types(), typed.kinds.as_slice())?;
-    let condition = condition(alloc, schema, scope, elements.as_slice(), &tree.condition)?;
+    let elements = elements(alloc, schema, scope, &tree.source)?;
+    let condition = condition(alloc, schema, scope, elements, &tree.condition)?;
     let source = expression(alloc, schema, scope, &tree.source)?;
     let query = Query { source, condition };
     Ok(Expression::Query(Boxed::new(alloc, query)?))
@@ -301,12 +311,12 @@ fn condition(
     alloc: Global,
     schema: &Declared<'_>,
     scope: &TypingScope<'_>,
-    variable: &[ValueKind],
+    variable: Kinds,
     tree: &NamedExpression,
 ) -> Result<Expression, AllocError>
-    ensures { IfOk result (λ found. found ≡ spec.expression schema.now (within scope.now variable.now) tree.now) }
+    ensures { IfOk result (λ found. found ≡ spec.expression schema.now (within scope.now variable) tree.now) }
 {
     // Lent again, for as long as the variable.
-    let within = (&*scope).within(alloc, variable)?;
+    let within = (&*scope).within(alloc, variable.as_slice())?;
     expression(alloc, schema, &within, tree)
 }
