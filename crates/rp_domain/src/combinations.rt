@@ -4,6 +4,7 @@ ghost use Rattle.std.specs.Prelude.{◌≡◌, IsTrue};
 
 use crate::combination::{Combination, shared_by};
 use crate::others::are_same_others;
+use crate::places::Places;
 use plain_data::Items;
 use rp_meaning::{ReadValue, Schema};
 use shared::Shared;
@@ -15,8 +16,10 @@ use std::marker::Model;
 pub(crate) struct Combinations<'s> {
     schema: &'s Schema,
     found: Vec<Shared<Combination>>,
-    // Where one stands of these, by its entities. Nothing is proved of it: what stands there is compared.
+    // Where one stands of these, by its entities, and where one does by the last of its entities, which mostly tells. Nothing is
+    // proved of either: what stands there is compared.
     places: BTreeMap<Vec<usize>, usize>,
+    guesses: Places,
     /// Of the instance before.
     last: usize,
     // By their places, what is read in the last of the instances that share it. Nothing is proved of this either.
@@ -29,11 +32,13 @@ impl<'s> Drop for Combinations<'s> {
             schema: _,
             found,
             places,
+            guesses,
             last: _,
             others,
         } = self;
         drop(found);
         drop(places);
+        drop(guesses);
         drop(others);
     }
 }
@@ -71,6 +76,7 @@ impl<'s> Combinations<'s> {
             schema,
             found: Vec::new(alloc),
             places: BTreeMap::new(alloc),
+            guesses: Places::new(alloc),
             last: 0,
             others: Vec::new(alloc),
         }
@@ -94,6 +100,14 @@ impl<'s> Combinations<'s> {
         }
     }
 
+    /// The same by the last of them.
+    fn guess(&self, entities: &[usize]) -> usize {
+        match entities.last() {
+            Some(entity) => self.guesses.get(*entity),
+            None => self.found.len(),
+        }
+    }
+
     /// Finds what instances of these entities share, and keeps it.
     fn find(
         &mut self,
@@ -104,6 +118,8 @@ impl<'s> Combinations<'s> {
         ensures found { IfOk result (λ found. found ≡ spec.combination self.old entities) }
     {
         let key = Vec::from_slice(alloc, entities.as_slice())?;
+        self.guesses
+            .set_last(&key, self.schema.entities.len(), self.found.len())?;
         let combination = shared_by(alloc, self.schema, entities)?;
         self.places.insert(key, self.found.len())?;
         self.found.push(combination.share()?)?;
@@ -119,11 +135,13 @@ impl<'s> Combinations<'s> {
         ensures same { self.new ≡ self.old }
         ensures found { IfOk result (λ found. found ≡ spec.combination self.old entities) }
     {
-        if let Some(found) = self.known(self.last, entities.as_slice()) {
+        let numbers = entities.as_slice();
+        self.last = self.guess(numbers);
+        if let Some(found) = self.known(self.last, numbers) {
             return found.share();
         }
-        self.last = self.place(entities.as_slice());
-        if let Some(found) = self.known(self.last, entities.as_slice()) {
+        self.last = self.place(numbers);
+        if let Some(found) = self.known(self.last, numbers) {
             return found.share();
         }
         self.find(alloc, entities)

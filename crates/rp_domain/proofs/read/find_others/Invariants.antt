@@ -5,4 +5,7 @@ use Rattle.rp_domain.specs.Rows.{read_all}
 use Rattle.rp_domain.proofs.read.find_others.Given as goal
 
 abbrev pub invariant-loop-at : goal.invariant-loop-at
-invariant-loop-at l = as_read l.found.items l.written ≡ take l.at (read_all l.schema l.count (zip l.attributes l.written)) ++ drop l.at l.written
+invariant-loop-at l = record {
+  readings : l.readings ≡ l.initial.readings;
+  found : as_read l.found.items l.written ≡ take l.at (read_all l.initial.readings.0 l.initial.readings.1 (zip l.attributes l.written)) ++ drop l.at l.written;
+}
