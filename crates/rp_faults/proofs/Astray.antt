@@ -1,7 +1,7 @@
 -- Which references in a value are at fault, variant by variant.
 use Rattle.std.proofs.Common.{◌≡◌, ℕ, Bool, false, not, ◌||◌, List, [], ◌∷◌, map, Option, Some, None, slice_get, refl, sym, ap, ◌∙◌, subst, if◌then◌else◌}
 use Rattle.std.specs.List.{list_any}
-use Rattle.std.specs.Option.{option_map, option_map_or}
+use Rattle.std.specs.Option.{option_map_or}
 use Rattle.rp_meaning.specs.declared.schema.DefinedType.{DefinedType}
 use Rattle.rp_meaning.specs.Faults.{Referring, allows_at as spec_allows_at, astray_under, is_type, referring_by}
 use Rattle.rp_meaning.specs.Populations.{Instance}
@@ -70,7 +70,7 @@ module _ (types : List DefinedType) (population : List Instance) where
 
   by-elements : (o : Option AggregateType) (xs : List Value)
       → option_map_or (λ a. list_any (λ (t : Part). t.is_astray (end types a.element)) (map referring xs)) o (list_any (λ (t : Part). t.holds_instance) (map referring xs))
-      ≡ option_map_or (λ t. list_any (is_astray_at types population (end types t)) xs) (option_map (λ a. a.element) o) (list_any holds_instance xs)
+      ≡ option_map_or (λ a. list_any (is_astray_at types population (end types a.element)) xs) o (list_any holds_instance xs)
   by-elements None xs = all-hold xs
   by-elements (Some a) xs = any-astray (end types a.element) xs
 

@@ -1,7 +1,7 @@
 -- What is at fault in a value, variant by variant.
 use Rattle.std.proofs.Common.{◌≡◌, ℕ, Bool, false, ◌||◌, List, [], ◌∷◌, map, Option, Some, None, refl, sym, ap, ◌∙◌}
 use Rattle.std.specs.List.{list_any}
-use Rattle.std.specs.Option.{option_map, option_map_or}
+use Rattle.std.specs.Option.{option_map_or}
 use Rattle.rp_meaning.specs.declared.schema.DefinedType.{DefinedType}
 use Rattle.rp_meaning.specs.Faults.{Test, Tested, elements_by, faulty_by, named_by, scalar_by, tested_by}
 use Rattle.rp_meaning.specs.Types.{AggregateType, End, Enumeration, Select, Written, aggregate_type, end}
@@ -37,7 +37,7 @@ module _ (types : List DefinedType) (test : Test) where
   any-faulty e (x ∷ xs) = ap (λ (b : Bool). (tested x).is_faulty e || b) (any-faulty e xs)
 
   by-elements : (o : Option AggregateType) (xs : List Value)
-      → option_map_or (λ a. list_any (λ (t : Part). t.is_faulty (end types a.element)) (map tested xs)) o false ≡ option_map_or (λ t. list_any (is_faulty_at types test (end types t)) xs) (option_map (λ a. a.element) o) false
+      → option_map_or (λ a. list_any (λ (t : Part). t.is_faulty (end types a.element)) (map tested xs)) o false ≡ option_map_or (λ a. list_any (is_faulty_at types test (end types a.element)) xs) o false
   by-elements None xs = refl
   by-elements (Some a) xs = any-faulty (end types a.element) xs
 

@@ -1,4 +1,3 @@
-pub mod Indeterminates
 pub mod Characters
 pub mod Replaced
 pub mod Itself

@@ -1,4 +1,3 @@
-pub mod Ends
 pub mod Twice
 pub mod Tests
 pub mod Held

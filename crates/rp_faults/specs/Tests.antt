@@ -5,9 +5,8 @@ use Rattle.std.specs.Option.{option_map_or}
 use Rattle.rp_meaning.specs.declared.schema.DefinedType.{DefinedType}
 use Rattle.rp_meaning.specs.Faults.{Referring, Test, Tested, allows, elements_by, is_type, referring_by, tested_by, that_all_is_set, that_bounds_hold}
 use Rattle.rp_meaning.specs.Populations.{Instance}
-use Rattle.rp_meaning.specs.Types.{End, Select, end, end_of}
+use Rattle.rp_meaning.specs.Types.{End, Select, aggregate_type, end, end_of}
 use Rattle.rp_operations.specs.Seen.{holds_instance}
-use Rattle.rp_faults.specs.Ends.{element_type}
 use Rattle.rp_faults.specs.declared.asked.Asked.{Asked}
 use Rattle.rp_faults.specs.declared.asked.Asked.TheVariants as a
 use Rattle.rp_value.specs.declared.value.Value.{Value}
@@ -35,7 +34,7 @@ named_faulty_at types test e number x = is_faulty_at types test e x
 
 abbrev pub elements_faulty_at : List DefinedType → Test → End → List Value → Bool
 elements_faulty_at types test e items =
-    elements_by test e items || option_map_or (λ t. list_any (is_faulty_at types test (end types t)) items) (element_type e) false
+    elements_by test e items || option_map_or (λ a. list_any (is_faulty_at types test (end types a.element)) items) (aggregate_type e) false
 
 abbrev pub named_astray_at : List DefinedType → List Instance → End → ℕ → Value → Bool
 named_astray_at types population (Select choices) number x = if list_any (is_type number) choices then is_astray_at types population (end_of types number) x else holds_instance x
@@ -43,4 +42,4 @@ named_astray_at types population e number x = is_astray_at types population e x
 
 abbrev pub elements_astray_at : List DefinedType → List Instance → End → List Value → Bool
 elements_astray_at types population e items =
-    option_map_or (λ t. list_any (is_astray_at types population (end types t)) items) (element_type e) (list_any holds_instance items)
+    option_map_or (λ a. list_any (is_astray_at types population (end types a.element)) items) (aggregate_type e) (list_any holds_instance items)

@@ -4,18 +4,18 @@ ghost use Rattle.std.specs.Prelude.{◌≡◌, ◌+◌, ◌==◌, ◌&&◌, not,
 ghost use Rattle.std.specs.Fmt.{char_count};
 ghost use Rattle.std.specs.List.{list_any};
 ghost use Rattle.ex_named.specs.declared.expression.NamedDataType.{out-NamedDataType};
+ghost use Rattle.rp_meaning.specs.Bare.{is_indeterminate};
 ghost use Rattle.rp_meaning.specs.Faults as spec;
 ghost use Rattle.rp_meaning.specs.Outcomes.{holds_count};
 ghost use Rattle.rp_meaning.specs.Reading.{present};
-ghost use Rattle.rp_faults.specs.Ends.{end_behind};
+ghost use Rattle.rp_operators.specs.Ends.{end_behind};
 ghost use Rattle.rp_faults.specs.Tests.{test_behind};
 ghost use Rattle.rp_value.specs.declared.value.Value.{out-Value};
 
-use crate::bare::has_indeterminate;
-use crate::ends::End;
 use crate::twice::breaks_unique;
 use ex_named::NamedDataType;
 use ex_tree::{ArrayBounds, Bounds, SimpleType, Width};
+use rp_operators::{End, is_indeterminate};
 use rp_value::Value;
 use std::alloc::{AllocError, Global};
 
@@ -29,6 +29,12 @@ pub(crate) enum Asked {
 }
 
 // ---- that elements are set
+
+fn has_indeterminate(items: &[Value]) -> bool
+    ensures { result ≡ list_any is_indeterminate items.now }
+{
+    items.iter().any(|item| is_indeterminate(item))
+}
 
 /// Whether an element isn't set that has to be.
 fn lacks_element(data_type: &NamedDataType, items: &[Value]) -> bool
@@ -159,7 +165,7 @@ impl Asked {
     ghost use Rattle.std.specs.Prelude.{◌≡◌, IfOk};
     ghost use Rattle.ex_named.specs.declared.expression.NamedDataType.{out-NamedDataType};
     ghost use Rattle.rp_meaning.specs.Faults as spec;
-    ghost use Rattle.rp_faults.specs.Ends.{end_behind};
+    ghost use Rattle.rp_operators.specs.Ends.{end_behind};
     ghost use Rattle.rp_faults.specs.Tests.{test_behind};
     ghost use Rattle.rp_value.specs.declared.value.Value.{out-Value};
 

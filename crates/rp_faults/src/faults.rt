@@ -3,13 +3,13 @@
 ghost use Rattle.std.specs.Prelude.{◌≡◌, IfOk};
 ghost use Rattle.std.specs.List.{list_any};
 ghost use Rattle.rp_meaning.specs.Faults as spec;
-ghost use Rattle.rp_faults.specs.Ends.{end_behind};
+ghost use Rattle.rp_operators.specs.Ends.{end_behind};
 ghost use Rattle.rp_faults.specs.Tests.{elements_faulty_at, is_faulty_at, named_faulty_at, test_behind};
 
 use crate::asked::Asked;
-use crate::ends::{End, behind_names, element_type, end_of};
 use ex_named::{NamedDataType, TypeName};
 use rp_meaning::DefinedType;
+use rp_operators::{End, aggregate_type, behind_names, end_of};
 use rp_value::{Elements, Value};
 use std::alloc::{AllocError, Global};
 
@@ -90,10 +90,10 @@ fn elements_faulty(
     if asked.of_elements(alloc, end, elements.as_slice())? {
         return Ok(true);
     }
-    match element_type(end) {
+    match aggregate_type(end) {
         None => Ok(false),
-        Some(element) => {
-            let element = behind_names(types, element);
+        Some(declared) => {
+            let element = behind_names(types, declared.element);
             any_faulty(elements.as_slice(), alloc, types, asked, element)
         }
     }

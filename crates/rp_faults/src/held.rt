@@ -7,12 +7,12 @@ ghost use Rattle.rp_faults.specs.Held as held;
 
 use crate::asked::Asked;
 use crate::attributes::{explicit_at, is_checked, redeclarations, same_attribute};
-use crate::bare::is_indeterminate;
 use crate::faults::is_faulty;
 use crate::references::is_astray;
 use ex_named::AttributePlace;
 use plain_data::Items;
 use rp_meaning::{Culprit, Domain, Explicit, Redeclaration, Schema, Seen};
+use rp_operators::is_indeterminate;
 use rp_value::Value;
 use std::alloc::{AllocError, Global};
 

@@ -3,9 +3,7 @@
 
 mod asked;
 mod attributes;
-mod bare;
 mod declared;
-mod ends;
 mod faults;
 mod held;
 mod present;

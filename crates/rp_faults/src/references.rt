@@ -5,14 +5,14 @@ ghost use Rattle.std.specs.List.{list_any};
 ghost use Rattle.rp_meaning.specs.Faults as spec;
 ghost use Rattle.rp_meaning.specs.Populations.{is_of};
 ghost use Rattle.rp_operations.specs.Seen.{holds_instance as spec_holds_instance};
-ghost use Rattle.rp_faults.specs.Ends.{end_behind};
+ghost use Rattle.rp_operators.specs.Ends.{end_behind};
 ghost use Rattle.rp_faults.specs.Tests.{allows_at, elements_astray_at, is_astray_at, named_astray_at};
 
-use crate::ends::{End, behind_names, element_type, end_of};
 use crate::faults::is_choice;
 use ex_named::{NamedDataType, TypeName};
 use rp_meaning::{DefinedType, Domain, Seen};
 use rp_operations::holds_instance;
+use rp_operators::{End, aggregate_type, behind_names, end_of};
 use rp_value::{Elements, Value};
 
 /// Whether an instance has an entity.
@@ -120,10 +120,10 @@ fn elements_astray<D: Domain>(
 ) -> bool
     ensures { result ≡ elements_astray_at types.now (D.population domain.now) (end_behind end.entry) elements.now.items }
 {
-    match element_type(end) {
+    match aggregate_type(end) {
         None => hold_instance(elements.as_slice()),
-        Some(element) => {
-            let element = behind_names(types, element);
+        Some(declared) => {
+            let element = behind_names(types, declared.element);
             any_astray(elements.as_slice(), types, domain, element)
         }
     }

@@ -1,5 +1,5 @@
 use Rattle.std.proofs.Common.{◌∙◌}
-use Rattle.rp_faults.specs.Ends.{end_behind}
+use Rattle.rp_operators.specs.Ends.{end_behind}
 use Rattle.rp_faults.specs.Tests.{test_behind}
 use Rattle.rp_faults.proofs.Faulty.{faulty-scalar}
 use Rattle.rp_faults.proofs.faults.+faulty.Goals as goal

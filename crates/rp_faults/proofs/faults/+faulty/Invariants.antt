@@ -1,6 +1,6 @@
 use Rattle.std.proofs.Common.{◌≡◌, drop}
 use Rattle.std.specs.List.{list_any}
-use Rattle.rp_faults.specs.Ends.{end_behind}
+use Rattle.rp_operators.specs.Ends.{end_behind}
 use Rattle.rp_faults.specs.Tests.{is_faulty_at, test_behind}
 use Rattle.rp_faults.proofs.faults.+faulty.Given as goal
 

@@ -1,4 +1,4 @@
-use Rattle.rp_faults.specs.Ends.{end_behind}
+use Rattle.rp_operators.specs.Ends.{end_behind}
 use Rattle.rp_faults.proofs.Astray.{astray-scalar}
 use Rattle.rp_faults.proofs.references.+astray.Goals as goal
 

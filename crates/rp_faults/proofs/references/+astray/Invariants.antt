@@ -1,6 +1,6 @@
 use Rattle.std.proofs.Common.{◌≡◌, drop}
 use Rattle.std.specs.List.{list_any}
-use Rattle.rp_faults.specs.Ends.{end_behind}
+use Rattle.rp_operators.specs.Ends.{end_behind}
 use Rattle.rp_faults.specs.Tests.{is_astray_at}
 use Rattle.rp_faults.proofs.references.+astray.Given as goal
 
