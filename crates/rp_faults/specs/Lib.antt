@@ -1,0 +1,4 @@
+pub mod Twice
+pub mod Tests
+pub mod Held
+pub mod Declarations
