@@ -1,0 +1,12 @@
+use Rattle.std.proofs.Common.{sym, ap, ◌∙◌, ◌<◌, arith}
+use Rattle.rp_rules.specs.Order.{count_of}
+use Rattle.rp_rules.proofs.Sequences.{at-end, at-step}
+use Rattle.rp_rules.proofs.validation.Validation.checks_at.Goals as goal
+
+pub loop-place-preserved : goal.loop-place-preserved
+loop-place-preserved g c =
+    let schema = c.args.self.now.schema.now in
+    let population = g.D.Domain.population c.args.self.now.domain.now in
+    let below : c.loop-place.place < count_of schema c.args.sort c.args.number = omega (arith, c.count_of.ensures) in
+    let step = at-step schema population c.args.sort c.loop-place.checks c.loop-place.used c.args.number c.loop-place.place (count_of schema c.args.sort c.args.number) below in
+    rw (c.in_ok-push.ensures, c.in_ok-check.ensures.check, c.in_ok-check.ensures.used) (sym step ∙ c.loop-place.invariant)
