@@ -1,0 +1,9 @@
+pub mod Indeterminates
+pub mod Characters
+pub mod Replaced
+pub mod Itself
+pub mod Repeated
+pub mod Places
+pub mod Faulty
+pub mod Astray
+pub mod Checked

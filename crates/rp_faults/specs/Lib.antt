@@ -1,0 +1,5 @@
+pub mod Ends
+pub mod Twice
+pub mod Tests
+pub mod Held
+pub mod Declarations

@@ -1,0 +1,80 @@
+//! How attributes are declared.
+
+ghost use Rattle.std.specs.Prelude.{◌≡◌, [], not, slice_get};
+ghost use Rattle.std.specs.List.{find};
+ghost use Rattle.std.specs.Option.{is_some, option_and_then, option_copied, option_map_or};
+ghost use Rattle.rp_meaning.specs.Attributes as attributes;
+ghost use Rattle.rp_meaning.specs.Populations.{is_of};
+ghost use Rattle.rp_meaning.specs.Uses as uses;
+
+use crate::references::is_of;
+use ex_named::{AttributePlace, AttributeSort};
+use rp_meaning::{Derivation, ExplicitAttribute, Redeclaration, Schema, Seen};
+
+fn same_sort(first: AttributeSort, second: AttributeSort) -> bool
+    ensures { result ≡ uses.same_sort first second }
+{
+    match (first, second) {
+        (AttributeSort::Explicit, AttributeSort::Explicit)
+        | (AttributeSort::Derived, AttributeSort::Derived)
+        | (AttributeSort::Inverse, AttributeSort::Inverse) => true,
+        _ => false,
+    }
+}
+
+pub(crate) fn same_attribute(first: AttributePlace, second: AttributePlace) -> bool
+    ensures { result ≡ uses.same_attribute first second }
+{
+    first.entity == second.entity
+        && same_sort(first.sort, second.sort)
+        && first.place == second.place
+}
+
+/// An explicit attribute.
+pub(crate) fn explicit_at(schema: &Schema, attribute: AttributePlace) -> Option<&ExplicitAttribute>
+    ensures { option_copied result ≡ option_and_then (λ e. slice_get e.explicit attribute.place) (attributes.entity_at schema.now attribute.entity) }
+{
+    schema
+        .entities
+        .get(attribute.entity)?
+        .explicit
+        .get(attribute.place)
+}
+
+/// What redeclares an explicit attribute in DERIVE.
+fn derivations(schema: &Schema, attribute: AttributePlace) -> &[Derivation]
+    ensures { result.now ≡ attributes.explicit_derivations schema.now attribute }
+{
+    match explicit_at(schema, attribute) {
+        Some(explicit) => explicit.derivations.as_slice(),
+        None => &[],
+    }
+}
+
+fn is_one_derived(derivations: &[Derivation], instance: &Seen<'_>) -> bool
+    ensures { result ≡ is_some (find (λ x. is_of instance.now x.entity) derivations.now) }
+{
+    for derivation in derivations {
+        if is_of(instance, derivation.entity) {
+            return true;
+        }
+    }
+    false
+}
+
+/// Whether an attribute of an instance is checked: what the instance derives isn't.
+pub fn is_checked(schema: &Schema, attribute: AttributePlace, instance: &Seen<'_>) -> bool
+    ensures { result ≡ not (is_some (attributes.derivation_in schema.now (attributes.explicit_derivations schema.now attribute) instance.now)) }
+{
+    !is_one_derived(derivations(schema, attribute), instance)
+}
+
+/// The attributes that an entity redeclares.
+pub(crate) fn redeclarations(schema: &Schema, entity: usize) -> &[Redeclaration]
+    ensures { result.now ≡ option_map_or (λ e. e.redeclarations) (attributes.entity_at schema.now entity) [] }
+{
+    match schema.entities.get(entity) {
+        Some(entity) => entity.redeclarations.as_slice(),
+        None => &[],
+    }
+}

@@ -1,0 +1,19 @@
+//! What declared types ask of the values of attributes: that they are set, that bounds and widths hold, and where references lead.
+#![tactic(auto)]
+
+mod asked;
+mod attributes;
+mod bare;
+mod declared;
+mod ends;
+mod faults;
+mod held;
+mod present;
+mod references;
+mod twice;
+
+pub use attributes::is_checked;
+pub use declared::{declared_types, read_at};
+pub use faults::is_type;
+pub use held::{Fault, culprits};
+pub use references::allows_choice;
