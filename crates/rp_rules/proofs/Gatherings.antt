@@ -1,5 +1,5 @@
 -- The table of a rule of UNIQUE, instance by instance, is that of all that was tried.
-use Rattle.std.proofs.Common.{◌≡◌, ℕ, suc, ◌+◌, ◌-◌, ◌<◌, ◌==◌, ◌&&◌, ◌||◌, not, Bool, true, false, Option, Some, None, List, [], ◌∷◌, ◌++◌, map, filter, length, drop, get_or, refl, sym, ap, ◌∙◌, subst, if◌then◌else◌, arith, cond, add-one, append-nil}
+use Rattle.std.proofs.Common.{◌≡◌, ℕ, suc, ◌+◌, ◌-◌, ◌<◌, ◌≤◌, ◌==◌, ◌&&◌, ◌||◌, not, Bool, true, false, Option, Some, None, List, [], ◌∷◌, ◌++◌, map, filter, length, drop, get_or, refl, sym, ap, ◌∙◌, subst, if◌then◌else◌, arith, cond, add-one, append-nil}
 use Rattle.std.proofs.lemmas.Bool.{eqb-true}
 use Rattle.std.proofs.lemmas.Grind.{flat_map-append}
 use Rattle.std.proofs.lemmas.List.{length-append, length-map}
@@ -159,7 +159,9 @@ module _ (world : World) (rules : List Rule) where
   table-all found [] used = refl
   table-all found (x ∷ xs) used =
       let es = (each_after world [] (trials_of rules x) used).0 in
-      let many : length es ≡ length rules = as-many world [] (trials_of rules x) used ∙ length-map rules (λ rule. (rule, x)) in
+      let made = as-many world [] (trials_of rules x) used in
+      let tried_on : length (trials_of rules x) ≡ length rules = length-map {B = Trial} rules (λ (rule : Rule). (rule, x)) in
+      let many : length es ≡ length rules = omega (arith, made, tried_on) in
       ap (λ (t : Table). table_after world rules t xs (each_after world [] (trials_of rules x) used).1) (table-with found x es (length rules) many)
       ∙ table-all (found ++ (instance_culprit (place_or_none x), es) ∷ []) xs (each_after world [] (trials_of rules x) used).1
 

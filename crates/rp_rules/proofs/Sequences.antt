@@ -107,24 +107,43 @@ module _ (schema : Schema) (population : List Instance) where
   -- ---- all
 
   -- some, and others behind them
-  abbrev Came : List Check → ℕ → List Checking → List Check → ℕ → Type 0
+  abbrev pub Came : List Check → ℕ → List Checking → List Check → ℕ → Type 0
   Came found used checks next later = (next ≡ (in_sequence_after found checks used).0) × (later ≡ (in_sequence_after found checks used).1)
 
   behind : (found : List Check) (used : ℕ) (xs ys : List Checking) (next : List Check) (later : ℕ) → Came found used xs next later → in_sequence_after found (xs ++ ys) used ≡ in_sequence_after next ys later
   behind found used xs ys next later came = sequence-append found xs ys used ∙ (λ i. in_sequence_after (sym came.0 i) ys (sym came.1 i))
 
-  pub evaluated : (c0 c1 c2 c3 c4 c5 : List Check) (u0 u1 u2 u3 u4 u5 : ℕ)
+  abbrev of_wheres : List Checking
+  of_wheres = checks_of schema population s.Where schema.entity_order
+
+  abbrev of_uniques : List Checking
+  of_uniques = checks_of schema population s.Unique schema.entity_order
+
+  abbrev of_inverses : List Checking
+  of_inverses = checks_of schema population s.Inverse schema.entity_order
+
+  abbrev of_rules : List Checking
+  of_rules = checks_of schema population s.Global schema.rule_order
+
+  abbrev of_types : List Checking
+  of_types = checks_of schema population s.Type schema.type_order
+
+  came-append : (found next last : List Check) (used later end : ℕ) (xs ys : List Checking) → Came found used xs next later → Came next later ys last end → Came found used (xs ++ ys) last end
+  came-append found next last used later end xs ys came more =
+      let all = behind found used xs ys next later came in
+      (more.0 ∙ ap (λ (p : List Check × ℕ). p.0) (sym all), more.1 ∙ ap (λ (p : List Check × ℕ). p.1) (sym all))
+
+  pub evaluated : (c0 c1 c2 c3 c4 : List Check) (u0 u1 u2 u3 u4 : ℕ)
       → Came c0 u0 (checks_of schema population s.Type schema.type_order) c1 u1
       → Came c1 u1 (checks_of schema population s.Where schema.entity_order) c2 u2
       → Came c2 u2 (checks_of schema population s.Unique schema.entity_order) c3 u3
       → Came c3 u3 (checks_of schema population s.Inverse schema.entity_order) c4 u4
-      → Came c4 u4 (checks_of schema population s.Global schema.rule_order) c5 u5
-      → (c5, u5) ≡ in_sequence_after c0 (all_evaluated schema population) u0
-  evaluated c0 c1 c2 c3 c4 c5 u0 u1 u2 u3 u4 u5 types wheres uniques inverses rules =
-      sym (
-      ap (λ (cs : List Checking). in_sequence_after c0 cs u0) (sym sorted-all)
-      ∙ behind c0 u0 _ _ c1 u1 types ∙ behind c1 u1 _ _ c2 u2 wheres ∙ behind c2 u2 _ _ c3 u3 uniques ∙ behind c3 u3 _ _ c4 u4 inverses
-      ∙ (λ i. (sym rules.0 i, sym rules.1 i)))
+      → in_sequence_after c4 (checks_of schema population s.Global schema.rule_order) u4 ≡ in_sequence_after c0 (all_evaluated schema population) u0
+  evaluated c0 c1 c2 c3 c4 u0 u1 u2 u3 u4 types wheres uniques inverses =
+      let two : Came c0 u0 (of_types ++ of_wheres) c2 u2 = came-append c0 c1 c2 u0 u1 u2 of_types of_wheres types wheres in
+      let three : Came c0 u0 (of_types ++ of_wheres ++ of_uniques) c3 u3 = came-append c0 c2 c3 u0 u2 u3 (of_types ++ of_wheres) of_uniques two uniques in
+      let four : Came c0 u0 (of_types ++ of_wheres ++ of_uniques ++ of_inverses) c4 u4 = came-append c0 c3 c4 u0 u3 u4 (of_types ++ of_wheres ++ of_uniques) of_inverses three inverses in
+      sym (behind c0 u0 (of_types ++ of_wheres ++ of_uniques ++ of_inverses) of_rules c4 u4 four) ∙ ap (λ (cs : List Checking). in_sequence_after c0 cs u0) sorted-all
 
   -- the checks that evaluate nothing stand before the others
   pub reported : (checks : List Check) (used : ℕ)

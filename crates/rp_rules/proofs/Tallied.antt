@@ -24,8 +24,8 @@ use Rattle.rp_value.specs.declared.value.Value.TheVariants as v
 -- ---- verdicts
 
 pub or_false : (b : Bool) → (b || false) ≡ b
-pub or_false true = refl
-pub or_false false = refl
+or_false true = refl
+or_false false = refl
 
 pub occurs-more : (verdict : Verdict) (found : List Ended) (e : Ended) → occurs verdict (found ++ e ∷ []) ≡ (occurs verdict found || same_verdict (verdict_of e) verdict)
 occurs-more verdict found e =

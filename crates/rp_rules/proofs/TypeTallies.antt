@@ -142,7 +142,7 @@ module _ (schema : Schema) (population : List Instance) (number place : ℕ) whe
     pub attributes-past : (at : ℕ) (i : Instance) (differing : List ReadValue) (attributes : List AttributePlace) (written : List Value) (slot : ℕ) → length attributes ≤ slot
         → after (candidates_among schema population number place at i differing slot (drop slot attributes) (drop slot written)) ≡ (found, used)
     attributes-past at i differing attributes written slot h =
-        ap (λ (as : List AttributePlace). after (candidates_among schema population number place at i differing slot as (drop slot written))) (drop-past attributes slot h)
+        ap (λ (left : List AttributePlace). after (candidates_among schema population number place at i differing slot left (drop slot written))) (drop-past attributes slot h)
 
     pub instances-step : (at : ℕ) (i : Instance) → slice_get population at ≡ Some i
         → after (candidates_of schema population number place (held_from at (drop at population)))
@@ -186,3 +186,6 @@ pub noted-step : (world : World) (rule : Rule) (v : Verdicts) (xs : List Value) 
     → noted world v (map (λ x. (rule, x)) (drop i xs)) used
     ≡ noted world (with_verdict v (verdict_of (one world (rule, x) used).0)) (map (λ x. (rule, x)) (drop (i + 1) xs)) (one world (rule, x) used).1
 noted-step world rule v xs i x used h is = ap (λ (ys : List Value). noted world v (map (λ x. (rule, x)) ys) used) (drop-read xs i x h is)
+
+pub noted-end : (world : World) (rule : Rule) (v : Verdicts) (xs : List Value) (i used : ℕ) → length xs ≤ i → noted world v (map (λ x. (rule, x)) (drop i xs)) used ≡ (v, used)
+noted-end world rule v xs i used h = ap (λ (ys : List Value). noted world v (map (λ x. (rule, x)) ys) used) (drop-past xs i h)

@@ -9,3 +9,17 @@ loop-at-preserved g c =
     let population = g.D.Domain.population c.args.self.now.domain.now in
     let step = instances-step schema population c.args.number c.args.place (world schema population) c.loop-at.found c.loop-at.used c.loop-at.at _ (search rules) in
     rw (c.in_ok-tally_instance.ensures.found, c.in_ok-tally_instance.ensures.used) (sym step ∙ c.loop-at.invariant)
+
+pub returns-clause-culprits : goal.returns-clause-culprits
+returns-clause-culprits g c =
+    let schema = c.args.self.now.schema.now in
+    let population = g.D.Domain.population c.args.self.now.domain.now in
+    let past = instances-past schema population c.args.number c.args.place (world schema population) c.loop-at.found c.loop-at.used c.loop-at.at (omega (arith, c.count-at-end.ensures)) in
+    ap (λ p. p.0) (sym past ∙ c.loop-at.invariant)
+
+pub returns-clause-used : goal.returns-clause-used
+returns-clause-used g c =
+    let schema = c.args.self.now.schema.now in
+    let population = g.D.Domain.population c.args.self.now.domain.now in
+    let past = instances-past schema population c.args.number c.args.place (world schema population) c.loop-at.found c.loop-at.used c.loop-at.at (omega (arith, c.count-at-end.ensures)) in
+    ap (λ p. p.1) (sym past ∙ c.loop-at.invariant)
