@@ -1,5 +1,5 @@
 -- The table of a rule of UNIQUE, instance by instance, is that of all that was tried.
-use Rattle.std.proofs.Common.{◌≡◌, ℕ, suc, ◌+◌, ◌-◌, ◌<◌, ◌≤◌, ◌==◌, ◌&&◌, ◌||◌, not, Bool, true, false, Option, Some, None, List, [], ◌∷◌, ◌++◌, map, filter, length, drop, get_or, refl, sym, ap, ◌∙◌, subst, if◌then◌else◌, arith, cond, add-one, append-nil}
+use Rattle.std.proofs.Common.{◌≡◌, ℕ, ◌+◌, ◌-◌, ◌<◌, ◌≤◌, ◌==◌, ◌&&◌, ◌||◌, not, Bool, true, false, Option, Some, None, List, [], ◌∷◌, ◌++◌, map, length, drop, get_or, refl, sym, ap, ◌∙◌, subst, if◌then◌else◌, arith, append-nil}
 use Rattle.std.proofs.lemmas.Bool.{eqb-true}
 use Rattle.std.proofs.lemmas.Grind.{flat_map-append}
 use Rattle.std.proofs.lemmas.List.{length-append, length-map}
@@ -11,7 +11,6 @@ use Rattle.rp_numbers.specs.declared.Logical.TheVariants as l
 use Rattle.ex_named.specs.declared.reference.AttributePlace.{AttributePlace}
 use Rattle.rp_meaning.specs.declared.report.Check.{Check}
 use Rattle.rp_meaning.specs.declared.report.Constraint.TheVariants as c
-use Rattle.rp_meaning.specs.declared.report.Culprit.{Culprit}
 use Rattle.rp_meaning.specs.declared.report.Verdict.{Verdict}
 use Rattle.rp_meaning.specs.declared.report.Verdict.TheVariants as judged
 use Rattle.rp_meaning.specs.declared.rule.Rule.{Rule}
@@ -21,15 +20,14 @@ use Rattle.rp_meaning.specs.Bare.{is_indeterminate}
 use Rattle.rp_meaning.specs.Expressions.{World}
 use Rattle.rp_meaning.specs.Operators.{truth_in}
 use Rattle.rp_meaning.specs.Populations.{Instance, extent, places_of}
-use Rattle.rp_meaning.specs.Report.{Row, agreeing, candidates_of, instance_culprit, is_whole, of_instance, places, row_of, unique_by, unique_check, value_in, world}
-use Rattle.rp_meaning.specs.Sequence.{Candidate, Ended, Valued, Limited, NotRun, Result, Trial, all_after, by_truth, check_of, culprits, each_after, one, same_verdict, tried, verdict_of}
+use Rattle.rp_meaning.specs.Report.{Row, agreeing, candidates_of, instance_culprit, is_whole, of_instance, places, row_of, unique_check, value_in, world}
+use Rattle.rp_meaning.specs.Sequence.{Candidate, Ended, Valued, Limited, NotRun, Result, Trial, all_after, by_truth, check_of, each_after, one, same_verdict, tried, verdict_of}
 use Rattle.rp_operations.specs.Seen.{seen}
 use Rattle.rp_rules.specs.declared.unique.Gathered.{Gathered}
 use Rattle.rp_rules.specs.declared.unique.Table.{Table}
 use Rattle.rp_rules.specs.Endings.{occurs}
 use Rattle.rp_rules.specs.Gatherings.{candidate_of, gathered_after, gathered_of, table_after, table_of, trials_of, unique_rules, with_end, with_row}
 use Rattle.rp_rules.specs.Places.{place_or_none}
-use Rattle.rp_rules.specs.Tallies.{listed}
 use Rattle.rp_rules.specs.Buckets.{HasValues}
 use Rattle.rp_rules.proofs.Steps.{drop-read, numbers-end, numbers-step}
 use Rattle.rp_rules.proofs.Tallied.{culprits-more, occurs-more, or_false}

@@ -11,10 +11,10 @@ use Rattle.rp_meaning.specs.declared.schema.Schema.{Schema}
 use Rattle.rp_meaning.specs.Attributes.{entity_at}
 use Rattle.rp_meaning.specs.Populations.{Instance}
 use Rattle.rp_meaning.specs.Report.{all_evaluated, attribute_checks, inverse_check, inverse_checks, places, report, rule_check, rule_checks, type_check, type_checks, unique_check, unique_checks, unique_checks_from, where_check, where_checks}
-use Rattle.rp_meaning.specs.Sequence.{Checking, in_sequence, in_sequence_after}
+use Rattle.rp_meaning.specs.Sequence.{Checking, in_sequence_after}
 use Rattle.rp_rules.specs.declared.order.Sort.{Sort}
 use Rattle.rp_rules.specs.declared.order.Sort.TheVariants as s
-use Rattle.rp_rules.specs.Order.{check_at, checks_at, checks_of, count_of, listed_by}
+use Rattle.rp_rules.specs.Order.{check_at, checks_at, checks_of}
 use Rattle.rp_rules.proofs.Steps.{drop-read, numbers-end, numbers-step}
 
 -- ---- sequences

@@ -1,5 +1,5 @@
 -- The culprits of a rule of a defined type, attribute by attribute.
-use Rattle.std.proofs.Common.{◌≡◌, ℕ, zero, suc, ◌+◌, ◌<◌, ◌≤◌, ◌==◌, Bool, true, false, cond, List, [], ◌∷◌, ◌++◌, map, filter, length, drop, get_or, Option, Some, None, slice_get, slice_set, refl, sym, ap, ◌∙◌, arith, if◌then◌else◌, append_assoc}
+use Rattle.std.proofs.Common.{◌≡◌, ℕ, zero, suc, ◌+◌, ◌<◌, ◌≤◌, ◌==◌, Bool, true, false, List, [], ◌∷◌, ◌++◌, map, filter, length, drop, get_or, Some, None, slice_get, slice_set, refl, sym, ap, ◌∙◌, arith, if◌then◌else◌}
 use Rattle.std.proofs.lemmas.Bool.Decides.{nat_tests}
 use Rattle.std.proofs.lemmas.List.{map-append}
 use Rattle.std.proofs.lemmas.List.Elements.{filter-append}
@@ -10,9 +10,9 @@ use Rattle.rp_meaning.specs.declared.rule.Rule.{Rule}
 use Rattle.rp_meaning.specs.declared.rule.Rule.TheVariants as r
 use Rattle.rp_meaning.specs.declared.schema.Schema.{Schema}
 use Rattle.rp_meaning.specs.Expressions.{World}
-use Rattle.rp_meaning.specs.Faults.{Held, checked_of, held_from, held_of, is_checked}
+use Rattle.rp_meaning.specs.Faults.{Held, held_from, held_of, is_checked}
 use Rattle.rp_meaning.specs.Populations.{Instance, Stored, as_read, stored}
-use Rattle.rp_meaning.specs.Report.{of_attribute, type_candidates}
+use Rattle.rp_meaning.specs.Report.{of_attribute}
 use Rattle.rp_meaning.specs.Sequence.{Candidate, Ended, Trial, each_after, one, verdict_of}
 use Rattle.rp_rules.specs.declared.culprits.Culprits.{Culprits}
 use Rattle.rp_rules.specs.declared.verdicts.Verdicts.{Verdicts}
@@ -91,18 +91,18 @@ module _ (schema : Schema) (population : List Instance) (number place : ℕ) whe
         among-reads 0 attributes written ∙ ap (λ (read : List Value). candidates_in schema population number place at i (stored attributes written read)) (sym (reads-are differing written))
 
     -- one attribute more
-    pub among-step : (attributes : List AttributePlace) (written : List Value) (slot : ℕ) (a : AttributePlace) (x : Value) → slot < length attributes → a ≡ get_or attributes slot a → slice_get written slot ≡ Some x
+    pub among-step : (attributes : List AttributePlace) (written : List Value) (slot : ℕ) (a : AttributePlace) (x : Value) → slot < length attributes → a ≡ get_or attributes slot a → slot < length written → x ≡ get_or written slot x
         → candidates_among schema population number place at i differing slot (drop slot attributes) (drop slot written)
         ≡ candidates_by schema population number place at i a x (last_read x differing slot) ++ candidates_among schema population number place at i differing (slot + 1) (drop (slot + 1) attributes) (drop (slot + 1) written)
-    among-step attributes written slot a x h is read = λ k. candidates_among schema population number place at i differing slot (drop-read attributes slot a h is k) (drop-got written slot x read k)
+    among-step attributes written slot a x h is less read = λ k. candidates_among schema population number place at i differing slot (drop-read attributes slot a h is k) (drop-read written slot x less read k)
 
     among-none : (slot : ℕ) (attributes : List AttributePlace) → candidates_among schema population number place at i differing slot attributes [] ≡ []
     among-none slot [] = refl
     among-none slot (a ∷ attributes) = refl
 
-    pub among-end : (attributes : List AttributePlace) (written : List Value) (slot : ℕ) → slice_get written slot ≡ None → candidates_among schema population number place at i differing slot (drop slot attributes) (drop slot written) ≡ []
-    among-end attributes written slot none =
-        ap (candidates_among schema population number place at i differing slot (drop slot attributes)) (drop-none written slot none) ∙ among-none slot (drop slot attributes)
+    pub among-end : (attributes : List AttributePlace) (written : List Value) (slot : ℕ) → length written ≤ slot → candidates_among schema population number place at i differing slot (drop slot attributes) (drop slot written) ≡ []
+    among-end attributes written slot h =
+        ap (candidates_among schema population number place at i differing slot (drop slot attributes)) (drop-past written slot h) ∙ among-none slot (drop slot attributes)
 
   -- one instance more
   pub from-step : (at : ℕ) (i : Instance) → slice_get population at ≡ Some i
@@ -128,16 +128,16 @@ module _ (schema : Schema) (population : List Instance) (number place : ℕ) whe
     after cs = tallied world found cs used
 
     pub attributes-step : (at : ℕ) (i : Instance) (differing : List ReadValue) (attributes : List AttributePlace) (written : List Value) (slot : ℕ) (a : AttributePlace) (x : Value)
-        → slot < length attributes → a ≡ get_or attributes slot a → slice_get written slot ≡ Some x
+        → slot < length attributes → a ≡ get_or attributes slot a → slot < length written → x ≡ get_or written slot x
         → after (candidates_among schema population number place at i differing slot (drop slot attributes) (drop slot written))
         ≡ tallied world (after (candidates_by schema population number place at i a x (last_read x differing slot))).0 (candidates_among schema population number place at i differing (slot + 1) (drop (slot + 1) attributes) (drop (slot + 1) written)) (after (candidates_by schema population number place at i a x (last_read x differing slot))).1
-    attributes-step at i differing attributes written slot a x h is read =
-        ap after (among-step at i differing attributes written slot a x h is read)
+    attributes-step at i differing attributes written slot a x h is less read =
+        ap after (among-step at i differing attributes written slot a x h is less read)
         ∙ tallied-append world found (candidates_by schema population number place at i a x (last_read x differing slot)) (candidates_among schema population number place at i differing (slot + 1) (drop (slot + 1) attributes) (drop (slot + 1) written)) used
 
-    pub attributes-end : (at : ℕ) (i : Instance) (differing : List ReadValue) (attributes : List AttributePlace) (written : List Value) (slot : ℕ) → slice_get written slot ≡ None
+    pub attributes-end : (at : ℕ) (i : Instance) (differing : List ReadValue) (attributes : List AttributePlace) (written : List Value) (slot : ℕ) → length written ≤ slot
         → after (candidates_among schema population number place at i differing slot (drop slot attributes) (drop slot written)) ≡ (found, used)
-    attributes-end at i differing attributes written slot none = ap after (among-end at i differing attributes written slot none)
+    attributes-end at i differing attributes written slot h = ap after (among-end at i differing attributes written slot h)
 
     pub attributes-past : (at : ℕ) (i : Instance) (differing : List ReadValue) (attributes : List AttributePlace) (written : List Value) (slot : ℕ) → length attributes ≤ slot
         → after (candidates_among schema population number place at i differing slot (drop slot attributes) (drop slot written)) ≡ (found, used)

@@ -1,16 +1,14 @@
 -- The values on which the rules of a type are tried, variant by variant.
-use Rattle.std.proofs.Common.{◌≡◌, ℕ, ℤ, pos, ◌+◌, ◌<◌, ◌≤◌, Bool, true, false, ◌&&◌, ◌||◌, ◌==◌, List, [], ◌∷◌, ◌++◌, map, filter, Option, Some, None, length, drop, get_or, slice_get, refl, sym, ap, ◌∙◌, subst, if◌then◌else◌, append-nil}
+use Rattle.std.proofs.Common.{◌≡◌, ℕ, pos, ◌+◌, ◌<◌, ◌≤◌, Bool, true, false, ◌&&◌, ◌==◌, List, [], ◌∷◌, ◌++◌, map, filter, Option, Some, None, length, drop, get_or, slice_get, refl, sym, ap, ◌∙◌, subst, if◌then◌else◌, append-nil}
 use Rattle.std.proofs.lemmas.Bool.{eqb-true}
-use Rattle.std.proofs.lemmas.List.Folds.{list_any-append}
-use Rattle.std.specs.List.{filter_map, list_any}
+use Rattle.std.specs.List.{filter_map}
 use Rattle.std.specs.Option.{option_map_or}
 use Rattle.ex_named.specs.declared.expression.NamedDataType.{NamedDataType}
 use Rattle.plain_data.specs.Numbers.{is_among}
 use Rattle.rp_meaning.specs.declared.schema.DefinedType.{DefinedType}
 use Rattle.rp_meaning.specs.Bare.{aggregate_of, is_indeterminate}
 use Rattle.rp_meaning.specs.Populations.{Instance}
-use Rattle.rp_meaning.specs.TypeRules.{Trying, chooses, selects_to, elements_tried, element_type, inside_by, is_tried, tried_in, trying_by, types_by, values_tried}
-use Rattle.rp_meaning.specs.Types.{End, Enumeration, Select, Written}
+use Rattle.rp_meaning.specs.TypeRules.{Trying, chooses, selects_to, elements_tried, element_type, inside_by, trying_by, values_tried}
 use Rattle.rp_operators.proofs.Sights as sights
 use Rattle.rp_rules.specs.Tried.{elements_at, inside_at, itself_at, values_at}
 use Rattle.rp_rules.proofs.Steps.{drop-got, drop-none, drop-past, drop-read}

@@ -1,6 +1,5 @@
 -- An evaluation takes at most the steps that it may take, and what it comes to.
-use Rattle.std.proofs.Common.{◌≡◌, ℕ, ◌+◌, ◌-◌, ◌≤◌, nat_le, true, Option, Some, None, arith, refl, ap, sym, ◌∙◌}
-use Rattle.std.proofs.lemmas.Bool.Decides.{nat_tests}
+use Rattle.std.proofs.Common.{◌≡◌, ℕ, ◌+◌, ◌≤◌, Option, Some, None, arith, refl}
 use Rattle.rp_meaning.specs.declared.counter.Counter.{Counter}
 use Rattle.rp_meaning.specs.declared.outcome.Outcome.{Outcome}
 use Rattle.rp_meaning.specs.declared.outcome.Outcome.TheVariants as o

@@ -1,5 +1,5 @@
 -- The rules of a schema by what they are of, and the checks by them.
-use Rattle.std.specs.Prelude.{ℕ, List, [], ◌++◌, map, length, slice_get}
+use Rattle.std.specs.Prelude.{ℕ, List, [], map, length, slice_get}
 use Rattle.std.specs.List.{flat_map}
 use Rattle.std.specs.Option.{option_and_then, option_map_or, unwrap_or}
 use Rattle.ex_named.specs.declared.reference.AttributePlace.{AttributePlace}

@@ -1,5 +1,5 @@
 -- The culprits of a check, as they come, evaluation by evaluation.
-use Rattle.std.specs.Prelude.{ℕ, ◌++◌, Bool, List, [], ◌∷◌, map, if◌then◌else◌}
+use Rattle.std.specs.Prelude.{ℕ, ◌++◌, Bool, List, [], ◌∷◌, if◌then◌else◌}
 use Rattle.rp_meaning.specs.declared.report.Check.{Check}
 use Rattle.rp_meaning.specs.declared.report.Constraint.{Constraint}
 use Rattle.rp_meaning.specs.declared.report.Culprit.{Culprit}
@@ -7,7 +7,7 @@ use Rattle.rp_meaning.specs.declared.report.Verdict.TheVariants as judged
 use Rattle.rp_meaning.specs.declared.rule.Rule.{Rule}
 use Rattle.rp_meaning.specs.Expressions.{World}
 use Rattle.rp_meaning.specs.Report.{instance_culprit}
-use Rattle.rp_meaning.specs.Sequence.{Candidate, Result, Trial, check_of, culprits, each_after}
+use Rattle.rp_meaning.specs.Sequence.{Candidate, Result, check_of, culprits, each_after}
 use Rattle.rp_rules.specs.declared.culprits.Culprits.{Culprits}
 use Rattle.rp_rules.specs.declared.verdicts.Verdicts.{Verdicts}
 use Rattle.rp_rules.specs.Endings.{verdicts_of}

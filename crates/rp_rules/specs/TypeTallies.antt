@@ -5,7 +5,7 @@ use Rattle.rp_faults.specs.Declarations.{last_read}
 use Rattle.rp_meaning.specs.declared.domain.ReadValue.{ReadValue}
 use Rattle.rp_meaning.specs.declared.rule.Rule.TheVariants as r
 use Rattle.rp_meaning.specs.declared.schema.Schema.{Schema}
-use Rattle.rp_meaning.specs.Faults.{Held, held_from, is_checked}
+use Rattle.rp_meaning.specs.Faults.{Held, is_checked}
 use Rattle.rp_meaning.specs.Populations.{Instance, Stored}
 use Rattle.rp_meaning.specs.Report.{of_attribute}
 use Rattle.rp_meaning.specs.Sequence.{Candidate}

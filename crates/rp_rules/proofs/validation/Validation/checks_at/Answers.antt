@@ -1,5 +1,8 @@
-use Rattle.std.proofs.Common.{sym, ap, ◌∙◌, ◌<◌, arith}
-use Rattle.rp_rules.specs.Order.{count_of}
+use Rattle.std.proofs.Common.{◌+◌, ◌-◌, ◌++◌, [], ◌∷◌, map, sym, ap, ◌∙◌, ◌<◌, arith}
+use Rattle.std.specs.List.{range_with_len}
+use Rattle.rp_meaning.specs.declared.report.Check.{Check}
+use Rattle.rp_meaning.specs.Sequence.{in_sequence_after}
+use Rattle.rp_rules.specs.Order.{check_at, count_of}
 use Rattle.rp_rules.proofs.Sequences.{at-end, at-step}
 use Rattle.rp_rules.proofs.validation.Validation.checks_at.Goals as goal
 
@@ -9,7 +12,9 @@ loop-place-preserved g c =
     let population = g.D.Domain.population c.args.self.now.domain.now in
     let below : c.loop-place.place < count_of schema c.args.sort c.args.number = omega (arith, c.count_of-place-end.ensures) in
     let step = at-step schema population c.args.sort c.loop-place.checks c.loop-place.used c.args.number c.loop-place.place (count_of schema c.args.sort c.args.number) below in
-    rw (c.in_ok-push.ensures, c.in_ok-check.ensures.check, c.in_ok-check.ensures.used) (sym step ∙ c.loop-place.invariant)
+    let pushed = c.in_ok-push.ensures.ok ∙ ap (λ (x : Check). c.loop-place.checks ++ x ∷ []) c.in_ok-check.ensures.check in
+    let left = map (check_at schema population c.args.sort c.args.number) (range_with_len (c.loop-place.place + 1) (count_of schema c.args.sort c.args.number - (c.loop-place.place + 1))) in
+    (λ i. in_sequence_after (pushed i) left (c.in_ok-check.ensures.used i)) ∙ sym step ∙ c.loop-place.invariant
 
 pub returns-clause-checks : goal.returns-clause-checks
 returns-clause-checks g c =

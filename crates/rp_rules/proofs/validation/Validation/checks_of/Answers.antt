@@ -1,4 +1,4 @@
-use Rattle.std.proofs.Common.{rules, sym, ap, ◌∙◌, arith}
+use Rattle.std.proofs.Common.{rules, sym, ◌∙◌, arith}
 use Rattle.rp_rules.proofs.Sequences.{of-step}
 use Rattle.rp_rules.proofs.validation.Validation.checks_of.Goals as goal
 

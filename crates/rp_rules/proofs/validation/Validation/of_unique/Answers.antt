@@ -1,4 +1,4 @@
-use Rattle.std.proofs.Common.{◌≡◌, [], length, sym, ap, ◌∙◌}
+use Rattle.std.proofs.Common.{◌≡◌, length, ap, ◌∙◌}
 use Rattle.rp_meaning.specs.declared.report.Constraint.TheVariants as k
 use Rattle.rp_meaning.specs.Populations.{extent}
 use Rattle.rp_meaning.specs.Report.{agreeing, world}
@@ -19,9 +19,9 @@ returns-clause-check g c =
     let population = g.D.Domain.population c.args.self.now.domain.now in
     let is : c.as_slice.result.now ≡ extent population c.args.entity = c.as_slice.ensures ∙ c.in_ok-instances.ensures in
     let violating : c.in_ok-agreeing.field-0 ≡ agreeing c.in_ok-rows.field-0.rows = c.in_ok-agreeing.ensures ∙ ap agreeing c.as_slice-2.ensures in
-    let said : c.into_check.result ≡ check_of (k.Unique c.args.entity c.args.place) c.in_ok-agreeing.field-0 c.in_ok-rows.limited c.in_ok-rows.not_run c.new.result = c.into_check.ensures in
+    let said : c.into_check.result ≡ check_of (k.Unique c.args.entity c.args.place) c.in_ok-agreeing.field-0 c.in_ok-rows.field-0.limited c.in_ok-rows.field-0.not_run c.new.result = c.into_check.ensures in
     said
-    ∙ (λ i. check_of (k.Unique c.args.entity c.args.place) (violating i) (sym c.in_ok-rows.limited-is i) (sym c.in_ok-rows.not_run-is i) (c.new.ensures i))
+    ∙ (λ i. check_of (k.Unique c.args.entity c.args.place) (violating i) c.in_ok-rows.field-0.limited c.in_ok-rows.field-0.not_run (c.new.ensures i))
     ∙ unique-check schema population c.args.entity c.args.place c.args.used.now c.args.attributes.now c.as_slice.result.now c.in_ok-rows.field-0 is c.in_ok-rows.ensures.table
 
 pub returns-clause-used : goal.returns-clause-used

@@ -1,4 +1,4 @@
-use Rattle.std.proofs.Common.{sym, ap, ◌∙◌, arith}
+use Rattle.std.proofs.Common.{sym, ◌∙◌, arith}
 use Rattle.rp_meaning.specs.Report.{world}
 use Rattle.rp_rules.specs.Gatherings.{unique_rules}
 use Rattle.rp_rules.proofs.Gatherings.{rules-count, table-step}

@@ -1,6 +1,6 @@
 use Rattle.std.proofs.Common.{rules, sym, ap, ◌∙◌, arith}
 use Rattle.rp_meaning.specs.Report.{world}
-use Rattle.rp_rules.proofs.TypeTallies.{instances-end, instances-past, instances-step}
+use Rattle.rp_rules.proofs.TypeTallies.{instances-past, instances-step}
 use Rattle.rp_rules.proofs.validation.Validation.tallied_types.Goals as goal
 
 pub loop-at-preserved : goal.loop-at-preserved
