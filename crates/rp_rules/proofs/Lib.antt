@@ -1,0 +1,9 @@
+pub mod Steps
+pub mod Within
+pub mod Tallied
+pub mod Gatherings
+pub mod Sequences
+pub mod Values
+pub mod TypeTallies
+pub mod Sharing
+pub mod Agreements

@@ -1,0 +1,186 @@
+//! WHERE clauses of defined types.
+
+use crate::choices::Choosing;
+use crate::culprits::Culprits;
+use crate::ended::verdict_of;
+use crate::tried::Trying;
+use crate::used::Used;
+use crate::validation::Validation;
+use crate::verdicts::Verdicts;
+use ex_named::AttributePlace;
+use plain_data::Items;
+use rp_faults::{declared_types, is_checked, read_at};
+use rp_meaning::{Check, Constraint, Culprit, Domain, ReadValue, Rule, Seen};
+use rp_value::Value;
+use std::alloc::AllocError;
+
+impl<'a, D: Domain> Validation<'a, D> {
+    ghost use Rattle.std.specs.Prelude.{◌≡◌, [], ◌∷◌, map, IfOk, OnOk};
+    ghost use Rattle.rp_faults.specs.Declarations.{declared_types};
+    ghost use Rattle.rp_meaning.specs.Report.{type_candidates, type_check, world};
+    ghost use Rattle.rp_meaning.specs.Sequence.{each_after};
+    ghost use Rattle.rp_meaning.specs.TypeRules.{values_tried};
+    ghost use Rattle.rp_rules.specs.Endings.{verdicts_of};
+    ghost use Rattle.rp_rules.specs.Tallies.{no_culprits, tallied};
+    ghost use Rattle.rp_rules.specs.TypeTallies as spec;
+
+    /// Which verdicts a rule has for values.
+    fn verdicts_of_values(
+        &self,
+        rule: Rule,
+        values: &[Value],
+        used: &mut Used,
+    ) -> Result<Verdicts, AllocError>
+        ensures verdicts { IfOk result (λ verdicts. verdicts ≡ verdicts_of (each_after (world self.now.schema.now (D.population self.now.domain.now)) [] (map (λ x. (rule, x)) values.now) used.old).0) }
+        ensures used { OnOk result (used.new ≡ (each_after (world self.now.schema.now (D.population self.now.domain.now)) [] (map (λ x. (rule, x)) values.now) used.old).1) }
+    {
+        let mut verdicts = Verdicts::none();
+        for value in values {
+            let ended = self.one(rule, value.copy()?, used)?;
+            verdicts = verdicts.with(verdict_of(&ended));
+        }
+        Ok(verdicts)
+    }
+
+    /// The values in an attribute on which the rules of a type are tried.
+    fn values_tried(
+        &self,
+        number: usize,
+        entities: &[usize],
+        attribute: AttributePlace,
+        written: &Value,
+        read: &Value,
+    ) -> Result<Items<Value>, AllocError>
+        ensures { IfOk result (λ found. found ≡ values_tried self.now.schema.now.types (D.population self.now.domain.now) number (declared_types self.now.schema.now entities.now attribute) written.now read.now) }
+    {
+        let declared = declared_types(self.alloc, self.schema, entities, attribute)?;
+        let trying = Trying {
+            alloc: self.alloc,
+            choosing: Choosing {
+                types: self.schema.types.as_slice(),
+                domain: self.domain,
+            },
+            number,
+        };
+        let mut found = Items::new(self.alloc);
+        trying.push(written, read, declared.as_slice(), &mut found)?;
+        Ok(found)
+    }
+
+    /// Adds an attribute of the instance at a place to the culprits of a rule, if a value in it is one.
+    fn tally_attribute(
+        &self,
+        number: usize,
+        place: usize,
+        at: usize,
+        instance: &Seen<'_>,
+        attribute: AttributePlace,
+        written: &Value,
+        read: &Value,
+        found: &mut Culprits,
+        used: &mut Used,
+    ) -> Result<(), AllocError>
+        ensures found { OnOk result (found.new ≡ (tallied (world self.now.schema.now (D.population self.now.domain.now)) found.old (spec.candidates_by self.now.schema.now (D.population self.now.domain.now) number place at instance.now attribute written.now read.now) used.old).0) }
+        ensures used { OnOk result (used.new ≡ (tallied (world self.now.schema.now (D.population self.now.domain.now)) found.old (spec.candidates_by self.now.schema.now (D.population self.now.domain.now) number place at instance.now attribute written.now read.now) used.old).1) }
+    {
+        if !is_checked(self.schema, attribute, instance) {
+            return Ok(());
+        }
+        let values = self.values_tried(number, instance.entities, attribute, written, read)?;
+        let rule = Rule::Type(number, place);
+        let verdicts = self.verdicts_of_values(rule, values.as_slice(), used)?;
+        let culprit = Culprit {
+            instance: at,
+            attribute: Some(attribute),
+        };
+        found.add(culprit, verdicts)
+    }
+
+    /// Adds those of some attributes of the instance at a place.
+    fn tally_attributes(
+        &self,
+        number: usize,
+        place: usize,
+        at: usize,
+        instance: &Seen<'_>,
+        attributes: &[AttributePlace],
+        written: &[Value],
+        differing: &[ReadValue],
+        found: &mut Culprits,
+        used: &mut Used,
+    ) -> Result<(), AllocError>
+        ensures found { OnOk result (found.new ≡ (tallied (world self.now.schema.now (D.population self.now.domain.now)) found.old (spec.candidates_among self.now.schema.now (D.population self.now.domain.now) number place at instance.now differing.now 0 attributes.now written.now) used.old).0) }
+        ensures used { OnOk result (used.new ≡ (tallied (world self.now.schema.now (D.population self.now.domain.now)) found.old (spec.candidates_among self.now.schema.now (D.population self.now.domain.now) number place at instance.now differing.now 0 attributes.now written.now) used.old).1) }
+    {
+        for (slot, attribute) in attributes.iter().enumerate() {
+            let Some(value) = written.get(slot) else {
+                return Ok(());
+            };
+            let read = read_at(value, differing, slot);
+            self.tally_attribute(
+                number, place, at, instance, *attribute, value, read, found, used,
+            )?;
+        }
+        Ok(())
+    }
+
+    /// Adds those of the instance at a place.
+    fn tally_instance(
+        &self,
+        number: usize,
+        place: usize,
+        at: usize,
+        instance: &Seen<'_>,
+        found: &mut Culprits,
+        used: &mut Used,
+    ) -> Result<(), AllocError>
+        ensures found { OnOk result (found.new ≡ (tallied (world self.now.schema.now (D.population self.now.domain.now)) found.old (spec.candidates_in self.now.schema.now (D.population self.now.domain.now) number place at instance.now instance.now.values) used.old).0) }
+        ensures used { OnOk result (used.new ≡ (tallied (world self.now.schema.now (D.population self.now.domain.now)) found.old (spec.candidates_in self.now.schema.now (D.population self.now.domain.now) number place at instance.now instance.now.values) used.old).1) }
+    {
+        self.tally_attributes(
+            number,
+            place,
+            at,
+            instance,
+            instance.attributes,
+            instance.written,
+            instance.differing,
+            found,
+            used,
+        )
+    }
+
+    /// The culprits of a rule of a defined type.
+    fn tallied_types(
+        &self,
+        number: usize,
+        place: usize,
+        used: &mut Used,
+    ) -> Result<Culprits, AllocError>
+        ensures culprits { IfOk result (λ found. found ≡ (tallied (world self.now.schema.now (D.population self.now.domain.now)) no_culprits (type_candidates self.now.schema.now (D.population self.now.domain.now) number place) used.old).0) }
+        ensures used { OnOk result (used.new ≡ (tallied (world self.now.schema.now (D.population self.now.domain.now)) no_culprits (type_candidates self.now.schema.now (D.population self.now.domain.now) number place) used.old).1) }
+    {
+        let mut found = Culprits::none(self.alloc);
+        for at in 0..self.domain.count() {
+            let Some(instance) = self.domain.instance(at) else {
+                return Ok(found);
+            };
+            self.tally_instance(number, place, at, &instance, &mut found, used)?;
+        }
+        Ok(found)
+    }
+
+    /// The check of a rule of a defined type.
+    pub(crate) fn of_type(
+        &self,
+        number: usize,
+        place: usize,
+        used: &mut Used,
+    ) -> Result<Check, AllocError>
+        ensures check { IfOk result (λ check. check ≡ (type_check self.now.schema.now (D.population self.now.domain.now) number place used.old).0) }
+        ensures used { OnOk result (used.new ≡ (type_check self.now.schema.now (D.population self.now.domain.now) number place used.old).1) }
+    {
+        let found = self.tallied_types(number, place, used)?;
+        Ok(found.into_check(Constraint::Type(number, place)))
+    }
+}
