@@ -85,7 +85,7 @@ any-in-one count n row [] many whole = refl
 any-in-one count n row (x ∷ xs) many whole =
     let head : length x.values ≡ count = All-head (HasValues count) x xs whole in
     kept (agrees row x) (is_in n (bucket_of n row) x) (list_any (agrees row) (filter (is_in n (bucket_of n row)) xs)) (list_any (agrees row) xs) (in-one count n row x many head)
-        (any-in-one count n row xs many (All-tail (HasValues count) x xs whole)) x (agrees row) (filter (is_in n (bucket_of n row)) xs) refl refl
+    (any-in-one count n row xs many (All-tail (HasValues count) x xs whole)) x (agrees row) (filter (is_in n (bucket_of n row)) xs) refl refl
 
 pub agrees-with : (count : ℕ) (row : Row) (rows : List Row) (bs : List (List (Bor Row))) → length row.values ≡ count → All (HasValues count) rows → Holds bs (length rows) rows
     → list_any (agrees row) (rows_now (bucket bs (bucket_of (length rows) row))) ≡ list_any (agrees row) rows

@@ -107,5 +107,3 @@ module _ (schema : Schema) (population : List Instance) where
       → (tallied (world schema population) no_culprits (map (candidate_by rule) instances) used).1
       ≡ (checking schema population (check_by constraint) (candidates_of schema population entity (rule ∷ [])) used).1
   used-by constraint rule entity used instances is = ap (λ (p : Culprits × ℕ). p.1) (tallied-by rule entity used instances is)
-
-pub ruleset checked = (check-by, used-by)

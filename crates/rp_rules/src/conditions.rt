@@ -56,7 +56,6 @@ impl<'a, D: Domain> Validation<'a, D> {
     }
 
     /// The check of a rule that holds for each instance of an entity.
-    #[tactic(auto, using(crate::proofs::Tallied::checked))]
     pub(crate) fn of_instances(
         &self,
         constraint: Constraint,

@@ -57,7 +57,6 @@ impl<'a, D: Domain> Validation<'a, D> {
 }
 
 /// The report of all rules of a schema over the population of a domain.
-#[tactic(auto, unfolding(rp_meaning::specs::Report::report))]
 pub fn validate<D: Domain>(alloc: Global, schema: &Schema, domain: &D) -> Result<Report, AllocError>
     ensures { IfOk result (λ report. report ≡ spec.report schema.now (D.population domain.now)) }
 {

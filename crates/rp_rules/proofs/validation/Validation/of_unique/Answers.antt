@@ -11,7 +11,7 @@ pub agreeing-requires : goal.agreeing-requires
 agreeing-requires g c =
     let w = world c.args.self.now.schema.now (g.D.Domain.population c.args.self.now.domain.now) in
     rows-whole w c.args.entity c.args.place (length c.args.attributes.now) c.as_slice.result.now c.args.used.now c.as_slice-2.result.now
-        (c.as_slice-2.ensures ∙ ap (λ (t : Table). t.rows) c.in_ok-rows.ensures.table)
+    (c.as_slice-2.ensures ∙ ap (λ (t : Table). t.rows) c.in_ok-rows.ensures.table)
 
 pub returns-clause-check : goal.returns-clause-check
 returns-clause-check g c =
