@@ -33,8 +33,9 @@ HEAD = "ISO-10303-21;HEADER;FILE_DESCRIPTION((''),'2;1');FILE_NAME('','',(''),('
 TAIL = "ENDSEC;END-ISO-10303-21;\n"
 INSTANCES = 100_000
 RUNS = 3
-# how long a run evaluates
+# how long a run evaluates, as is reckoned from a run of so many turns
 SECONDS = 2
+FIRST_TURNS = 10
 # past what one evaluation takes
 LIMIT = 100_000_000
 TURNS = 250_000
@@ -129,7 +130,7 @@ def measure_steps(folder):
     for kind in KINDS:
         folder.write("schema.exp", DECLARATIONS.format("", f"RULE r FOR (e, p); WHERE q : {kind.clause()}; END_RULE;"))
         load = min(folder.processor_run(words(0))[0] for _ in range(RUNS))
-        turns = math.ceil(SECONDS / evaluated_seconds(folder, kind, load, 1))
+        turns = math.ceil(SECONDS * FIRST_TURNS / evaluated_seconds(folder, kind, load, FIRST_TURNS))
         rates = [turns * kind.whole() / 1e6 / evaluated_seconds(folder, kind, load, turns) for _ in range(RUNS)]
         table.row(kind.name, kind.whole(), turns, max(rates), statistics.median(rates), kind.aim or "")
 
