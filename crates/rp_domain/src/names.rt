@@ -1,6 +1,6 @@
 //! What names in a model stand for in a population.
 
-ghost use Rattle.std.specs.Prelude.{◌≡◌, List, map, length, IfOk};
+ghost use Rattle.std.specs.Prelude.{◌≡◌, map, min, IfOk};
 ghost use Rattle.std.specs.List.{position};
 ghost use Rattle.sorted_tables.specs.Table.{IsAscending};
 ghost use Rattle.std.specs.Ordering.{nat_cmp};
@@ -97,7 +97,9 @@ fn targets(
     Ok(found)
 }
 
-fn least(place: usize, other: usize) -> usize {
+fn least(place: usize, other: usize) -> usize
+    ensures { result ≡ min place other }
+{
     if place <= other { place } else { other }
 }
 
