@@ -4,3 +4,4 @@ pub mod Reading
 pub mod Sharing
 pub mod Standing
 pub mod Divided
+mod Positioning
