@@ -70,7 +70,7 @@ fn start_of(models: &[CountedModel<'_>], population: &[PlacedInstance<'_>], key:
 }
 
 impl<'a> Standing<'a> {
-    ghost use Rattle.std.specs.Prelude.{◌≡◌, ℕ};
+    ghost use Rattle.std.specs.Prelude.{◌≡◌, ℕ, length};
     ghost use Rattle.rp_population.specs.Populations.{population as Population};
     ghost use Rattle.rp_population.specs.Positions.{AreInOrder};
     ghost use Rattle.rp_domain.specs.Models as spec;
