@@ -41,7 +41,7 @@ plan-requires-clause-populations c =
     let read : Plain = record { schemas = c.self.inside.schemas.now; partners = c.deref.result.now; models = c.models.result.now.rows; groups = c.groups.result.now.rows } in
     let models : c.models.result.now.rows ≡ c.args.self.now.content.models = ap (λ t. t.rows) c.models.ensures ∙ ap (λ h. h.content.models) c.self.view_is in
     told_populations read c.index.result.now (subst (λ (ms : List Model). IsAscending key_cmp row_key ms) (sym models) c.requires.order.models)
-      (subst (λ (ms : List Model). AllByRecursion HoldsNamed ms) (sym models) c.requires.named)
+    (subst (λ (ms : List Model). AllByRecursion HoldsNamed ms) (sym models) c.requires.named)
 
 pub of_plan-requires : goal.of_plan-requires
 of_plan-requires c =
