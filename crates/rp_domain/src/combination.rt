@@ -121,13 +121,13 @@ fn uses_of(
 pub(crate) fn shared_by(
     alloc: Global,
     schema: &Schema,
-    entities: Items<usize>,
+    entities: Shared<Items<usize>>,
 ) -> Result<Shared<Combination>, AllocError>
     ensures { IfOk result (λ found. found ≡ spec.combination schema.now entities) }
 {
-    let attributes = attributes(alloc, schema, entities.as_slice())?;
-    let derived = derived(alloc, schema, entities.as_slice(), attributes.as_slice())?;
-    let entities = Shared::new(alloc, entities)?;
+    let numbers = entities.get().as_slice();
+    let attributes = attributes(alloc, schema, numbers)?;
+    let derived = derived(alloc, schema, numbers, attributes.as_slice())?;
     let uses = uses_of(alloc, &entities, attributes.as_slice())?;
     Shared::new(
         alloc,

@@ -112,12 +112,12 @@ impl<'s> Combinations<'s> {
     fn find(
         &mut self,
         alloc: Global,
-        entities: Items<usize>,
+        entities: Shared<Items<usize>>,
     ) -> Result<Shared<Combination>, AllocError>
         ensures same { self.new ≡ self.old }
         ensures found { IfOk result (λ found. found ≡ spec.combination self.old entities) }
     {
-        let key = Vec::from_slice(alloc, entities.as_slice())?;
+        let key = Vec::from_slice(alloc, entities.get().as_slice())?;
         self.guesses
             .set_last(&key, self.schema.entities.len(), self.found.len())?;
         let combination = shared_by(alloc, self.schema, entities)?;
@@ -130,12 +130,12 @@ impl<'s> Combinations<'s> {
     pub(crate) fn of(
         &mut self,
         alloc: Global,
-        entities: Items<usize>,
+        entities: Shared<Items<usize>>,
     ) -> Result<Shared<Combination>, AllocError>
         ensures same { self.new ≡ self.old }
         ensures found { IfOk result (λ found. found ≡ spec.combination self.old entities) }
     {
-        let numbers = entities.as_slice();
+        let numbers = entities.get().as_slice();
         self.last = self.guess(numbers);
         if let Some(found) = self.known(self.last, numbers) {
             return found.share();

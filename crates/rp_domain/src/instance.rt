@@ -4,7 +4,7 @@ ghost use Rattle.std.specs.Prelude.{◌≡◌, slice_get};
 ghost use Rattle.std.specs.Option.{option_copied};
 
 use crate::combination::{AttributeOf, Combination};
-use plain_data::Items;
+use plain_data::{Items, Rows};
 use rp_meaning::{ReadValue, Seen};
 use rp_value::Value;
 use shared::Shared;
@@ -14,8 +14,9 @@ use std::marker::Model;
 /// entities and of the attributes in each. A reference is the place of an instance in the population.
 #[derive(Drop)]
 pub struct WrittenInstance {
-    pub entities: Items<usize>,
-    pub values: Items<Value>,
+    // Instances of the same entities may share one list of them.
+    pub entities: Shared<Items<usize>>,
+    pub values: Rows<Value>,
 }
 
 /// An instance with its values as they are written, and with those that are read in place of some of them.

@@ -14,7 +14,7 @@ use crate::others::push_other;
 use crate::readings::Readings;
 use crate::rows::with_room;
 use ex_named::AttributePlace;
-use plain_data::Items;
+use plain_data::{Items, Rows};
 use rp_meaning::{ReadValue, Schema};
 use rp_value::Value;
 use std::alloc::{AllocError, Global};
@@ -76,16 +76,12 @@ fn without_derived(mut values: Items<Value>, derived: &[bool]) -> Items<Value>
 }
 
 /// The values as they are kept: without those of which it is said that they are derived, and in no more room than they take.
-fn kept_values(
-    alloc: Global,
-    values: Items<Value>,
-    derived: &[bool],
-) -> Result<Items<Value>, AllocError>
-    ensures { IfOk result (λ found. found ≡ combinations_spec.without_derived derived.now values) }
+fn kept_values(values: Rows<Value>, derived: &[bool]) -> Items<Value>
+    ensures { result ≡ combinations_spec.without_derived derived.now values }
 {
-    let mut found = with_room(alloc, values.len())?;
-    found.append(without_derived(values, derived))?;
-    Ok(found)
+    let mut values = values.into_vec();
+    values.shrink_to_fit();
+    without_derived(Items::from_vec(values), derived)
 }
 
 /// An instance of a population of so many.
@@ -103,7 +99,7 @@ fn kept(
 {
     let WrittenInstance { entities, values } = instance;
     let combination = combinations.of(alloc, entities)?;
-    let written = kept_values(alloc, values, combination.get().derived.as_slice())?;
+    let written = kept_values(values, combination.get().derived.as_slice());
     find_others(
         found,
         alloc,
