@@ -3,16 +3,20 @@ use Rattle.std.proofs.Common.{◌≡◌, ℕ, ◌<◌, ◌≤◌, Option, Some, 
 use Rattle.ex_tree.specs.declared.expression.BuiltInFunction.{BuiltInFunction}
 use Rattle.rp_value.specs.declared.value.Value.{Value}
 use Rattle.rp_meaning.specs.BuiltIns.{initializer, size}
-use Rattle.rp_meaning.specs.Computations.{Computation, and_then, pure, steps, ◌>>=◌, ◌>>◌}
+use Rattle.rp_meaning.specs.Computations.{Computation, Runs, Stops, and_then, pure, steps, ◌>>=◌, ◌>>◌}
 use Rattle.rp_meaning.specs.Expressions.{Scope, World, Meaning, Operating, built_in, costing, each_after, expression, qualifier, interval, operation, query, expression_layer, qualifier_layer, interval_layer, operation_layer, query_layer}
 use Rattle.rp_meaning.specs.declared.body.Body.{Body}
 use Rattle.rp_meaning.specs.declared.body.Body.TheVariants as b
 use Rattle.rp_meaning.specs.declared.counter.Counter.{Counter}
+use Rattle.rp_meaning.specs.declared.stop.Stop.{Stop}
+use Rattle.rp_meaning.specs.declared.stop.Stop.TheVariants.{Limit, NoMemory}
 use Rattle.rp_meaning.specs.declared.tree.Expression.{Expression}
 use Rattle.rp_meaning.specs.declared.tree.Expression.TheFolds.{fold-roll-Expression}
 use Rattle.rp_meaning.specs.declared.tree.Expression.TheOpen.{Expression-F}
 use Rattle.rp_meaning.specs.declared.tree.Expression.TheVariants as e
 use Rattle.rp_eval.specs.Charges.{charged, followed}
+use Rattle.rp_eval.specs.Written.{RunsInto}
+use Rattle.std.specs.Prelude.{Result, Ok, Err}
 
 module _ (world : World) (below : Body → Computation Value) where
   pub expression-call : (s : Scope) (x : Expression) (number : ℕ) (arguments : List Expression) → x ≡ e.Call number arguments
@@ -46,6 +50,22 @@ of-one means next s x left = one-by next (means x s left)
 -- behind a step
 behind : (m : Computation Value) (u : Unit {0}) (left : Counter) (found : Option (Unit {0} × Counter)) → found ≡ Some (u, left) → and_then found (λ v. m) ≡ m left
 behind m u left found is = rw is refl
+
+-- what an expression gives that names what stands there already
+module _ (m : Computation Value) (x : Value) (old : Counter) (is : m ≡ charged 1 (pure x)) where
+  standing-next : (u : Unit {0}) (left : Counter) → steps 1 old ≡ Some (u, left) → m old ≡ Some (x, left)
+  standing-next u left step = (λ i. is i old) ∙ behind (pure x) u left (steps 1 old) step
+
+  stopped : (found : Option (Unit {0} × Counter)) → found ≡ None → and_then found (λ v. pure x) ≡ None
+  stopped found none = rw none refl
+
+  standing-stops : (e : Stop) → Stops (steps 1 old) e → Stops (m old) e
+  standing-stops Limit none = (λ i. is i old) ∙ stopped (steps 1 old) none
+  standing-stops NoMemory none = tt
+
+  pub standing-runs : (r : Result (Unit {0}) Stop) (left : Counter) → Runs (steps 1 old) r left → RunsInto (m old) r x left
+  standing-runs (Ok u) left runs = standing-next u left runs
+  standing-runs (Err e) left runs = standing-stops e runs
 
 -- of several behind a step
 pub called-list : (means : Expression → Meaning) (next : List Value → Computation Value) (s : Scope) (trees : List Expression) (none : List Value) (u : Unit {0}) (old left : Counter) → none ≡ [] → steps 1 old ≡ Some (u, left)

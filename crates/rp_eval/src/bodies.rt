@@ -12,13 +12,13 @@ ghost use Rattle.rp_eval.specs.Bodies.{RunsBodies, bodies_at, world};
 ghost use Rattle.rp_eval.specs.Endings.{Ends, Leaves, after};
 
 use crate::attributes::derivation;
+use crate::declared::given;
 use crate::frame::Frame;
 use crate::statements::Ending;
 use crate::walk::Walk;
 use ex_named::NamedDataType;
 use plain_data::Items;
 use rp_meaning::{Algorithm, Body, Counter, Domain, Function, Given, Initial, Schema, Stop};
-use rp_operators::given;
 use rp_value::Value;
 use std::alloc::{AllocError, Global};
 

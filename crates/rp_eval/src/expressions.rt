@@ -1,7 +1,7 @@
 //! Expressions.
 #![tactic(auto, unfolding(rp_meaning::specs::Expressions::expression, rp_meaning::specs::Expressions::qualifier, rp_meaning::specs::Expressions::interval, rp_meaning::specs::Expressions::operation, rp_meaning::specs::Expressions::query))]
 
-ghost use Rattle.std.specs.Prelude.{◌≡◌, [], map, OnOk};
+ghost use Rattle.std.specs.Prelude.{◌≡◌, [], map, IfSome, OnOk};
 ghost use Rattle.rp_meaning.specs.Computations as computations;
 ghost use Rattle.rp_meaning.specs.Computations.{Runs, pure};
 ghost use Rattle.rp_meaning.specs.Bare.{place_of};
@@ -87,6 +87,32 @@ impl<'a, D: Domain, B: Fn(Global, &Schema, &D, u8, &mut Counter, Body) -> Result
             high,
         )?;
         Ok(())
+    }
+
+    /// The value of an expression that is a literal, SELF or a variable, where it stands.
+    fn standing<'v>(&self, tree: &'v Expression, frame: &'v Frame) -> Option<&'v Value>
+        ensures { IfSome result (λ value. value_at self.now.schema.now (D.population self.now.domain.now) self.now.levels tree.now frame.now ≡ charged 1 (pure value.now)) }
+    {
+        match tree {
+            Expression::Literal(value) => Some(value),
+            Expression::Itself => Some(frame.itself()),
+            Expression::Variable(slot) => frame.variable_at(*slot),
+            _ => None,
+        }
+    }
+
+    /// Takes the step of an expression whose value stands there.
+    fn charge_standing(
+        &self,
+        tree: &Expression,
+        value: &Value,
+        frame: &Frame,
+        counter: &mut Counter,
+    ) -> Result<(), Stop>
+        requires { value_at self.now.schema.now (D.population self.now.domain.now) self.now.levels tree.now frame.now ≡ charged 1 (pure value.now) }
+        ensures { RunsInto (value_at self.now.schema.now (D.population self.now.domain.now) self.now.levels tree.now frame.now counter.old) result value.now counter.new }
+    {
+        charge(counter, 1)
     }
 
     /// The value of an expression is written in place: a frame on the way to a part holds no value but those that wait for it.
@@ -316,7 +342,7 @@ impl<'a, D: Domain, B: Fn(Global, &Schema, &D, u8, &mut Counter, Body) -> Result
         Ok(())
     }
 
-    /// An operator and its right operand.
+    /// An operator and its right operand. One that stands there already is not copied.
     #[cycle(expressions)]
     fn operation(
         &self,
@@ -329,11 +355,20 @@ impl<'a, D: Domain, B: Fn(Global, &Schema, &D, u8, &mut Counter, Body) -> Result
         ensures value { RunsInto (operation_at self.now.schema.now (D.population self.now.domain.now) self.now.levels operation.now frame.old into.old counter.old) result into.new counter.new }
         ensures frame { OnOk result (frame.new ≡ frame.old) }
     {
-        let mut right = Value::Indet;
-        self.operation_with(operation, &mut right, frame, counter, into)
+        charge(counter, 1)?;
+        match self.standing(&operation.right, frame) {
+            Some(right) => {
+                self.charge_standing(&operation.right, right, frame, counter)?;
+                self.operate(operation, right, counter, into)
+            }
+            None => {
+                let mut right = Value::Indet;
+                self.operation_with(operation, &mut right, frame, counter, into)
+            }
+        }
     }
 
-    /// An operator and its right operand, which is written where there is room for it.
+    /// An operator behind its step, and its right operand, which is written where there is room for it.
     #[cycle(expressions)]
     fn operation_with(
         &self,
@@ -344,10 +379,9 @@ impl<'a, D: Domain, B: Fn(Global, &Schema, &D, u8, &mut Counter, Body) -> Result
         into: &mut Value,
     ) -> Result<(), Stop>
         requires { RunsBodies D.population self.now.alloc self.now.schema self.now.domain self.now.levels (B.pre self.now.below) (B.post self.now.below) }
-        ensures value { RunsInto (operation_at self.now.schema.now (D.population self.now.domain.now) self.now.levels operation.now frame.old into.old counter.old) result into.new counter.new }
+        ensures value { RunsInto (followed (value_at self.now.schema.now (D.population self.now.domain.now) self.now.levels operation.now.right frame.old) (spec.operated operation.now.operator into.old) counter.old) result into.new counter.new }
         ensures frame { OnOk result (frame.new ≡ frame.old) }
     {
-        charge(counter, 1)?;
         self.expression(&operation.right, frame, counter, right)?;
         self.operate(operation, right, counter, into)
     }

@@ -5,6 +5,7 @@ mod attributes;
 mod bodies;
 mod calls;
 mod copies;
+mod declared;
 mod expressions;
 mod frame;
 mod laws;

@@ -13,6 +13,7 @@ ghost use Rattle.rp_eval.specs.Bodies.{RunsBodies, bodies_at, world, value_at, a
 ghost use Rattle.rp_eval.specs.Endings.{Ends, Turns};
 ghost use Rattle.rp_eval.specs.Beginnings.{begins};
 
+use crate::declared::given;
 use crate::frame::Frame;
 use crate::steps::charge;
 use crate::turns::{Running, advanced, begun, start};
@@ -23,7 +24,7 @@ use plain_data::Items;
 use rp_meaning::{
     Body, CaseAction, Control, Counter, Domain, Expression, Increment, Schema, Statement, Stop,
 };
-use rp_operators::{applied, given, is_true};
+use rp_operators::{applied, is_true};
 use rp_value::Value;
 use std::alloc::Global;
 
