@@ -334,7 +334,6 @@ def test_lines_that_are_no_request():
 def test_requests_that_come_later():
     """What a later version of the program brings is no request yet."""
     lines = [
-        line("ann", "validate", owner="ann", group="g"),
         line("ann", "put_sections", file=file_of(""), models=[{"model": "m", "owner": "ann", "section": ""}]),
     ]
     expect([*FIRST, *[(it, BAD_REQUEST) for it in lines]])

@@ -266,7 +266,9 @@ def test_lines_that_are_no_request():
         line("ann", "grant", kind="group", level="owner", **given), line("ann", "grant", kind="group", level="Read", **given), line("ann", "grant", kind="group", **given),
         line("ann", "grant", kind="Group", level="read", **given), line("ann", "grant", kind="model", level="Group", name="m", to="bob"),
         line("ann", "grant", kind="groups", level="read", **given), line("ann", "revoke", kind="group", level="read", **given),
-        line("ann", "revoke", kind="Group", **given), line("ann", "revoke", **given), line("ann", "validate", **group),
+        line("ann", "revoke", kind="Group", **given), line("ann", "revoke", **given),
+        line("ann", "validate", group="g"), line("ann", "validate", owner="ann"), line("ann", "validate", **group, model="m"), line("ann", "Validate", **group),
+        line("ann", "validate", **{**group, "owner": None}), line("ann", "validate", **{**group, "group": 1}), line("ann", "validate", **group, type="P"),
     ]
     expect([*GROUPED, *[(it, BAD_REQUEST) for it in lines], (members("ann", "ann", "g"), members_are(("ann", "m", True))), (list_of("bob"), listed())])
 

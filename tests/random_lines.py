@@ -50,13 +50,10 @@ NO_ROLES = ["t.q.a", "T.Q.a", "T.Q", "T.Q.A.", "T..A", ".", "Q.A", "T.P.A", "L.Q
 
 NAMED_SCHEMAS = ["T"] * 30 + ["t", "T {1 0 10303}", "t{", "T\r\n", "\nT\t", "L", "l x", "S", "ſ", "", " T", "TT"]
 
-# requests of the plain repository that the program doesn't have yet
-NOT_YET = ["validate"]
-
 # from how many lines on each sort of reply has to be due
 ENOUGH = 2000
 DUE = {
-    *(do for do in REQUESTS if do not in NOT_YET), *(name for name in CODES if name != "NoMemory"),
+    *REQUESTS, *(name for name in CODES if name != "NoMemory"),
     *(f"FileFault {kind}" for kind in ("Token", "Open", "Number", "Syntax", "Sections", "Deep")),
     *(f"InstanceFault {kind}" for kind in ("Twice", "UnknownEntity", "IllegalCombination", "WrongCount", "NotDerived", "WrongKind",
                                            "Undefined")),
@@ -298,7 +295,7 @@ MAKERS = {
     "list": (list_models, 8), "grant": (grant, 14), "revoke": (revoke, 4), "schemas": (schemas, 2),
     "check_schema": (check_schema, 5),
     "create_group": (create_model, 6), "delete_group": (delete_model, 1), "include": (include, 14), "exclude": (exclude, 4),
-    "members": (members, 6), "extent": (extent, 10), "users": (users, 20),
+    "members": (members, 6), "extent": (extent, 10), "users": (users, 28), "validate": (members, 10),
 }
 
 
@@ -320,7 +317,7 @@ NO_JSON = ["1e999", "01", "1.", "-", "NaN", "-Infinity", "1" * 310, '"\\ud800"',
 
 # words that a request doesn't have, also such as may come
 NO_WORDS = {
-    "do": ["Names", "names ", "name", "", "groups", "Get", "Add", "drop_instance", "validate", "Include"],
+    "do": ["Names", "names ", "name", "", "groups", "Get", "Add", "drop_instance", "Validate", "Include"],
     "kind": ["Group", "groups", "Model", ""],
     "level": ["group", "write", "Group", "owner", "Read", ""],
 }

@@ -35,7 +35,7 @@ from typing import NamedTuple
 from lib.harness import Wrong, end, shortened, take_program
 from lib.messages import Repository as RepositoryFolder
 from lib.messages import (
-    create, create_group, exclude, exported, extent, file_of, get, grant, grant_group, include, line, link, list_of, members, put, revoke, users,
+    create, create_group, exclude, exported, extent, file_of, get, grant, grant_group, include, line, link, list_of, members, put, revoke, users, validate,
 )
 from lib.plain_binding import Entity, Schema, express
 from lib.plain_files import read, read_mapping
@@ -414,6 +414,10 @@ def read_users(it, run, who):
     return users(who, owner, name, list(of), it.choice(["", "T.Q.A"]))
 
 
+def read_report(it, run, who):
+    return validate(who, *seen_group(it, run, who))
+
+
 CHANGES = {
     "create_model": (create_model, 2), "delete_model": (delete_model, 2), "put": (put_file, 4), "add": (add, 4), "set": (set_instance, 3),
     "drop": (drop, 3), "grant model": (grant_model, 4), "revoke model": (revoke_model, 4), "create_group": (create_a_group, 3),
@@ -422,7 +426,7 @@ CHANGES = {
 }
 READS = {
     "list": (list_items, 8), "names": (read_names, 4), "export": (export, 8), "get": (get_instance, 2), "members": (list_members, 7),
-    "extent": (read_extent, 5), "users": (read_users, 6),
+    "extent": (read_extent, 5), "users": (read_users, 6), "validate": (read_report, 6),
 }
 
 
@@ -539,6 +543,7 @@ class PairMaker:
         for group in run.seen_groups(its):
             yield members(its, *key_of(group))
             yield extent(its, *key_of(group), "P")
+            yield validate(its, *key_of(group))
         for model in self.it.models(run, its, READING):
             yield line(its, "export", owner=model.owner, model=model.name, links=True)
         yield line(its, "names", owner=self.it.choice(PARTNERS), model=self.it.choice(MODELS))

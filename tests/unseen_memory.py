@@ -14,10 +14,10 @@ import sys
 
 from lib.harness import TOP, Folder, end, take_program
 from lib.messages import (
-    CONFIG, HAS_LINKS, IN_USE, MEMBERSHIP, NO_SUCH_INSTANCE, NO_SUCH_ITEM, Repository, add, canonical, check, create, create_group, delete,
+    ATTRIBUTES_HOLD, CONFIG, HAS_LINKS, IN_USE, MEMBERSHIP, NO_SUCH_INSTANCE, NO_SUCH_ITEM, Repository, add, canonical, check, check_is, create, create_group, delete,
     delete_group, drop, exclude, export, exported, extent, extent_is, file_fault, file_of, get, good, got, grant, grant_group, include,
     instance_fault, link, link_fault, list_of, listed, loaded, members, members_are, named, names, put, revoke, revoke_group, schemas,
-    set_instance, users, users_are,
+    report_is, set_instance, users, users_are, validate,
 )
 
 sys.path.insert(0, os.path.join(TOP, "tools"))
@@ -43,6 +43,7 @@ HERS = [*[line for name in ("m", "n", "o", "b", "g") for line in (create("ann", 
 LISTED = listed((b"owner", b"b", b"bob"), (b"owner", b"c", b"bob"), (b"read", b"v", b"cyd"), (b"read", b"x", b"cyd"),
                 groups=[(b"owner", b"e", b"bob"), (b"owner", b"g", b"bob"), (b"read", b"w", b"cyd")])
 TO_M = link(9, "ann", "m", 1)
+HOLDS = [*ATTRIBUTES_HOLD, check_is("where", "P", "W1"), check_is("inverse", "P", "U")]
 
 # A request of bob's, and the reply to it.
 ROWS = [
@@ -51,7 +52,7 @@ ROWS = [
         put("bob", "ann", "m", file_of("#1=P(1.,$);")), put("bob", "ann", "m", file_of("#1=Q(#9);"), TO_M), put("bob", "ann", "m", "ISO-10303-2"),
         add("bob", "ann", "m", "P(1.,$)"), set_instance("bob", "ann", "m", 1, "P(1.,$)"), drop("bob", "ann", "m", 1),
         delete("bob", "m"), grant("bob", "m", "ann", "read"), revoke("bob", "m", "ann"),
-        members("bob", "ann", "g"), extent("bob", "ann", "g", "P"), users("bob", "ann", "g", ["ann", "m", 1], ROLE),
+        members("bob", "ann", "g"), extent("bob", "ann", "g", "P"), users("bob", "ann", "g", ["ann", "m", 1], ROLE), validate("bob", "ann", "g"),
         include("bob", "g", "ann", "m"), include("bob", "h", "ann", "m"), include("bob", "h", "bob", "b"), exclude("bob", "h", "bob", "b"),
         delete_group("bob", "h"), grant_group("bob", "h", "ann"), revoke_group("bob", "h", "ann"))),
     (exclude("bob", "g", "ann", "m"), MEMBERSHIP), (include("bob", "g", "bob", "b"), MEMBERSHIP),
@@ -64,7 +65,7 @@ ROWS = [
     (get("bob", "bob", "b", 2), got("#2=Q(#1);")), (members("bob", "bob", "g"), members_are(("bob", "b", True))),
     (members("bob", "bob", "e"), members_are()), (members("bob", "cyd", "w"), members_are(("cyd", "v", True))),
     (extent("bob", "cyd", "w", "P"), extent_is(("cyd", "v", 1))), (extent("bob", "bob", "g", "P"), extent_is(("bob", "b", 1))),
-    (users("bob", "bob", "g", ["bob", "b", 1], ROLE), users_are(("bob", "b", 2))),
+    (users("bob", "bob", "g", ["bob", "b", 1], ROLE), users_are(("bob", "b", 2))), (validate("bob", "bob", "g"), report_is(7, *HOLDS)),
     (schemas("bob"), loaded("L", "T")), (check("bob", "SCHEMA C; END_SCHEMA;"), good("C")),
 ]
 

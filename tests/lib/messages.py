@@ -141,6 +141,10 @@ def users(who, owner, group, of, role):
     return line(who, "users", owner=owner, group=group, of=of, role=role)
 
 
+def validate(who, owner, group):
+    return line(who, "validate", owner=owner, group=group)
+
+
 def schemas(who):
     return line(who, "schemas")
 
@@ -213,6 +217,23 @@ def extent_is(*places):
 def users_are(*places):
     """The reply to `users` of what the instances at these places use."""
     return places_at(b"users", places)
+
+
+def check_is(check, of="", rule="", **culprits):
+    """An entry of a report: what is checked, of which rule, if it is one, and the culprits of each verdict but TRUE, by its name. The
+    entry's verdict is the first of these that stands here."""
+    verdict = next((it for it in ("false", "limit", "not_run", "unknown") if it in culprits), "true").upper()
+    names = {"of": of, "rule": rule} if of else {}
+    return json.dumps({"check": check, **names, "verdict": verdict, **culprits}, sort_keys=True, separators=(",", ":")).encode()
+
+
+# what is told where all attributes are as they have to be
+ATTRIBUTES_HOLD = [check_is("unset"), check_is("bounds"), check_is("reference")]
+
+
+def report_is(steps, *checks):
+    """The reply to `validate` with these entries."""
+    return b'{"ok":{"checks":[%s],"steps":%d}}' % (b",".join(checks), steps)
 
 
 def loaded(*names_of_schemas):

@@ -1,6 +1,6 @@
 -- Requests on groups.
 use Rattle.rp_plain.specs.declared.messages.Request.{Request}
-use Rattle.rp_plain.specs.declared.messages.Request.TheVariants.{CreateGroup, DeleteGroup, GrantGroup, RevokeGroup, Include, Exclude, Members, Extent, Users}
+use Rattle.rp_plain.specs.declared.messages.Request.TheVariants.{CreateGroup, DeleteGroup, GrantGroup, RevokeGroup, Include, Exclude, Members, Extent, Users, Validate}
 
 -- it names a group
 abbrev pub IsOnGroup : Request → Type 0
@@ -13,4 +13,5 @@ IsOnGroup (Exclude group model) = Unit {0}
 IsOnGroup (Members group) = Unit {0}
 IsOnGroup (Extent group entity) = Unit {0}
 IsOnGroup (Users group of role) = Unit {0}
+IsOnGroup (Validate group) = Unit {0}
 IsOnGroup _ = ⊥

@@ -9,6 +9,7 @@ use plain_data::Text;
 use rp_access::Access;
 use rp_plain::messages::{NewFault, Reply, Request};
 use rp_readers::{KeptLayouts, Readers, place_among};
+use rp_reports::SchemaRules;
 use std::alloc::Global;
 use std::marker::Model;
 
@@ -17,6 +18,7 @@ use std::marker::Model;
 pub struct Holdings<'s> {
     schemas: &'s [LoadedSchema<'s>],
     layouts: KeptLayouts<'s>,
+    rules: SchemaRules<'s>,
     partners: Vec<Text>,
     access: Access,
 }
@@ -38,7 +40,7 @@ impl<'s> Model for Holdings<'s> {
       access = h.access;
     } };
 
-    ghost invariant = { λ h. h.layouts ≡ h.schemas.now };
+    ghost invariant = { λ h. record { layouts : h.layouts ≡ h.schemas.now; rules : h.rules ≡ h.schemas.now } };
 }
 
 impl<'s> Holdings<'s> {
@@ -68,6 +70,7 @@ impl<'s> Holdings<'s> {
         Ok(Holdings {
             schemas,
             layouts: KeptLayouts::of(alloc, schemas)?,
+            rules: SchemaRules::of(alloc, schemas)?,
             partners,
             access: Access::new(alloc),
         })
@@ -100,7 +103,7 @@ impl<'s> Holdings<'s> {
             groups: self.access.groups(),
             caller: &self.partners[place],
         };
-        match plan(alloc, &asked, &mut self.layouts, request) {
+        match plan(alloc, &asked, &mut self.layouts, &self.rules, request) {
             Err(refusal) => Pending::refused(refusal),
             Ok(plan) => match Pending::of_plan(alloc, &mut self.access, plan) {
                 Ok(pending) => pending,

@@ -3,7 +3,7 @@
 ghost use Rattle.std.specs.Prelude.{◌≡◌};
 ghost use Rattle.rp_readers.specs.Told.{told};
 ghost use Rattle.rp_readers.specs.Named.{TellsNamed};
-ghost use Rattle.rp_readers.specs.Listed.{TellsListed};
+ghost use Rattle.rp_readers.specs.Listed.{TellsListed, TellsPopulations};
 ghost use Rattle.rp_plans.specs.Plans.{Plans};
 ghost use Rattle.rp_core.specs.Groups.{IsOnGroup};
 
@@ -11,16 +11,24 @@ use rp_file_plans::{plan_add, plan_check, plan_drop, plan_export, plan_get, plan
 use rp_item_plans::{
     plan_create, plan_create_group, plan_delete, plan_delete_group, plan_exclude, plan_extent,
     plan_grant, plan_grant_group, plan_include, plan_list, plan_members, plan_names, plan_revoke,
-    plan_revoke_group, plan_schemas, plan_users,
+    plan_revoke_group, plan_schemas, plan_users, plan_validate,
 };
 use rp_plain::messages::{Refusal, Request};
 use rp_plans::Plan;
 use rp_readers::{KeptLayouts, Readers};
+use rp_reports::SchemaRules;
 use std::alloc::Global;
 
 /// The plan of a request on groups, or its refusal.
-fn plan_on_group(alloc: Global, asked: &Readers<'_, '_>, request: Request) -> Result<Plan, Refusal>
+fn plan_on_group(
+    alloc: Global,
+    asked: &Readers<'_, '_>,
+    rules: &SchemaRules<'_>,
+    request: Request,
+) -> Result<Plan, Refusal>
     requires listed { TellsListed (told asked.now) }
+    requires populations { TellsPopulations (told asked.now) }
+    requires schemas { rules.now ≡ (told asked.now).schemas }
     requires on_group { IsOnGroup request }
     ensures { Plans (told asked.now) asked.now.caller.now request result }
 {
@@ -34,6 +42,7 @@ fn plan_on_group(alloc: Global, asked: &Readers<'_, '_>, request: Request) -> Re
         Request::Members { group } => plan_members(alloc, asked, &group),
         Request::Extent { group, entity } => plan_extent(alloc, asked, &group, &entity),
         Request::Users { group, of, role } => plan_users(alloc, asked, &group, &of, &role),
+        Request::Validate { group } => plan_validate(alloc, asked, rules, &group),
         _ => unreachable!(),
     }
 }
@@ -43,11 +52,14 @@ pub fn plan(
     alloc: Global,
     asked: &Readers<'_, '_>,
     layouts: &mut KeptLayouts<'_>,
+    rules: &SchemaRules<'_>,
     request: Request,
 ) -> Result<Plan, Refusal>
     requires named { TellsNamed (told asked.now) }
     requires listed { TellsListed (told asked.now) }
+    requires populations { TellsPopulations (told asked.now) }
     requires schemas { layouts.old ≡ (told asked.now).schemas }
+    requires rules { rules.now ≡ (told asked.now).schemas }
     ensures layouts { layouts.new ≡ layouts.old }
     ensures planned { Plans (told asked.now) asked.now.caller.now request result }
 {
@@ -70,6 +82,6 @@ pub fn plan(
         Request::RevokeModel { name, to } => plan_revoke(alloc, asked, name, to),
         Request::Schemas => plan_schemas(alloc, asked),
         Request::CheckSchema { text } => plan_check(alloc, asked, &text),
-        on_group => plan_on_group(alloc, asked, on_group),
+        on_group => plan_on_group(alloc, asked, rules, on_group),
     }
 }

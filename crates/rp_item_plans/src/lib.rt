@@ -8,6 +8,7 @@ mod lists;
 mod members;
 mod models;
 mod populations;
+mod validation;
 
 pub use grants::{plan_grant, plan_revoke};
 pub use groups::{plan_create_group, plan_delete_group, plan_grant_group, plan_revoke_group};
@@ -15,3 +16,4 @@ pub use lists::{plan_list, plan_names, plan_schemas};
 pub use members::{plan_exclude, plan_include, plan_members};
 pub use models::{plan_create, plan_delete};
 pub use populations::{plan_extent, plan_users};
+pub use validation::plan_validate;

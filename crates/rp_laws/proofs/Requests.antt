@@ -19,7 +19,7 @@ use Rattle.rp_rows.specs.Contents.{link_names}
 use Rattle.rp_rows.specs.Listings.{with_member, without_member}
 use Rattle.rp_rows.specs.Alterations.{Holds, Grants}
 use Rattle.rp_plain.specs.declared.messages.Request.{Request}
-use Rattle.rp_plain.specs.declared.messages.Request.TheVariants.{CreateModel, DeleteModel, Put, Export, Names, Get, Add, Set, DropInstance, ListItems, GrantModel, RevokeModel, CreateGroup, DeleteGroup, GrantGroup, RevokeGroup, Include, Exclude, Members, Extent, Users, Schemas, CheckSchema}
+use Rattle.rp_plain.specs.declared.messages.Request.TheVariants.{CreateModel, DeleteModel, Put, Export, Names, Get, Add, Set, DropInstance, ListItems, GrantModel, RevokeModel, CreateGroup, DeleteGroup, GrantGroup, RevokeGroup, Include, Exclude, Members, Extent, Users, Validate, Schemas, CheckSchema}
 use Rattle.rp_plain.specs.declared.messages.Refusal.{Refusal}
 use Rattle.rp_plain.specs.declared.messages.Reply.TheVariants.{Refused}
 use Rattle.rp_plain.specs.Plain.{Plain, Kind, OfModel, OfGroup, reaches}
@@ -126,6 +126,7 @@ edits_said a c (Exclude group k) = relisted_said c (Exclude group k) (key_of c g
 edits_said a c (Members group) = tt
 edits_said a c (Extent group entity) = tt
 edits_said a c (Users group place role) = tt
+edits_said a c (Validate group) = tt
 edits_said a c Schemas = tt
 edits_said a c (CheckSchema text) = tt
 
@@ -191,6 +192,7 @@ is_done a c (Exclude group k) refusal e = cc
 is_done a c (Members group) refusal e = cc
 is_done a c (Extent group entity) refusal e = cc
 is_done a c (Users group place role) refusal e = cc
+is_done a c (Validate group) refusal e = cc
 is_done a c Schemas refusal e = cc
 is_done a c (CheckSchema text) refusal e = checked_done (schema_in text) refusal e
 

@@ -4,7 +4,7 @@ use Rattle.std.specs.List.{AllByRecursion}
 use Rattle.rp_rows.specs.declared.rows.Key.{Key}
 use Rattle.rp_rows.specs.Rows.{Text, key_of}
 use Rattle.rp_plain.specs.declared.messages.Request.{Request}
-use Rattle.rp_plain.specs.declared.messages.Request.TheVariants.{CreateModel, DeleteModel, Put, Export, Names, Get, Add, Set, DropInstance, ListItems, GrantModel, RevokeModel, CreateGroup, DeleteGroup, GrantGroup, RevokeGroup, Include, Exclude, Members, Extent, Users, Schemas, CheckSchema}
+use Rattle.rp_plain.specs.declared.messages.Request.TheVariants.{CreateModel, DeleteModel, Put, Export, Names, Get, Add, Set, DropInstance, ListItems, GrantModel, RevokeModel, CreateGroup, DeleteGroup, GrantGroup, RevokeGroup, Include, Exclude, Members, Extent, Users, Validate, Schemas, CheckSchema}
 use Rattle.rp_plain.specs.Plain.{Plain, Kind, OfModel, OfGroup, reaches}
 
 -- the names whose rows c's request may change: to include and to exclude change the group's, all others that change anything their item's
@@ -30,6 +30,7 @@ names_changed c (Exclude group model) = (OfGroup, key_of c group) ∷ []
 names_changed c (Members group) = []
 names_changed c (Extent group entity) = []
 names_changed c (Users group place role) = []
+names_changed c (Validate group) = []
 names_changed c Schemas = []
 names_changed c (CheckSchema text) = []
 

@@ -8,6 +8,7 @@ pub mod Groups
 pub mod Links
 pub mod Files
 pub mod Lists
+pub mod Reports
 pub mod Populations
 pub mod Instances
 pub mod Checks

@@ -1,4 +1,4 @@
--- The requests that read what a group lists, and its population.
+-- The requests that read what a group lists, and its population, and that validate it.
 use Rattle.std.specs.Prelude.{Bool, not, List, [], ◌∷◌, map, Option, Some, None}
 use Rattle.std.specs.List.{list_any}
 use Rattle.ex_types.specs.Checked.{Checked}
@@ -12,9 +12,11 @@ use Rattle.rp_population.specs.Uses as uses
 use Rattle.rp_plain.specs.declared.lists.Member.{Member}
 use Rattle.rp_plain.specs.declared.messages.Refusal.TheVariants.{NoSuchInstance}
 use Rattle.rp_plain.specs.declared.messages.Reply.TheVariants as reply
+use Rattle.rp_plain.specs.declared.reports.ToldReport.{ToldReport}
 use Rattle.rp_plain.specs.Readers.{Readers}
 use Rattle.rp_plain.specs.Meaning.{Meaning, schema_named, when, key_fault, is_no_partner, unseen}
 use Rattle.rp_plain.specs.Groups.{members_of}
+use Rattle.rp_plain.specs.Reports.{validated}
 
 -- ---- members
 
@@ -59,5 +61,18 @@ abbrev pub users : Readers → Key → Place → Text → Meaning
 users a k p role = let xs = population (a.counted k) in record {
   tests = key_fault k ∷ is_no_partner a k.owner ∷ unseen (a.group_right k) ∷ when (not (has_place xs p)) NoSuchInstance ∷ [];
   reply = reply.Users (places (users_by (group_schema a.schemas (a.listing k)) role p xs));
+  edits = [];
+}
+
+-- ---- validation
+
+abbrev pub validated_by : Option Checked → List Placed → ToldReport
+validated_by None xs = record { checks = []; steps = 0 }
+validated_by (Some schema) xs = validated schema xs
+
+abbrev pub validate : Readers → Key → Meaning
+validate a k = record {
+  tests = key_fault k ∷ is_no_partner a k.owner ∷ unseen (a.group_right k) ∷ [];
+  reply = reply.Validated (validated_by (group_schema a.schemas (a.listing k)) (population (a.counted k)));
   edits = [];
 }

@@ -2,7 +2,7 @@
 use Rattle.std.specs.Prelude.{List, [], Option, Some, None}
 use Rattle.rp_rows.specs.Rows.{Text}
 use Rattle.rp_plain.specs.declared.messages.Request.{Request}
-use Rattle.rp_plain.specs.declared.messages.Request.TheVariants.{CreateModel, DeleteModel, Put, Export, Names, Get, Add, Set, DropInstance, ListItems, GrantModel, RevokeModel, CreateGroup, DeleteGroup, GrantGroup, RevokeGroup, Include, Exclude, Members, Extent, Users, Schemas, CheckSchema}
+use Rattle.rp_plain.specs.declared.messages.Request.TheVariants.{CreateModel, DeleteModel, Put, Export, Names, Get, Add, Set, DropInstance, ListItems, GrantModel, RevokeModel, CreateGroup, DeleteGroup, GrantGroup, RevokeGroup, Include, Exclude, Members, Extent, Users, Validate, Schemas, CheckSchema}
 use Rattle.rp_plain.specs.declared.messages.Refusal.{Refusal}
 use Rattle.rp_plain.specs.declared.messages.Reply.{Reply}
 use Rattle.rp_plain.specs.declared.messages.Reply.TheVariants.{Refused}
@@ -13,7 +13,7 @@ use Rattle.rp_plain.specs.Meaning.{Meaning, first_some}
 use Rattle.rp_plain.specs.Models.{create_model, delete_model}
 use Rattle.rp_plain.specs.Grants.{grant_model, revoke_model, grant_group, revoke_group}
 use Rattle.rp_plain.specs.Groups.{create_group, delete_group, include, exclude}
-use Rattle.rp_plain.specs.Populations.{members, extent, users}
+use Rattle.rp_plain.specs.Populations.{members, extent, users, validate}
 use Rattle.rp_plain.specs.Files.{put, export}
 use Rattle.rp_plain.specs.Lists.{names, list_items, schemas}
 use Rattle.rp_plain.specs.Instances.{get, add, set, drop_instance}
@@ -42,6 +42,7 @@ meaning a c (Exclude group model) = exclude a c group model
 meaning a c (Members group) = members a group
 meaning a c (Extent group entity) = extent a group entity
 meaning a c (Users group place role) = users a group place role
+meaning a c (Validate group) = validate a group
 meaning a c Schemas = schemas a
 meaning a c (CheckSchema text) = check_schema text
 

@@ -7,3 +7,4 @@
 
 pub mod lists;
 pub mod messages;
+pub mod reports;

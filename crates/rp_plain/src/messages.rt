@@ -1,6 +1,7 @@
 //! Requests and their replies.
 
 use crate::lists::{Item, ListedInstance, Member};
+use crate::reports::ToldReport;
 use ex_check::SchemaFault;
 use p21_tree::{FileFault, InstanceFault};
 use plain_data::{Rows, Text};
@@ -121,6 +122,10 @@ pub enum Request {
         /// `SCHEMA.ENTITY.ATTRIBUTE`, or nothing for all.
         role: Text,
     },
+    /// What the rules of its schema say of a group's population.
+    Validate {
+        group: Key,
+    },
     /// The names of the schemas.
     Schemas,
     /// What there is to tell of an EXPRESS text.
@@ -228,6 +233,8 @@ pub enum Reply {
     Extent(Rows<Place>),
     /// The users of an instance, in the order of their places, each as often as it uses it.
     Users(Rows<Place>),
+    /// The checks of a population.
+    Validated(ToldReport),
     /// The names of the schemas, in byte order.
     Schemas(Rows<Text>),
     /// The text is this schema, with warnings at these bytes.
@@ -263,6 +270,7 @@ impl Drop for Reply {
             Reply::Members(members) => drop(members),
             Reply::Extent(places) => drop(places),
             Reply::Users(places) => drop(places),
+            Reply::Validated(report) => drop(report),
             Reply::Schemas(names) => drop(names),
             Reply::Checked { schema, warnings } => {
                 drop(schema);

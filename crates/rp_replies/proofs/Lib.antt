@@ -1,1 +1,2 @@
 mod ListLemmas
+mod ReportLemmas

@@ -1,6 +1,6 @@
 -- The bytes of a reply.
-use Rattle.std.specs.Prelude.{ℕ, List, [], ◌∷◌, ◌++◌, map, codes}
-use Rattle.serde_json.specs.Data.{Data, boolean, number, unsigned, string, array, no_items, item, object, Members, no_members, member}
+use Rattle.std.specs.Prelude.{ℕ, List, [], ◌∷◌, ◌++◌, map, Option, Some, None, codes}
+use Rattle.serde_json.specs.Data.{Data, boolean, number, unsigned, string, array, Items, no_items, item, object, Members, no_members, member}
 use Rattle.serde_json.specs.View.{items_of}
 use Rattle.serde_json.specs.Written.{compact_text}
 use Rattle.p21_tree.specs.declared.fault.FaultKind.{FaultKind}
@@ -11,15 +11,23 @@ use Rattle.rp_content.specs.declared.link.Link.{Link}
 use Rattle.rp_rows.specs.declared.rows.Right.{Right}
 use Rattle.rp_rows.specs.declared.rows.Right.TheVariants.{Unseen, Reads, Groups, Writes, Owns}
 use Rattle.rp_population.specs.declared.place.Place.{Place}
+use Rattle.rp_meaning.specs.declared.report.Verdict.{Verdict}
+use Rattle.rp_meaning.specs.declared.report.Verdict.TheVariants as verdict
 use Rattle.rp_plain.specs.declared.lists.Item.{Item}
 use Rattle.rp_plain.specs.declared.lists.Member.{Member}
 use Rattle.rp_plain.specs.declared.lists.ListedInstance.{ListedInstance}
+use Rattle.rp_plain.specs.declared.reports.CheckKind.{CheckKind}
+use Rattle.rp_plain.specs.declared.reports.CheckKind.TheVariants as check
+use Rattle.rp_plain.specs.declared.reports.RuleName.{RuleName}
+use Rattle.rp_plain.specs.declared.reports.ToldCheck.{ToldCheck}
+use Rattle.rp_plain.specs.declared.reports.ToldCulprit.{ToldCulprit}
+use Rattle.rp_plain.specs.declared.reports.ToldReport.{ToldReport}
 use Rattle.rp_plain.specs.declared.messages.LinkFaultKind.{LinkFaultKind}
 use Rattle.rp_plain.specs.declared.messages.LinkFaultKind.TheVariants.{Defined, Own, NotSeen, OtherSchema, NoInstance}
 use Rattle.rp_plain.specs.declared.messages.Refusal.{Refusal}
 use Rattle.rp_plain.specs.declared.messages.Refusal.TheVariants.{BadRequest, TooLarge, BadName, UnknownPartner, UnknownSchema, Exists, NoSuchItem, NoRight, WrongSchema, Membership, FileFault, InstanceFault, LinkFault, NoSuchInstance, InUse, TooMany, HasLinks, NoMemory}
 use Rattle.rp_plain.specs.declared.messages.Reply.{Reply}
-use Rattle.rp_plain.specs.declared.messages.Reply.TheVariants.{Done, Stored, File, Linked, Names, Line, Added, Listed, Members as ListedMembers, Extent, Users, Schemas, Checked, Faulty, Refused}
+use Rattle.rp_plain.specs.declared.messages.Reply.TheVariants.{Done, Stored, File, Linked, Names, Line, Added, Listed, Members as ListedMembers, Extent, Users, Validated, Schemas, Checked, Faulty, Refused}
 use Rattle.ex_check.specs.declared.fault.SchemaFault.{SchemaFault}
 use Rattle.ex_check.specs.Check.{name as fault_name, place as fault_place}
 
@@ -130,6 +138,59 @@ warning_data at = place_data at (codes "SelectInTypeof")
 abbrev pub fault_data : SchemaFault → Data
 fault_data fault = place_data (fault_place fault) (fault_name fault)
 
+-- ---- reports
+
+abbrev pub check_word : CheckKind → List ℕ
+check_word check.Unset = codes "unset"
+check_word check.Bounds = codes "bounds"
+check_word check.Reference = codes "reference"
+check_word check.Type = codes "type"
+check_word check.Where = codes "where"
+check_word check.Unique = codes "unique"
+check_word check.Inverse = codes "inverse"
+check_word check.Rule = codes "rule"
+
+abbrev pub verdict_word : Verdict → List ℕ
+verdict_word verdict.True = codes "TRUE"
+verdict_word verdict.False = codes "FALSE"
+verdict_word verdict.Unknown = codes "UNKNOWN"
+verdict_word verdict.Limit = codes "LIMIT"
+verdict_word verdict.NotRun = codes "NOT_RUN"
+
+abbrev pub item_if_any : Option (List ℕ) → Items
+item_if_any None = no_items
+item_if_any (Some text) = item (string text) no_items
+
+-- a place, and the attribute behind it, if one is told
+abbrev pub culprit_data : ToldCulprit → Data
+culprit_data x = array (item (string x.model.owner) (item (string x.model.name) (item (number (unsigned x.instance)) (item_if_any x.attribute))))
+
+-- the culprits, if there are any
+abbrev pub with_culprits : List ℕ → List ToldCulprit → Members → Members
+with_culprits key [] ms = ms
+with_culprits key (x ∷ xs) ms = member key (list_of culprit_data (x ∷ xs)) ms
+
+-- what declares a rule and what it is called there, if it is one
+abbrev pub with_rule : Option RuleName → Members → Members
+with_rule None ms = ms
+with_rule (Some rule) ms = with_string (codes "of") rule.of (with_string (codes "rule") rule.rule ms)
+
+-- what stands behind `check`
+abbrev pub check_members : ToldCheck → Members
+check_members x =
+    with_culprits (codes "false") x.violating
+    (with_culprits (codes "limit") x.limited
+    (with_culprits (codes "not_run") x.not_run
+    (with_rule x.rule
+    (with_culprits (codes "unknown") x.unknown
+    (with_string (codes "verdict") (verdict_word x.verdict) no_members)))))
+
+abbrev pub check_data : ToldCheck → Data
+check_data x = object (with_string (codes "check") (check_word x.kind) (check_members x))
+
+abbrev pub report_members : ToldReport → Members
+report_members x = member (codes "checks") (list_of check_data x.checks) (with_number (codes "steps") x.steps no_members)
+
 -- ---- replies
 
 -- a reply as JSON
@@ -145,6 +206,7 @@ reply_data (Listed groups models) = only (codes "ok") (object (member (codes "gr
 reply_data (ListedMembers members) = only (codes "ok") (only (codes "members") (list_of member_data members))
 reply_data (Extent places) = only (codes "ok") (only (codes "extent") (list_of instance_data places))
 reply_data (Users places) = only (codes "ok") (only (codes "users") (list_of instance_data places))
+reply_data (Validated report) = only (codes "ok") (object (report_members report))
 reply_data (Schemas names) = only (codes "ok") (only (codes "schemas") (list_of string names))
 reply_data (Checked schema warnings) = only (codes "ok") (object (with_string (codes "schema") schema (member (codes "warnings") (list_of warning_data warnings) no_members)))
 reply_data (Faulty fault) = only (codes "ok") (only (codes "fault") (fault_data fault))

@@ -4,6 +4,7 @@
 mod lists;
 mod refusals;
 mod replies;
+mod reports;
 mod writing;
 
 pub use replies::{no_memory_line, reply_bytes, reply_line};

@@ -10,6 +10,7 @@ use crate::lists::{
     write_warnings,
 };
 use crate::refusals::write_refusal;
+use crate::reports::write_checks;
 use crate::writing::{close, number_at, open, place_of_kind, string_at};
 use ex_check::SchemaFault;
 use json::Writer;
@@ -17,6 +18,7 @@ use plain_data::Text;
 use rp_content::Link;
 use rp_plain::lists::{Item, ListedInstance, Member};
 use rp_plain::messages::{Refusal, Reply};
+use rp_plain::reports::ToldReport;
 use rp_population::Place;
 use std::alloc::{AllocError, Global};
 
@@ -61,6 +63,7 @@ fn write_reply(out: &mut Writer, reply: &Reply) -> Result<(), AllocError>
         Reply::Members(members) => write_listed_members(out, members.as_slice()),
         Reply::Extent(places) => write_places_at(out, "extent", places.as_slice()),
         Reply::Users(places) => write_places_at(out, "users", places.as_slice()),
+        Reply::Validated(report) => write_report(out, report),
         Reply::Schemas(names) => write_schemas(out, names.as_slice()),
         Reply::Checked { schema, warnings } => write_checked(out, schema, warnings.as_slice()),
         Reply::Faulty(fault) => write_faulty(out, *fault),
@@ -152,6 +155,17 @@ fn write_places_at(out: &mut Writer, key: &str, places: &[Place]) -> Result<(), 
     open(out, "ok")?;
     out.key(key)?;
     write_places(out, places)?;
+    close(out)
+}
+
+fn write_report(out: &mut Writer, report: &ToldReport) -> Result<(), AllocError>
+    ensures ok { OnOk result (out.new.tokens ≡ out.old.tokens ++ tokens_of (reply_data (Reply.Validated report.now))) }
+    ensures before { out.new.before ≡ out.old.before }
+{
+    open(out, "ok")?;
+    out.key("checks")?;
+    write_checks(out, report.checks.as_slice())?;
+    number_at(out, "steps", report.steps as u64)?;
     close(out)
 }
 

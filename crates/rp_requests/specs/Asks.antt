@@ -14,7 +14,7 @@ use Rattle.rp_rows.specs.Rows.{key_of}
 use Rattle.rp_rows.specs.Instances.{max_name}
 use Rattle.rp_population.specs.declared.place.Place.{Place}
 use Rattle.rp_plain.specs.declared.messages.Request.{Request}
-use Rattle.rp_plain.specs.declared.messages.Request.TheVariants.{CreateModel, DeleteModel, Put, Export, Names, Get, Add, Set, DropInstance, ListItems, GrantModel, RevokeModel, CreateGroup, DeleteGroup, GrantGroup, RevokeGroup, Include, Exclude, Members as ListMembers, Extent, Users, Schemas, CheckSchema}
+use Rattle.rp_plain.specs.declared.messages.Request.TheVariants.{CreateModel, DeleteModel, Put, Export, Names, Get, Add, Set, DropInstance, ListItems, GrantModel, RevokeModel, CreateGroup, DeleteGroup, GrantGroup, RevokeGroup, Include, Exclude, Members as ListMembers, Extent, Users, Validate, Schemas, CheckSchema}
 use Rattle.rp_requests.specs.declared.asks.RequestLine.{RequestLine}
 use Rattle.rp_requests.specs.declared.lines.Lists.{Lists}
 use Rattle.rp_requests.specs.declared.grants.ItemKind.{ItemKind}
@@ -187,6 +187,9 @@ members_of ms = if has_only (codes "group" ∷ codes "owner" ∷ []) ms then opt
 abbrev pub extent_of : Members → Option Request
 extent_of ms = if has_only (codes "group" ∷ codes "owner" ∷ codes "type" ∷ []) ms then option_and_then (λ group. with_text (codes "type") ms (λ entity. Some (Extent group entity))) (group_in ms) else None
 
+abbrev pub validate_of : Members → Option Request
+validate_of ms = if has_only (codes "group" ∷ codes "owner" ∷ []) ms then option_map Validate (group_in ms) else None
+
 -- of this place, if `of` is one
 abbrev pub users_of : Option Place → Members → Option Request
 users_of place ms = if has_only (codes "group" ∷ codes "of" ∷ codes "owner" ∷ codes "role" ∷ []) ms then option_and_then (λ place. option_and_then (λ group. with_text (codes "role") ms (λ role. Some (Users group place role))) (group_in ms)) place else None
@@ -209,7 +212,8 @@ group_request_for word ms =
     else (if bytes_eq word (codes "include") then include_of ms
     else (if bytes_eq word (codes "exclude") then exclude_of ms
     else (if bytes_eq word (codes "members") then members_of ms
-    else (if bytes_eq word (codes "extent") then extent_of ms else None)))))
+    else (if bytes_eq word (codes "extent") then extent_of ms
+    else (if bytes_eq word (codes "validate") then validate_of ms else None))))))
 
 -- any that has no list
 abbrev pub other_request_for : List ℕ → Members → Option Request

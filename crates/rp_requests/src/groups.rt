@@ -2,7 +2,7 @@
 
 ghost use Rattle.std.specs.Prelude.{◌≡◌};
 ghost use Rattle.serde_json.specs.View.{members_view};
-ghost use Rattle.rp_requests.specs.Asks.{create_group_of, delete_group_of, include_of, exclude_of, members_of, extent_of, users_of, group_request_for};
+ghost use Rattle.rp_requests.specs.Asks.{create_group_of, delete_group_of, include_of, exclude_of, members_of, extent_of, users_of, validate_of, group_request_for};
 
 use crate::members::{Members, take_group, take_model, take_text};
 use rp_plain::messages::Request;
@@ -20,6 +20,7 @@ pub(crate) fn group_request_for(word: &str, members: Members) -> Option<Request>
         "exclude" => exclude(members),
         "members" => list_members(members),
         "extent" => extent(members),
+        "validate" => validate(members),
         _ => None,
     }
 }
@@ -86,6 +87,16 @@ fn extent(mut members: Members) -> Option<Request>
     let group = take_group(&mut members)?;
     let entity = take_text(&mut members, "type")?;
     Some(Request::Extent { group, entity })
+}
+
+fn validate(mut members: Members) -> Option<Request>
+    ensures { result ≡ validate_of (members_view members.entries) }
+{
+    if !has_only_keys(&members, &["group", "owner"]) {
+        return None;
+    }
+    let group = take_group(&mut members)?;
+    Some(Request::Validate { group })
 }
 
 /// The place is that of the member `of`.

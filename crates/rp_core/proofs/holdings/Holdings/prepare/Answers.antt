@@ -9,7 +9,7 @@ use Rattle.rp_tables.specs.Named.{HoldsNamed}
 use Rattle.rp_readers.specs.Listed.{HoldsListed}
 use Rattle.rp_readers.specs.Told.{told}
 use Rattle.rp_core.proofs.Preparing.{prepared_from, refused_from, wanting}
-use Rattle.rp_readers.proofs.Names.{told_named, told_listed}
+use Rattle.rp_readers.proofs.Names.{told_named, told_listed, told_populations}
 use Rattle.rp_core.proofs.holdings.Holdings.prepare.Goals as goal
 use Rattle.rp_core.proofs.holdings.Holdings.prepare.Goals.{in-Ok-of_plan, in-Err-of_plan}
 
@@ -29,7 +29,19 @@ plan-requires-clause-listed c =
 
 pub plan-requires-clause-schemas : goal.plan-requires-clause-schemas
 unfolding told
-plan-requires-clause-schemas c = c.self.invariant
+plan-requires-clause-schemas c = c.self.invariant.layouts
+
+pub plan-requires-clause-rules : goal.plan-requires-clause-rules
+unfolding told
+plan-requires-clause-rules c = c.self.invariant.rules
+
+pub plan-requires-clause-populations : goal.plan-requires-clause-populations
+unfolding told
+plan-requires-clause-populations c =
+    let read : Plain = record { schemas = c.self.inside.schemas.now; partners = c.deref.result.now; models = c.models.result.now.rows; groups = c.groups.result.now.rows } in
+    let models : c.models.result.now.rows ≡ c.args.self.now.content.models = ap (λ t. t.rows) c.models.ensures ∙ ap (λ h. h.content.models) c.self.view_is in
+    told_populations read c.index.result.now (subst (λ (ms : List Model). IsAscending key_cmp row_key ms) (sym models) c.requires.order.models)
+    (subst (λ (ms : List Model). AllByRecursion HoldsNamed ms) (sym models) c.requires.named)
 
 pub of_plan-requires : goal.of_plan-requires
 of_plan-requires c =

@@ -1,0 +1,183 @@
+#!/usr/bin/env python3
+"""Runs the built program on the request that validates a group's population, and compares all that it writes, byte for byte.
+
+    tests/validation.py [PROGRAM]
+
+Each function `test_*` is one test; its document string says what has to hold. The last line is
+'validation: N passed, M failed', and the status is 0 only if none failed.
+"""
+import sys
+
+from lib.harness import run_tests
+from lib.messages import (
+    ATTRIBUTES_HOLD, BAD_NAME, BAD_REQUEST, CONFIG, FIRST, NO_SUCH_ITEM, OK, UNKNOWN_PARTNER, check_is, create, create_group, delete, exclude, expect,
+    file_of, grant, grant_group, include, instance_fault, instances, line, link, named, names, put, report_is, revoke, revoke_group, users,
+    users_are, validate,
+)
+
+O = """SCHEMA O; ENTITY e; i : OPTIONAL INTEGER;
+WHERE a : i < 3; b : (i < 3) AND FALSE; c : (i < 3) OR TRUE;
+d : NVL(i, 7) = 7; f : SIZEOF(QUERY(z <* [1, 2] | z < i)) = 0;
+END_ENTITY; END_SCHEMA;
+"""
+U = "SCHEMA U; ENTITY e; k : OPTIONAL INTEGER; UNIQUE u1 : k; END_ENTITY; END_SCHEMA;"
+G = """SCHEMA G; FUNCTION f(n : INTEGER) : INTEGER; IF n <= 0 THEN RETURN (0); END_IF; RETURN (f(n - 1)); END_FUNCTION;
+ENTITY e; k : INTEGER; WHERE w : f(k) = 0; END_ENTITY; END_SCHEMA;
+"""
+N = """SCHEMA N; ENTITY e; DERIVE a : INTEGER := b; b : INTEGER := a; WHERE w : a = 1; END_ENTITY; END_SCHEMA;
+"""
+# rules without labels, of a type and of each clause of an entity, names in another order than they are declared, and a supertype's attribute
+R = """SCHEMA R;
+TYPE size = INTEGER; WHERE SELF > 0; small : SELF < 10; END_TYPE;
+ENTITY z SUBTYPE OF (b); c : size; UNIQUE a, c; one : c; WHERE a <> c; END_ENTITY;
+ENTITY b; a : size; d : LIST [1:2] OF size; INVERSE user : k FOR r; END_ENTITY;
+ENTITY k; r : OPTIONAL b; END_ENTITY;
+RULE last FOR (k); WHERE SIZEOF(k) > 9; w : SIZEOF(k) < 9; END_RULE;
+END_SCHEMA;
+"""
+T_HOLDS = [*ATTRIBUTES_HOLD, check_is("where", "P", "W1"), check_is("inverse", "P", "U")]
+
+
+def filled(schema, *instances_of, who="ann"):
+    """Turns that make a group g of a partner with models m, or m0, m1, .., that hold these instances."""
+    models = ["m"] if len(instances_of) == 1 else [f"m{place}" for place in range(len(instances_of))]
+    return [(create_group(who, "g", schema), OK), *((it, reply) for model, held in zip(models, instances_of) for it, reply in [
+        (create(who, model, schema), OK), (include(who, "g", who, model), OK),
+        (put(who, who, model, file_of(held, schema)), instances(held.count("=")))])]
+
+
+def expect_report(text, turns, report):
+    """What is told of ann's group g behind these turns, by the schema of a text."""
+    expect([*turns, (validate("ann", "ann", "g"), report)], {**CONFIG, "schemas": ["it.exp"]}, it=text)
+
+
+# ---- what is told
+
+def test_a_population_of_nothing():
+    """Each rule of the schema has its entry, and nothing takes a step."""
+    told = (b'{"ok":{"checks":[{"check":"unset","verdict":"TRUE"},{"check":"bounds","verdict":"TRUE"},{"check":"reference","verdict":"TRUE"},'
+            b'{"check":"where","of":"P","rule":"W1","verdict":"TRUE"},{"check":"inverse","of":"P","rule":"U","verdict":"TRUE"}],"steps":0}}')
+    expect([*filled("T", ""), (names("ann", "ann", "m"), named()), (validate("ann", "ann", "g"), told),
+            (exclude("ann", "g", "ann", "m"), OK), (validate("ann", "ann", "g"), told)])
+
+
+def test_rules_that_are_unknown_and_violated():
+    """A rule is violated by FALSE alone; what is UNKNOWN is told as such."""
+    expect_report(O, filled("O", "#1=E($);"), (
+        b'{"ok":{"checks":[{"check":"unset","verdict":"TRUE"},{"check":"bounds","verdict":"TRUE"},{"check":"reference","verdict":"TRUE"},'
+        b'{"check":"where","of":"E","rule":"A","unknown":[["ann","m",1]],"verdict":"UNKNOWN"},'
+        b'{"check":"where","false":[["ann","m",1]],"of":"E","rule":"B","verdict":"FALSE"},'
+        b'{"check":"where","of":"E","rule":"C","verdict":"TRUE"},{"check":"where","of":"E","rule":"D","verdict":"TRUE"},'
+        b'{"check":"where","of":"E","rule":"F","verdict":"TRUE"}],"steps":36}}'))
+
+
+def test_a_value_that_is_not_set():
+    """A put takes it, and a validation tells the attribute by the entity that declares it; `*` is taken at derived places alone."""
+    expect([*filled("T", "#1=P($,$);"), (validate("ann", "ann", "g"), (
+        b'{"ok":{"checks":[{"check":"unset","false":[["ann","m",1,"P.X"]],"verdict":"FALSE"},{"check":"bounds","verdict":"TRUE"},'
+        b'{"check":"reference","verdict":"TRUE"},{"check":"where","of":"P","rule":"W1","verdict":"TRUE"},'
+        b'{"check":"inverse","of":"P","rule":"U","verdict":"TRUE"}],"steps":5}}')),
+            (put("ann", "ann", "m", file_of("#1=P(*,$);")), instance_fault("NotDerived", 1))])
+
+
+def test_links_of_others():
+    """What others link to a population changes no reply about it."""
+    asked = [(validate("ann", "ann", "g"), report_is(7, *T_HOLDS)),
+             (users("ann", "ann", "g", ["ann", "m", 1], "T.Q.A"), users_are(("ann", "m", 2)))]
+    expect([*FIRST, (create_group("ann", "g"), OK), (include("ann", "g", "ann", "m"), OK), *asked, (grant("ann", "m", "bob", "read"), OK),
+            (create("bob", "b"), OK), (put("bob", "bob", "b", file_of("#1=Q(#9);"), link(9, "ann", "m", 1)), instances(1)), *asked])
+
+
+def test_as_many_steps_as_there_may_be():
+    """An evaluation of 200,000 steps is one, and one of a step more isn't, whatever others have."""
+    many = lambda count: "".join(f"#{name}=E();" for name in range(1, count + 1))
+    told = (b'{"ok":{"checks":[{"check":"unset","verdict":"TRUE"},{"check":"bounds","verdict":"TRUE"},{"check":"reference","verdict":"TRUE"},'
+            b'{"check":"rule","of":"R1","rule":"#1","verdict":"TRUE"},{"check":"rule","of":"R2","rule":"#1","verdict":"LIMIT"}],"steps":400000}}')
+    expect([*filled("L", many(66_665)), (validate("ann", "ann", "g"), told), (create("bob", "m", "L"), OK),
+            (put("bob", "bob", "m", file_of(many(1000), "L")), instances(1000)), (validate("ann", "ann", "g"), told)])
+
+
+def test_instances_that_agree():
+    """UNIQUE lists each that agrees with another, and one without a value agrees with none."""
+    expect_report(U, filled("U", "#1=E(1);#2=E(1);#3=E($);#4=E(2);"), (
+        b'{"ok":{"checks":[{"check":"unset","verdict":"TRUE"},{"check":"bounds","verdict":"TRUE"},{"check":"reference","verdict":"TRUE"},'
+        b'{"check":"unique","false":[["ann","m",1],["ann","m",2]],"of":"E","rule":"U1","verdict":"FALSE"}],"steps":4}}'))
+
+
+def test_bodies_that_nest():
+    """200 bodies may nest, and one that nests more counts as many steps as an evaluation may take."""
+    expect_report(G, filled("G", "#1=E(199);#2=E(200);"), report_is(
+        201_801, *ATTRIBUTES_HOLD, check_is("where", "E", "W", limit=[["ann", "m", 2]])))
+
+
+def test_evaluations_that_are_not_begun():
+    """An evaluation is begun while at most 19,800,000 steps are used."""
+    expect_report(N, filled("N", "".join(f"#{name}=E();" for name in range(1, 103))), report_is(
+        20_000_000, *ATTRIBUTES_HOLD, check_is("where", "E", "W", limit=[["ann", "m", it] for it in range(1, 101)],
+                                               not_run=[["ann", "m", 101], ["ann", "m", 102]])))
+
+
+def test_rules_by_their_names_and_places():
+    """Checks stand in the order of the names of what declares their rules, a rule without a label is told by its place, and an inherited
+    attribute by the entity that declares it."""
+    expect_report(R, filled("R", "#1=Z(0,(5,20,3),0);#2=Z(0,(),0);#3=K(#1);"), report_is(
+        # a type's rules take 3 steps for each value: on A and C of both, and on the three elements of D
+        2 * 7 * 3
+        # Z's own rule takes 3 for each, its first rule of UNIQUE two attributes for each, and its second one
+        + 2 * 3 + 2 * 2 + 2 * 1
+        # USER takes one step for each of the two and one for the one user that there is, and each rule 4 and one for the instance that it counts
+        + 2 * 1 + 1 + 2 * (4 + 1),
+        check_is("unset"), check_is("bounds", false=[["ann", "m", 1, "B.D"], ["ann", "m", 2, "B.D"]]), check_is("reference"),
+        check_is("type", "SIZE", "#1", false=[["ann", "m", 1, "B.A"], ["ann", "m", 1, "Z.C"], ["ann", "m", 2, "B.A"], ["ann", "m", 2, "Z.C"]]),
+        check_is("type", "SIZE", "SMALL", false=[["ann", "m", 1, "B.D"]]),
+        check_is("where", "Z", "#1", false=[["ann", "m", 1], ["ann", "m", 2]]),
+        check_is("unique", "Z", "#1", false=[["ann", "m", 1], ["ann", "m", 2]]),
+        check_is("unique", "Z", "ONE", false=[["ann", "m", 1], ["ann", "m", 2]]),
+        check_is("inverse", "B", "USER", false=[["ann", "m", 2]]),
+        b'{"check":"rule","of":"LAST","rule":"#1","verdict":"FALSE"}', check_is("rule", "LAST", "W")))
+
+
+# ---- populations of several models
+
+def test_culprits_in_their_order():
+    """They stand by owner, model and name, whenever the models were made."""
+    unset = [["ann", "M", 3, "P.X"], ["ann", "m", 1, "P.X"], ["ann", "m", 20, "P.X"], ["bob", "a", 1, "P.X"]]
+    turns = [(create("bob", "a"), OK), (grant("bob", "a", "ann", "group"), OK), (create("ann", "m"), OK), (create("ann", "M"), OK), (create_group("ann", "g"), OK),
+             *((include("ann", "g", *it), OK) for it in [("bob", "a"), ("ann", "m"), ("ann", "M")]),
+             (put("ann", "ann", "m", file_of("#20=P($,$);#1=P($,$);#3=P(1.,$);")), instances(3)), (put("ann", "ann", "M", file_of("#3=P($,$);")), instances(1)),
+             (put("bob", "bob", "a", file_of("#1=P($,$);")), instances(1))]
+    expect([*turns, (validate("ann", "ann", "g"), report_is(5 * 5, check_is("unset", false=unset), *T_HOLDS[1:]))])
+
+
+def test_links_within_a_population():
+    """A link denotes its instance while the population has it; then it is a use, and else a reference that leads nowhere."""
+    asked = validate("ann", "ann", "g")
+    astray = report_is(0, *ATTRIBUTES_HOLD[:2], check_is("reference", false=[["bob", "b", 1, "Q.A"]]), *T_HOLDS[3:])
+    expect([*FIRST, (create_group("ann", "g"), OK), (include("ann", "g", "ann", "m"), OK), (grant("ann", "m", "bob", "read"), OK), (create("bob", "b"), OK),
+            (put("bob", "bob", "b", file_of("#1=Q(#9);"), link(9, "ann", "m", 1)), instances(1)), (asked, report_is(7, *T_HOLDS)),
+            (grant("bob", "b", "ann", "group"), OK), (asked, report_is(7, *T_HOLDS)), (include("ann", "g", "bob", "b"), OK), (asked, report_is(9, *T_HOLDS)),
+            (exclude("ann", "g", "ann", "m"), OK), (asked, astray), (include("ann", "g", "ann", "m"), OK), (asked, report_is(9, *T_HOLDS)),
+            (delete("ann", "m"), OK), (asked, astray), (revoke("bob", "b", "ann"), OK), (asked, report_is(0, *T_HOLDS))])
+
+
+# ---- who is told
+
+def test_a_group_that_is_granted():
+    """Who may read a group is told the same as its owner, also of models that he sees by it alone."""
+    told = report_is(7, *T_HOLDS)
+    expect([*FIRST, (create_group("ann", "g"), OK), (include("ann", "g", "ann", "m"), OK), (validate("ann", "ann", "g"), told),
+            (validate("bob", "ann", "g"), NO_SUCH_ITEM), (grant_group("ann", "g", "bob"), OK), (validate("bob", "ann", "g"), told),
+            (revoke_group("ann", "g", "bob"), OK), (validate("bob", "ann", "g"), NO_SUCH_ITEM), (validate("ann", "ann", "g"), told)])
+
+
+def test_refusals_in_their_order():
+    """The first that holds is told, and an unseen group is answered as an absent one."""
+    expect([*FIRST, (create_group("ann", "g"), OK), (validate("ann", "carl", "a b"), BAD_NAME), (validate("ann", "", "g"), BAD_NAME),
+            (validate("ann", "ann", ""), BAD_NAME), (validate("ann", "carl", "g"), UNKNOWN_PARTNER), (validate("ann", "carl", "z"), UNKNOWN_PARTNER),
+            (validate("ann", "ann", "z"), NO_SUCH_ITEM), (validate("ann", "bob", "g"), NO_SUCH_ITEM), (validate("bob", "ann", "g"), NO_SUCH_ITEM),
+            (validate("bob", "ann", "z"), NO_SUCH_ITEM), (validate("ann", "ann", "m"), NO_SUCH_ITEM), (validate("carl", "ann", "g"), BAD_REQUEST),
+            (line("ann", "validate", owner="ann", group="g", steps=1), BAD_REQUEST)])
+
+
+if __name__ == "__main__":
+    run_tests("validation", globals(), sys.argv[1:])
