@@ -1,5 +1,5 @@
 -- Where the instances of one model stand in a population.
-use Rattle.std.proofs.Common.{◌≡◌, ℕ, zero, suc, ◌+◌, nat_lt, Bool, true, false, ◌&&◌, List, [], ◌∷◌, ◌++◌, map, length, take, Option, Some, refl, sym, ◌∙◌, ap, subst, arith, length-append}
+use Rattle.std.proofs.Common.{◌≡◌, ℕ, zero, suc, ◌+◌, ◌≤◌, nat_lt, Bool, true, false, ◌&&◌, List, [], ◌∷◌, ◌++◌, map, length, take, Option, Some, refl, sym, ◌∙◌, ap, subst, arith, length-append}
 use Rattle.std.proofs.lemmas.Bool.Decides.{nat_tests}
 use Rattle.std.proofs.lemmas.List.{length-map}
 use Rattle.std.specs.Prelude.{if◌then◌else◌, slice_get, min}
@@ -94,3 +94,12 @@ own_stands (n ∷ ms) (suc at) m name order is =
         ≡ (if t then length (population (take (suc at) (n ∷ ms))) + place_of m.content.instances name else length (population (n ∷ ms)))
     by true e f = omega arith
     by false e f = omega arith
+
+-- it stands within the population
+pub own_within : (ms : List Counted) (at : ℕ) (m : Counted) → slice_get ms at ≡ Some m → length (population (take at ms)) + length m.content.instances ≤ length (population ms)
+own_within [] at m is = cc
+own_within (n ∷ ms) zero m is =
+    let same : n ≡ m = cc in
+    subst (λ (x : Counted). 0 + length x.content.instances ≤ length (population (n ∷ ms))) same (omega (arith, length-append (placed_all n) (population ms), length-map n.content.instances (placed n)))
+own_within (n ∷ ms) (suc at) m is =
+    omega (arith, own_within ms at m is, length-append (placed_all n) (population ms), length-append (placed_all n) (population (take at ms)))
