@@ -1,7 +1,9 @@
 //! The operators and the built-in functions of EXPRESS over values, and what values become by declared types.
 #![tactic(auto)]
 
+mod attributes;
 mod bare;
+mod bounds;
 mod built_ins;
 mod costs;
 mod decimals;
@@ -10,11 +12,14 @@ mod ends;
 mod naming;
 mod numbers;
 mod operators;
+mod present;
 mod qualifiers;
 mod relations;
 mod scalars;
 
+pub use attributes::{is_of, same_attribute};
 pub use bare::{aggregate_of, carried, integer_of, is_indeterminate, is_true, place_of, text_of};
+pub use bounds::holds_count;
 pub use built_ins::{
     absolute, binary_length, exists, high_index, initializer, low_index, null_value, odd, size_of,
     text_length, value_in,
@@ -24,4 +29,5 @@ pub use declared::given;
 pub use ends::{AggregateType, End, aggregate_type, behind_names, end_of, fits};
 pub use naming::type_names;
 pub use operators::{applied, applied_to, within};
+pub use present::{all_present, present};
 pub use qualifiers::{index, range};
