@@ -10,4 +10,4 @@ pub mod Sizes
 pub mod Sums
 pub mod Texts
 pub mod Sets
-pub mod Present
+pub mod Replaced

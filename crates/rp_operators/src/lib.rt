@@ -12,8 +12,8 @@ mod ends;
 mod naming;
 mod numbers;
 mod operators;
-mod present;
 mod qualifiers;
+mod references;
 mod relations;
 mod scalars;
 
@@ -29,5 +29,5 @@ pub use declared::given;
 pub use ends::{AggregateType, End, aggregate_type, behind_names, end_of, fits};
 pub use naming::type_names;
 pub use operators::{applied, applied_to, within};
-pub use present::{all_present, present};
 pub use qualifiers::{index, range};
+pub use references::{all_present, present};

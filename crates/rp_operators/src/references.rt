@@ -1,4 +1,4 @@
-//! Values in which references that leave a population are `?`.
+//! References that leave a population, which are read as `?`.
 
 ghost use Rattle.std.specs.Prelude.{◌≡◌, IfOk, map, nat_lt, if◌then◌else◌};
 ghost use Rattle.rp_meaning.specs.Reading as spec;
