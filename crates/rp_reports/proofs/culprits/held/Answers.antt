@@ -1,7 +1,7 @@
 use Rattle.std.proofs.Common.{get_or, rules, ◌∙◌}
 use Rattle.std.proofs.lemmas.Fn.{always_returns_same}
 use Rattle.rp_rows.specs.Rows.{key_cmp}
-use Rattle.rp_reports.proofs.Told.{same_keys}
+use Rattle.rp_reports.proofs.Keys.{same_keys}
 use Rattle.rp_reports.proofs.culprits.held.Goals as goal
 
 pub returns-in-Ok : goal.returns-in-Ok

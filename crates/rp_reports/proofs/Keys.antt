@@ -1,22 +1,13 @@
--- Culprits one after the other, and the keys of their models.
-use Rattle.std.proofs.Common.{◌≡◌, true, List, ◌∷◌, ◌++◌, Option, Some, None, refl, ap, ◌∙◌, sym}
+-- Keys that neither comes before are one.
+use Rattle.std.proofs.Common.{◌≡◌, true, ap, ◌∙◌, sym}
 use Rattle.std.specs.declared.cmp.Ordering.TheVariants.{Equal}
-use Rattle.std.specs.List.{cons_option, filter_map}
-use Rattle.std.specs.Option.{option_to_list}
-use Rattle.std.specs.Ordering.{is_eq}
 use Rattle.std.specs.Cmp.{tied_then}
+use Rattle.std.specs.Ordering.{is_eq}
 use Rattle.std.proofs.lemmas.Bool.{and_parts}
 use Rattle.std.proofs.lemmas.Map.Text.{is_eq-slice_cmp}
 use Rattle.std.proofs.lemmas.Slice.Eq.{bytes_eq-Decides}
 use Rattle.rp_rows.specs.declared.rows.Key.{Key}
 use Rattle.rp_rows.specs.Rows.{Text, key_cmp, text_cmp}
-
-pub first_told : {X Y : Type 0} (f : X → Option Y) (x : X) (xs : List X) → filter_map f (x ∷ xs) ≡ option_to_list (f x) ++ filter_map f xs
-first_told {X} {Y} f x xs = by (f x)
-  where
-    by : (o : Option Y) → cons_option o (filter_map f xs) ≡ option_to_list o ++ filter_map f xs
-    by None = refl
-    by (Some y) = refl
 
 same_text : (s t : Text) → is_eq (text_cmp s t) ≡ true → s ≡ t
 same_text s t h = (bytes_eq-Decides s t).0 (sym (is_eq-slice_cmp s t) ∙ h)
