@@ -11,7 +11,7 @@ use rp_plain::reports::{ToldCheck, ToldReport};
 use std::alloc::{AllocError, Global};
 
 fn told_check(alloc: Global, telling: &Telling<'_>, check: &Check) -> Result<ToldCheck, AllocError>
-    ensures { IfOk result (λ told. told ≡ spec.told_check telling.now.schema telling.now.population check.now) }
+    ensures { IfOk result (λ told. told ≡ spec.told_check telling.now.schema.now telling.now.population.now check.now) }
 {
     let rule = rule_of(alloc, telling.schema(), check.constraint)?;
     let violating = telling.culprits(alloc, check.violating.as_slice())?;
@@ -34,7 +34,7 @@ fn told_checks(
     telling: &Telling<'_>,
     checks: &[Check],
 ) -> Result<Rows<ToldCheck>, AllocError>
-    ensures { IfOk result (λ told. told ≡ map (spec.told_check telling.now.schema telling.now.population) checks.now) }
+    ensures { IfOk result (λ told. told ≡ map (spec.told_check telling.now.schema.now telling.now.population.now) checks.now) }
 {
     let mut told = Rows::from_vec(Vec::with_capacity(alloc, checks.len())?);
     for check in checks {
@@ -48,7 +48,7 @@ pub(crate) fn told_report(
     telling: &Telling<'_>,
     report: &Report,
 ) -> Result<ToldReport, AllocError>
-    ensures { IfOk result (λ told. told ≡ spec.told_report telling.now.schema telling.now.population report.now) }
+    ensures { IfOk result (λ told. told ≡ spec.told_report telling.now.schema.now telling.now.population.now report.now) }
 {
     Ok(ToldReport {
         checks: told_checks(alloc, telling, report.checks.as_slice())?,
