@@ -52,11 +52,10 @@ module _ (ms : List Counted) (xs : List Placed) (counted : IsPopulation ms xs) (
   unfolding named_at
   all_named i name =
       sym (
-        position_walked (placed m i) name xs
-        ∙ first_of_either (λ (y : Placed). same_place y.place (beside (placed m i) name)) (λ (y : Placed). list_any (links_to name y.place) m.content.links) xs
-        ∙ (λ j. min (own_is i name j) (linked_walk name m.content.links searchable.links xs j))
+      position_walked (placed m i) name xs
+      ∙ first_of_either (λ (y : Placed). same_place y.place (beside (placed m i) name)) (λ (y : Placed). list_any (links_to name y.place) m.content.links) xs
+      ∙ (λ j. min (own_is i name j) (linked_walk name m.content.links searchable.links xs j))
       )
-
 
 -- names that are made of these are those
 abbrev pub made_of : List Placed → List Instance → ℕ → List Link → List ℕ → Names

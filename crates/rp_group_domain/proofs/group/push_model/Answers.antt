@@ -18,8 +18,8 @@ returns-clause-written c =
     let all : c.as_slice.result.now ≡ m.content.instances = c.as_slice.ensures ∙ ap (λ (n : Counted). n.content.instances) c.model.view_is in
     let named = subst (λ (o : Option Counted). IfSome o (λ k. AreNamesOf xs k n)) is c.in_ok-names.ensures in
     IfOk-weaker c.push_written.result _ _ (λ _ added.
-      added
-      ∙ ap (λ (ys : List WrittenInstance). ys ++ map (written checked n) c.as_slice.result.now) c.requires.before
-      ∙ ap (λ ys. written_before checked xs ms c.args.at ++ ys) (ap (map (written checked n)) all ∙ model_written checked xs m n named m.content.instances)
-      ∙ one_model_more checked xs ms c.args.at m is)
+    added
+    ∙ ap (λ (ys : List WrittenInstance). ys ++ map (written checked n) c.as_slice.result.now) c.requires.before
+    ∙ ap (λ ys. written_before checked xs ms c.args.at ++ ys) (ap (map (written checked n)) all ∙ model_written checked xs m n named m.content.instances)
+    ∙ one_model_more checked xs ms c.args.at m is)
     c.push_written.ensures.written
