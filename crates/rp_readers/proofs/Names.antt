@@ -7,7 +7,7 @@ use Rattle.std.proofs.lemmas.Bool.Decides.{nat_tests}
 use Rattle.std.proofs.lemmas.Cmp.{nat_cmp_total}
 use Rattle.std.proofs.lemmas.Option.{slice_get_read}
 use Rattle.plain_data.specs.Numbers.{is_among}
-use Rattle.sorted_tables.specs.Table.{is_after, is_at, is_before, IsAscending}
+use Rattle.sorted_tables.specs.Table.{is_at, is_before, IsAscending}
 use Rattle.sorted_tables.proofs.Searching.{at_place, chosen}
 use Rattle.rp_content.specs.declared.instance.Instance.{Instance}
 use Rattle.rp_rows.specs.Rows.{Text, is_row, key_cmp, row_key, Model, GroupRow}
@@ -15,9 +15,10 @@ use Rattle.rp_rows.specs.Contents.{instance_name, names}
 use Rattle.rp_rows.specs.Instances.{instance_of}
 use Rattle.rp_rows.specs.Sight.{counts, sees, sees_group}
 use Rattle.rp_population.specs.Populations.{Counted}
-use Rattle.rp_positions.specs.Positions.{AreInOrder, IsSearchable, counted_key}
+use Rattle.rp_positions.specs.Positions.{AreInOrder, IsSearchable}
 use Rattle.rp_plain.specs.Plain.{Plain, model_at, group_at}
-use Rattle.rp_plain.specs.Readers.{as_counted, asked, counted_in, held}
+use Rattle.rp_plain.specs.Readers.{asked, counted_in, held}
+use Rattle.rp_plain.proofs.Counted.{all_counted, counted_ascending}
 use Rattle.rp_tables.specs.Named.{IsNamed, HoldsNamed}
 use Rattle.rp_readers.specs.Named.{AreNamed, TellsNamed}
 use Rattle.rp_rows.specs.Listings.{IsListed}
@@ -60,27 +61,9 @@ told_listed r c all k h = by (group_at r c k) refl
         let same : g.holds ≡ h = cc in
         subst IsListed same (all_found HoldsListed (λ g. is_row k g && sees_group c g) r.groups g seen all)
 
--- what holds of all models holds of those that count
-all_counted : (P : Counted → Type 0) (q : Model → Bool) (ms : List Model) → AllByRecursion (λ (m : Model). P (as_counted m)) ms → AllByRecursion P (map as_counted (filter q ms))
-all_counted P q [] all = tt
-all_counted P q (m ∷ ms) all = by (q m)
-  where
-    by : (t : Bool) → AllByRecursion P (map as_counted (if t then m ∷ filter q ms else filter q ms))
-    by true = (all.0, all_counted P q ms all.1)
-    by false = all_counted P q ms all.1
-
--- and they stand in the same order
-counted_ascending : (q : Model → Bool) (ms : List Model) → IsAscending key_cmp row_key ms → IsAscending key_cmp counted_key (map as_counted (filter q ms))
-counted_ascending q [] order = tt
-counted_ascending q (m ∷ ms) order = by (q m)
-  where
-    by : (t : Bool) → IsAscending key_cmp counted_key (map as_counted (if t then m ∷ filter q ms else filter q ms))
-    by true = (all_counted (λ (x : Counted). is_after key_cmp counted_key (row_key m) x ≡ true) q ms order.0, counted_ascending q ms order.1)
-    by false = counted_ascending q ms order.1
-
-searchable : (ms : List Model) → AllByRecursion HoldsNamed ms → AllByRecursion (λ (m : Model). IsSearchable m.holds.content) ms
-searchable [] all = tt
-searchable (m ∷ ms) all = (record { instances = all.0.order; links = all.0.links }, searchable ms all.1)
+searchable : (q : Model → Bool) (ms : List Model) → AllByRecursion HoldsNamed ms → AllByRecursion (λ (m : Model). q m ≡ true → IsSearchable m.holds.content) ms
+searchable q [] all = tt
+searchable q (m ∷ ms) all = ((λ passes. record { instances = all.0.order; links = all.0.links }), searchable q ms all.1)
 
 pub told_populations : (r : Plain) (c : Text) → IsAscending key_cmp row_key r.models → AreNamed r → TellsPopulations (asked r c)
 told_populations r c order all k = by (group_at r c k)
@@ -89,7 +72,7 @@ told_populations r c order all k = by (group_at r c k)
     by None = record { models = tt; contents = tt }
     by (Some g) = record {
       models = counted_ascending (λ m. counts m g) r.models order;
-      contents = all_counted (λ (x : Counted). IsSearchable x.content) (λ m. counts m g) r.models (searchable r.models all);
+      contents = all_counted (λ (x : Counted). IsSearchable x.content) (λ m. counts m g) r.models (searchable (λ m. counts m g) r.models all);
     }
 
 pub same_test : (m k : ℕ) → is_eq (nat_cmp m k) ≡ (m == k)
