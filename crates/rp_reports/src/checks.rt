@@ -10,7 +10,11 @@ use rp_meaning::{Check, Report};
 use rp_plain::reports::{ToldCheck, ToldReport};
 use std::alloc::{AllocError, Global};
 
-fn told_check(alloc: Global, telling: &Telling<'_>, check: &Check) -> Result<ToldCheck, AllocError>
+fn told_check(
+    alloc: Global,
+    telling: &Telling<'_, '_>,
+    check: &Check,
+) -> Result<ToldCheck, AllocError>
     ensures { IfOk result (λ told. told ≡ spec.told_check telling.now.schema.now telling.now.population.now check.now) }
 {
     let rule = rule_of(alloc, telling.schema(), check.constraint)?;
@@ -31,7 +35,7 @@ fn told_check(alloc: Global, telling: &Telling<'_>, check: &Check) -> Result<Tol
 
 fn told_checks(
     alloc: Global,
-    telling: &Telling<'_>,
+    telling: &Telling<'_, '_>,
     checks: &[Check],
 ) -> Result<Rows<ToldCheck>, AllocError>
     ensures { IfOk result (λ told. told ≡ map (spec.told_check telling.now.schema.now telling.now.population.now) checks.now) }
@@ -45,7 +49,7 @@ fn told_checks(
 
 pub(crate) fn told_report(
     alloc: Global,
-    telling: &Telling<'_>,
+    telling: &Telling<'_, '_>,
     report: &Report,
 ) -> Result<ToldReport, AllocError>
     ensures { IfOk result (λ told. told ≡ spec.told_report telling.now.schema.now telling.now.population.now report.now) }

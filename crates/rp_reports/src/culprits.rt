@@ -16,14 +16,14 @@ use sqlite_items::at;
 use std::alloc::{AllocError, Global};
 
 /// What tells who stands at a position of a population of a schema.
-pub(crate) struct Telling<'a> {
-    schema: &'a RuledSchema<'a>,
+pub(crate) struct Telling<'a, 's> {
+    schema: &'a RuledSchema<'s>,
     population: &'a [PlacedInstance<'a>],
     /// Of the models of the population, in their order. All culprits of a model share its key.
     keys: Items<Shared<Key>>,
 }
 
-impl<'a> Drop for Telling<'a> {
+impl<'a, 's> Drop for Telling<'a, 's> {
     fn drop(self) {
         let Telling {
             schema: _,
@@ -66,7 +66,7 @@ fn shared_key(alloc: Global, keys: &[Shared<Key>], key: &Key) -> Result<Shared<K
     }
 }
 
-impl<'a> Telling<'a> {
+impl<'a, 's> Telling<'a, 's> {
     ghost use Rattle.std.specs.Prelude.{◌≡◌, ◌++◌, IfOk, OnOk};
     ghost use Rattle.std.specs.Option.{option_and_then, option_to_list};
     ghost use Rattle.rp_plain.specs.Reports as spec;
@@ -74,10 +74,10 @@ impl<'a> Telling<'a> {
     /// Of the population of these models of a schema.
     pub(crate) fn of(
         alloc: Global,
-        schema: &'a RuledSchema<'a>,
+        schema: &'a RuledSchema<'s>,
         models: &[CountedModel<'_>],
         population: &'a [PlacedInstance<'a>],
-    ) -> Result<Telling<'a>, AllocError>
+    ) -> Result<Telling<'a, 's>, AllocError>
         ensures schema { IfOk result (λ telling. telling.schema.now ≡ schema.now) }
         ensures population { IfOk result (λ telling. telling.population.now ≡ population.now) }
     {
@@ -90,7 +90,7 @@ impl<'a> Telling<'a> {
     }
 
     /// The schema of the population.
-    pub(crate) fn schema(&self) -> &'a CheckedSchema
+    pub(crate) fn schema(&self) -> &'s CheckedSchema
         ensures { result.now ≡ self.now.schema.now }
     {
         self.schema.checked()

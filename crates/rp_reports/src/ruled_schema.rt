@@ -54,7 +54,9 @@ impl<'s> Model for RuledSchema<'s> {
 
 impl<'s> RuledSchema<'s> {
     ghost use Rattle.std.specs.Prelude.{◌≡◌, option_copied, IfOk};
+    ghost use Rattle.std.specs.Str.{bytes_eq};
     ghost use Rattle.rp_meaning.specs.Compiled.{compiled};
+    ghost use Rattle.rp_plain.specs.Meaning.{schema_name};
     ghost use Rattle.rp_plain.specs.Reports as spec;
 
     /// The schema with what is found of it once.
@@ -72,6 +74,13 @@ impl<'s> RuledSchema<'s> {
             rules,
             names,
         })
+    }
+
+    /// Whether it has this name.
+    pub(crate) fn is_named(&self, name: &Text) -> bool
+        ensures { result ≡ bytes_eq name.now (schema_name self.now) }
+    {
+        name.as_str() == self.checked().name()
     }
 
     /// The schema as its instances ask it.

@@ -35,9 +35,12 @@ impl<'s> Model for SchemaRules<'s> {
 fn named<'r, 's>(schemas: &'r [RuledSchema<'s>], name: &Text) -> Option<&'r RuledSchema<'s>>
     ensures { option_copied result ≡ schema_named schemas.now name.now }
 {
-    schemas
-        .iter()
-        .find(|schema| name.as_str() == schema.checked().name())
+    for schema in schemas {
+        if schema.is_named(name) {
+            return Some(schema);
+        }
+    }
+    None
 }
 
 impl<'s> SchemaRules<'s> {
