@@ -44,7 +44,7 @@ of-one : (means : Expression → Meaning) (next : List Value → Computation Val
 of-one means next s x left = one-by next (means x s left)
 
 -- behind a step
-behind : (m : Computation Value) (u : Unit {0}) (left : Counter) (found : Option (Unit {0} × Counter)) → found ≡ Some (u, left) → and_then found (λ v. m) ≡ m left
+pub behind : (m : Computation Value) (u : Unit {0}) (left : Counter) (found : Option (Unit {0} × Counter)) → found ≡ Some (u, left) → and_then found (λ v. m) ≡ m left
 behind m u left found is = rw is refl
 
 -- of several behind a step
