@@ -1,4 +1,5 @@
 pub mod Loops
+pub mod Following
 pub mod Knot
 pub mod Told
 pub mod Found
