@@ -1,8 +1,8 @@
-pub mod Characters
-pub mod Replaced
 pub mod Itself
 pub mod Repeated
 pub mod Places
 pub mod Faulty
 pub mod Astray
 pub mod Checked
+pub mod Sharing
+pub mod Bucketed

@@ -6,7 +6,6 @@ ghost use Rattle.std.specs.List.{list_any};
 ghost use Rattle.ex_named.specs.declared.expression.NamedDataType.{out-NamedDataType};
 ghost use Rattle.rp_meaning.specs.Bare.{is_indeterminate};
 ghost use Rattle.rp_meaning.specs.Faults as spec;
-ghost use Rattle.rp_meaning.specs.Outcomes.{holds_count};
 ghost use Rattle.rp_meaning.specs.Reading.{present};
 ghost use Rattle.rp_operators.specs.Ends.{end_behind};
 ghost use Rattle.rp_faults.specs.Tests.{test_behind};
@@ -14,9 +13,9 @@ ghost use Rattle.rp_value.specs.declared.value.Value.{out-Value};
 
 use crate::twice::breaks_unique;
 use ex_named::NamedDataType;
-use ex_tree::{ArrayBounds, Bounds, SimpleType, Width};
-use rp_operators::{End, is_indeterminate};
-use rp_value::Value;
+use ex_tree::{ArrayBounds, SimpleType, Width};
+use rp_operators::{End, holds_count, is_indeterminate};
+use rp_value::{Characters, Value};
 use std::alloc::{AllocError, Global};
 
 /// What is asked.
@@ -65,17 +64,6 @@ fn lacks_element(data_type: &NamedDataType, items: &[Value]) -> bool
 }
 
 // ---- bounds and widths
-
-fn holds_count(bounds: Bounds, count: usize) -> bool
-    ensures { result ≡ holds_count bounds count }
-{
-    let count = count as u64;
-    bounds.low <= count
-        && match bounds.high {
-            Some(high) => count <= high,
-            None => true,
-        }
-}
 
 /// Whether there is an element for each index.
 fn fills(bounds: ArrayBounds, count: usize) -> bool
@@ -149,11 +137,22 @@ fn breaks_width(width: Option<Width>, count: usize) -> bool
     }
 }
 
+/// Characters are counted only where there is a width.
+#[tactic(auto, using(rp_operators::proofs::Characters::counts))]
+fn breaks_text(width: Option<Width>, text: &Characters) -> bool
+    ensures { result ≡ spec.breaks_width width (char_count text.now) }
+{
+    match width {
+        None => false,
+        Some(_) => breaks_width(width, text.count()),
+    }
+}
+
 fn breaks_simple(simple: SimpleType, value: &Value) -> bool
     ensures { result ≡ spec.breaks_simple simple (out-Value value.now) }
 {
     match (simple, value) {
-        (SimpleType::String(width), Value::Str(text)) => breaks_width(width, text.count()),
+        (SimpleType::String(width), Value::Str(text)) => breaks_text(width, text),
         (SimpleType::Binary(width), Value::Bin(bits)) => breaks_width(width, bits.as_slice().len()),
         _ => false,
     }

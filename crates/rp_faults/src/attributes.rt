@@ -5,30 +5,10 @@ ghost use Rattle.std.specs.List.{find};
 ghost use Rattle.std.specs.Option.{is_some, option_and_then, option_copied, option_map_or};
 ghost use Rattle.rp_meaning.specs.Attributes as attributes;
 ghost use Rattle.rp_meaning.specs.Populations.{is_of};
-ghost use Rattle.rp_meaning.specs.Uses as uses;
 
-use crate::references::is_of;
-use ex_named::{AttributePlace, AttributeSort};
+use ex_named::AttributePlace;
 use rp_meaning::{Derivation, ExplicitAttribute, Redeclaration, Schema, Seen};
-
-fn same_sort(first: AttributeSort, second: AttributeSort) -> bool
-    ensures { result ≡ uses.same_sort first second }
-{
-    match (first, second) {
-        (AttributeSort::Explicit, AttributeSort::Explicit)
-        | (AttributeSort::Derived, AttributeSort::Derived)
-        | (AttributeSort::Inverse, AttributeSort::Inverse) => true,
-        _ => false,
-    }
-}
-
-pub(crate) fn same_attribute(first: AttributePlace, second: AttributePlace) -> bool
-    ensures { result ≡ uses.same_attribute first second }
-{
-    first.entity == second.entity
-        && same_sort(first.sort, second.sort)
-        && first.place == second.place
-}
+use rp_operators::is_of;
 
 /// An explicit attribute.
 pub(crate) fn explicit_at(schema: &Schema, attribute: AttributePlace) -> Option<&ExplicitAttribute>
@@ -41,17 +21,8 @@ pub(crate) fn explicit_at(schema: &Schema, attribute: AttributePlace) -> Option<
         .get(attribute.place)
 }
 
-/// What redeclares an explicit attribute in DERIVE.
-fn derivations(schema: &Schema, attribute: AttributePlace) -> &[Derivation]
-    ensures { result.now ≡ attributes.explicit_derivations schema.now attribute }
-{
-    match explicit_at(schema, attribute) {
-        Some(explicit) => explicit.derivations.as_slice(),
-        None => &[],
-    }
-}
-
-fn is_one_derived(derivations: &[Derivation], instance: &Seen<'_>) -> bool
+/// Whether an instance derives what these redeclare in DERIVE.
+pub(crate) fn is_derived(derivations: &[Derivation], instance: &Seen<'_>) -> bool
     ensures { result ≡ is_some (find (λ x. is_of instance.now x.entity) derivations.now) }
 {
     for derivation in derivations {
@@ -66,7 +37,10 @@ fn is_one_derived(derivations: &[Derivation], instance: &Seen<'_>) -> bool
 pub fn is_checked(schema: &Schema, attribute: AttributePlace, instance: &Seen<'_>) -> bool
     ensures { result ≡ not (is_some (attributes.derivation_in schema.now (attributes.explicit_derivations schema.now attribute) instance.now)) }
 {
-    !is_one_derived(derivations(schema, attribute), instance)
+    match explicit_at(schema, attribute) {
+        Some(explicit) => !is_derived(explicit.derivations.as_slice(), instance),
+        None => true,
+    }
 }
 
 /// The attributes that an entity redeclares.
