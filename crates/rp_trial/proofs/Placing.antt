@@ -1,6 +1,7 @@
 -- What a search by halving finds among instances in order of name.
-use Rattle.std.proofs.Common.{◌≡◌, ◌≢◌, ℕ, zero, suc, ◌<◌, ◌≤◌, List, [], ◌∷◌, length, get_or, map, Result, Ok, Err, MatchResult, refl, sym, ◌∙◌, ap, arith}
+use Rattle.std.proofs.Common.{◌≡◌, ◌≢◌, ℕ, zero, suc, ◌<◌, ◌≤◌, List, [], ◌∷◌, length, get_or, slice_get, map, Some, Result, Ok, Err, MatchResult, refl, sym, ◌∙◌, ap, arith}
 use Rattle.std.specs.List.{AllByRecursion}
+use Rattle.std.specs.Option.{unwrap_or}
 use Rattle.std.specs.List.Sorted.{IsSearchInRange, IsBinarySearchResult, IsNonDecreasingBy}
 use Rattle.std.specs.declared.cmp.Ordering.TheVariants.{Equal}
 use Rattle.std.specs.Ordering.{nat_cmp, ordering_index}
@@ -36,6 +37,21 @@ place_found (i ∷ is) order name (suc at) d within same =
     let less = below i is order.0 at d (omega arith) in
     let rest = place_found is order.1 name at d (omega arith) same in
     grind (arith, nat_tests)
+
+within : (is : List Instance) (at : ℕ) (i : Instance) → Some i ≡ slice_get is at → at < length is
+within [] at i stands = absurd (cc)
+within (j ∷ is) zero i stands = omega arith
+within (j ∷ is) (suc at) i stands = let h = within is at i stands in omega (arith, h)
+
+stands-there : (is : List Instance) (at : ℕ) (i : Instance) → Some i ≡ slice_get is at → get_or is at i ≡ i
+stands-there [] at i stands = absurd (cc)
+stands-there (j ∷ is) zero i stands = sym (ap (λ o. unwrap_or o i) stands)
+stands-there (j ∷ is) (suc at) i stands = stands-there is at i stands
+
+-- where an instance of the name was guessed to stand
+pub guessed : (is : List Instance) → AreAscending is → (name at : ℕ) (i : Instance) → Some i ≡ slice_get is at → i.name ≡ name → at ≡ place_of is name
+guessed is order name at i stands same =
+    sym (place_found is order name at i (within is at i stands) (ap (λ (j : Instance). j.name) (stands-there is at i stands) ∙ same))
 
 -- where no instance has the name
 place_absent : (is : List Instance) (name : ℕ) → ((k : ℕ) (d : Instance) → k < length is → (get_or is k d).name ≢ name) → place_of is name ≡ length is

@@ -2,7 +2,7 @@ use Rattle.std.proofs.Common.{Ok, Err, rules, sym}
 use Rattle.std.proofs.lemmas.List.Sorted.{answers_always}
 use Rattle.rp_content.specs.declared.instance.Instance.{Instance}
 use Rattle.rp_trial.proofs.Placing.{searched}
-use Rattle.rp_trial.proofs.places.place_of.Goals as goal
+use Rattle.rp_trial.proofs.places.searched_place.Goals as goal
 
 pub returns-in-Ok : goal.returns-in-Ok
 returns-in-Ok c =
