@@ -1,0 +1,9 @@
+pub mod Lines
+pub mod Referring
+pub mod Naming
+pub mod Slots
+pub mod Using
+pub mod Populations
+pub mod Roles
+pub mod Agreeing
+pub mod Holding
