@@ -16,8 +16,10 @@ use Rattle.rp_value.specs.declared.value.Value.{Value}
 use Rattle.rp_population.specs.declared.place.Place.{Place}
 use Rattle.rp_population.specs.declared.roles.Role as asked
 use Rattle.rp_population.specs.declared.roles.Role.TheVariants as a
-use Rattle.rp_population.specs.Populations.{Placed, has_place, is_at, places, same_place, stands_for}
+use Rattle.rp_population.specs.Populations.{Placed, has_place, is_at, places, population, same_place, stands_for}
 use Rattle.rp_population.specs.Uses.{as_user, is_full_stop, references_in, role_of, role_of_parts, users_in}
+use Rattle.rp_meaning.specs.declared.body.Body.{Body}
+use Rattle.rp_meaning.specs.Computations.{Computation}
 use Rattle.rp_meaning.specs.declared.role.NamedRole.{NamedRole}
 use Rattle.rp_meaning.specs.declared.role.Role.{Role}
 use Rattle.rp_meaning.specs.declared.role.Role.TheVariants as r
@@ -33,14 +35,14 @@ use Rattle.rp_meaning.specs.Uses.{User, is_in, places_among, uses_at, uses_from,
 use Rattle.rp_positions.specs.Positions.{place_position, position_of}
 use Rattle.rp_positions.specs.Seen.{all_seen_by, seen_by}
 use Rattle.rp_plain.specs.Populations.{users_by}
-use Rattle.p21_laws.proofs.Names.{given}
 use Rattle.p21_laws.specs.Schemas.{IsAccepted}
+use Rattle.rp_use_laws.proofs.Lists.{given}
 use Rattle.rp_use_laws.proofs.Naming.{AreApart, DenotesOnce, IsFree, StandFrom, all_stand, once, place_same, position_is}
-use Rattle.rp_use_laws.proofs.Populations.{IsGood}
+use Rattle.rp_use_laws.proofs.Populations.{IsGood, all_good, population_apart}
 use Rattle.rp_use_laws.proofs.Roles.{plain_word, role_found}
 use Rattle.rp_use_laws.proofs.Slots.{length_map}
-use Rattle.rp_use_laws.proofs.Using.{all_told, entities_in, held_in, refers, role_as, told_from}
-use Rattle.rp_use_laws.specs.Uses.{used_in}
+use Rattle.rp_use_laws.proofs.Using.{all_told, held_in, refers, role_as, told_from}
+use Rattle.rp_use_laws.specs.Uses.{IsTaken, UsersAgree, entities_in, used_in}
 
 -- ---- what stands at a place is free to be named
 
@@ -146,10 +148,10 @@ none_named name (x ∷ rows) none = by (none_named name rows) (bytes_eq x.0 name
     by rest true e = cc
     by rest false e = rest e
 
-module _ (schema : Checked) (accepted : IsAccepted schema.named) (population : List Instance) (place : ℕ) where
+module _ (below : Body → Computation Value) (schema : Checked) (accepted : IsAccepted schema.named) (population : List Instance) (place : ℕ) where
   -- what USEDIN has in a role, if there is one
   abbrev used_by : Option Role → List Value
-  used_by role = expressions.users_in (world (compiled schema) population) role place
+  used_by role = expressions.users_in (world (compiled schema) population) below role place
 
   abbrev used_as : asked.Role → List Value
   used_as taken = instances (user_places population (role_as schema taken) place)
@@ -202,10 +204,9 @@ module _ (schema : Checked) (accepted : IsAccepted schema.named) (population : L
 
 -- ---- both
 
-pub users_agree : (schema : Checked) → IsAccepted schema.named → IsAcyclic schema.named.supertypes → (xs : List Placed) → AreApart xs → AllByRecursion (IsGood schema xs) xs
-    → (p : Place) → has_place xs p ≡ true → (name : List ℕ) (taken : asked.Role) → role_of schema name ≡ Some taken
-    → used_in schema xs name (place_position xs p) ≡ instances (map (place_position xs) (places (users_by (Some schema) name p xs)))
-users_agree schema accepted acyclic xs apart good p there name taken is =
-    by_name schema accepted (all_seen_by (compiled schema) schema xs) (place_position xs p) name taken is
-    ∙ ap instances (by_role schema accepted acyclic xs p there taken apart good)
+pub agree : UsersAgree
+agree schema taken ms order sound p there name role is below =
+    let xs : List Placed = population ms in
+    by_name below schema taken.0 (all_seen_by (compiled schema) schema xs) (place_position xs p) name role is
+    ∙ ap instances (by_role schema taken.0 taken.1 xs p there role (population_apart schema ms order sound) (all_good schema ms order sound))
     ∙ ap (λ o. instances (map (place_position xs) (places (users_in schema o p xs)))) (sym is)

@@ -1,3 +1,4 @@
+pub mod Lists
 pub mod Lines
 pub mod Referring
 pub mod Naming
@@ -6,4 +7,3 @@ pub mod Using
 pub mod Populations
 pub mod Roles
 pub mod Agreeing
-pub mod Holding

@@ -10,7 +10,7 @@ use Rattle.graphs.proofs.Families.{in_family, is_among-filter}
 use Rattle.graphs.proofs.Lines.{joined_some, line_is, line_of, line_parts}
 use Rattle.graphs.proofs.Search.{ancestor_direct}
 use Rattle.graphs.proofs.Sets.{either, in_either, in_first, in_last}
-use Rattle.p21_laws.proofs.Sets.{any_flat, behind, here, one_way}
+use Rattle.rp_use_laws.proofs.Lists.{any_flat, behind, here, one_way}
 
 flipped : (m n : ℕ) → (m == n) ≡ (n == m)
 flipped m n = grind (arith, nat_tests)

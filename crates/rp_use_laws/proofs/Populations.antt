@@ -9,9 +9,7 @@ use Rattle.std.specs.List.{AllByRecursion, flat_map}
 use Rattle.std.specs.Ordering.{is_gt, nat_cmp, ordering_reverse}
 use Rattle.plain_data.specs.Numbers.{is_among}
 use Rattle.sorted_tables.specs.Table.{is_after, IsAscending}
-use Rattle.ex_slots.specs.Slots.{slots}
 use Rattle.ex_types.specs.Checked.{Checked}
-use Rattle.ex_layouts.specs.Entities.{entities_of}
 use Rattle.rp_content.specs.declared.instance.Instance.{Instance}
 use Rattle.rp_content.specs.declared.link.Link.{Link}
 use Rattle.rp_rows.specs.declared.rows.Key.{Key}
@@ -20,11 +18,11 @@ use Rattle.rp_rows.specs.Contents.{instance_name, link_name, link_names, names}
 use Rattle.rp_rows.proofs.Keys.{key_total}
 use Rattle.rp_population.specs.Populations.{Counted, Placed, placed, placed_all, population, same_place}
 use Rattle.rp_positions.specs.Positions.{counted_key}
-use Rattle.p21_laws.proofs.Pairs.{AllBoth}
-use Rattle.p21_laws.proofs.Sets.{behind, here}
+use Rattle.rp_use_laws.proofs.Lists.{behind, here}
 use Rattle.rp_use_laws.proofs.Naming.{AreApart, IsFree, key_same}
 use Rattle.rp_use_laws.proofs.Slots.{all_parts}
-use Rattle.rp_use_laws.proofs.Using.{IsUnset, each_by, entities_in}
+use Rattle.rp_use_laws.proofs.Using.{each_by}
+use Rattle.rp_use_laws.specs.Uses.{HasValues, IsSound}
 
 -- ---- lists
 
@@ -63,16 +61,9 @@ apart_keys k j e = (
 
 -- ---- models
 
--- its instances and links have names of their own, and what is derived of an instance is indeterminate
-pub record IsSound (schema : Checked) (m : Counted) : Type 0 where
-  pub values : AllByRecursion (λ (i : Instance). AllBoth IsUnset (slots (entities_in schema) (entities_of schema i.entities)) i.values) m.content.instances
-  pub instances : IsAscending nat_cmp instance_name m.content.instances
-  pub links : IsAscending nat_cmp link_name m.content.links
-  pub free : AllByRecursion (λ (l : Link). is_among (names m.content.instances) l.name ≡ false) m.content.links
-
 -- an instance of a population whose names stand for one thing each
 pub record IsGood (schema : Checked) (xs : List Placed) (x : Placed) : Type 0 where
-  pub values : AllBoth IsUnset (slots (entities_in schema) (entities_of schema x.instance.entities)) x.instance.values
+  pub values : HasValues schema x.instance
   pub links : IsAscending nat_cmp link_name x.links
   pub free : AllByRecursion (λ (y : Placed). IsFree x y.place) xs
 
@@ -160,7 +151,7 @@ module _ (schema : Checked) where
   good_of : (xs : List Placed) (m : Counted) → IsSound schema m → AllByRecursion (FreeOf m) xs → AllByRecursion (IsGood schema xs) (placed_all m)
   good_of xs m sound free =
       all_mapped (IsGood schema xs) (placed m) m.content.instances
-      (each_by (λ (i : Instance). AllBoth IsUnset (slots (entities_in schema) (entities_of schema i.entities)) i.values) (λ (i : Instance). IsGood schema xs (placed m i))
+      (each_by (HasValues schema) (λ (i : Instance). IsGood schema xs (placed m i))
       (λ i values. record { values = values; links = sound.links; free = free }) m.content.instances sound.values)
 
   pub all_good : (ms : List Counted) → IsAscending key_cmp counted_key ms → AllByRecursion (IsSound schema) ms → AllByRecursion (IsGood schema (population ms)) (population ms)

@@ -15,9 +15,6 @@ use Rattle.ex_named.specs.declared.reference.AttributePlace.{AttributePlace}
 use Rattle.ex_resolve.specs.Proved.{count}
 use Rattle.ex_types.specs.Checked.{Checked, entity_names}
 use Rattle.name_tables.specs.Names.{named, place_of}
-use Rattle.p21_laws.proofs.Names.{given}
-use Rattle.p21_laws.proofs.Pairs.{numbered_next}
-use Rattle.p21_laws.proofs.Sets.{one_way}
 use Rattle.p21_laws.specs.Types.{is_upper_word}
 use Rattle.p21_spelling.proofs.Runs.{first_holds, second_holds}
 use Rattle.p21_spelling.specs.Tokens.{is_word}
@@ -27,6 +24,7 @@ use Rattle.rp_meaning.specs.declared.role.NamedRole.{NamedRole}
 use Rattle.rp_meaning.specs.declared.role.Role.TheVariants as r
 use Rattle.rp_meaning.specs.CompiledNames.{joined, roles_of, inherited_rows}
 use Rattle.rp_population.specs.Uses.{is_full_stop}
+use Rattle.rp_use_laws.proofs.Lists.{given, numbered_next, one_way}
 
 -- ---- names without a full stop
 

@@ -37,9 +37,8 @@ use Rattle.name_tables.specs.Names.{named}
 use Rattle.rp_population.specs.Uses.{is_slot_of}
 use Rattle.graphs.proofs.Bounded.{any_at}
 use Rattle.graphs.proofs.Sets.{either}
-use Rattle.p21_laws.proofs.Pairs.{numbered_next}
-use Rattle.p21_laws.proofs.Sets.{any_flat}
 use Rattle.p21_laws.specs.Schemas.{IsAccepted}
+use Rattle.rp_use_laws.proofs.Lists.{any_flat, numbered_next}
 use Rattle.rp_use_laws.proofs.Lines.{line_family}
 
 -- ---- lists

@@ -4,7 +4,6 @@ use Rattle.std.proofs.lemmas.List.{map-append}
 use Rattle.std.proofs.lemmas.List.Elements.{filter-append}
 use Rattle.std.specs.List.{AllByRecursion, flat_map, list_any}
 use Rattle.plain_data.specs.Numbers.{is_among}
-use Rattle.ex_named.specs.declared.declaration.NamedEntity.{NamedEntity}
 use Rattle.ex_slots.specs.Slots.{Slot, slots}
 use Rattle.ex_types.specs.Checked.{Checked}
 use Rattle.ex_layouts.specs.Entities.{entities_of, line_of}
@@ -28,10 +27,10 @@ use Rattle.rp_meaning.specs.Reading as reading
 use Rattle.rp_meaning.specs.Uses as positions
 use Rattle.rp_meaning.specs.Uses.{Use, User, is_in, places_among, same_attribute, user, uses_at, uses_from, uses_of}
 use Rattle.rp_positions.specs.Positions.{positioned}
-use Rattle.p21_laws.proofs.Pairs.{AllBoth}
 use Rattle.p21_laws.specs.Schemas.{IsAccepted}
 use Rattle.rp_use_laws.proofs.Referring.{moved, names-Indet, refers-Indet}
 use Rattle.rp_use_laws.proofs.Slots.{IsSlot, all_slots, attributes_are, derived_slot, named_slot}
+use Rattle.rp_use_laws.specs.Uses.{AllBoth, IsUnset, entities_in}
 
 -- what the instance at a place refers to in a role by an attribute
 abbrev pub held_in : Role → ℕ → Instance → Stored → List ℕ
@@ -104,10 +103,6 @@ module _ (role : Role) (place : ℕ) where
 
 -- ---- what one instance refers to
 
--- what is derived is indeterminate
-abbrev pub IsUnset : Slot → Value → Type 0
-IsUnset s w = s.is_derived ≡ true → w ≡ v.Indet
-
 module _ (schema : Checked) (count : ℕ) (position : ℕ → ℕ) (all : List ℕ) where
   written_is : (s : Slot) → IsSlot schema all s → (w : Value) → IsUnset s w → positions.references (reading.written_as (compiled schema) all s.place (positioned position w)) ≡ map position (names.references w)
   written_is s slot w unset = by (reading.is_derived (compiled schema) all s.place) refl
@@ -150,9 +145,6 @@ module _ (schema : Checked) (count : ℕ) (position : ℕ → ℕ) (all : List �
         by rest false = rest
 
 -- ---- in the roles that are asked for
-
-abbrev pub entities_in : Checked → List NamedEntity
-entities_in schema = schema.named.schema.entities
 
 -- the role as rules have it
 abbrev pub role_as : Checked → asked.Role → Role
