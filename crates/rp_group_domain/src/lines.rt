@@ -60,10 +60,7 @@ impl<'d, 's> Lines<'d, 's> {
     ghost use Rattle.ex_layouts.specs.Entities as layouts;
 
     /// Nothing is found yet.
-    pub(crate) fn of(
-        alloc: Global,
-        schema: &'d Dictionary<'s>,
-    ) -> Result<Lines<'d, 's>, AllocError>
+    pub(crate) fn of(alloc: Global, schema: &'d Dictionary<'s>) -> Result<Lines<'d, 's>, AllocError>
         ensures { IfOk result (λ lines. lines ≡ schema.now) }
     {
         let count = schema.entities().len();

@@ -12,7 +12,7 @@ returns-in-Some c =
     let xs = c.args.population.now in
     let x = c.in-Some.instance.now in
     sym (
-      place_position-is p xs
-      ∙ found place_cmp own_place place_total p xs c.requires c.args.place x c.in-Some.ensures.lookup.3.0
-        (ap (is_at place_cmp own_place p) (sym c.in-Some.ensures.lookup.1) ∙ tied_places p x ∙ sym c.is_target.ensures ∙ c.if-is_target.true)
+    place_position-is p xs
+    ∙ found place_cmp own_place place_total p xs c.requires c.args.place x c.in-Some.ensures.lookup.3.0
+    (ap (is_at place_cmp own_place p) (sym c.in-Some.ensures.lookup.1) ∙ tied_places p x ∙ sym c.is_target.ensures ∙ c.if-is_target.true)
     )
