@@ -8,7 +8,8 @@ from the request to its reply with all rules, and with the schema's declarations
 set, out of bounds or astray; millions of steps for each second of what the rules take; one instance under that schema; and the most
 memory against what was held before the request. The second has rules of one sort over 200,000 instances. The third has files of
 8 MiB, or as many instances as a model may have, that are made so that rules of one sort have as much to compare as can be: ten such
-rules each. With --quick all numbers are a hundredth.
+rules each. Where that grows with the square, it has two small ones, the second of twice as much. With --quick all numbers are a
+hundredth.
 
 All replies are compared with what they must be. Those of the first table are reckoned from what the plain reading of rules in
 tests/lib tells of one part and of two: each part more adds as many steps.
@@ -78,7 +79,7 @@ LINES = exported_lines()
 COMMON = [*range(1, 5), *range(9, 11), *range(31, 41), 194]
 OWN = [5, 7, 8, *range(41, 44), *range(44, 186), 191, 192, 193, 195, 197, 198]
 MEASURES = 130
-NAMES_OF_A_PART = 300
+NAMES_OF_A_PART = 400
 
 
 def part(number, label):
@@ -205,51 +206,55 @@ def ten(rule):
     return " ".join(f"r{k} : {rule};" for k in range(10))
 
 
-def of_elements(instances, width, element):
-    """Lines of entities with so many elements each."""
+def entity(text):
+    """A schema of one entity."""
+    return f"SCHEMA s; ENTITY e; {text} END_ENTITY; END_SCHEMA;"
+
+
+def of_elements(width, element):
+    """Lines of an entity with so many elements each."""
     return lambda k: f"E(({','.join(element(k * width + i) for i in range(width))}))"
 
 
 def hostile(share):
-    """Of each sort the schema, the line of an instance by its number, and how many there are."""
+    """Of each sort the schema, and its files: the line of an instance by its number, and how many there are. Where what is compared
+    grows with the square, the files are a hundredth and a fiftieth of what a put takes, so that their growth is seen."""
     most = INSTANCES // share
     wide = FILE_LIMIT // share // 8
-    lists = lambda k: f"E(({k},{k + 1},{k + 2}))"
-    yield "UNIQUE, lists of one count", f"SCHEMA s; ENTITY e; l : LIST OF INTEGER; UNIQUE {ten('l')} END_ENTITY; END_SCHEMA;", lists, most
-    yield ("UNIQUE, texts alike but at their end", f"SCHEMA s; ENTITY e; t : STRING; UNIQUE {ten('t')} END_ENTITY; END_SCHEMA;",
-           lambda k: f"E('{'a' * 20}{k:06}')", most)
-    yield "a SET's bounds, one of all", "SCHEMA s; ENTITY e; l : SET OF INTEGER; END_ENTITY; END_SCHEMA;", of_elements(1, wide, str), 1
-    yield "a SET's bounds, of texts", "SCHEMA s; ENTITY e; l : SET OF STRING; END_ENTITY; END_SCHEMA;", of_elements(1, wide // 2, lambda i: f"'t{i:07}'"), 1
-    yield ("a SET's bounds, of lists", "SCHEMA s; ENTITY e; l : SET OF LIST OF INTEGER; END_ENTITY; END_SCHEMA;",
-           of_elements(1, wide // 2, lambda i: f"({i},1)"), 1)
-    yield ("IN, a list of 1,000", f"SCHEMA s; ENTITY e; l : LIST OF INTEGER; WHERE {ten('NOT (0 IN l)')} END_ENTITY; END_SCHEMA;",
-           of_elements(1, 1000, str), max(wide // 1000, 1))
-    yield ("= of lists of 1,000", f"SCHEMA s; ENTITY e; l : LIST OF INTEGER; WHERE {ten('l = l')} END_ENTITY; END_SCHEMA;",
-           of_elements(1, 1000, str), max(wide // 1000, 1))
-    yield ("= of bags of 1,000", f"SCHEMA s; ENTITY e; l : BAG OF INTEGER; WHERE {ten('l = l')} END_ENTITY; END_SCHEMA;",
-           of_elements(1, 1000, str), max(wide // 1000, 1))
-    yield ("USEDIN of one that all use", f"SCHEMA s; ENTITY e; p : OPTIONAL e; WHERE {ten(chr(40) + 'SIZEOF(USEDIN(SELF, ' + repr('S.E.P') + ')) >= 0)')} END_ENTITY; END_SCHEMA;",
-           lambda k: "E(#1)", most)
-    yield ("+ of lists of 1,000", f"SCHEMA s; ENTITY e; l : LIST OF INTEGER; WHERE {ten('SIZEOF(l + l) > 0')} END_ENTITY; END_SCHEMA;",
-           of_elements(1, 1000, str), max(wide // 1000, 1))
-    yield ("+ of sets of 1,000", f"SCHEMA s; ENTITY e; l : SET OF INTEGER; WHERE {ten('SIZEOF(l + l) > 0')} END_ENTITY; END_SCHEMA;",
-           of_elements(1, 1000, str), max(wide // 1000, 1))
-    yield ("arguments of defined types", "SCHEMA s; TYPE a = LIST OF INTEGER; END_TYPE; TYPE b = a; END_TYPE; FUNCTION f (x : b) : INTEGER; RETURN (SIZEOF(x)); END_FUNCTION; "
-           f"ENTITY e; l : LIST OF INTEGER; WHERE {ten('f(l) > 0')} END_ENTITY; END_SCHEMA;", of_elements(1, 1000, str), max(wide // 1000, 1))
-    yield ("lists in lists", f"SCHEMA s; ENTITY e; l : LIST OF LIST OF INTEGER; WHERE {ten('l = l')} END_ENTITY; END_SCHEMA;",
-           of_elements(1, 500, lambda i: f"({i},1)"), max(wide // 1000, 1))
+    few = max(INSTANCES // max(share, 100), 100)
+    small = FILE_LIMIT // max(share, 100) // 8
+    thousands = max(wide // 1000, 1)
+    listed = of_elements(1000, str)
+    rows = lambda k: f"E(({k},{k + 1},{k + 2}))"
+    yield "UNIQUE, lists of one count", entity("l : LIST OF INTEGER; UNIQUE " + ten("l")), [(rows, few), (rows, 2 * few)]
+    yield ("UNIQUE, texts alike but at their end", entity("t : STRING; UNIQUE " + ten("t")), [(lambda k: f"E('{'a' * 20}{k:06}')", most)])
+    for name, kind, of_width in (("a SET's bounds, whole numbers", "INTEGER", lambda width: of_elements(width, str)),
+                                 ("a SET's bounds, texts", "STRING", lambda width: of_elements(width, lambda i: f"'t{i:07}'")),
+                                 ("a SET's bounds, lists", "LIST OF INTEGER", lambda width: of_elements(width, lambda i: f"({i},1)"))):
+        yield name, entity(f"l : SET OF {kind};"), [(of_width(small // 2), 1), (of_width(small), 1)]
+    yield "IN, lists of 1,000", entity("l : LIST OF INTEGER; WHERE " + ten("NOT (0 IN l)")), [(listed, thousands)]
+    yield "= of lists of 1,000", entity("l : LIST OF INTEGER; WHERE " + ten("l = l")), [(listed, thousands)]
+    yield "= of bags of 1,000", entity("l : BAG OF INTEGER; WHERE " + ten("l = l")), [(listed, thousands)]
+    yield ("USEDIN of one that all use", entity("p : OPTIONAL e; WHERE " + ten("(SIZEOF(USEDIN(SELF, 'S.E.P')) >= 0)")), [(lambda k: "E(#1)", most)])
+    yield "+ of lists of 1,000", entity("l : LIST OF INTEGER; WHERE " + ten("SIZEOF(l + l) > 0")), [(listed, thousands)]
+    yield "+ of sets of 300", entity("l : SET OF INTEGER; WHERE " + ten("SIZEOF(l + l) > 0")), [(of_elements(300, str), max(wide // 300, 1))]
+    yield ("arguments of defined types", "SCHEMA s; TYPE a = LIST OF INTEGER; END_TYPE; TYPE b = a; END_TYPE; "
+           "FUNCTION f (x : b) : INTEGER; RETURN (SIZEOF(x)); END_FUNCTION; "
+           f"ENTITY e; l : LIST OF INTEGER; WHERE {ten('f(l) > 0')} END_ENTITY; END_SCHEMA;", [(listed, thousands)])
+    yield "lists in lists", entity("l : LIST OF LIST OF INTEGER; WHERE " + ten("l = l")), [(of_elements(500, lambda i: f"({i},1)"), thousands)]
 
 
 def measure_hostile(folder, share):
     table = Table({"made against": "38", "bytes": "10,", "steps": "12,", "seconds": "8.3f", "MiB": "7.1f", "verdicts": "40"})
-    for name, schema, line, count in hostile(share):
-        file = file_of("S", lines(count, line))[:]
-        if len(file) > FILE_LIMIT:
-            sys.exit(f"bench: {name}: {len(file)} bytes")
-        taken = Taken(folder, "S", schema, [file], 1)
-        verdicts = [it["verdict"] for it in json.loads(taken.reply)["ok"]["checks"]]
-        told = " ".join(f"{verdicts.count(it)} {it}" for it in sorted(set(verdicts)))
-        table.row(name, len(file), taken.steps(), taken.busy, taken.memory / MIB, told)
+    for name, schema, files in hostile(share):
+        for line, count in files:
+            file = file_of("S", lines(count, line))
+            if len(file) > FILE_LIMIT:
+                sys.exit(f"bench: {name}: {len(file)} bytes")
+            taken = Taken(folder, "S", schema, [file], 1)
+            verdicts = [it["verdict"] for it in json.loads(taken.reply)["ok"]["checks"]]
+            told = " ".join(f"{verdicts.count(it)} {it}" for it in sorted(set(verdicts)))
+            table.row(name, len(file), taken.steps(), taken.busy, taken.memory / MIB, told)
 
 
 def measure(folder, share):
