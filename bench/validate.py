@@ -100,7 +100,7 @@ def part(number, label):
 def model_of_parts(first, count):
     """A model of so many parts, the first of which has this number."""
     common = "".join(f"#{name}={LINES[name]};\n" for name in COMMON)
-    return common + "".join(part(number - first + 1, f"P{number}") for number in range(first, first + count))
+    return common + "".join(part(number - first + 1, f"P{number:05}") for number in range(first, first + count))
 
 
 SIZE_OF_A_PART = len(OWN) + MEASURES
