@@ -1,9 +1,9 @@
 #!/usr/bin/env python3
-"""Fails where docs/CLAIMS.md names what isn't there, or leaves out a public call or a must-fail edit.
+"""Fails where docs/CLAIMS.md and docs/CLAIMS-OF-SCHEMAS.md name what isn't there, or leave out a public call or a must-fail edit.
 
-    .ci/check_claims.py [FILE]
+    .ci/check_claims.py [FILE ..]
 
-The form of docs/CLAIMS.md. No line has more than 200 characters. A paragraph that begins 'Public crates:' names
+The form of these pages, which are read as one. No line has more than 200 characters. A paragraph that begins 'Public crates:' names
 those crates in backticks; all others are inner ones. A promise is a block:
 
     ### The promise in short
@@ -27,6 +27,7 @@ import re
 import sys
 
 TOP = os.path.dirname(os.path.dirname(os.path.abspath(__file__)))
+FILES = ("docs/CLAIMS.md", "docs/CLAIMS-OF-SCHEMAS.md")
 LISTS = ("calls", "edits", "tests")
 WIDEST = 200
 
@@ -217,20 +218,21 @@ class Block:
 
 
 class Claims:
-    """The blocks and the public crates of a file of claims, and what is wrong with its lines."""
+    """The blocks and the public crates of files of claims, by their names, and what is wrong with their lines."""
 
-    def __init__(self, name, text):
+    def __init__(self, texts):
         self.blocks, self.public, self.faults = [], [], []
-        self.block, self.word = None, None
-        for number, line in enumerate(text.split("\n"), 1):
-            if len(line) > WIDEST:
-                self.faults.append(f"{name}:{number}: {len(line)} characters, over {WIDEST}")
-            self.read(f"{name}:{number}", line)
-        for paragraph in re.findall(r"^Public crates:(.*?)(?:\n\n|\Z)", text, re.MULTILINE | re.DOTALL):
-            self.public += re.findall(r"`([^`]*)`", paragraph)
+        for name, text in texts.items():
+            self.block, self.word = None, None
+            for number, line in enumerate(text.split("\n"), 1):
+                if len(line) > WIDEST:
+                    self.faults.append(f"{name}:{number}: {len(line)} characters, over {WIDEST}")
+                self.read(f"{name}:{number}", line)
+            for paragraph in re.findall(r"^Public crates:(.*?)(?:\n\n|\Z)", text, re.MULTILINE | re.DOTALL):
+                self.public += re.findall(r"`([^`]*)`", paragraph)
         self.faults += [it for block in self.blocks for it in block.faults()]
         if not self.blocks or not self.public:
-            self.faults.append(f"{name}: it has no block, or no 'Public crates:'")
+            self.faults.append(f"{', '.join(texts)}: no block, or no 'Public crates:'")
 
     def read(self, place, line):
         """Takes a line into the block that is open, or opens or closes one."""
@@ -286,14 +288,15 @@ def missing_faults(claims, repository):
 
 
 def main(words):
-    file = words[0] if words else os.path.join(TOP, "docs/CLAIMS.md")
+    texts = {}
     try:
-        with open(file, encoding="utf-8") as it:
-            text = it.read()
+        for file in words or FILES:
+            with open(file if words else os.path.join(TOP, file), encoding="utf-8") as it:
+                texts[file] = it.read()
         repository = Repository()
     except OSError as fault:
         sys.exit(f"check_claims: {fault}")
-    claims = Claims(os.path.relpath(file, TOP) if file.startswith(TOP) else file, text)
+    claims = Claims(texts)
     faults = [*claims.faults, *named_faults(claims.blocks, repository), *missing_faults(claims, repository)]
     for fault in faults:
         print(fault)

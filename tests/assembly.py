@@ -96,11 +96,12 @@ def test_check_takes_the_schema():
 
 
 def test_requests():
-    """What the page asks is answered, and the group has the instances of both models."""
+    """What the page asks is answered: the group has the instances of both models, and the report that was worked out by hand."""
     asked = requests_in(HERE)
     part, assembly = (count_of(of_file(it)) for it in ("part.step", "assembly.step"))
     definitions = [("ann", "plate", 8), *(("ann", "support", it) for it in (80, 110, 140, 170, 200))]
-    wanted = [OK, instances(part), OK, instances(assembly), OK, OK, OK, extent_is(*definitions), users_are(("ann", "support", 290))]
+    wanted = [OK, instances(part), OK, instances(assembly), OK, OK, OK, extent_is(*definitions), users_are(("ann", "support", 290)),
+              of_file("reports", "assembly.json").rstrip("\n").encode()]
     replies = replies_to([json.dumps(it.keys).encode() for it in asked])
     expect_each(zip((it.words for it in asked), replies, strict=True), wanted)
 

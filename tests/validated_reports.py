@@ -1,11 +1,10 @@
 #!/usr/bin/env python3
 """Asks the program for reports that were worked out by hand, each over a group that is made of its models: those of tests/data/reports/
-and those of example/assembly.
+and those of example/assembly. Each reply is its report, byte for byte.
 
     tests/validated_reports.py [PROGRAM]
 
-The program doesn't answer `validate` yet, and says so by BadRequest. Once it does, ANSWERED is to say so: then each reply is its
-report, byte for byte. The last line is 'validated reports: N passed, M failed', and the status is 0 only if none failed.
+The last line is 'validated reports: N passed, M failed', and the status is 0 only if none failed.
 """
 import json
 import os
@@ -18,8 +17,6 @@ sys.path.insert(0, os.path.join(TOP, "tools"))
 
 from ask import requests_in  # noqa: E402
 
-ANSWERED = False
-NOT_YET = b'{"refused":{"code":1,"name":"BadRequest"}}'
 ASSEMBLY = os.path.join(TOP, "example/assembly")
 
 
@@ -36,7 +33,7 @@ def expect_report(it, one, answer):
     *before, reply = replies_to(it, one)
     it.expect(f"{one.topic}, {one.name}: replies", len(before), len(one.requests()) - 1)
     it.expect(f"{one.topic}, {one.name}: refused requests", [it for it in before if not it.startswith(b'{"ok"')], [])
-    it.expect(f"{one.topic}, {one.name}", reply, answer if ANSWERED else NOT_YET)
+    it.expect(f"{one.topic}, {one.name}", reply, answer)
 
 
 def small_reports(it):

@@ -26,6 +26,7 @@ ENTITY e; k : INTEGER; WHERE w : f(k) = 0; END_ENTITY; END_SCHEMA;
 """
 N = """SCHEMA N; ENTITY e; DERIVE a : INTEGER := b; b : INTEGER := a; WHERE w : a = 1; END_ENTITY; END_SCHEMA;
 """
+B = "SCHEMA B; ENTITY p; INVERSE us : BAG [0:2] OF u FOR l; END_ENTITY; ENTITY u; l : BAG OF p; END_ENTITY; END_SCHEMA;"
 # rules without labels, of a type and of each clause of an entity, names in another order than they are declared, and a supertype's attribute
 R = """SCHEMA R;
 TYPE size = INTEGER; WHERE SELF > 0; small : SELF < 10; END_TYPE;
@@ -135,6 +136,14 @@ def test_rules_by_their_names_and_places():
         check_is("unique", "Z", "ONE", false=[["ann", "m", 1], ["ann", "m", 2]]),
         check_is("inverse", "B", "USER", false=[["ann", "m", 2]]),
         b'{"check":"rule","of":"LAST","rule":"#1","verdict":"FALSE"}', check_is("rule", "LAST", "W")))
+
+
+def test_more_uses_than_steps():
+    """An inverse attribute takes a step for each use, and where these are more than an evaluation may take, it isn't known whether it holds."""
+    for count in (199_999, 200_000, 200_001, 250_000):
+        verdict = {"false": [["ann", "m", 1]]} if count < 200_000 else {"limit": [["ann", "m", 1]]}
+        expect_report(B, filled("B", f"#1=P();#2=U(({','.join(['#1'] * count)}));"), report_is(
+            200_000, *ATTRIBUTES_HOLD, check_is("inverse", "P", "US", **verdict)))
 
 
 # ---- populations of several models

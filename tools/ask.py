@@ -2,7 +2,7 @@
 """Asks the program what a file of requests in plain words says, and shows what each partner is told.
 
     tools/ask.py FOLDER                       FOLDER/requests.txt, by the configuration FOLDER/config.json
-    tools/ask.py SCHEMA.exp FILE.step         a schema and a file of your own: one put and one export
+    tools/ask.py SCHEMA.exp FILE.step         a schema and a file of your own: it is put, validated and exported
     tools/ask.py --trial ..                   by a trial run of the program's code, which isn't proved
     tools/ask.py --program PROGRAM ..         by this program, where it isn't the one that was built here
     tools/ask.py --columns ..                 a column for each partner, and a row for each request
@@ -95,7 +95,7 @@ def schema_name(text):
 
 
 def fill(folder, schema, file):
-    """Writes a configuration and requests that put a file by a schema, and export it."""
+    """Writes a configuration and requests that put a file by a schema, validate a group of it alone, and export it."""
     for name, path in (("schema.exp", schema), ("file.step", file)):
         with open(path, "rb") as it, open(os.path.join(folder, name), "wb") as copy:
             copy.write(it.read())
@@ -107,7 +107,9 @@ def fill(folder, schema, file):
     with open(os.path.join(folder, "config.json"), "w", encoding="utf-8") as it:
         json.dump({"partners": [ANN], "schemas": ["schema.exp"]}, it)
     with open(os.path.join(folder, "requests.txt"), "w", encoding="utf-8") as it:
-        it.write(f"ann create_model name=m schema={name}\nann put owner=ann model=m file=@file.step\nann export owner=ann model=m\n")
+        it.write(f"ann create_model name=m schema={name}\nann put owner=ann model=m file=@file.step\n"
+                 f"ann create_group name=g schema={name}\nann include group=g owner=ann model=m\nann validate owner=ann group=g\n"
+                 "ann export owner=ann model=m\n")
 
 
 # ---- replies
@@ -140,6 +142,10 @@ def replies_to(folder, requests, asked):
     return replies
 
 
+def compact(value):
+    return json.dumps(value, separators=(",", ":"), ensure_ascii=False)
+
+
 def is_text(reply):
     return "file" in json.loads(reply).get("ok", {})
 
@@ -154,15 +160,26 @@ def show_place(request, reply):
         print(f"    line {before.count(chr(10)) + 1} of it:\n    | {line}{behind.partition(chr(10))[0]}\n    | {' ' * len(line)}^")
 
 
+def show_report(report):
+    """How many checks are TRUE, and each other entry in a line."""
+    checks = report.pop("checks")
+    others = [it for it in checks if it["verdict"] != "TRUE"]
+    print(f"    {compact({'ok': {'checks': '..', **report}})}, and {len(checks) - len(others)} of {len(checks)} checks are TRUE{':' * bool(others)}")
+    for it in others:
+        print(f"    | {compact(it)}")
+
+
 def show(requests, replies):
-    """Each request with its reply below it. The file of an export is shown as its lines."""
+    """Each request with its reply below it. The file of an export is shown as its lines, and of a report what isn't TRUE."""
     for request, reply in zip(requests, replies):
         print(request.words)
         if is_text(reply):
             told = json.loads(reply)["ok"]
             text = told.pop("file")
-            print(f"    {json.dumps({'ok': {'file': '..', **told}}, separators=(',', ':'))}, and the file is")
+            print(f"    {compact({'ok': {'file': '..', **told}})}, and the file is")
             print(textwrap.indent(text, "    | "), end="")
+        elif "checks" in json.loads(reply).get("ok", {}):
+            show_report(json.loads(reply)["ok"])
         else:
             print("    " + reply)
             show_place(request, reply)

@@ -4,3 +4,4 @@ mod decimals;
 mod operations;
 mod rights;
 mod values;
+mod words;

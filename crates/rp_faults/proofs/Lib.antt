@@ -1,5 +1,4 @@
 pub mod Characters
-pub mod Replaced
 pub mod Itself
 pub mod Repeated
 pub mod Places

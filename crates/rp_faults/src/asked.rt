@@ -6,7 +6,6 @@ ghost use Rattle.std.specs.List.{list_any};
 ghost use Rattle.ex_named.specs.declared.expression.NamedDataType.{out-NamedDataType};
 ghost use Rattle.rp_meaning.specs.Bare.{is_indeterminate};
 ghost use Rattle.rp_meaning.specs.Faults as spec;
-ghost use Rattle.rp_meaning.specs.Outcomes.{holds_count};
 ghost use Rattle.rp_meaning.specs.Reading.{present};
 ghost use Rattle.rp_operators.specs.Ends.{end_behind};
 ghost use Rattle.rp_faults.specs.Tests.{test_behind};
@@ -14,8 +13,8 @@ ghost use Rattle.rp_value.specs.declared.value.Value.{out-Value};
 
 use crate::twice::breaks_unique;
 use ex_named::NamedDataType;
-use ex_tree::{ArrayBounds, Bounds, SimpleType, Width};
-use rp_operators::{End, is_indeterminate};
+use ex_tree::{ArrayBounds, SimpleType, Width};
+use rp_operators::{End, holds_count, is_indeterminate};
 use rp_value::Value;
 use std::alloc::{AllocError, Global};
 
@@ -65,17 +64,6 @@ fn lacks_element(data_type: &NamedDataType, items: &[Value]) -> bool
 }
 
 // ---- bounds and widths
-
-fn holds_count(bounds: Bounds, count: usize) -> bool
-    ensures { result ≡ holds_count bounds count }
-{
-    let count = count as u64;
-    bounds.low <= count
-        && match bounds.high {
-            Some(high) => count <= high,
-            None => true,
-        }
-}
 
 /// Whether there is an element for each index.
 fn fills(bounds: ArrayBounds, count: usize) -> bool

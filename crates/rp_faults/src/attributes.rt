@@ -5,30 +5,10 @@ ghost use Rattle.std.specs.List.{find};
 ghost use Rattle.std.specs.Option.{is_some, option_and_then, option_copied, option_map_or};
 ghost use Rattle.rp_meaning.specs.Attributes as attributes;
 ghost use Rattle.rp_meaning.specs.Populations.{is_of};
-ghost use Rattle.rp_meaning.specs.Uses as uses;
 
-use crate::references::is_of;
-use ex_named::{AttributePlace, AttributeSort};
+use ex_named::AttributePlace;
 use rp_meaning::{Derivation, ExplicitAttribute, Redeclaration, Schema, Seen};
-
-fn same_sort(first: AttributeSort, second: AttributeSort) -> bool
-    ensures { result ≡ uses.same_sort first second }
-{
-    match (first, second) {
-        (AttributeSort::Explicit, AttributeSort::Explicit)
-        | (AttributeSort::Derived, AttributeSort::Derived)
-        | (AttributeSort::Inverse, AttributeSort::Inverse) => true,
-        _ => false,
-    }
-}
-
-pub(crate) fn same_attribute(first: AttributePlace, second: AttributePlace) -> bool
-    ensures { result ≡ uses.same_attribute first second }
-{
-    first.entity == second.entity
-        && same_sort(first.sort, second.sort)
-        && first.place == second.place
-}
+use rp_operators::is_of;
 
 /// An explicit attribute.
 pub(crate) fn explicit_at(schema: &Schema, attribute: AttributePlace) -> Option<&ExplicitAttribute>

@@ -3,9 +3,10 @@
 ghost use Rattle.std.specs.Prelude.{◌≡◌, ◌++◌, IfOk, OnOk};
 ghost use Rattle.rp_faults.specs.Declarations as spec;
 
-use crate::attributes::{explicit_at, redeclarations, same_attribute};
+use crate::attributes::{explicit_at, redeclarations};
 use ex_named::{AttributePlace, NamedDataType};
 use rp_meaning::{ReadValue, Redeclaration, Schema};
+use rp_operators::same_attribute;
 use rp_value::Value;
 use std::alloc::{AllocError, Global};
 
@@ -18,7 +19,7 @@ fn push_types<'s>(
     ensures { OnOk result (spec.all_now found.new.items ≡ spec.all_now found.old.items ++ spec.redeclared_types attribute redeclarations.now) }
 {
     for redeclaration in redeclarations {
-        if same_attribute(redeclaration.attribute, attribute) {
+        if same_attribute(&redeclaration.attribute, &attribute) {
             found.push(&redeclaration.declaration.data_type)?;
         }
     }

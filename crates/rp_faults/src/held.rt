@@ -6,13 +6,13 @@ ghost use Rattle.rp_meaning.specs.Faults as spec;
 ghost use Rattle.rp_faults.specs.Held as held;
 
 use crate::asked::Asked;
-use crate::attributes::{explicit_at, is_checked, redeclarations, same_attribute};
+use crate::attributes::{explicit_at, is_checked, redeclarations};
 use crate::faults::is_faulty;
 use crate::references::is_astray;
 use ex_named::AttributePlace;
 use plain_data::Items;
 use rp_meaning::{Culprit, Domain, Explicit, Redeclaration, Schema, Seen};
-use rp_operators::is_indeterminate;
+use rp_operators::{is_indeterminate, same_attribute};
 use rp_value::Value;
 use std::alloc::{AllocError, Global};
 
@@ -90,7 +90,7 @@ fn is_fault_again<D: Domain>(
     ensures { IfOk result (λ b. b ≡ list_any (held.is_fault_again schema.now (D.population domain.now) fault attribute value.now) redeclarations.now) }
 {
     for redeclaration in redeclarations {
-        if same_attribute(redeclaration.attribute, attribute)
+        if same_attribute(&redeclaration.attribute, &attribute)
             && is_fault(
                 alloc,
                 fault,

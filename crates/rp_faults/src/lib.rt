@@ -6,7 +6,6 @@ mod attributes;
 mod declared;
 mod faults;
 mod held;
-mod present;
 mod references;
 mod twice;
 

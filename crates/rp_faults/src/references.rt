@@ -3,7 +3,6 @@
 ghost use Rattle.std.specs.Prelude.{◌≡◌, slice_get};
 ghost use Rattle.std.specs.List.{list_any};
 ghost use Rattle.rp_meaning.specs.Faults as spec;
-ghost use Rattle.rp_meaning.specs.Populations.{is_of};
 ghost use Rattle.rp_operations.specs.Seen.{holds_instance as spec_holds_instance};
 ghost use Rattle.rp_operators.specs.Ends.{end_behind};
 ghost use Rattle.rp_faults.specs.Tests.{allows_at, elements_astray_at, is_astray_at, named_astray_at};
@@ -12,15 +11,8 @@ use crate::faults::is_choice;
 use ex_named::{NamedDataType, TypeName};
 use rp_meaning::{DefinedType, Domain, Seen};
 use rp_operations::holds_instance;
-use rp_operators::{End, aggregate_type, behind_names, end_of};
+use rp_operators::{End, aggregate_type, behind_names, end_of, is_of};
 use rp_value::{Elements, Value};
-
-/// Whether an instance has an entity.
-pub(crate) fn is_of(instance: &Seen<'_>, entity: usize) -> bool
-    ensures { result ≡ is_of instance.now entity }
-{
-    instance.entities.iter().any(|other| *other == entity)
-}
 
 /// Whether an instance is of a choice of a SELECT.
 pub fn allows_choice(instance: &Seen<'_>, choice: TypeName) -> bool

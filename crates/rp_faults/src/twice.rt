@@ -8,8 +8,8 @@ ghost use Rattle.rp_meaning.specs.Reading.{present};
 ghost use Rattle.rp_operations.specs.Operations.{is_same};
 ghost use Rattle.rp_faults.specs.Twice.{places_in, repeats};
 
-use crate::present::all_present;
 use rp_operations::same;
+use rp_operators::all_present;
 use rp_value::Value;
 use std::alloc::{AllocError, Global};
 use std::collections::HashSet;

@@ -1,1 +1,8 @@
 pub mod Positioning
+pub mod Searching
+pub mod Walks
+pub mod PlaceOrder
+pub mod Standing
+pub mod Linking
+pub mod Naming
+pub mod Writing

@@ -1,17 +1,18 @@
 //! The population of models that count in a group.
 
-ghost use Rattle.std.specs.Prelude.{◌≡◌, ◌++◌, map, IfOk, OnOk};
-ghost use Rattle.rp_population.specs.Populations.{placed_all, population as Population};
-ghost use Rattle.rp_positions.specs.Positions.{AreInOrder, IsSearchable};
+ghost use Rattle.std.specs.Prelude.{◌≡◌, ◌<◌, ◌+◌, ◌++◌, map, length, IfOk, OnOk};
+ghost use Rattle.rp_population.specs.Populations.{population as Population};
+ghost use Rattle.rp_positions.specs.Positions.{AreInOrder};
 ghost use Rattle.rp_positions.specs.Seen.{all_seen_by};
 ghost use Rattle.rp_group_domain.specs.Models as spec;
 
-use rp_domain::{ListDomain, WrittenInstance};
+use crate::lines::Lines;
 use crate::models::{CountedModel, PlacedInstance};
 use crate::names::Names;
 use crate::positions::written;
 use ex_layouts::Dictionary;
 use rp_content::Instance;
+use rp_domain::{ListDomain, WrittenInstance};
 use rp_meaning::Schema;
 use std::alloc::{AllocError, Global};
 
@@ -19,35 +20,38 @@ use std::alloc::{AllocError, Global};
 fn push_written(
     found: &mut Vec<WrittenInstance>,
     alloc: Global,
-    schema: &Dictionary<'_>,
+    lines: &mut Lines<'_, '_>,
     names: &Names<'_>,
     instances: &[Instance],
 ) -> Result<(), AllocError>
-    ensures { OnOk result (found.new.items ≡ found.old.items ++ map (spec.written schema.now names.now) instances.now) }
+    ensures same { lines.new ≡ lines.old }
+    ensures written { OnOk result (found.new.items ≡ found.old.items ++ map (spec.written lines.old names.now) instances.now) }
 {
-    for instance in instances {
-        found.push(written(alloc, schema, names, instance)?)?;
+    for (place, instance) in instances.iter().enumerate() {
+        found.push(written(alloc, lines, names, place, instance)?)?;
     }
     Ok(())
 }
 
-/// Adds the instances of a model, as the population of some models has them.
+/// Adds the instances of the model at a place among some, whose population this is. Those of the models before it were added.
 fn push_model(
     found: &mut Vec<WrittenInstance>,
     alloc: Global,
-    schema: &Dictionary<'_>,
+    lines: &mut Lines<'_, '_>,
     models: &[CountedModel<'_>],
     population: &[PlacedInstance<'_>],
-    model: &CountedModel<'_>,
+    at: usize,
 ) -> Result<(), AllocError>
-    requires order { AreInOrder models.now }
-    requires population { population.now ≡ Population models.now }
-    requires searchable { IsSearchable model.now.content }
-    ensures { OnOk result (found.new.items ≡ found.old.items ++ map (spec.written_in schema.now population.now) (placed_all model.now)) }
+    requires population { spec.IsPopulation models.now population.now }
+    requires at { at < length models.now }
+    requires before { found.old.items ≡ spec.written_before lines.old population.now models.now at }
+    ensures same { lines.new ≡ lines.old }
+    ensures written { OnOk result (found.new.items ≡ spec.written_before lines.old population.now models.now (at + 1)) }
 {
-    let names = Names::of(alloc, models, population, model)?;
-    let instances = model.content.instances.as_slice();
-    push_written(found, alloc, schema, &names, instances)
+    let names = Names::of(alloc, models, population, at, found.len())?;
+    let model = &models[at];
+    let content = model.content;
+    push_written(found, alloc, lines, &names, content.instances.as_slice())
 }
 
 /// All instances of the population of some models.
@@ -57,13 +61,13 @@ fn all_written(
     models: &[CountedModel<'_>],
     population: &[PlacedInstance<'_>],
 ) -> Result<Vec<WrittenInstance>, AllocError>
-    requires order { AreInOrder models.now }
-    requires population { population.now ≡ Population models.now }
-    ensures { IfOk result (λ found. found.items ≡ spec.all_written_in schema.now population.now) }
+    requires { spec.IsPopulation models.now population.now }
+    ensures { IfOk result (λ found. found.items ≡ spec.all_written_in schema.now population.now population.now) }
 {
+    let mut lines = Lines::of(alloc, schema)?;
     let mut found = Vec::with_capacity(alloc, population.len())?;
-    for model in models {
-        push_model(&mut found, alloc, schema, models, population, model)?;
+    for at in 0..models.len() {
+        push_model(&mut found, alloc, &mut lines, models, population, at)?;
     }
     Ok(found)
 }

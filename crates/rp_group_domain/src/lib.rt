@@ -2,10 +2,12 @@
 #![tactic(auto)]
 
 mod group;
+mod lines;
 mod models;
 mod names;
+mod places;
 mod positions;
-mod standing;
+mod targets;
 
 pub use group::domain_of;
 pub use models::{CountedModel, PlacedInstance, population_of};

@@ -38,11 +38,11 @@ pub struct PlacedInstance<'a> {
 impl<'a> Model for PlacedInstance<'a> {
     ghost use Rattle.rp_population.specs.Populations.{Placed, placed};
     ghost use Rattle.std.specs.Coded.{codes};
-    ghost use Rattle.rp_content.specs.contracts.content.Content as content_type;
+    ghost use Rattle.rp_value.specs.contracts.value.Value as value;
 
     ghost Value = { Placed };
 
-    ghost coded = { Prim.hlevel (codes, content_type.the_row.coded) };
+    ghost coded = { Prim.hlevel (codes, value.the_row.coded) };
 
     ghost view = { λ x. placed (record { model = x.model.now; content = x.content.now }) x.instance.now };
 }

@@ -10,3 +10,4 @@ pub mod Sizes
 pub mod Sums
 pub mod Texts
 pub mod Sets
+pub mod Replaced

@@ -1,7 +1,9 @@
 //! The operators and the built-in functions of EXPRESS over values, and what values become by declared types.
 #![tactic(auto)]
 
+mod attributes;
 mod bare;
+mod bounds;
 mod built_ins;
 mod costs;
 mod decimals;
@@ -11,10 +13,13 @@ mod naming;
 mod numbers;
 mod operators;
 mod qualifiers;
+mod references;
 mod relations;
 mod scalars;
 
+pub use attributes::{is_of, same_attribute};
 pub use bare::{aggregate_of, carried, integer_of, is_indeterminate, is_true, place_of, text_of};
+pub use bounds::holds_count;
 pub use built_ins::{
     absolute, binary_length, exists, high_index, initializer, low_index, null_value, odd, size_of,
     text_length, value_in,
@@ -25,3 +30,4 @@ pub use ends::{AggregateType, End, aggregate_type, behind_names, end_of, fits};
 pub use naming::type_names;
 pub use operators::{applied, applied_to, within};
 pub use qualifiers::{index, range};
+pub use references::{all_present, present};

@@ -1,5 +1,5 @@
 -- The tokens of a report's members, of which some may be left out.
-use Rattle.std.proofs.Common.{◌≡◌, ℕ, List, [], ◌∷◌, ◌++◌, Option, Some, None, codes, refl, ap, sym, ◌∙◌, append_assoc}
+use Rattle.std.proofs.Common.{◌≡◌, ℕ, List, [], ◌∷◌, ◌++◌, Option, Some, None, codes, refl, ap, ◌∙◌, append_assoc}
 use Rattle.json.specs.Token.{Token, key, string, end_object}
 use Rattle.json.specs.Tree.{members_tokens}
 use Rattle.serde_json.specs.Data.{Members}
@@ -40,7 +40,7 @@ check_members-written x =
     (rule_first x.rule unknown ∙ ap (λ ts. rule_tokens x.rule ++ ts) (culprits_first (codes "unknown") x.unknown verdict))))
 
 -- one behind the other
-pub in_turn : (a b c r u v : List Token) → (((a ++ (b ++ c)) ++ r) ++ u) ++ v ≡ a ++ (b ++ (c ++ (r ++ (u ++ v))))
+pub in_turn : (a b c r u v : List Token) → ((((a ++ b) ++ c) ++ r) ++ u) ++ v ≡ a ++ (b ++ (c ++ (r ++ (u ++ v))))
 in_turn a b c r u v =
-    append_assoc ((a ++ (b ++ c)) ++ r) u v ∙ append_assoc (a ++ (b ++ c)) r (u ++ v) ∙ append_assoc a (b ++ c) (r ++ (u ++ v))
-    ∙ ap (λ ts. a ++ ts) (append_assoc b c (r ++ (u ++ v)))
+    append_assoc (((a ++ b) ++ c) ++ r) u v ∙ append_assoc ((a ++ b) ++ c) r (u ++ v) ∙ append_assoc (a ++ b) c (r ++ (u ++ v))
+    ∙ append_assoc a b (c ++ (r ++ (u ++ v)))

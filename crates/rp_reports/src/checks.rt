@@ -10,8 +10,12 @@ use rp_meaning::{Check, Report};
 use rp_plain::reports::{ToldCheck, ToldReport};
 use std::alloc::{AllocError, Global};
 
-fn told_check(alloc: Global, telling: &Telling<'_>, check: &Check) -> Result<ToldCheck, AllocError>
-    ensures { IfOk result (λ told. told ≡ spec.told_check telling.now.schema telling.now.population check.now) }
+fn told_check(
+    alloc: Global,
+    telling: &Telling<'_, '_>,
+    check: &Check,
+) -> Result<ToldCheck, AllocError>
+    ensures { IfOk result (λ told. told ≡ spec.told_check telling.now.schema.now telling.now.population.now check.now) }
 {
     let rule = rule_of(alloc, telling.schema(), check.constraint)?;
     let violating = telling.culprits(alloc, check.violating.as_slice())?;
@@ -31,10 +35,10 @@ fn told_check(alloc: Global, telling: &Telling<'_>, check: &Check) -> Result<Tol
 
 fn told_checks(
     alloc: Global,
-    telling: &Telling<'_>,
+    telling: &Telling<'_, '_>,
     checks: &[Check],
 ) -> Result<Rows<ToldCheck>, AllocError>
-    ensures { IfOk result (λ told. told ≡ map (spec.told_check telling.now.schema telling.now.population) checks.now) }
+    ensures { IfOk result (λ told. told ≡ map (spec.told_check telling.now.schema.now telling.now.population.now) checks.now) }
 {
     let mut told = Rows::from_vec(Vec::with_capacity(alloc, checks.len())?);
     for check in checks {
@@ -45,10 +49,10 @@ fn told_checks(
 
 pub(crate) fn told_report(
     alloc: Global,
-    telling: &Telling<'_>,
+    telling: &Telling<'_, '_>,
     report: &Report,
 ) -> Result<ToldReport, AllocError>
-    ensures { IfOk result (λ told. told ≡ spec.told_report telling.now.schema telling.now.population report.now) }
+    ensures { IfOk result (λ told. told ≡ spec.told_report telling.now.schema.now telling.now.population.now report.now) }
 {
     Ok(ToldReport {
         checks: told_checks(alloc, telling, report.checks.as_slice())?,

@@ -5,6 +5,7 @@
 mod attributes;
 mod checks;
 mod culprits;
+mod ruled_schema;
 mod rules;
 mod schema_rules;
 mod validation;

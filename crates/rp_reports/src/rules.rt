@@ -10,6 +10,7 @@ use ex_types::CheckedSchema;
 use plain_data::Text;
 use rp_meaning::Constraint;
 use rp_plain::reports::{CheckKind, RuleName};
+use sqlite_items::at;
 use std::alloc::{AllocError, Global};
 
 pub(crate) fn kind_of(constraint: Constraint) -> CheckKind
@@ -36,7 +37,7 @@ fn numbered(alloc: Global, number: usize) -> Result<Text, AllocError>
 
 /// What a rule at a place of its clause is called.
 fn label_text(alloc: Global, label: Option<&Name>, place: usize) -> Result<Text, AllocError>
-    requires { place < 18446744073709551615 }
+    requires { place < usize.MAX }
     ensures { IfOk result (λ text. text ≡ spec.label_text (option_copied label.entry) place) }
 {
     match label {
@@ -52,7 +53,7 @@ fn domain_label(
 ) -> Result<Option<Text>, AllocError>
     ensures { IfOk result (λ label. label ≡ spec.domain_label rules.now place) }
 {
-    match rules.get(place) {
+    match at(rules, place) {
         None => Ok(None),
         Some(rule) => Ok(Some(label_text(alloc, rule.label.as_ref(), place)?)),
     }
@@ -65,7 +66,7 @@ fn unique_label(
 ) -> Result<Option<Text>, AllocError>
     ensures { IfOk result (λ label. label ≡ spec.unique_label rules.now place) }
 {
-    match rules.get(place) {
+    match at(rules, place) {
         None => Ok(None),
         Some(rule) => Ok(Some(label_text(alloc, rule.label.as_ref(), place)?)),
     }
@@ -78,7 +79,7 @@ fn inverse_label(
 ) -> Result<Option<Text>, AllocError>
     ensures { IfOk result (λ label. label ≡ spec.inverse_label inverse.now place) }
 {
-    match inverse.get(place) {
+    match at(inverse, place) {
         None => Ok(None),
         Some(attribute) => Ok(Some(Text::from_str(alloc, attribute.name.text.as_str())?)),
     }
@@ -105,7 +106,7 @@ fn rule_of_type(
 ) -> Result<Option<RuleName>, AllocError>
     ensures { IfOk result (λ name. name ≡ spec.rule_of schema.now (c.Type number place)) }
 {
-    match schema.types().get(number) {
+    match at(schema.types(), number) {
         None => Ok(None),
         Some(declared) => {
             let label = domain_label(alloc, declared.domain_rules.as_slice(), place)?;
@@ -122,7 +123,7 @@ fn rule_of_entity(
 ) -> Result<Option<RuleName>, AllocError>
     ensures { IfOk result (λ name. name ≡ spec.rule_of schema.now (c.Where number place)) }
 {
-    match schema.entities().get(number) {
+    match at(schema.entities(), number) {
         None => Ok(None),
         Some(entity) => {
             let label = domain_label(alloc, entity.domain_rules.as_slice(), place)?;
@@ -139,7 +140,7 @@ fn unique_rule(
 ) -> Result<Option<RuleName>, AllocError>
     ensures { IfOk result (λ name. name ≡ spec.rule_of schema.now (c.Unique number place)) }
 {
-    match schema.entities().get(number) {
+    match at(schema.entities(), number) {
         None => Ok(None),
         Some(entity) => {
             let label = unique_label(alloc, entity.unique_rules.as_slice(), place)?;
@@ -156,7 +157,7 @@ fn inverse_rule(
 ) -> Result<Option<RuleName>, AllocError>
     ensures { IfOk result (λ name. name ≡ spec.rule_of schema.now (c.Inverse number place)) }
 {
-    match schema.entities().get(number) {
+    match at(schema.entities(), number) {
         None => Ok(None),
         Some(entity) => {
             let label = inverse_label(alloc, entity.inverse.as_slice(), place)?;
@@ -173,7 +174,7 @@ fn global_rule(
 ) -> Result<Option<RuleName>, AllocError>
     ensures { IfOk result (λ name. name ≡ spec.rule_of schema.now (c.Rule number place)) }
 {
-    match schema.rules().get(number) {
+    match at(schema.rules(), number) {
         None => Ok(None),
         Some(rule) => {
             let label = domain_label(alloc, rule.domain_rules.as_slice(), place)?;

@@ -1,17 +1,13 @@
-//! The rules of a repository's schemas, as they are evaluated.
+//! The rules of a repository's schemas.
 
-ghost use Rattle.std.specs.Prelude.{◌≡◌, ◌<◌, length, map, IfOk, IfSome};
-ghost use Rattle.std.specs.List.{position};
-ghost use Rattle.std.specs.Str.{bytes_eq};
-ghost use Rattle.rp_meaning.specs.Compiled.{compiled};
-ghost use Rattle.rp_plain.specs.Meaning.{schema_name};
+ghost use Rattle.std.specs.Prelude.{◌≡◌, option_copied};
+ghost use Rattle.rp_plain.specs.Meaning.{schema_named};
 
+use crate::ruled_schema::RuledSchema;
 use crate::validation::validated;
 use ex_loaded::LoadedSchema;
 use plain_data::{Rows, Text};
-use rp_compile::compile;
 use rp_group_domain::CountedModel;
-use rp_meaning::Schema;
 use rp_plain::reports::ToldReport;
 use std::alloc::{AllocError, Global};
 use std::marker::Model;
@@ -19,15 +15,12 @@ use std::marker::Model;
 /// The schemas of a repository, each with its rules as they are evaluated.
 #[derive(Drop)]
 pub struct SchemaRules<'s> {
-    schemas: &'s [LoadedSchema<'s>],
-    /// Of each schema.
-    rules: Vec<Schema>,
+    schemas: Vec<RuledSchema<'s>>,
 }
 
 impl<'s> Model for SchemaRules<'s> {
-    ghost use Rattle.std.specs.Prelude.{◌≡◌, List, map};
+    ghost use Rattle.std.specs.Prelude.{List};
     ghost use Rattle.ex_types.specs.Checked.{Checked};
-    ghost use Rattle.rp_meaning.specs.Compiled.{compiled};
     ghost use Rattle.std.specs.Coded.{codes};
     ghost use Rattle.ex_types.specs.contracts.schema.CheckedSchema as checked;
 
@@ -35,29 +28,19 @@ impl<'s> Model for SchemaRules<'s> {
 
     ghost coded = { Prim.hlevel (codes, checked.the_row.coded) };
 
-    ghost view = { λ r. r.schemas.now };
-
-    ghost invariant = { λ r. r.rules.items ≡ map compiled r.schemas.now };
+    ghost view = { λ r. r.schemas.items };
 }
 
-/// Where the schema of this name stands first.
-fn place_named(schemas: &[LoadedSchema<'_>], name: &Text) -> Option<usize>
-    ensures place { result ≡ position (λ schema. bytes_eq name.now (schema_name schema)) schemas.now }
-    ensures within { IfSome result (λ place. place < length schemas.now) }
+/// The schema of this name.
+fn named<'r, 's>(schemas: &'r [RuledSchema<'s>], name: &Text) -> Option<&'r RuledSchema<'s>>
+    ensures { option_copied result ≡ schema_named schemas.now name.now }
 {
-    schemas
-        .iter()
-        .position(|schema| name.as_str() == schema.checked().name())
-}
-
-fn all_rules(alloc: Global, schemas: &[LoadedSchema<'_>]) -> Result<Vec<Schema>, AllocError>
-    ensures { IfOk result (λ rules. rules.items ≡ map compiled schemas.now) }
-{
-    let mut rules = Vec::with_capacity(alloc, schemas.len())?;
     for schema in schemas {
-        rules.push(compile(alloc, schema.checked())?)?;
+        if schema.is_named(name) {
+            return Some(schema);
+        }
     }
-    Ok(rules)
+    None
 }
 
 impl<'s> SchemaRules<'s> {
@@ -71,10 +54,11 @@ impl<'s> SchemaRules<'s> {
     pub fn of(alloc: Global, schemas: &'s [LoadedSchema<'s>]) -> Result<SchemaRules<'s>, AllocError>
         ensures { IfOk result (λ rules. rules ≡ schemas.now) }
     {
-        Ok(SchemaRules {
-            schemas,
-            rules: all_rules(alloc, schemas)?,
-        })
+        let mut ruled = Vec::with_capacity(alloc, schemas.len())?;
+        for schema in schemas {
+            ruled.push(RuledSchema::of(alloc, schema)?)?;
+        }
+        Ok(SchemaRules { schemas: ruled })
     }
 
     /// What is told of the population of some models by the rules of the schema of this name.
@@ -87,8 +71,8 @@ impl<'s> SchemaRules<'s> {
         requires { AreInOrder models.now }
         ensures { IfOk result (λ told. told ≡ validated_by (schema_named self.now schema.now) (population models.now)) }
     {
-        match place_named(self.schemas, schema) {
-            Some(place) => validated(alloc, &self.schemas[place], &self.rules[place], models),
+        match named(&self.schemas, schema) {
+            Some(schema) => validated(alloc, schema, models),
             None => Ok(ToldReport {
                 checks: Rows::new(alloc),
                 steps: 0,

@@ -14,7 +14,7 @@ use Rattle.shallow_json.specs.Shallow.{plain, shallow, flat}
 use Rattle.rp_requests.specs.declared.lines.Lists.{Lists}
 use Rattle.rp_requests.specs.Kept.{kept}
 use Rattle.shallow_json.specs.Keys.{has_only}
-use Rattle.rp_requests.specs.Asks.{without, text_in, text_if_any, flag_if_any, number_of, number_in, link_in, link_of, lists_in, create_model_of, item_in, model_in, group_in, put_of, export_of, names_of, get_of, add_of, set_of, drop_of, delete_model_of, list_of, kind_in, level_in, grant_of, revoke_of, create_group_of, delete_group_of, include_of, exclude_of, members_of, extent_of, users_of, schemas_of, check_schema_of, group_request_for, other_request_for, request_for, request_in, asked_with, asked_in, asked_of}
+use Rattle.rp_requests.specs.Asks.{without, text_in, text_if_any, flag_if_any, number_of, number_in, link_in, link_of, lists_in, create_model_of, item_in, model_in, group_in, put_of, export_of, names_of, get_of, add_of, set_of, drop_of, delete_model_of, list_of, kind_in, level_in, grant_of, revoke_of, create_group_of, delete_group_of, include_of, exclude_of, members_of, extent_of, validate_of, users_of, schemas_of, check_schema_of, group_request_for, other_request_for, request_for, request_in, asked_with, asked_in, asked_of}
 
 has_only-shallow : (keys : List (List ℕ)) (ms : Members) → has_only keys (shallow ms) ≡ has_only keys ms
 has_only-shallow keys no_members = refl
@@ -171,6 +171,9 @@ members_of-shallow ms = rw (has_only-shallow (codes "group" ∷ codes "owner" �
 extent_of-shallow : (ms : Members) → extent_of (shallow ms) ≡ extent_of ms
 extent_of-shallow ms = rw (has_only-shallow (codes "group" ∷ codes "owner" ∷ codes "type" ∷ []) ms, group_in-shallow ms, text_in-shallow (codes "type") ms) refl
 
+validate_of-shallow : (ms : Members) → validate_of (shallow ms) ≡ validate_of ms
+validate_of-shallow ms = rw (has_only-shallow (codes "group" ∷ codes "owner" ∷ []) ms, group_in-shallow ms) refl
+
 users_of-shallow : (place : Option Place) (ms : Members) → users_of place (shallow ms) ≡ users_of place ms
 users_of-shallow place ms = rw (has_only-shallow (codes "group" ∷ codes "of" ∷ codes "owner" ∷ codes "role" ∷ []) ms, group_in-shallow ms, text_in-shallow (codes "role") ms) refl
 
@@ -182,7 +185,7 @@ check_schema_of-shallow ms = rw (has_only-shallow (codes "text" ∷ []) ms, text
 
 group_request_for-shallow : (word : List ℕ) (ms : Members) → group_request_for word (shallow ms) ≡ group_request_for word ms
 group_request_for-shallow word ms =
-    rw (create_group_of-shallow ms, delete_group_of-shallow ms, include_of-shallow ms, exclude_of-shallow ms, members_of-shallow ms, extent_of-shallow ms) refl
+    rw (create_group_of-shallow ms, delete_group_of-shallow ms, include_of-shallow ms, exclude_of-shallow ms, members_of-shallow ms, extent_of-shallow ms, validate_of-shallow ms) refl
 
 other_request_for-shallow : (word : List ℕ) (ms : Members) → other_request_for word (shallow ms) ≡ other_request_for word ms
 other_request_for-shallow word ms =

@@ -16,7 +16,9 @@ returns-clause-ok c =
     let front = begin_object ∷ key (codes "ok") ∷ begin_object ∷ key (codes "checks") ∷ [] in
     let keyed : c.key.new.self.tokens ≡ c.open.new.out.tokens ++ key (codes "checks") ∷ [] = search rules in
     let counted : c.number_at.new.out.tokens ≡ c.write_checks.new.out.tokens ++ steps = search rules in
-    let listed = joined old front _ list _ (joined old _ _ _ _ c.in_ok-open.ensures.ok keyed) c.in_ok-write_checks.ensures.ok in
+    let told : c.write_checks.new.out.tokens ≡ c.key.new.self.tokens ++ list =
+    c.in_ok-write_checks.ensures.ok ∙ ap (λ checks. c.key.new.self.tokens ++ tokens_of (list_of check_data checks)) c.as_slice.ensures in
+    let listed = joined old front _ list _ (joined old _ _ _ _ c.in_ok-open.ensures.ok keyed) told in
     let all = joined old _ _ steps _ listed counted in
     let ends = append_assoc list steps (end_object ∷ end_object ∷ []) ∙ sym (append_assoc list (steps ++ end_object ∷ []) (end_object ∷ [])) in
     on_ok_weaker c.close.result (λ e. joined old _ _ _ _ all e ∙ ap (λ ts. old ++ (front ++ ts)) ends) c.close.ensures.ok

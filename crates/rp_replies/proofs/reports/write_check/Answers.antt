@@ -21,9 +21,10 @@ returns-clause-ok c =
     let begun : c.begin_object.new.self.tokens ≡ old ++ begin_object ∷ [] = search rules in
     let kind : c.string_at.new.out.tokens ≡ c.begin_object.new.self.tokens ++ key (codes "check") ∷ string (check_word check.kind) ∷ [] = search rules in
     let named : c.write_rule.new.out.tokens ≡ c.write_violations.new.out.tokens ++ rule = search rules in
+    let undecided : c.write_culprits.new.out.tokens ≡ c.write_rule.new.out.tokens ++ unknown = search rules in
     let judged : c.string_at-2.new.out.tokens ≡ c.write_culprits.new.out.tokens ++ verdict = search rules in
-    let violated = joined old front _ (violating ++ (limited ++ not_run)) _ (joined old _ _ _ _ begun kind) c.in_ok-write_violations.ensures.ok in
-    let told = joined old _ _ unknown _ (joined old _ _ rule _ violated named) c.in_ok-write_culprits.ensures.ok in
+    let violated = joined old front _ ((violating ++ limited) ++ not_run) _ (joined old _ _ _ _ begun kind) c.in_ok-write_violations.ensures.ok in
+    let told = joined old _ _ unknown _ (joined old _ _ rule _ violated named) undecided in
     let all = joined old _ _ verdict _ told judged in
-    let ends = append_assoc (((violating ++ (limited ++ not_run)) ++ rule) ++ unknown) verdict (end_object ∷ []) ∙ in_turn violating limited not_run rule unknown (verdict_tokens check) ∙ sym (check_members-written check) in
+    let ends = append_assoc ((((violating ++ limited) ++ not_run) ++ rule) ++ unknown) verdict (end_object ∷ []) ∙ in_turn violating limited not_run rule unknown (verdict_tokens check) ∙ sym (check_members-written check) in
     on_ok_weaker c.end_object.result (λ e. joined old _ _ _ _ all e ∙ ap (λ ts. old ++ (front ++ ts)) ends) c.end_object.ensures.ok

@@ -1,7 +1,7 @@
 use Rattle.std.proofs.Common.{◌≡◌, [], ◌∷◌, ◌++◌, Option, Some, None, List, ℕ, refl, ap, ◌∙◌, rules}
 use Rattle.std.proofs.lemmas.Result.{on_ok_weaker}
 use Rattle.std.specs.Fmt.{decimal}
-use Rattle.json.specs.Token.{Token, begin_array, end_array, string, number}
+use Rattle.json.specs.Token.{begin_array, end_array, string, number}
 use Rattle.json.specs.Tree.{items_tokens}
 use Rattle.serde_json.specs.Written.{items_outline}
 use Rattle.rp_replies.specs.Replies.{item_if_any}

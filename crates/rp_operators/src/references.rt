@@ -1,8 +1,8 @@
-//! Values in which references that leave a population are `?`.
+//! References that leave a population, which are read as `?`.
 
 ghost use Rattle.std.specs.Prelude.{◌≡◌, IfOk, map, nat_lt, if◌then◌else◌};
-ghost use Rattle.rp_value.specs.declared.value.Value.TheVariants as v;
 ghost use Rattle.rp_meaning.specs.Reading as spec;
+ghost use Rattle.rp_value.specs.declared.value.Value.TheVariants as v;
 
 use plain_data::Items;
 use rp_value::{AggregateKind, Elements, Value};
@@ -11,7 +11,7 @@ use std::alloc::{AllocError, Global};
 /// The value, in which each reference that leaves a population of so many instances is `?`.
 #[cycle(present)]
 #[tactic(auto, unfolding(rp_meaning::specs::Reading::present))]
-fn present(value: &Value, alloc: Global, count: usize) -> Result<Value, AllocError>
+pub fn present(value: &Value, alloc: Global, count: usize) -> Result<Value, AllocError>
     ensures { IfOk result (λ x. x ≡ spec.present count value.now) }
 {
     match value {
@@ -25,6 +25,7 @@ fn present(value: &Value, alloc: Global, count: usize) -> Result<Value, AllocErr
     }
 }
 
+/// A reference, or `?` where it leaves the population.
 fn present_reference(place: u64, count: usize) -> Value
     ensures { result ≡ (if nat_lt place count then v.Inst place else v.Indet) }
 {
@@ -49,9 +50,9 @@ fn present_aggregate(
     Value::aggregate(alloc, kind, elements.low(), items)
 }
 
-/// The values, in which each reference that leaves the population is `?`.
+/// The values, in which each reference that leaves a population of so many instances is `?`.
 #[cycle(present)]
-pub(crate) fn all_present(
+pub fn all_present(
     values: &[Value],
     alloc: Global,
     count: usize,
