@@ -1,7 +1,7 @@
 //! Expressions.
 #![tactic(auto, unfolding(rp_meaning::specs::Expressions::expression, rp_meaning::specs::Expressions::qualifier, rp_meaning::specs::Expressions::interval, rp_meaning::specs::Expressions::operation, rp_meaning::specs::Expressions::query))]
 
-ghost use Rattle.std.specs.Prelude.{◌≡◌, [], map, OnOk};
+ghost use Rattle.std.specs.Prelude.{◌≡◌, [], map, IfSome, OnOk};
 ghost use Rattle.rp_meaning.specs.Computations as computations;
 ghost use Rattle.rp_meaning.specs.Computations.{Runs, pure};
 ghost use Rattle.rp_meaning.specs.Bare.{place_of};
@@ -49,6 +49,32 @@ impl<'a, D: Domain, B: Fn(Global, &Schema, &D, u8, &mut Counter, Body) -> Result
     D,
     B,
 > {
+    /// The value of an expression that is a literal, SELF or a variable, where it stands.
+    fn standing<'v>(&self, tree: &'v Expression, frame: &'v Frame) -> Option<&'v Value>
+        ensures { IfSome result (λ value. value_at self.now.schema.now (D.population self.now.domain.now) self.now.levels tree.now frame.now ≡ charged 1 (pure value.now)) }
+    {
+        match tree {
+            Expression::Literal(value) => Some(value),
+            Expression::Itself => Some(frame.itself()),
+            Expression::Variable(slot) => frame.variable_at(*slot),
+            _ => None,
+        }
+    }
+
+    /// What an operator gives of the value that is there and of a right operand that stands somewhere, with the steps of both.
+    fn operate_standing(
+        &self,
+        operation: &Operation,
+        right: &Value,
+        counter: &mut Counter,
+        into: &mut Value,
+    ) -> Result<(), Stop>
+        ensures { (s : spec.Scope) → value_at self.now.schema.now (D.population self.now.domain.now) self.now.levels operation.now.right s ≡ charged 1 (pure right.now) → RunsInto (operation_at self.now.schema.now (D.population self.now.domain.now) self.now.levels operation.now s into.old counter.old) result into.new counter.new }
+    {
+        charge(counter, 2)?;
+        self.operate(operation, right, counter, into)
+    }
+
     /// What an operator gives of the value that is there and of another.
     #[inline(never)]
     fn operate(
@@ -316,7 +342,7 @@ impl<'a, D: Domain, B: Fn(Global, &Schema, &D, u8, &mut Counter, Body) -> Result
         Ok(())
     }
 
-    /// An operator and its right operand.
+    /// An operator and its right operand. One that stands somewhere is not copied.
     #[cycle(expressions)]
     fn operation(
         &self,
@@ -329,8 +355,13 @@ impl<'a, D: Domain, B: Fn(Global, &Schema, &D, u8, &mut Counter, Body) -> Result
         ensures value { RunsInto (operation_at self.now.schema.now (D.population self.now.domain.now) self.now.levels operation.now frame.old into.old counter.old) result into.new counter.new }
         ensures frame { OnOk result (frame.new ≡ frame.old) }
     {
-        let mut right = Value::Indet;
-        self.operation_with(operation, &mut right, frame, counter, into)
+        match self.standing(&operation.right, frame) {
+            Some(right) => self.operate_standing(operation, right, counter, into),
+            None => {
+                let mut right = Value::Indet;
+                self.operation_with(operation, &mut right, frame, counter, into)
+            }
+        }
     }
 
     /// An operator and its right operand, which is written where there is room for it.

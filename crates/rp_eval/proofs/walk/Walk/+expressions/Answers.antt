@@ -153,3 +153,6 @@ compound-returns-in-BuiltIn-clause-value g t c =
     let w = world c.args.self.now.schema.now (g.D.Domain.population c.args.self.now.domain.now) in
     let below = bodies w c.args.self.now.levels in
     rw (expression-built-in w below c.args.frame.now c.args.tree.now c.in-BuiltIn.function c.in-BuiltIn.arguments c.in-BuiltIn.is) c.built_in.ensures.value
+
+pub operation-returns-in-Some-clause-value : goal.operation-returns-in-Some-clause-value
+operation-returns-in-Some-clause-value g t c = c.operate_standing.ensures c.args.frame.now c.in-Some.ensures
