@@ -56,7 +56,7 @@ impl<T> Elements<T> {
 }
 
 impl<T: Drop> Elements<T> {
-    ghost use Rattle.std.specs.Prelude.{◌≡◌, IfOk};
+    ghost use Rattle.std.specs.Prelude.{◌≡◌, IfErr, IfOk};
 
     /// The elements from the index `low` on.
     pub fn of(alloc: Global, low: i64, items: Items<T>) -> Result<Elements<T>, AllocError>
@@ -80,6 +80,20 @@ impl<T: Drop> Elements<T> {
             Some(numbered) => Ok(Elements {
                 held: Some(numbered.share()?),
             }),
+        }
+    }
+
+    /// The index of the first element, and the elements themselves, where nobody else has them.
+    pub fn own(self) -> Result<(i64, Items<T>), Elements<T>>
+        ensures parts { IfOk result (λ p. record { low = p.0; items = p.1 } ≡ self) }
+        ensures shared { IfErr result (λ e. e ≡ self) }
+    {
+        match self.held {
+            None => Err(Elements { held: None }),
+            Some(held) => match held.own() {
+                Ok(Numbered { low, items }) => Ok((low, items)),
+                Err(held) => Err(Elements { held: Some(held) }),
+            },
         }
     }
 }

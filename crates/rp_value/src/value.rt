@@ -94,7 +94,7 @@ impl Value {
 }
 
 impl Value {
-    ghost use Rattle.std.specs.Prelude.{◌≡◌, IfOk};
+    ghost use Rattle.std.specs.Prelude.{◌≡◌, IfErr, IfOk};
     ghost use Rattle.std.specs.Option.{option_copied};
     ghost use Rattle.rp_value.specs.declared.value.Value.TheVariants as v;
     ghost use Rattle.rp_value.specs.Values.{elements_of};
@@ -131,6 +131,20 @@ impl Value {
     {
         let elements = Elements::of(alloc, low, items)?;
         Ok(Value::Agg { kind, elements })
+    }
+
+    /// What an aggregate is made of, where this is one and nobody else has its elements, and else the value.
+    pub fn into_aggregate(self) -> Result<(AggregateKind, i64, Items<Value>), Value>
+        ensures parts { IfOk result (λ p. v.Agg p.0 (record { low = p.1; items = p.2 }) ≡ self) }
+        ensures whole { IfErr result (λ x. x ≡ self) }
+    {
+        match self {
+            Value::Agg { kind, elements } => match elements.own() {
+                Ok((low, items)) => Ok((kind, low, items)),
+                Err(elements) => Err(Value::Agg { kind, elements }),
+            },
+            value => Err(value),
+        }
     }
 
     /// The value under the name of a defined type.

@@ -1,7 +1,7 @@
 //! A value with several owners, which contracts see as the value, so that a tree of them is plain data.
 #![tactic(auto)]
 
-ghost use Rattle.std.specs.Prelude.{◌≡◌, IfOk};
+ghost use Rattle.std.specs.Prelude.{◌≡◌, IfErr, IfOk};
 
 use std::alloc::{AllocError, Global};
 use std::marker::Model;
@@ -31,6 +31,17 @@ impl<T> Shared<T> {
 }
 
 impl<T: Drop> Shared<T> {
+    /// The value itself, where this is its only owner.
+    pub fn own(self) -> Result<T, Shared<T>>
+        ensures value { IfOk result (λ x. x ≡ self) }
+        ensures shared { IfErr result (λ s. s ≡ self) }
+    {
+        match Rc::try_unwrap(self.inner) {
+            Ok(value) => Ok(value),
+            Err(inner) => Err(Shared { inner }),
+        }
+    }
+
     /// The value with one owner. It takes one block.
     pub fn new(alloc: Global, value: T) -> Result<Shared<T>, AllocError>
         ensures { IfOk result (λ s. s ≡ value) }
