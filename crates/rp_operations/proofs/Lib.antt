@@ -6,3 +6,4 @@ mod Taking
 mod Passing
 mod Swapped
 mod Counts
+mod Unions

@@ -94,6 +94,11 @@ union_seen x y (Aggregate kind xs) t = aggregate kind xs.low (joined kind xs.ite
 union_seen x y s (Aggregate other ys) = aggregate other ys.low (x ∷ ys.items)
 union_seen x y s t = v.Indet
 
+abbrev pub is_element : Seen → Bool
+is_element Indeterminate = false
+is_element (Aggregate kind xs) = false
+is_element s = true
+
 -- `+` where a side is an aggregate; else `?`
 unfoldable pub union : Value → Value → Value
 union x y = union_seen x y (seen x) (seen y)

@@ -15,4 +15,6 @@ pub use laws::{
     compared_exchanged, difference_counts, intersection_counts, same_of_exchanged, union_counts,
     within_counts,
 };
-pub use operations::{aggregate_union, intersect, is_in, is_value_in, is_within, minus};
+pub use operations::{
+    aggregate_union, intersect, is_in, is_value_in, is_within, minus, union_in_place,
+};

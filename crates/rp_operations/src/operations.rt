@@ -140,6 +140,16 @@ fn has_places(kind: AggregateKind) -> bool
     }
 }
 
+/// Whether it is neither `?` nor an aggregate.
+fn is_element(value: &Value) -> bool
+    ensures { result ≡ spec.is_element (seen value.now) }
+{
+    match beneath(value) {
+        Bare::Indeterminate | Bare::Aggregate(_, _) => false,
+        _ => true,
+    }
+}
+
 /// The elements of an aggregate of this kind with others.
 fn joined(
     alloc: Global,
@@ -327,6 +337,27 @@ pub fn aggregate_union(alloc: Global, value: &Value, other: &Value) -> Result<Va
         (Bare::Aggregate(kind, xs), _) => union_with(alloc, kind, xs, other),
         (_, Bare::Aggregate(kind, ys)) => union_behind(alloc, value, kind, ys),
         _ => Ok(Value::Indet),
+    }
+}
+
+/// `+` of two values, of which the left one isn't kept: an element is put behind those of an aggregate without a copy of
+/// them, where nobody else has them.
+pub fn union_in_place(alloc: Global, value: Value, other: &Value) -> Result<Value, AllocError>
+    ensures { IfOk result (λ x. x ≡ spec.union value other.now) }
+{
+    if !is_element(other) {
+        return aggregate_union(alloc, &value, other);
+    }
+    match value.into_aggregate() {
+        Err(value) => aggregate_union(alloc, &value, other),
+        Ok((kind, low, items)) if is_set(kind) => {
+            aggregate_union(alloc, &Value::aggregate(alloc, kind, low, items)?, other)
+        }
+        Ok((kind, low, items)) => {
+            let mut items = items;
+            items.push(other.copy()?)?;
+            Value::aggregate(alloc, kind, low, items)
+        }
     }
 }
 
