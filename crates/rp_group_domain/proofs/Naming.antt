@@ -1,15 +1,12 @@
 -- What a name in a model stands for in a population.
 use Rattle.std.proofs.Common.{◌≡◌, ℕ, suc, ◌+◌, Bool, true, false, not, cond, List, [], ◌∷◌, length, take, Some, refl, sym, ◌∙◌, ap, arith}
-use Rattle.std.specs.Prelude.{if◌then◌else◌, min, slice_get, ◌||◌}
+use Rattle.std.specs.Prelude.{if◌then◌else◌, min, slice_get}
 use Rattle.std.specs.List.{list_any, position_or_len}
-use Rattle.std.specs.Ordering.{nat_cmp}
-use Rattle.sorted_tables.specs.Table.{IsAscending}
 use Rattle.rp_content.specs.declared.instance.Instance.{Instance}
 use Rattle.rp_content.specs.declared.link.Link.{Link}
-use Rattle.rp_rows.specs.Contents.{link_name}
 use Rattle.rp_population.specs.Populations.{Counted, Placed, beside, links_to, placed, population, same_place, stands_for}
 use Rattle.rp_positions.specs.Positions.{IsSearchable, position_of}
-use Rattle.rp_group_domain.specs.Models.{AreNamesOf, CanName, IsPopulation, Names, linked_at, link_of, named_at, own_at, place_of, targets_of}
+use Rattle.rp_group_domain.specs.Models.{AreNamesOf, CanName, IsPopulation, Names, named_at, own_at, place_of, targets_of}
 use Rattle.rp_group_domain.proofs.Linking.{linked_walk, same_place-sym}
 use Rattle.rp_group_domain.proofs.PlaceOrder.{tied_places}
 use Rattle.rp_group_domain.proofs.Standing.{is_place, holds_at, own_stands, own_within}

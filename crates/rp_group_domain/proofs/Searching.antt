@@ -1,6 +1,9 @@
 -- Where a search by halving ends in a list in the order of its keys.
 use Rattle.std.proofs.Common.{◌≡◌, ℕ, zero, suc, ◌<◌, ◌≤◌, true, false, List, [], ◌∷◌, length, get_or, Result, Ok, Err, MatchResult, refl, sym, ◌∙◌, ap, arith, ◌⊎◌, inl, inr}
-use Rattle.std.specs.List.{AllByRecursion, position_or_len}
+use denote.Param.Members.{Mut}
+use denote.Ref.{Bor}
+use Rattle.std.specs.Fn.{Called, ComputesKey}
+use Rattle.std.specs.List.{position_or_len}
 use Rattle.std.specs.List.Sorted.{IsSearchInRange, IsBinarySearchResult, IsNonDecreasingBy, IsPartitionPoint}
 use Rattle.std.specs.Cmp.{IsTotalOrder}
 use Rattle.std.specs.declared.cmp.Ordering.{Ordering}
@@ -9,6 +12,8 @@ use Rattle.std.specs.Ordering.{is_lt, is_eq, is_gt, ordering_index, ordering_rev
 use Rattle.std.proofs.lemmas.Bool.{cases_lt}
 use Rattle.std.proofs.lemmas.List.Elements.{All-from_recursion}
 use Rattle.std.proofs.lemmas.List.Sums.{position_or_len_is}
+use Rattle.std.proofs.lemmas.Fn.{always_returns_same}
+use Rattle.std.proofs.lemmas.List.Sorted.{answers_always}
 use Rattle.sorted_tables.specs.Table.{is_at, is_after, IsAscending}
 use Rattle.sorted_tables.proofs.Ascending.{follows_all, is_gt-true}
 
@@ -74,3 +79,19 @@ module _ {K X : Type 0} (cmp : K → K → Ordering) (key : X → K) (total : Is
           by : (i < at) ⊎ (at ≤ i) → is_at cmp key k (get_or xs i d) ≡ false
           by (inl less) = ap is_eq (split.0 i d (omega arith) less)
           by (inr more) = ap is_eq (split.1 i d more inside)
+
+  -- the same by what std says of a search, where a closure tells the order of each with the key
+  pub searched_by : {F : Type 0} {g : Mut F (Bor X × Unit {0}) Ordering} {f : F} (xs : List X) → IsAscending cmp key xs → (r : Result ℕ ℕ) → IsSearchInRange r (length xs)
+      → ((ord : X → Ordering) → ComputesKey g ord f → IsBinarySearchResult ord xs r)
+      → ((a : Bor X × Unit {0}) (o : Ordering) (f' : F) → Called g f a o f' → (o ≡ cmp (key a.0.now) k) × (f' ≡ f))
+      → MatchResult r (λ at. position_or_len (is_at cmp key k) xs ≡ at) (λ _. position_or_len (is_at cmp key k) xs ≡ length xs)
+  searched_by {g = g} {f = f} xs order r within clause told =
+      searched xs order r within (clause (λ (x : X). cmp (key x) k) (always_returns_same g (λ a o. o ≡ cmp (key a.0.now) k) f told))
+
+  -- and where it tells the key of each
+  pub searched_by_key : {F : Type 0} {g : Mut F (Bor X × Unit {0}) K} {f : F} (xs : List X) → IsAscending cmp key xs → (r : Result ℕ ℕ) → IsSearchInRange r (length xs)
+      → ((named : X → K) → ComputesKey g named f → IsBinarySearchResult (λ (x : X). cmp (named x) k) xs r)
+      → ((q : F) (a : Bor X × Unit {0}) (j : K) (q' : F) → Called g q a j q' → j ≡ key a.0.now)
+      → MatchResult r (λ at. position_or_len (is_at cmp key k) xs ≡ at) (λ _. position_or_len (is_at cmp key k) xs ≡ length xs)
+  searched_by_key {g = g} {f = f} xs order r within clause told =
+      searched xs order r within (clause key (answers_always g (λ a j. j ≡ key a.0.now) f told))

@@ -1,8 +1,8 @@
 -- Where the instances of one model stand in a population.
-use Rattle.std.proofs.Common.{◌≡◌, ℕ, zero, suc, ◌+◌, ◌≤◌, nat_lt, Bool, true, false, ◌&&◌, List, [], ◌∷◌, ◌++◌, map, length, take, Option, Some, refl, sym, ◌∙◌, ap, subst, arith, length-append}
+use Rattle.std.proofs.Common.{◌≡◌, ℕ, zero, suc, ◌+◌, ◌≤◌, nat_lt, Bool, true, false, ◌&&◌, List, [], ◌∷◌, map, length, take, Some, refl, sym, ◌∙◌, ap, subst, arith, length-append}
 use Rattle.std.proofs.lemmas.Bool.Decides.{nat_tests}
 use Rattle.std.proofs.lemmas.List.{length-map}
-use Rattle.std.specs.Prelude.{if◌then◌else◌, slice_get, min}
+use Rattle.std.specs.Prelude.{if◌then◌else◌, slice_get}
 use Rattle.std.specs.List.{AllByRecursion, position_or_len}
 use Rattle.std.specs.Cmp.{tied_then}
 use Rattle.std.specs.declared.cmp.Ordering.{Ordering}
@@ -16,7 +16,6 @@ use Rattle.rp_rows.specs.declared.rows.Key.{Key}
 use Rattle.rp_rows.specs.Rows.{key_cmp}
 use Rattle.rp_rows.specs.Instances.{is_instance}
 use Rattle.rp_rows.proofs.Keys.{key_total}
-use Rattle.rp_population.specs.declared.place.Place.{Place}
 use Rattle.rp_population.specs.Populations.{Counted, Placed, placed, placed_all, population}
 use Rattle.rp_positions.specs.Positions.{counted_key}
 use Rattle.rp_group_domain.specs.Models.{own_place, place_cmp, place_of}

@@ -1,6 +1,6 @@
-use Rattle.std.proofs.Common.{◌≡◌, ◌∙◌, ◌++◌, List, map, IfSome, length, Option, Some, slice_get, refl, sym, ap, subst}
+use Rattle.std.proofs.Common.{◌≡◌, ◌∙◌, ◌++◌, List, map, IfSome, length, Option, Some, slice_get, refl, ap, subst}
 use Rattle.std.proofs.lemmas.Option.{slice_get_read}
-use Rattle.std.proofs.lemmas.Result.{IfOk-weaker}
+use Rattle.std.proofs.lemmas.Result.{on_ok_weaker}
 use Rattle.rp_domain.specs.declared.instance.WrittenInstance.{WrittenInstance}
 use Rattle.rp_population.specs.Populations.{Counted}
 use Rattle.rp_group_domain.specs.Models.{AreNamesOf, written, written_before}
@@ -17,7 +17,7 @@ returns-clause-written c =
     let is : slice_get ms c.args.at ≡ Some m = slice_get_read ms (length ms) c.args.at m refl c.requires.at c.index-models-at.is in
     let all : c.as_slice.result.now ≡ m.content.instances = c.as_slice.ensures ∙ ap (λ (n : Counted). n.content.instances) c.model.view_is in
     let named = subst (λ (o : Option Counted). IfSome o (λ k. AreNamesOf xs k n)) is c.in_ok-names.ensures in
-    IfOk-weaker c.push_written.result _ _ (λ _ added.
+    on_ok_weaker c.push_written.result (λ added.
     added
     ∙ ap (λ (ys : List WrittenInstance). ys ++ map (written checked n) c.as_slice.result.now) c.requires.before
     ∙ ap (λ ys. written_before checked xs ms c.args.at ++ ys) (ap (map (written checked n)) all ∙ model_written checked xs m n named m.content.instances)
