@@ -11,9 +11,10 @@ use crate::combination::AttributeOf;
 use crate::instance::{KeptInstance, value_at};
 use crate::room::room_of_users;
 use crate::rows::{empty_rows, put, with_room};
-use ex_named::{AttributePlace, AttributeSort};
+use ex_named::AttributePlace;
 use plain_data::Items;
 use rp_meaning::Role;
+use rp_operators::same_attribute;
 use rp_value::Value;
 use shared::Shared;
 use std::alloc::{AllocError, Global};
@@ -155,29 +156,12 @@ pub(crate) fn users_of(
     Ok(rows)
 }
 
-fn is_same_sort(a: AttributeSort, b: AttributeSort) -> bool
-    ensures { result ≡ uses.same_sort a b }
-{
-    match (a, b) {
-        (AttributeSort::Explicit, AttributeSort::Explicit) => true,
-        (AttributeSort::Derived, AttributeSort::Derived) => true,
-        (AttributeSort::Inverse, AttributeSort::Inverse) => true,
-        _ => false,
-    }
-}
-
-fn is_same_attribute(a: &AttributePlace, b: &AttributePlace) -> bool
-    ensures { result ≡ uses.same_attribute a.now b.now }
-{
-    a.entity == b.entity && is_same_sort(a.sort, b.sort) && a.place == b.place
-}
-
 /// Whether an attribute is one of these.
 fn is_one_of(attribute: &AttributePlace, attributes: &[AttributePlace]) -> bool
     ensures { result ≡ list_any (uses.same_attribute attribute.now) attributes.now }
 {
     for other in attributes {
-        if is_same_attribute(attribute, other) {
+        if same_attribute(attribute, other) {
             return true;
         }
     }
