@@ -5,5 +5,4 @@ pub mod Gatherings
 pub mod Order
 pub mod Tried
 pub mod TypeTallies
-pub mod Keys
 pub mod Buckets

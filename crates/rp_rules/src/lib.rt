@@ -6,7 +6,6 @@ mod choices;
 mod conditions;
 mod culprits;
 mod ended;
-mod keys;
 mod order;
 mod report;
 mod rows;
