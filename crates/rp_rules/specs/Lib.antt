@@ -7,3 +7,4 @@ pub mod Tried
 pub mod TypeTallies
 pub mod Keys
 pub mod Buckets
+pub mod Plan

@@ -5,9 +5,12 @@ mod buckets;
 mod choices;
 mod conditions;
 mod culprits;
+mod declared;
 mod ended;
 mod keys;
+mod laws;
 mod order;
+mod plan;
 mod report;
 mod rows;
 mod rules;
@@ -18,4 +21,5 @@ mod used;
 mod validation;
 mod verdicts;
 
+pub use laws::population_decides;
 pub use report::validate;
