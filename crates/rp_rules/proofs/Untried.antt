@@ -1,5 +1,5 @@
 -- Where the declarations of an attribute let nothing be tried, nothing is.
-use Rattle.std.proofs.Common.{◌≡◌, ℕ, zero, suc, ◌-◌, ◌+◌, ◌<◌, ◌≤◌, ◌&&◌, ◌||◌, ◌==◌, Bool, true, false, List, [], ◌∷◌, ◌++◌, map, length, replicate, Option, Some, None, is_some, slice_get, slice_set, slice_index_or, refl, sym, ap, ◌∙◌, subst, arith, append-nil, if◌then◌else◌}
+use Rattle.std.proofs.Common.{◌≡◌, ℕ, zero, suc, ◌-◌, ◌+◌, ◌<◌, ◌≤◌, ◌&&◌, ◌||◌, ◌==◌, Bool, true, false, List, [], ◌∷◌, ◌++◌, map, length, replicate, Option, Some, None, is_some, slice_get, slice_set, slice_index_or, refl, sym, ap, ◌∙◌, subst, arith, if◌then◌else◌}
 use Rattle.std.proofs.lemmas.Bool.{eqb-true}
 use Rattle.std.proofs.lemmas.List.Folds.{list_any-append}
 use Rattle.std.specs.List.{filter_map, list_any}
@@ -9,17 +9,15 @@ use Rattle.ex_named.specs.declared.reference.AttributePlace.{AttributePlace}
 use Rattle.ex_named.specs.declared.reference.TypeName.{TypeName}
 use Rattle.ex_named.specs.declared.reference.TypeName.TheVariants as t
 use Rattle.plain_data.specs.Numbers.{is_among}
-use Rattle.rp_faults.specs.Declarations.{declared_types}
 use Rattle.rp_meaning.specs.declared.schema.DefinedType.{DefinedType}
 use Rattle.rp_meaning.specs.declared.schema.Entity.{Entity}
 use Rattle.rp_meaning.specs.declared.schema.ExplicitAttribute.{ExplicitAttribute}
 use Rattle.rp_meaning.specs.declared.schema.Redeclaration.{Redeclaration}
 use Rattle.rp_meaning.specs.declared.schema.Schema.{Schema}
-use Rattle.rp_meaning.specs.Attributes.{entity_at}
 use Rattle.rp_meaning.specs.Bare.{aggregate_of, carried, is_indeterminate, place_of}
 use Rattle.rp_meaning.specs.Faults.{allows_choice, is_type}
 use Rattle.rp_meaning.specs.Populations.{Instance}
-use Rattle.rp_meaning.specs.TypeRules.{chooses, element_by, element_of, element_type, elements_tried, inside_by, is_choice_of, is_tried, named, selects_to, trying_by, types_by, types_tried, values_tried, with_beneath, written_under}
+use Rattle.rp_meaning.specs.TypeRules.{chooses, element_by, element_of, element_type, elements_tried, inside_by, is_choice_of, is_tried, named, selects_to, types_by, values_tried, with_beneath, written_under}
 use Rattle.rp_meaning.specs.Types.{AggregateType, End, Enumeration, Select, Written, aggregate_type, defined, end, end_of, fits}
 use Rattle.rp_meaning.specs.Uses.{same_attribute, same_sort}
 use Rattle.rp_rules.specs.declared.plan.Prospect.{Prospect}
@@ -27,10 +25,8 @@ use Rattle.rp_rules.specs.Plan as plan
 use Rattle.rp_rules.specs.Tried.{redeclarations_of, values_at}
 use Rattle.rp_rules.proofs.Declarations.{again_passes, any-declared, any-none}
 use Rattle.rp_rules.proofs.Values.{Items, Part, among-if, inside-of, parted, selects-between, under-none, under-some, values-set, values-unset}
-use Rattle.rp_value.specs.Elements.{Elements}
-use Rattle.rp_value.specs.declared.value.AggregateKind.{AggregateKind}
 use Rattle.rp_value.specs.declared.value.Value.{Value}
-use Rattle.rp_value.specs.declared.value.Value.TheFolds.{fold-roll-Value, ind-Value, map-Value}
+use Rattle.rp_value.specs.declared.value.Value.TheFolds.{ind-Value, map-Value}
 use Rattle.rp_value.specs.declared.value.Value.TheOpen.{Value-F}
 
 -- ---- truth

@@ -1,4 +1,4 @@
-use Rattle.std.proofs.Common.{◌≡◌, ◌||◌, true, false, Bool, sym, ap, ◌∙◌}
+use Rattle.std.proofs.Common.{◌||◌, Bool, sym, ap, ◌∙◌}
 use Rattle.std.specs.List.{list_any}
 use Rattle.rp_rules.specs.Tried.{again, redeclarations_of}
 use Rattle.rp_rules.proofs.Declarations.{tried-declared}

@@ -1,4 +1,4 @@
-use Rattle.std.proofs.Common.{rules, ◌≡◌, ◌∙◌, length, map, replicate}
+use Rattle.std.proofs.Common.{rules, ◌≡◌, length, map, replicate}
 use Rattle.rp_rules.specs.Plan.{nothing, own, put_of}
 use Rattle.rp_rules.proofs.Untried.{plan-tells}
 use Rattle.rp_rules.proofs.plan.Planning.plan.Goals as goal
