@@ -6,3 +6,4 @@ pub mod Order
 pub mod Tried
 pub mod TypeTallies
 pub mod Buckets
+pub mod Plan
