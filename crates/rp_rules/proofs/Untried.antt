@@ -353,6 +353,10 @@ plan-tells schema number again own is-again is-own a entities b none =
     ∙ (λ i. rows-cover schema.types number schema.entities a.entity a.place b own-none i
     || any-none (λ entity. list_any (again_passes (plan.may_stand schema.types number 8 b) a) (redeclarations_of schema entity)) (λ entity. of-covers schema.types number (replicate (length schema.entities) plan.nothing) schema.entities entity a b again-none) entities i)
 
+pub untold : (schema : Schema) (number : ℕ) → plan.Tells schema number plan.no_plan
+untold schema number a entities true none = absurd (cc)
+untold schema number a entities false none = absurd (cc)
+
 -- ---- aggregate by aggregate
 
 module _ (types : List DefinedType) (number depth : ℕ) (is_named : Bool) (d : NamedDataType) where

@@ -113,3 +113,7 @@ on_named p false = p.bare
 abbrev pub Tells : Schema → ℕ → Plan → Type 0
 Tells schema number plan = (a : AttributePlace) (entities : List ℕ) (is_named : Bool) → on_named (prospect_at plan a) is_named ≡ false
     → list_any (may_stand schema.types number 8 is_named) (declared_types schema entities a) ≡ false
+
+-- it says that everything may be
+abbrev pub no_plan : Plan
+no_plan = record { again = []; own = [] }

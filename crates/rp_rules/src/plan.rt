@@ -88,6 +88,16 @@ impl Plan {
     ghost use Rattle.std.specs.Prelude.{◌≡◌};
     ghost use Rattle.rp_rules.specs.Plan as spec;
 
+    /// With hope everywhere.
+    pub(crate) fn without(alloc: Global) -> Plan
+        ensures { result ≡ spec.no_plan }
+    {
+        Plan {
+            again: Items::new(alloc),
+            own: Items::new(alloc),
+        }
+    }
+
     #[inline(always)]
     fn again(&self, entity: usize) -> Prospect
         ensures { result ≡ spec.at_entity self.now.again entity }
@@ -113,6 +123,16 @@ impl Plan {
         let prospect = self.own(attribute).or(self.again(attribute.entity));
         prospect.bare || (prospect.named && carried(written).is_some())
     }
+}
+
+/// How many attributes a schema declares and redeclares: as many a plan looks at.
+pub(crate) fn count_of_attributes(schema: &Schema) -> usize {
+    let mut count = 0usize;
+    for entity in schema.entities.as_slice() {
+        count = count.wrapping_add(entity.explicit.len());
+        count = count.wrapping_add(entity.redeclarations.len());
+    }
+    count
 }
 
 /// Puts what is there to hope for beside what there is by others of an entity.
