@@ -152,8 +152,11 @@ pub(crate) struct Planning<'a> {
     pub(crate) number: usize,
 }
 
-/// It is looked into as many aggregates in one another.
+/// Types are looked into through as many aggregates in one another: deeper, the rules may be tried.
 const DEPTH: usize = 8;
+
+/// More choices of a SELECT, or types that one of them renames, are not looked through: the rules may be tried then.
+const MANY: usize = 100;
 
 impl<'a> Planning<'a> {
     ghost use Rattle.std.specs.Prelude.{◌≡◌, [], length, map, replicate, IfOk};
@@ -173,6 +176,16 @@ impl<'a> Planning<'a> {
             }
     }
 
+    /// Whether a defined type renames so many that they are not looked through for each choice of a SELECT.
+    fn is_long(&self, from: usize) -> bool
+        ensures { result ≡ spec.is_long self.now.schema.now.types self.now.number from }
+    {
+        match self.schema.types.get(from) {
+            Some(defined_type) => defined_type.beneath.len() > MANY,
+            None => false,
+        }
+    }
+
     /// Whether they may be tried on a value, or on something in it, that is written as a choice of a SELECT.
     fn may_choose(&self, choice: TypeName) -> bool
         ensures { result ≡ spec.may_choose self.now.schema.now.types self.now.number choice }
@@ -180,7 +193,8 @@ impl<'a> Planning<'a> {
         match choice {
             TypeName::Entity(_) => true,
             TypeName::Defined(other) => {
-                self.is_under(other)
+                self.is_long(other)
+                    || self.is_under(other)
                     || aggregate_type(end_of(self.schema.types.as_slice(), other)).is_some()
             }
         }
@@ -197,7 +211,10 @@ impl<'a> Planning<'a> {
         ensures { result ≡ spec.may_carry self.now.schema.now.types self.now.number from }
     {
         match self.schema.types.get(from) {
-            Some(defined_type) => self.may_choose_one(defined_type.choices.as_slice()),
+            Some(defined_type) => {
+                let choices = defined_type.choices.as_slice();
+                choices.len() > MANY || self.may_choose_one(choices)
+            }
             None => false,
         }
     }
