@@ -1,5 +1,5 @@
 -- Where the declarations of an attribute let nothing be tried, nothing is.
-use Rattle.std.proofs.Common.{◌≡◌, ℕ, zero, suc, ◌-◌, ◌+◌, ◌<◌, ◌≤◌, ◌&&◌, ◌||◌, ◌==◌, Bool, true, false, List, [], ◌∷◌, ◌++◌, map, length, replicate, Option, Some, None, is_some, slice_get, slice_set, slice_index_or, refl, sym, ap, ◌∙◌, subst, arith, if◌then◌else◌}
+use Rattle.std.proofs.Common.{◌≡◌, ℕ, zero, suc, ◌-◌, ◌+◌, ◌<◌, ◌≤◌, ◌&&◌, ◌||◌, ◌==◌, Bool, true, false, List, [], ◌∷◌, ◌++◌, map, length, nat_lt, replicate, Option, Some, None, is_some, slice_get, slice_set, slice_index_or, refl, sym, ap, ◌∙◌, subst, arith, if◌then◌else◌}
 use Rattle.std.proofs.lemmas.Bool.{eqb-true}
 use Rattle.std.proofs.lemmas.List.Folds.{list_any-append}
 use Rattle.std.specs.List.{filter_map, list_any}
@@ -68,7 +68,9 @@ module _ (types : List DefinedType) (population : List Instance) (number : ℕ) 
   choice-by x under other choices carries more none chosen true is =
       let here : plan.may_choose types number (t.Defined other) ≡ false = or-left (plan.may_choose types number (t.Defined other)) (list_any (plan.may_choose types number) choices) none in
       let same : other ≡ under = eqb-true other under is in
-      subst Hopeless same (or-left (plan.is_under types number other) (is_some (aggregate_type (end_of types other))) here, or-right (plan.is_under types number other) (is_some (aggregate_type (end_of types other))) here)
+      let under : plan.is_under types number other ≡ false =
+      or-right (plan.is_long types number other) (plan.is_under types number other) (or-left (plan.is_long types number other || plan.is_under types number other) (is_some (aggregate_type (end_of types other))) here) in
+      subst Hopeless same (under, or-right (plan.is_long types number other || plan.is_under types number other) (is_some (aggregate_type (end_of types other))) here)
   choice-by x under other choices carries more none chosen false is =
       let others : list_any (plan.may_choose types number) choices ≡ false = or-right (plan.may_choose types number (t.Defined other)) (list_any (plan.may_choose types number) choices) none in
       let here : is_choice_of types population x (t.Defined other) ≡ false =
@@ -82,10 +84,10 @@ module _ (types : List DefinedType) (population : List Instance) (number : ℕ) 
   choice-of x under (t.Entity entity ∷ choices) carries none chosen = absurd (cc)
   choice-of x under (t.Defined other ∷ choices) carries none chosen = choice-by x under other choices carries (choice-of x under choices carries) none chosen (other == under) refl
 
-  carries-by : (x : Value) (under : ℕ) (o : Option DefinedType) → carried x ≡ Some under → option_map_or (λ (y : DefinedType). list_any (plan.may_choose types number) y.choices) o false ≡ false
+  carries-by : (x : Value) (under : ℕ) (o : Option DefinedType) → carried x ≡ Some under → option_map_or (λ (y : DefinedType). nat_lt 100 (length y.choices) || list_any (plan.may_choose types number) y.choices) o false ≡ false
       → option_map_or (λ (y : DefinedType). list_any (is_choice_of types population x) y.choices) o false ≡ true → Hopeless under
   carries-by x under None carries none chosen = absurd (cc)
-  carries-by x under (Some y) carries none chosen = choice-of x under y.choices carries none chosen
+  carries-by x under (Some y) carries none chosen = choice-of x under y.choices carries (or-right (nat_lt 100 (length y.choices)) (list_any (plan.may_choose types number) y.choices) none) chosen
 
   -- ---- a value itself
 
@@ -352,6 +354,10 @@ plan-tells schema number again own is-again is-own a entities b none =
     any-declared (plan.may_stand schema.types number 8 b) schema entities a
     ∙ (λ i. rows-cover schema.types number schema.entities a.entity a.place b own-none i
     || any-none (λ entity. list_any (again_passes (plan.may_stand schema.types number 8 b) a) (redeclarations_of schema entity)) (λ entity. of-covers schema.types number (replicate (length schema.entities) plan.nothing) schema.entities entity a b again-none) entities i)
+
+pub untold : (schema : Schema) (number : ℕ) → plan.Tells schema number plan.no_plan
+untold schema number a entities true none = absurd (cc)
+untold schema number a entities false none = absurd (cc)
 
 -- ---- aggregate by aggregate
 

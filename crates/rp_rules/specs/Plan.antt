@@ -1,5 +1,5 @@
 -- Whether rules of a defined type may be tried on something in the values of an attribute, by its declarations alone.
-use Rattle.std.specs.Prelude.{◌≡◌, ℕ, zero, suc, ◌==◌, ◌&&◌, ◌||◌, Bool, true, false, List, [], ◌∷◌, map, Option, Some, None, is_some, slice_get, slice_set, slice_index_or, if◌then◌else◌}
+use Rattle.std.specs.Prelude.{◌≡◌, ℕ, zero, suc, ◌==◌, ◌&&◌, ◌||◌, Bool, true, false, List, [], ◌∷◌, map, length, nat_lt, Option, Some, None, is_some, slice_get, slice_set, slice_index_or, if◌then◌else◌}
 use Rattle.std.specs.List.{list_any}
 use Rattle.std.specs.Option.{option_map_or}
 use Rattle.plain_data.specs.Numbers.{is_among}
@@ -27,13 +27,18 @@ module _ (types : List DefinedType) (number : ℕ) where
   abbrev pub is_under : ℕ → Bool
   is_under from = is_among (with_beneath types [] from) number
 
+  -- whether it renames so many that they are not looked through for each choice of a SELECT
+  abbrev pub is_long : ℕ → Bool
+  is_long from = option_map_or (λ y. nat_lt 100 (length y.beneath)) (slice_get types from) false
+
   -- whether a value may be tried, or have elements that are, that is written as a choice of a SELECT; instances may carry any type
   abbrev pub may_choose : TypeName → Bool
   may_choose (t.Entity entity) = true
-  may_choose (t.Defined other) = is_under other || is_some (aggregate_type (end_of types other))
+  may_choose (t.Defined other) = is_long other || is_under other || is_some (aggregate_type (end_of types other))
 
+  -- of so many choices one may
   abbrev pub may_carry : ℕ → Bool
-  may_carry from = option_map_or (λ y. list_any may_choose y.choices) (slice_get types from) false
+  may_carry from = option_map_or (λ y. nat_lt 100 (length y.choices) || list_any may_choose y.choices) (slice_get types from) false
 
   abbrev pub is_between : ℕ → Bool
   is_between from = is_among (option_map_or (λ y. y.selects) (slice_get types from) []) number
@@ -113,3 +118,7 @@ on_named p false = p.bare
 abbrev pub Tells : Schema → ℕ → Plan → Type 0
 Tells schema number plan = (a : AttributePlace) (entities : List ℕ) (is_named : Bool) → on_named (prospect_at plan a) is_named ≡ false
     → list_any (may_stand schema.types number 8 is_named) (declared_types schema entities a) ≡ false
+
+-- it says that everything may be
+abbrev pub no_plan : Plan
+no_plan = record { again = []; own = [] }

@@ -88,6 +88,16 @@ impl Plan {
     ghost use Rattle.std.specs.Prelude.{◌≡◌};
     ghost use Rattle.rp_rules.specs.Plan as spec;
 
+    /// With hope everywhere.
+    pub(crate) fn without(alloc: Global) -> Plan
+        ensures { result ≡ spec.no_plan }
+    {
+        Plan {
+            again: Items::new(alloc),
+            own: Items::new(alloc),
+        }
+    }
+
     #[inline(always)]
     fn again(&self, entity: usize) -> Prospect
         ensures { result ≡ spec.at_entity self.now.again entity }
@@ -115,6 +125,16 @@ impl Plan {
     }
 }
 
+/// How many attributes a schema declares and redeclares: as many a plan looks at.
+pub(crate) fn count_of_attributes(schema: &Schema) -> usize {
+    let mut count = 0usize;
+    for entity in schema.entities.as_slice() {
+        count = count.wrapping_add(entity.explicit.len());
+        count = count.wrapping_add(entity.redeclarations.len());
+    }
+    count
+}
+
 /// Puts what is there to hope for beside what there is by others of an entity.
 fn put(found: &mut Vec<Prospect>, entity: usize, prospect: Prospect)
     ensures { found.new.items ≡ spec.put found.old.items entity prospect }
@@ -132,8 +152,11 @@ pub(crate) struct Planning<'a> {
     pub(crate) number: usize,
 }
 
-/// It is looked into as many aggregates in one another.
+/// Types are looked into through as many aggregates in one another: deeper, the rules may be tried.
 const DEPTH: usize = 8;
+
+/// More choices of a SELECT, or types that one of them renames, are not looked through: the rules may be tried then.
+const MANY: usize = 100;
 
 impl<'a> Planning<'a> {
     ghost use Rattle.std.specs.Prelude.{◌≡◌, [], length, map, replicate, IfOk};
@@ -153,6 +176,16 @@ impl<'a> Planning<'a> {
             }
     }
 
+    /// Whether a defined type renames so many that they are not looked through for each choice of a SELECT.
+    fn is_long(&self, from: usize) -> bool
+        ensures { result ≡ spec.is_long self.now.schema.now.types self.now.number from }
+    {
+        match self.schema.types.get(from) {
+            Some(defined_type) => defined_type.beneath.len() > MANY,
+            None => false,
+        }
+    }
+
     /// Whether they may be tried on a value, or on something in it, that is written as a choice of a SELECT.
     fn may_choose(&self, choice: TypeName) -> bool
         ensures { result ≡ spec.may_choose self.now.schema.now.types self.now.number choice }
@@ -160,7 +193,8 @@ impl<'a> Planning<'a> {
         match choice {
             TypeName::Entity(_) => true,
             TypeName::Defined(other) => {
-                self.is_under(other)
+                self.is_long(other)
+                    || self.is_under(other)
                     || aggregate_type(end_of(self.schema.types.as_slice(), other)).is_some()
             }
         }
@@ -177,7 +211,10 @@ impl<'a> Planning<'a> {
         ensures { result ≡ spec.may_carry self.now.schema.now.types self.now.number from }
     {
         match self.schema.types.get(from) {
-            Some(defined_type) => self.may_choose_one(defined_type.choices.as_slice()),
+            Some(defined_type) => {
+                let choices = defined_type.choices.as_slice();
+                choices.len() > MANY || self.may_choose_one(choices)
+            }
             None => false,
         }
     }

@@ -5,6 +5,7 @@ ghost use Rattle.rp_meaning.specs.Report as spec;
 
 use crate::culprits::Culprits;
 use crate::order::Sort;
+use crate::plan::count_of_attributes;
 use crate::used::Used;
 use crate::validation::Validation;
 use plain_data::Items;
@@ -64,6 +65,7 @@ pub fn validate<D: Domain>(alloc: Global, schema: &Schema, domain: &D) -> Result
         alloc,
         schema,
         domain,
+        is_planned: count_of_attributes(schema) <= domain.count(),
     };
     let mut checks = validation.attribute_checks()?;
     let mut used = Used::new();

@@ -265,6 +265,21 @@ impl<'a, D: Domain> Validation<'a, D> {
         Ok(found)
     }
 
+    /// Where the rules of a type may be tried on anything.
+    fn plan(&self, number: usize) -> Result<Plan, AllocError>
+        ensures { IfOk result (λ plan. Tells self.now.schema.now number plan) }
+    {
+        if !self.is_planned {
+            return Ok(Plan::without(self.alloc));
+        }
+        let planning = Planning {
+            alloc: self.alloc,
+            schema: self.schema,
+            number,
+        };
+        planning.plan()
+    }
+
     /// The check of a rule of a defined type.
     pub(crate) fn of_type(
         &self,
@@ -275,12 +290,7 @@ impl<'a, D: Domain> Validation<'a, D> {
         ensures check { IfOk result (λ check. check ≡ (type_check self.now.schema.now (D.population self.now.domain.now) number place used.old).0) }
         ensures used { OnOk result (used.new ≡ (type_check self.now.schema.now (D.population self.now.domain.now) number place used.old).1) }
     {
-        let planning = Planning {
-            alloc: self.alloc,
-            schema: self.schema,
-            number,
-        };
-        let plan = planning.plan()?;
+        let plan = self.plan(number)?;
         let found = self.tallied_types(&plan, number, place, used)?;
         Ok(found.into_check(Constraint::Type(number, place)))
     }

@@ -14,6 +14,8 @@ pub(crate) struct Validation<'a, D> {
     pub(crate) alloc: Global,
     pub(crate) schema: &'a Schema,
     pub(crate) domain: &'a D,
+    /// Whether there are so many instances that a plan for each type with rules takes less than it saves.
+    pub(crate) is_planned: bool,
 }
 
 impl<'a, D: Domain> Validation<'a, D> {
