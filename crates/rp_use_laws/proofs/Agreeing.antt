@@ -1,6 +1,5 @@
 -- USEDIN has the users that the request tells of.
 use Rattle.std.proofs.Common.{◌≡◌, ◌+◌, ℕ, Bool, true, false, ◌&&◌, ◌||◌, ◌==◌, nat_lt, if◌then◌else◌, List, [], ◌∷◌, ◌++◌, length, map, filter, Option, Some, None, option_map, suc, refl, sym, ◌∙◌, ap, subst, arith}
-use Rattle.std.proofs.lemmas.Bool.{false≢true}
 use Rattle.std.proofs.lemmas.Bool.Decides.{nat_tests}
 use Rattle.std.proofs.lemmas.List.{map-append}
 use Rattle.std.proofs.lemmas.Slice.Eq.{bytes_eq-Decides}
@@ -15,14 +14,13 @@ use Rattle.rp_value.specs.declared.value.Value.{Value}
 use Rattle.rp_population.specs.declared.place.Place.{Place}
 use Rattle.rp_population.specs.declared.roles.Role as asked
 use Rattle.rp_population.specs.declared.roles.Role.TheVariants as a
-use Rattle.rp_population.specs.Populations.{Counted, Placed, has_place, is_at, places, population, same_place, stands_for}
+use Rattle.rp_population.specs.Populations.{Counted, Placed, has_place, is_at, places, population, stands_for}
 use Rattle.rp_population.specs.Uses.{as_user, is_full_stop, references_in, role_of, role_of_parts, users, users_in}
 use Rattle.rp_meaning.specs.declared.body.Body.{Body}
 use Rattle.rp_meaning.specs.Computations.{Computation}
 use Rattle.rp_meaning.specs.declared.role.NamedRole.{NamedRole}
 use Rattle.rp_meaning.specs.declared.role.Role.{Role}
 use Rattle.rp_meaning.specs.declared.role.Role.TheVariants as r
-use Rattle.rp_meaning.specs.declared.schema.Schema.{Schema}
 use Rattle.rp_meaning.specs.Attributes.{role_named}
 use Rattle.rp_meaning.specs.Compiled as compiling
 use Rattle.rp_meaning.specs.Compiled.{compiled}
@@ -30,7 +28,7 @@ use Rattle.rp_meaning.specs.CompiledNames.{inherited_rows}
 use Rattle.rp_meaning.specs.Expressions as expressions
 use Rattle.rp_meaning.specs.Expressions.{used_in_by, used_in_role}
 use Rattle.rp_meaning.specs.Populations.{Instance, instances}
-use Rattle.rp_meaning.specs.Bare.{place_of as place_in, text_of}
+use Rattle.rp_meaning.specs.Bare.{place_of as place_in}
 use Rattle.rp_meaning.specs.Report.{world}
 use Rattle.rp_meaning.specs.Uses.{User, is_in, places_among, uses_at, uses_from, user_places}
 use Rattle.rp_positions.specs.Positions.{place_position, position_of}

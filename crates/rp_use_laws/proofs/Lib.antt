@@ -8,3 +8,5 @@ pub mod Populations
 pub mod Roles
 pub mod NoRoles
 pub mod Agreeing
+pub mod Read
+pub mod Holding

@@ -1,5 +1,5 @@
 -- What a request takes for no role is the name of no role of the schema.
-use Rattle.std.proofs.Common.{◌≡◌, ℕ, zero, suc, Bool, true, false, ◌&&◌, ◌||◌, if◌then◌else◌, List, [], ◌∷◌, ◌++◌, map, Option, Some, None, is_some, option_map, slice_get, refl, sym, ◌∙◌, ap, subst}
+use Rattle.std.proofs.Common.{◌≡◌, ℕ, zero, suc, Bool, true, false, if◌then◌else◌, List, [], ◌∷◌, map, Option, Some, None, is_some, option_map, slice_get, refl, sym, ◌∙◌, ap, subst}
 use Rattle.std.proofs.lemmas.Bool.{and_parts}
 use Rattle.std.proofs.lemmas.List.Splits.{slice_split_none}
 use Rattle.std.proofs.lemmas.Slice.Eq.{bytes_eq-Decides}
@@ -27,7 +27,7 @@ use Rattle.rp_meaning.specs.CompiledNames.{explicit_rows, inherited_rows, joined
 use Rattle.rp_population.specs.declared.roles.Role.TheVariants as a
 use Rattle.rp_population.specs.Uses.{is_full_stop, role_of_parts}
 use Rattle.rp_use_laws.proofs.Lists.{all_parts, each_by}
-use Rattle.rp_use_laws.proofs.Roles.{IsPlainName, in_one, parts_of, plain_name}
+use Rattle.rp_use_laws.proofs.Roles.{IsPlainName, parts_of, plain_name}
 use Rattle.rp_use_laws.specs.Schemas.{IsBound, is_attribute_identified, is_entity_identified, is_explicit_identified}
 
 -- ---- the names of attributes

@@ -1,7 +1,7 @@
 -- The names of roles: a request takes one apart, and a schema has each in one piece.
-use Rattle.std.proofs.Common.{◌≡◌, ◌≤◌, ◌+◌, ◌==◌, ℕ, zero, suc, Bool, true, false, ◌&&◌, ◌||◌, if◌then◌else◌, List, [], ◌∷◌, ◌++◌, append_assoc, length, map, filter, Option, Some, None, option_map, All, refl, sym, ◌∙◌, ap, subst, arith}
+use Rattle.std.proofs.Common.{◌≡◌, ◌≤◌, ◌+◌, ℕ, zero, suc, Bool, true, false, ◌&&◌, ◌||◌, if◌then◌else◌, List, [], ◌∷◌, ◌++◌, append_assoc, length, map, filter, Option, Some, None, option_map, All, refl, sym, ◌∙◌, ap, arith}
 use Rattle.std.specs.Option.{option_or}
-use Rattle.std.proofs.lemmas.Bool.{and_from, and_parts, eq-eqb, false≢true}
+use Rattle.std.proofs.lemmas.Bool.{and_from, and_parts}
 use Rattle.std.proofs.lemmas.Bool.Decides.{nat_tests}
 use Rattle.std.proofs.lemmas.List.{length-append}
 use Rattle.std.proofs.lemmas.List.Elements.{All-cons, filter-append}
@@ -16,7 +16,7 @@ use Rattle.ex_named.specs.declared.declaration.NamedEntity.{NamedEntity}
 use Rattle.ex_named.specs.declared.reference.AttributePlace.{AttributePlace}
 use Rattle.ex_named.specs.declared.declaration.NamedSchema.{NamedSchema}
 use Rattle.ex_resolve.specs.Proved.{DeclaresOnce, count}
-use Rattle.ex_schemas.specs.Schemas.{Checked, entity_names}
+use Rattle.ex_schemas.specs.Schemas.{entity_names}
 use Rattle.name_tables.specs.Names.{named, place_of}
 use Rattle.ex_tree.specs.Identifiers.{is_identifier, is_identifier_byte}
 use Rattle.rp_meaning.specs.declared.role.NamedRole.{NamedRole}

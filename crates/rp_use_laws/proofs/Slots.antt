@@ -1,6 +1,6 @@
 -- The attributes of instances, as files have them and as they are evaluated.
 use Rattle.std.proofs.Common.{◌≡◌, ◌+◌, ◌<◌, ⊎_elim, ℕ, zero, suc, Bool, true, false, ◌&&◌, ◌||◌, ◌==◌, nat_lt, if◌then◌else◌, List, [], ◌∷◌, ◌++◌, length, map, filter, slice_get, Option, Some, None, option_map, option_and_then, refl, sym, ◌∙◌, ap, subst, add-one, arith}
-use Rattle.std.proofs.lemmas.Bool.{cases_Bool, eq-eqb, eqb-true, or_left, or_right}
+use Rattle.std.proofs.lemmas.Bool.{eq-eqb, eqb-true, or_left, or_right}
 use Rattle.std.proofs.lemmas.Bool.Decides.{nat_tests}
 use Rattle.std.proofs.lemmas.List.{map-append}
 use Rattle.std.proofs.lemmas.List.Elements.{filter-append}
@@ -13,7 +13,6 @@ use Rattle.ex_attributes.specs.Attributes.{attributes_of, same_place, sort_numbe
 use Rattle.ex_named.specs.declared.declaration.NamedDerived.{NamedDerived}
 use Rattle.ex_named.specs.declared.declaration.NamedEntity.{NamedEntity}
 use Rattle.ex_named.specs.declared.declaration.NamedExplicit.{NamedExplicit}
-use Rattle.ex_named.specs.declared.declaration.NamedSchema.{NamedSchema}
 use Rattle.ex_named.specs.declared.reference.AttributePlace.{AttributePlace}
 use Rattle.ex_named.specs.declared.reference.AttributeSort.{AttributeSort}
 use Rattle.ex_named.specs.declared.reference.AttributeSort.TheVariants as sort
@@ -26,13 +25,12 @@ use Rattle.graphs.specs.Graphs.{family}
 use Rattle.rp_meaning.specs.declared.schema.Derivation.{Derivation}
 use Rattle.rp_meaning.specs.declared.schema.Entity.{Entity}
 use Rattle.rp_meaning.specs.declared.schema.ExplicitAttribute.{ExplicitAttribute}
-use Rattle.rp_meaning.specs.declared.schema.Schema.{Schema}
 use Rattle.rp_meaning.specs.Attributes.{entity_at, explicit_derivations}
 use Rattle.rp_meaning.specs.Compiled as compiling
 use Rattle.rp_meaning.specs.Compiled.{compiled}
 use Rattle.rp_meaning.specs.CompiledNames as names
 use Rattle.rp_meaning.specs.Reading as reading
-use Rattle.rp_meaning.specs.Uses.{same_attribute, same_sort}
+use Rattle.rp_meaning.specs.Uses.{same_attribute}
 use Rattle.name_tables.specs.Names.{named}
 use Rattle.rp_population.specs.Uses.{is_slot_of}
 use Rattle.graphs.proofs.Bounded.{any_at}

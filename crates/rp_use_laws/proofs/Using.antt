@@ -1,8 +1,8 @@
 -- Whom an instance uses, as rules see it and as requests do.
-use Rattle.std.proofs.Common.{◌≡◌, ◌+◌, ℕ, Bool, true, false, ◌&&◌, ◌==◌, if◌then◌else◌, List, [], ◌∷◌, ◌++◌, map, filter, zip, refl, sym, ◌∙◌, ap}
+use Rattle.std.proofs.Common.{◌≡◌, ◌+◌, ℕ, Bool, true, false, ◌==◌, if◌then◌else◌, List, [], ◌∷◌, ◌++◌, map, filter, zip, refl, sym, ◌∙◌, ap}
 use Rattle.std.proofs.lemmas.List.{map-append}
 use Rattle.std.proofs.lemmas.List.Elements.{filter-append}
-use Rattle.std.specs.List.{AllByRecursion, flat_map, list_any}
+use Rattle.std.specs.List.{AllByRecursion, flat_map}
 use Rattle.plain_data.specs.Numbers.{is_among}
 use Rattle.ex_slots.specs.Slots.{Slot, slots}
 use Rattle.ex_schemas.specs.Schemas.{Checked}
@@ -17,7 +17,6 @@ use Rattle.rp_population.specs.declared.roles.Role.TheVariants as a
 use Rattle.rp_population.specs.Uses.{is_slot_of, references_in}
 use Rattle.rp_meaning.specs.declared.role.Role.{Role}
 use Rattle.rp_meaning.specs.declared.role.Role.TheVariants as r
-use Rattle.rp_meaning.specs.declared.schema.Schema.{Schema}
 use Rattle.rp_meaning.specs.Compiled as compiling
 use Rattle.rp_meaning.specs.Compiled.{compiled}
 use Rattle.rp_meaning.specs.CompiledNames.{inherited_rows}

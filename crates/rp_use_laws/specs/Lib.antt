@@ -1,2 +1,3 @@
 pub mod Schemas
 pub mod Uses
+pub mod ValidUses

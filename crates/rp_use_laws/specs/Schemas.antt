@@ -1,5 +1,5 @@
 -- What is proved of each schema whose names are bound.
-use Rattle.std.specs.Prelude.{◌≡◌, Bool, true, List, map}
+use Rattle.std.specs.Prelude.{◌≡◌, Bool, true, map}
 use Rattle.std.specs.List.{list_all}
 use Rattle.ex_named.specs.declared.declaration.NamedAttribute.{NamedAttribute}
 use Rattle.ex_named.specs.declared.declaration.NamedAttribute.TheVariants as a

@@ -4,11 +4,13 @@
 #![tactic(auto)]
 
 mod bound;
+mod repository;
 
 ghost use Rattle.rp_use_laws.specs.Uses.{AllUsersAgree};
 
 use bound::bound;
 use ex_types::CheckedSchema;
+pub use repository::replies_agree;
 
 /// USEDIN has the users that the request tells of, of each instance of a population, in the role of each name: of models whose
 /// instances have their values, and in which names stand for one thing each.
