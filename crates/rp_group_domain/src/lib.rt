@@ -10,4 +10,5 @@ mod positions;
 mod targets;
 
 pub use group::domain_of;
+pub use lines::Lines;
 pub use models::{CountedModel, PlacedInstance, population_of};

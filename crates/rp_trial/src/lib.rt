@@ -3,7 +3,6 @@
 #![tactic(auto)]
 
 mod answers;
-mod entities;
 mod limits;
 mod lines;
 mod loading;

@@ -6,11 +6,11 @@ ghost use Rattle.rp_content.specs.declared.instance.Instance.{Instance};
 ghost use Rattle.rp_value.specs.declared.value.Value.TheVariants as v;
 ghost use Rattle.rp_trial.specs.Places as spec;
 
-use crate::entities::Lines;
 use ex_layouts::Dictionary;
 use plain_data::Items;
 use rp_content::Instance;
 use rp_domain::WrittenInstance;
+use rp_group_domain::Lines;
 use rp_value::{AggregateKind, Elements, Value};
 use std::alloc::{AllocError, Global};
 
