@@ -138,6 +138,53 @@ def test_rules_by_their_names_and_places():
         b'{"check":"rule","of":"LAST","rule":"#1","verdict":"FALSE"}', check_is("rule", "LAST", "W")))
 
 
+# kinds of values, and two ways to spell one of a number
+MANY = {
+    "INTEGER": ("{}", "+{}"), "REAL": ("{}.5", "{}5.E-1"), "NUMBER": ("{}", "{}."), "STRING": ("'t{}'", r"'\X\74{}'"), "BINARY": ('"0{:04}"', '"0{:04}"'),
+    "item": (".I{}.", ".I{}."), "either": ("A({})", "B({}.)"), "e": ("#{}", "#{}"), "LIST OF INTEGER": ("({},7)", "(+{},7)"),
+    "BAG OF INTEGER": ("({},1000)", "(1000,{})"), "BAG OF LIST OF INTEGER": ("(({}),(7))", "((7),({}))"), "LIST OF LIST OF INTEGER": ("(({}),(7))", "((+{}),(7))"),
+}
+M = """SCHEMA M; TYPE a = INTEGER; END_TYPE; TYPE b = REAL; END_TYPE; TYPE either = SELECT (a, b); END_TYPE;
+TYPE item = ENUMERATION OF (%s); END_TYPE; ENTITY e; END_ENTITY; %s END_SCHEMA;"""
+
+
+def of_many(clause):
+    """A schema with an entity k0, k1, .. for each kind of values."""
+    items = ", ".join(f"i{number}" for number in range(10, 100))
+    return M % (items, " ".join(f"ENTITY k{place}; {clause.format(kind)} END_ENTITY;" for place, kind in enumerate(MANY)))
+
+
+def test_what_stands_twice_among_many():
+    """In a SET of many no value stands twice, wherever the two stand and however they are spelled."""
+    entities = "".join(f"#{name}=E();" for name in range(10, 100))
+    lines, culprits = [], []
+    for place, (one, other) in enumerate(MANY.values()):
+        values = [one.format(number) for number in range(10, 10 + 40)]
+        twice = [values[:at] + [other.format(number)] + values[at + 1:] for at, number in ((39, 10), (0, 49), (20, 29), (20, 11))]
+        for held in (values, values[:9], *twice, values[:8] + [other.format(10)], values[:7] + [other.format(10)]):
+            name = 1000 + len(lines)
+            lines.append(f"#{name}=K{place}(({','.join(held)}));")
+            if held[:9] != values[:9] or len(held) == 40 and held != values:
+                culprits.append(["ann", "m", name, f"K{place}.V"])
+    expect_report(of_many("v : SET OF {};"), filled("M", entities + "".join(lines)), report_is(
+        0, check_is("unset"), check_is("bounds", false=culprits), check_is("reference")))
+
+
+def test_rows_that_agree_among_many():
+    """UNIQUE lists those that agree among many, wherever they stand and however their values are spelled."""
+    entities = "".join(f"#{name}=E();" for name in range(10, 100))
+    lines, checks = [], []
+    for place, (one, other) in enumerate(MANY.values()):
+        first = 1000 + 100 * place
+        values = [one.format(number) for number in range(10, 10 + 40)]
+        values[30], values[39] = other.format(20), other.format(10)
+        lines += [f"#{first + at}=K{place}({value});" for at, value in enumerate(values)]
+        checks.append(check_is("unique", f"K{place}", "U", false=[["ann", "m", first + at] for at in (0, 10, 30, 39)]))
+    # a step for the attribute of each row
+    expect_report(of_many("v : {}; UNIQUE u : v;"), filled("M", entities + "".join(lines)), report_is(
+        40 * len(MANY), *ATTRIBUTES_HOLD, *[checks[place] for place in sorted(range(len(MANY)), key=lambda it: f"K{it}")]))
+
+
 def test_more_uses_than_steps():
     """An inverse attribute takes a step for each use, and where these are more than an evaluation may take, it isn't known whether it holds."""
     for count in (199_999, 200_000, 200_001, 250_000):

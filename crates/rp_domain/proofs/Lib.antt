@@ -3,5 +3,6 @@ pub mod Uses
 pub mod Reading
 pub mod Sharing
 pub mod Standing
-pub mod Divided
+pub mod Links
+pub mod Walked
 pub mod Texts

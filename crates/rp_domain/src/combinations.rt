@@ -147,14 +147,6 @@ impl<'s> Combinations<'s> {
         self.find(alloc, entities)
     }
 
-    /// What is read in the last instance of the same entities.
-    pub(crate) fn others(&self) -> &[ReadValue] {
-        match self.others.get(self.last) {
-            Some(others) => others.get().as_slice(),
-            None => &[],
-        }
-    }
-
     /// What was found to be read in an instance, which it shares with the last one of the same entities where the same is read in
     /// that.
     pub(crate) fn shared(

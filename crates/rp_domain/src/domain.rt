@@ -1,9 +1,9 @@
 //! A population in a list.
 
+use crate::chains::Chains;
 use crate::extents::{extents_of, found_extent, instances_once};
 use crate::instance::{KeptInstance, WrittenInstance};
 use crate::read::kept_instances;
-use crate::table::{Table, table_of};
 use crate::users::{User, users_among, users_of};
 use plain_data::Items;
 use rp_meaning::{Domain, Role, Schema, Seen};
@@ -17,7 +17,7 @@ pub struct ListDomain {
     /// The places of its instances, by entities of the schema.
     extents: Vec<Items<u32>>,
     /// By the places of what they use.
-    users: Table<User>,
+    users: Chains<User>,
 }
 
 impl Drop for ListDomain {
@@ -37,6 +37,7 @@ impl Model for ListDomain {
     ghost use Rattle.std.specs.Prelude.{◌≡◌, List, [], length, replicate};
     ghost use Rattle.rp_meaning.specs.Populations.{Instance};
     ghost use Rattle.rp_meaning.specs.Uses.{uses_from};
+    ghost use Rattle.rp_domain.specs.Chains.{rows};
     ghost use Rattle.rp_domain.specs.Rows.{put_all};
     ghost use Rattle.rp_domain.specs.Standing.{standing_from};
     ghost use Rattle.std.specs.Coded.{codes};
@@ -50,7 +51,7 @@ impl Model for ListDomain {
 
     ghost invariant = { λ d. record {
       extents : d.extents.items ≡ put_all (replicate (length d.extents.items) []) (standing_from 0 d.instances);
-      users : d.users ≡ put_all (replicate (length d.instances) []) (uses_from 0 d.instances);
+      users : rows d.users.0 d.users.1 ≡ put_all (replicate (length d.instances) []) (uses_from 0 d.instances);
     } };
 }
 
@@ -68,8 +69,7 @@ impl ListDomain {
         ensures { IfOk result (λ domain. domain ≡ map (λ i. instance_of schema.now (length instances.items) i.entities i.values) instances.items) }
     {
         let instances = kept_instances(alloc, schema, instances)?;
-        // The rows of the users are given back before the extents are made.
-        let users = table_of(alloc, users_of(alloc, instances.as_slice())?)?;
+        let users = users_of(alloc, instances.as_slice())?;
         let extents = extents_of(alloc, schema.entities.len(), instances.as_slice())?;
         Ok(ListDomain {
             instances,
@@ -102,8 +102,8 @@ impl Domain for ListDomain {
     }
 
     fn users(&self, alloc: Global, at: usize, role: &Role) -> Result<Items<Value>, AllocError> {
-        match self.users.row(at) {
-            Some(users) => users_among(alloc, users, role),
+        match self.users.end(at) {
+            Some(end) => users_among(alloc, &self.users, end, role),
             None => Ok(Items::new(alloc)),
         }
     }

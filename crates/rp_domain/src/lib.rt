@@ -2,6 +2,7 @@
 #![tactic(auto)]
 
 mod attributes;
+mod chains;
 mod combination;
 mod combinations;
 mod domain;
@@ -15,7 +16,6 @@ mod references;
 mod room;
 mod rows;
 mod sameness;
-mod table;
 mod users;
 
 pub use domain::ListDomain;

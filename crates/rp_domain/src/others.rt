@@ -1,6 +1,6 @@
 //! What is read in place of the same values stands once.
 
-ghost use Rattle.std.specs.Prelude.{◌≡◌, ◌++◌, IfOk, IsTrue, OnOk};
+ghost use Rattle.std.specs.Prelude.{◌≡◌, ◌++◌, IsTrue, OnOk};
 ghost use Rattle.rp_domain.specs.Combinations as spec;
 
 use crate::sameness::is_same;
@@ -8,31 +8,17 @@ use rp_meaning::ReadValue;
 use rp_value::Value;
 use std::alloc::AllocError;
 
-/// A value, which shares what it holds with another one where that is the same.
-fn sharing(value: Value, other: Option<&ReadValue>) -> Result<Value, AllocError>
-    ensures { IfOk result (λ x. x ≡ value) }
-{
-    match other {
-        Some(other) if is_same(&other.value, &value) => other.value.copy(),
-        _ => Ok(value),
-    }
-}
-
-/// Adds what is read in place of the value at a place, if that is another one. It shares what it holds with what stands at the
-/// same place among others.
+/// Adds what is read in place of the value at a place, if that is another one.
 pub(crate) fn push_other(
     found: &mut Vec<ReadValue>,
     place: usize,
     other: Option<Value>,
-    others: &[ReadValue],
 ) -> Result<(), AllocError>
     ensures { OnOk result (found.new.items ≡ found.old.items ++ spec.differing_at place other) }
 {
-    let Some(value) = other else {
-        return Ok(());
-    };
-    let value = sharing(value, others.get(found.len()))?;
-    found.push(ReadValue { place, value })?;
+    if let Some(value) = other {
+        found.push(ReadValue { place, value })?;
+    }
     Ok(())
 }
 

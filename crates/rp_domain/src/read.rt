@@ -43,7 +43,6 @@ fn find_others(
     readings: &mut Readings<'_>,
     attributes: &[AttributePlace],
     written: &[Value],
-    others: &[ReadValue],
 ) -> Result<(), AllocError>
     ensures same { readings.new ≡ readings.old }
     ensures found { OnOk result (values_of attributes.now written.now found.new.items ≡ stored attributes.now written.now (read_all readings.old.0 readings.old.1 (zip attributes.now written.now))) }
@@ -51,7 +50,7 @@ fn find_others(
     found.clear();
     for (at, attribute) in attributes.iter().enumerate() {
         let other = read_at(alloc, readings, attribute, written, at)?;
-        push_other(found, at, other, others)?;
+        push_other(found, at, other)?;
     }
     Ok(())
 }
@@ -75,19 +74,6 @@ fn without_derived(mut values: Items<Value>, derived: &[bool]) -> Items<Value>
     values
 }
 
-/// The values as they are kept: without those of which it is said that they are derived, and in no more room than they take.
-fn kept_values(
-    alloc: Global,
-    values: Items<Value>,
-    derived: &[bool],
-) -> Result<Items<Value>, AllocError>
-    ensures { IfOk result (λ found. found ≡ combinations_spec.without_derived derived.now values) }
-{
-    let mut found = with_room(alloc, values.len())?;
-    found.append(without_derived(values, derived))?;
-    Ok(found)
-}
-
 /// An instance of a population of so many.
 fn kept(
     alloc: Global,
@@ -103,14 +89,13 @@ fn kept(
 {
     let WrittenInstance { entities, values } = instance;
     let combination = combinations.of(alloc, entities)?;
-    let written = kept_values(alloc, values, combination.get().derived.as_slice())?;
+    let written = without_derived(values, combination.get().derived.as_slice());
     find_others(
         found,
         alloc,
         readings,
         combination.get().attributes.as_slice(),
         written.as_slice(),
-        combinations.others(),
     )?;
     let differing = combinations.shared(alloc, found)?;
     Ok(KeptInstance::new(combination, written, differing))

@@ -7,12 +7,12 @@ ghost use Rattle.rp_domain.specs.Rows.{read_value};
 
 use crate::attributes::declaration;
 use crate::places::Places;
-use crate::references::{leaves, present};
+use crate::references::leaves;
 use crate::sameness::is_same;
 use ex_named::AttributePlace;
 use plain_data::Items;
 use rp_meaning::Schema;
-use rp_operators::given;
+use rp_operators::{given, present};
 use rp_value::Value;
 use std::alloc::{AllocError, Global};
 use std::marker::Model;

@@ -4,7 +4,6 @@
 ghost use Rattle.std.specs.Prelude.{◌≡◌, IfOk, length};
 
 use crate::instance::KeptInstance;
-use rp_value::Value;
 use std::alloc::{AllocError, Global};
 
 fn no_room(alloc: Global, count: usize) -> Result<Vec<usize>, AllocError>
@@ -20,42 +19,6 @@ fn add_one(room: &mut [usize], row: usize) {
     if row < room.len() {
         room[row] = room[row].wrapping_add(1);
     }
-}
-
-/// Room for what each of the rows holds of an instance.
-#[cycle(room)]
-fn add_value(value: &Value, room: &mut [usize]) {
-    match value {
-        Value::Inst(place) => add_one(room, *place as usize),
-        Value::Agg { kind: _, elements } => add_values(elements.as_slice(), room),
-        Value::Named {
-            defined_type: _,
-            value,
-        } => add_value(value.get(), room),
-        _ => {}
-    }
-}
-
-#[cycle(room)]
-fn add_values(values: &[Value], room: &mut [usize]) {
-    for value in values {
-        add_value(value, room);
-    }
-}
-
-/// Of the users of each instance.
-pub(crate) fn room_of_users(
-    alloc: Global,
-    instances: &[KeptInstance],
-) -> Result<Vec<usize>, AllocError>
-    ensures { IfOk result (λ room. length room.items ≡ length instances.now) }
-{
-    let mut room = no_room(alloc, instances.len())?;
-    for instance in instances {
-        let (_, written) = instance.uses();
-        add_values(written, room.as_mut_slice());
-    }
-    Ok(room)
 }
 
 /// Of the instances of each entity.

@@ -1,19 +1,20 @@
 //! Who uses whom.
 
-ghost use Rattle.std.specs.Prelude.{◌≡◌, [], length, replicate, slice_get, IfOk, OnOk};
+ghost use Rattle.std.specs.Prelude.{◌≡◌, [], ◌∷◌, ◌++◌, length, replicate, slice_get, IfOk, OnOk};
 ghost use Rattle.std.specs.List.{flat_map, list_any, zip};
 ghost use Rattle.std.specs.Option.{option_to_list};
 ghost use Rattle.rp_meaning.specs.Populations.{instances};
 ghost use Rattle.rp_meaning.specs.Uses as uses;
+ghost use Rattle.rp_domain.specs.Chains.{row_to, rows};
 ghost use Rattle.rp_domain.specs.Rows as spec;
 
+use crate::chains::Chains;
 use crate::combination::AttributeOf;
 use crate::instance::{KeptInstance, value_at};
-use crate::room::room_of_users;
-use crate::rows::{empty_rows, put, with_room};
-use ex_named::{AttributePlace, AttributeSort};
+use ex_named::AttributePlace;
 use plain_data::Items;
 use rp_meaning::Role;
+use rp_operators::same_attribute;
 use rp_value::Value;
 use shared::Shared;
 use std::alloc::{AllocError, Global};
@@ -48,95 +49,95 @@ impl Model for User {
 #[cycle(uses)]
 fn put_value(
     value: &Value,
-    rows: &mut Vec<Items<User>>,
+    users: &mut Chains<User>,
     place: usize,
     attribute: &Shared<AttributeOf>,
 ) -> Result<(), AllocError>
-    ensures { OnOk result (rows.new.items ≡ spec.put_all rows.old.items (spec.uses_by place attribute.now value.now)) }
+    ensures { OnOk result (rows users.new.0 users.new.1 ≡ spec.put_all (rows users.old.0 users.old.1) (spec.uses_by place attribute.now value.now)) }
 {
     match value {
-        Value::Inst(used) => put_user(rows, *used as usize, place, attribute),
+        Value::Inst(used) => put_user(users, *used as usize, place, attribute),
         Value::Agg { kind: _, elements } => {
-            put_values(elements.as_slice(), rows, place, attribute)
+            put_values(elements.as_slice(), users, place, attribute)
         }
         Value::Named {
             defined_type: _,
             value,
-        } => put_value(value.get(), rows, place, attribute),
+        } => put_value(value.get(), users, place, attribute),
         _ => Ok(()),
     }
 }
 
 /// Puts a user behind those of a place, if that has a row.
 fn put_user(
-    rows: &mut Vec<Items<User>>,
+    users: &mut Chains<User>,
     used: usize,
     place: usize,
     attribute: &Shared<AttributeOf>,
 ) -> Result<(), AllocError>
-    ensures { OnOk result (rows.new.items ≡ spec.put rows.old.items used (spec.user_by place attribute.now)) }
+    ensures { OnOk result (rows users.new.0 users.new.1 ≡ spec.put (rows users.old.0 users.old.1) used (spec.user_by place attribute.now)) }
 {
     let attribute = attribute.share()?;
-    put(rows, used, User { place, attribute })
+    users.put(used, User { place, attribute })
 }
 
 /// Puts a user behind those of each place that values refer to.
 #[cycle(uses)]
 fn put_values(
     values: &[Value],
-    rows: &mut Vec<Items<User>>,
+    users: &mut Chains<User>,
     place: usize,
     attribute: &Shared<AttributeOf>,
 ) -> Result<(), AllocError>
-    ensures { OnOk result (rows.new.items ≡ spec.put_all rows.old.items (spec.used_by (spec.user_by place attribute.now) (flat_map uses.references values.now))) }
+    ensures { OnOk result (rows users.new.0 users.new.1 ≡ spec.put_all (rows users.old.0 users.old.1) (spec.used_by (spec.user_by place attribute.now) (flat_map uses.references values.now))) }
 {
     for value in values {
-        put_value(value, rows, place, attribute)?;
+        put_value(value, users, place, attribute)?;
     }
     Ok(())
 }
 
 /// Puts a user behind those of each place that the value at a place, which is its attribute's, refers to, if there is one.
 fn put_attribute(
-    rows: &mut Vec<Items<User>>,
+    users: &mut Chains<User>,
     place: usize,
     attribute: &Shared<AttributeOf>,
     written: &[Value],
     at: usize,
 ) -> Result<(), AllocError>
-    ensures { OnOk result (rows.new.items ≡ spec.put_all rows.old.items (flat_map (λ x. spec.uses_by place attribute.now x) (option_to_list (slice_get written.now at)))) }
+    ensures { OnOk result (rows users.new.0 users.new.1 ≡ spec.put_all (rows users.old.0 users.old.1) (flat_map (λ x. spec.uses_by place attribute.now x) (option_to_list (slice_get written.now at)))) }
 {
     match value_at(written, at) {
         None => Ok(()),
-        Some(value) => put_value(value, rows, place, attribute),
+        Some(value) => put_value(value, users, place, attribute),
     }
 }
 
 /// Puts the user that an instance with these values is behind those of each place that they refer to.
 fn put_attributes(
-    rows: &mut Vec<Items<User>>,
+    users: &mut Chains<User>,
     place: usize,
     attributes: &[Shared<AttributeOf>],
     written: &[Value],
 ) -> Result<(), AllocError>
-    ensures { OnOk result (rows.new.items ≡ spec.put_all rows.old.items (spec.uses_in place (zip attributes.now written.now))) }
+    ensures { OnOk result (rows users.new.0 users.new.1 ≡ spec.put_all (rows users.old.0 users.old.1) (spec.uses_in place (zip attributes.now written.now))) }
 {
     for (at, attribute) in attributes.iter().enumerate() {
-        put_attribute(rows, place, attribute, written, at)?;
+        put_attribute(users, place, attribute, written, at)?;
     }
     Ok(())
 }
 
 /// Puts an instance behind the users of each place that its values refer to.
 fn put_instance(
-    rows: &mut Vec<Items<User>>,
+    users: &mut Chains<User>,
     place: usize,
     instance: &KeptInstance,
 ) -> Result<(), AllocError>
-    ensures { OnOk result (rows.new.items ≡ spec.put_all rows.old.items (flat_map (uses.uses_of place instance.now) instance.now.values)) }
+    ensures { OnOk result (rows users.new.0 users.new.1 ≡ spec.put_all (rows users.old.0 users.old.1) (flat_map (uses.uses_of place instance.now) instance.now.values)) }
 {
     let (attributes, written) = instance.uses();
-    put_attributes(rows, place, attributes, written)
+    put_attributes(users, place, attributes, written)
 }
 
 /// The users of each instance.
@@ -144,32 +145,15 @@ fn put_instance(
 pub(crate) fn users_of(
     alloc: Global,
     instances: &[KeptInstance],
-) -> Result<Vec<Items<User>>, AllocError>
-    ensures { IfOk result (λ rows. rows.items ≡ spec.put_all (replicate (length instances.now) []) (uses.uses_from 0 instances.now)) }
+) -> Result<Chains<User>, AllocError>
+    ensures { IfOk result (λ users. rows users.0 users.1 ≡ spec.put_all (replicate (length instances.now) []) (uses.uses_from 0 instances.now)) }
 {
-    let room = room_of_users(alloc, instances)?;
-    let mut rows = empty_rows(alloc, room.as_slice())?;
+    let mut users = Chains::new(alloc, instances.len())?;
     for (place, instance) in instances.iter().enumerate() {
-        put_instance(&mut rows, place, instance)?;
+        put_instance(&mut users, place, instance)?;
     }
-    Ok(rows)
-}
-
-fn is_same_sort(a: AttributeSort, b: AttributeSort) -> bool
-    ensures { result ≡ uses.same_sort a b }
-{
-    match (a, b) {
-        (AttributeSort::Explicit, AttributeSort::Explicit) => true,
-        (AttributeSort::Derived, AttributeSort::Derived) => true,
-        (AttributeSort::Inverse, AttributeSort::Inverse) => true,
-        _ => false,
-    }
-}
-
-fn is_same_attribute(a: &AttributePlace, b: &AttributePlace) -> bool
-    ensures { result ≡ uses.same_attribute a.now b.now }
-{
-    a.entity == b.entity && is_same_sort(a.sort, b.sort) && a.place == b.place
+    users.shrink();
+    Ok(users)
 }
 
 /// Whether an attribute is one of these.
@@ -177,7 +161,7 @@ fn is_one_of(attribute: &AttributePlace, attributes: &[AttributePlace]) -> bool
     ensures { result ≡ list_any (uses.same_attribute attribute.now) attributes.now }
 {
     for other in attributes {
-        if is_same_attribute(attribute, other) {
+        if same_attribute(attribute, other) {
             return true;
         }
     }
@@ -197,19 +181,31 @@ fn is_in(role: &Role, user: &User) -> bool
     }
 }
 
-/// The instances among users that use in a role.
+/// Adds the instance that a user is, if it uses in a role.
+fn push_user(found: &mut Vec<Value>, role: &Role, user: &User) -> Result<(), AllocError>
+    ensures { OnOk result (found.new.items ≡ found.old.items ++ instances (uses.places_among role.now (user.now ∷ []))) }
+{
+    if is_in(role, user) {
+        found.push(Value::Inst(user.place as u64))?;
+    }
+    Ok(())
+}
+
+/// The instances that use in a role among the users of a place, by the end of their row.
 pub(crate) fn users_among(
     alloc: Global,
-    users: &[User],
+    users: &Chains<User>,
+    mut end: usize,
     role: &Role,
 ) -> Result<Items<Value>, AllocError>
-    ensures { IfOk result (λ found. found ≡ instances (uses.places_among role.now users.now)) }
+    ensures { IfOk result (λ found. found ≡ instances (uses.places_among role.now (row_to users.now.0 end))) }
 {
-    let mut found = with_room(alloc, users.len())?;
-    for user in users {
-        if is_in(role, user) {
-            found.push(Value::Inst(user.place as u64))?;
-        }
+    let mut found = Vec::new(alloc);
+    'walk: while let Some(last) = users.last(end) {
+        let (user, before) = last;
+        push_user(&mut found, role, user)?;
+        end = before;
     }
-    Ok(found)
+    found.reverse();
+    Ok(Items::from_vec(found))
 }

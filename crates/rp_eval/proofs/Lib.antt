@@ -7,3 +7,4 @@ pub mod Runnings
 pub mod Parameters
 pub mod Trees
 pub mod Whole
+pub mod Operands

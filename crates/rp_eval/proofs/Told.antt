@@ -1,5 +1,5 @@
 -- Amounts of steps that are told.
-use Rattle.std.proofs.Common.{◌≡◌, ℕ, ◌-◌, Bool, true, false, Some, None, refl, cond, nat_le}
+use Rattle.std.proofs.Common.{◌≡◌, ℕ, Bool, true, false, Some, None, refl, cond, nat_le}
 use Rattle.rp_meaning.specs.declared.counter.Counter.{Counter}
 use Rattle.rp_meaning.specs.Computations.{steps}
 use Rattle.rp_operators.specs.Amounts.{unless_more}

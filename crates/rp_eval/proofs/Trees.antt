@@ -1,10 +1,11 @@
 -- What calls mean, and what comes of a single argument.
-use Rattle.std.proofs.Common.{◌≡◌, ℕ, ◌<◌, ◌≤◌, Option, Some, None, List, [], ◌∷◌, length, map, get_or, refl, sym, ap, ◌∙◌, arith}
+use Rattle.std.proofs.Common.{◌≡◌, ℕ, ◌<◌, ◌≤◌, slice_index_or, Option, Some, None, List, [], ◌∷◌, length, map, get_or, refl, sym, ap, ◌∙◌, arith}
 use Rattle.ex_tree.specs.declared.expression.BuiltInFunction.{BuiltInFunction}
 use Rattle.rp_value.specs.declared.value.Value.{Value}
+use Rattle.rp_value.specs.declared.value.Value.TheVariants as v
 use Rattle.rp_meaning.specs.BuiltIns.{initializer, size}
 use Rattle.rp_meaning.specs.Computations.{Computation, and_then, pure, steps, ◌>>=◌, ◌>>◌}
-use Rattle.rp_meaning.specs.Expressions.{Scope, World, Meaning, Operating, built_in, costing, each_after, expression, qualifier, interval, operation, query, expression_layer, qualifier_layer, interval_layer, operation_layer, query_layer}
+use Rattle.rp_meaning.specs.Expressions.{Scope, World, Meaning, Operating, built_in, costing, each_after, in_turn, expression, qualifier, interval, operation, query, expression_layer, qualifier_layer, interval_layer, operation_layer, query_layer}
 use Rattle.rp_meaning.specs.declared.body.Body.{Body}
 use Rattle.rp_meaning.specs.declared.body.Body.TheVariants as b
 use Rattle.rp_meaning.specs.declared.counter.Counter.{Counter}
@@ -12,6 +13,7 @@ use Rattle.rp_meaning.specs.declared.tree.Expression.{Expression}
 use Rattle.rp_meaning.specs.declared.tree.Expression.TheFolds.{fold-roll-Expression}
 use Rattle.rp_meaning.specs.declared.tree.Expression.TheOpen.{Expression-F}
 use Rattle.rp_meaning.specs.declared.tree.Expression.TheVariants as e
+use Rattle.rp_meaning.specs.declared.tree.Operation.{Operation}
 use Rattle.rp_eval.specs.Charges.{charged, followed}
 
 module _ (world : World) (below : Body → Computation Value) where
@@ -33,6 +35,32 @@ module _ (world : World) (below : Body → Computation Value) where
   expression-initializer s x elements is = ap (λ y. expression world below y s) (is ∙ sym (e.rolls-Initializer elements))
       ∙ ap (λ means. means s) (fold-roll-Expression Meaning Operating Meaning Operating Meaning (expression_layer world below) (qualifier_layer world below) (interval_layer world below) (operation_layer world below) (query_layer world below) (Expression-F.Initializer elements))
 
+  -- an operator behind a variable
+  variable-is : (slot : ℕ) → expression world below (e.Variable slot) ≡ (λ s. steps 1 >> pure (slice_index_or s.variables slot v.Indet))
+  unfolding expression qualifier interval operation query
+  variable-is slot = ap (expression world below) (sym (e.rolls-Variable slot))
+      ∙ fold-roll-Expression Meaning Operating Meaning Operating Meaning (expression_layer world below) (qualifier_layer world below) (interval_layer world below) (operation_layer world below) (query_layer world below) (Expression-F.Variable slot)
+
+  chain-is : (x : Expression) (operations : List Operation) → expression world below (e.Chain x operations) ≡ (λ s. expression world below x s >>= in_turn s (map (operation world below) operations))
+  unfolding expression qualifier interval operation query
+  chain-is x operations = ap (expression world below) (sym (e.rolls-Chain x operations))
+      ∙ fold-roll-Expression Meaning Operating Meaning Operating Meaning (expression_layer world below) (qualifier_layer world below) (interval_layer world below) (operation_layer world below) (query_layer world below) (Expression-F.Chain x operations)
+
+  last-by : (s : Scope) (found : Option (Value × Counter)) → and_then found (in_turn s []) ≡ found
+  last-by s None = refl
+  last-by s (Some p) = refl
+
+  grown-by : (s : Scope) (means : Operating) (a : Value) (found : Option (Unit {0} × Counter)) → and_then (and_then found (λ u. pure a)) (in_turn s (means ∷ [])) ≡ and_then found (λ u. means s a)
+  grown-by s means a None = refl
+  grown-by s means a (Some p) = last-by s (means s a p.1)
+
+  pub expression-grown : (s : Scope) (x : Expression) (slot : ℕ) (right : Operation) (old : Counter) → x ≡ e.Chain (e.Variable slot) (right ∷ [])
+      → expression world below x s old ≡ charged 1 (operation world below right s (slice_index_or s.variables slot v.Indet)) old
+  expression-grown s x slot right old is = ap (λ y. expression world below y s old) is
+      ∙ (ap (λ means. means s old) (chain-is (e.Variable slot) (right ∷ []))
+      ∙ (ap (λ means. (means s >>= in_turn s (operation world below right ∷ [])) old) (variable-is slot)
+      ∙ grown-by s (operation world below right) (slice_index_or s.variables slot v.Indet) (steps 1 old)))
+
 -- ---- the values of arguments
 
 one-by : (next : List Value → Computation Value) (found : Option (Value × Counter)) → and_then (and_then found (λ a. pure (a ∷ []))) next ≡ and_then found (λ a. next (a ∷ []))
@@ -44,7 +72,7 @@ of-one : (means : Expression → Meaning) (next : List Value → Computation Val
 of-one means next s x left = one-by next (means x s left)
 
 -- behind a step
-behind : (m : Computation Value) (u : Unit {0}) (left : Counter) (found : Option (Unit {0} × Counter)) → found ≡ Some (u, left) → and_then found (λ v. m) ≡ m left
+pub behind : (m : Computation Value) (u : Unit {0}) (left : Counter) (found : Option (Unit {0} × Counter)) → found ≡ Some (u, left) → and_then found (λ done. m) ≡ m left
 behind m u left found is = rw is refl
 
 -- of several behind a step

@@ -6,22 +6,15 @@ ghost use Rattle.std.specs.Option.{option_copied, unwrap_or};
 ghost use Rattle.rp_meaning.specs.Attributes as spec;
 ghost use Rattle.rp_meaning.specs.Populations as populations;
 ghost use Rattle.rp_meaning.specs.Populations.{as_read};
-ghost use Rattle.rp_meaning.specs.Uses as uses;
 ghost use Rattle.rp_value.specs.declared.value.Value.TheVariants as v;
 ghost use Rattle.rp_eval.specs.Counts as counts;
 
 use crate::copies::copied;
-use ex_named::{AttributePlace, AttributeSort};
+use ex_named::AttributePlace;
 use rp_meaning::{Derivation, Given, Inverse, NamedRole, ReadValue, Role, Schema, Seen};
+use rp_operators::{is_of, same_attribute};
 use rp_value::Value;
 use std::alloc::AllocError;
-
-/// Whether an instance has an entity.
-pub(crate) fn is_of(instance: &Seen<'_>, entity: usize) -> bool
-    ensures { result ≡ populations.is_of instance.now entity }
-{
-    instance.entities.iter().any(|other| *other == entity)
-}
 
 /// Which of these attributes is meant in an instance: the first of which it has the entity.
 pub(crate) fn chosen<'a>(
@@ -37,25 +30,6 @@ pub(crate) fn chosen<'a>(
         }
     }
     None
-}
-
-fn same_sort(first: AttributeSort, second: AttributeSort) -> bool
-    ensures { result ≡ uses.same_sort first second }
-{
-    match (first, second) {
-        (AttributeSort::Explicit, AttributeSort::Explicit)
-        | (AttributeSort::Derived, AttributeSort::Derived)
-        | (AttributeSort::Inverse, AttributeSort::Inverse) => true,
-        _ => false,
-    }
-}
-
-fn same_attribute(first: &AttributePlace, second: &AttributePlace) -> bool
-    ensures { result ≡ uses.same_attribute first.now second.now }
-{
-    first.entity == second.entity
-        && first.place == second.place
-        && same_sort(first.sort, second.sort)
 }
 
 /// The value that is read at a place, where this one is written: the last of those that are read there.

@@ -1,7 +1,7 @@
 //! Expressions.
 #![tactic(auto, unfolding(rp_meaning::specs::Expressions::expression, rp_meaning::specs::Expressions::qualifier, rp_meaning::specs::Expressions::interval, rp_meaning::specs::Expressions::operation, rp_meaning::specs::Expressions::query))]
 
-ghost use Rattle.std.specs.Prelude.{◌≡◌, [], map, OnOk};
+ghost use Rattle.std.specs.Prelude.{◌≡◌, [], map, IfSome, OnOk};
 ghost use Rattle.rp_meaning.specs.Computations as computations;
 ghost use Rattle.rp_meaning.specs.Computations.{Runs, pure};
 ghost use Rattle.rp_meaning.specs.Bare.{place_of};
@@ -49,6 +49,19 @@ impl<'a, D: Domain, B: Fn(Global, &Schema, &D, u8, &mut Counter, Body) -> Result
     D,
     B,
 > {
+    /// The value of an expression that is a literal, SELF or a variable, where it stands.
+    #[inline(always)]
+    fn standing<'v>(&self, tree: &'v Expression, frame: &'v Frame) -> Option<&'v Value>
+        ensures { IfSome result (λ value. value_at self.now.schema.now (D.population self.now.domain.now) self.now.levels tree.now frame.now ≡ charged 1 (pure value.now)) }
+    {
+        match tree {
+            Expression::Literal(value) => Some(value),
+            Expression::Itself => Some(frame.itself()),
+            Expression::Variable(slot) => frame.variable_at(*slot),
+            _ => None,
+        }
+    }
+
     /// What an operator gives of the value that is there and of another.
     #[inline(never)]
     fn operate(
@@ -316,7 +329,7 @@ impl<'a, D: Domain, B: Fn(Global, &Schema, &D, u8, &mut Counter, Body) -> Result
         Ok(())
     }
 
-    /// An operator and its right operand.
+    /// An operator and its right operand. One that stands somewhere is not copied.
     #[cycle(expressions)]
     fn operation(
         &self,
@@ -329,27 +342,14 @@ impl<'a, D: Domain, B: Fn(Global, &Schema, &D, u8, &mut Counter, Body) -> Result
         ensures value { RunsInto (operation_at self.now.schema.now (D.population self.now.domain.now) self.now.levels operation.now frame.old into.old counter.old) result into.new counter.new }
         ensures frame { OnOk result (frame.new ≡ frame.old) }
     {
-        let mut right = Value::Indet;
-        self.operation_with(operation, &mut right, frame, counter, into)
-    }
-
-    /// An operator and its right operand, which is written where there is room for it.
-    #[cycle(expressions)]
-    fn operation_with(
-        &self,
-        operation: &Operation,
-        right: &mut Value,
-        frame: &mut Frame,
-        counter: &mut Counter,
-        into: &mut Value,
-    ) -> Result<(), Stop>
-        requires { RunsBodies D.population self.now.alloc self.now.schema self.now.domain self.now.levels (B.pre self.now.below) (B.post self.now.below) }
-        ensures value { RunsInto (operation_at self.now.schema.now (D.population self.now.domain.now) self.now.levels operation.now frame.old into.old counter.old) result into.new counter.new }
-        ensures frame { OnOk result (frame.new ≡ frame.old) }
-    {
         charge(counter, 1)?;
-        self.expression(&operation.right, frame, counter, right)?;
-        self.operate(operation, right, counter, into)
+        if let Some(right) = self.standing(&operation.right, frame) {
+            charge(counter, 1)?;
+            return self.operate(operation, right, counter, into);
+        }
+        let mut right = Value::Indet;
+        self.expression(&operation.right, frame, counter, &mut right)?;
+        self.operate(operation, &right, counter, into)
     }
 
     /// Qualifiers from left to right.
@@ -387,11 +387,9 @@ impl<'a, D: Domain, B: Fn(Global, &Schema, &D, u8, &mut Counter, Body) -> Result
     {
         charge(counter, 1)?;
         match qualifier {
-            Qualifier::Attribute(attributes) => self.attribute(
-                attributes.as_slice(),
-                counter,
-                into,
-            ),
+            Qualifier::Attribute(attributes) => {
+                self.attribute_in(attributes.as_slice(), place_of(into), counter, into)
+            }
             Qualifier::Group(entity) => {
                 self.group(*entity, into);
                 Ok(())

@@ -27,7 +27,7 @@ impl Model for Frame {
 }
 
 impl Frame {
-    ghost use Rattle.std.specs.Prelude.{◌≡◌, ◌++◌, IfOk, OnOk, slice_index_or, replicate};
+    ghost use Rattle.std.specs.Prelude.{◌≡◌, ◌++◌, IfOk, IfSome, OnOk, slice_index_or, replicate};
     ghost use Rattle.rp_value.specs.declared.value.Value.TheVariants as v;
     ghost use Rattle.rp_meaning.specs.Expressions as spec;
     ghost use Rattle.rp_meaning.specs.Levels.{alone};
@@ -72,6 +72,13 @@ impl Frame {
             Some(value) => copied(value),
             None => Ok(Value::Indet),
         }
+    }
+
+    /// The variable of a slot, where it stands.
+    pub(crate) fn variable_at(&self, slot: usize) -> Option<&Value>
+        ensures { IfSome result (λ value. slice_index_or self.now.variables slot v.Indet ≡ value.now) }
+    {
+        self.variables.as_slice().get(slot)
     }
 
     /// Opens one variable more.

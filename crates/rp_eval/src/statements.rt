@@ -1,29 +1,32 @@
 //! Statements.
 #![tactic(auto, unfolding(rp_meaning::specs::Statements::statement, rp_meaning::specs::Statements::labelled))]
 
-ghost use Rattle.std.specs.Prelude.{◌≡◌, true, false, map, Some, OnOk};
+ghost use Rattle.std.specs.Prelude.{◌≡◌, [], ◌∷◌, true, false, map, slice_index_or, Some, IfSome, OnOk};
 ghost use Rattle.rp_meaning.specs.Statements as spec;
 ghost use Rattle.rp_meaning.specs.Levels.{most_turns};
 ghost use Rattle.rp_meaning.specs.Computations.{Runs, pure};
 ghost use Rattle.rp_meaning.specs.Bare as bare;
 ghost use Rattle.rp_meaning.specs.Operators as operators;
 ghost use Rattle.rp_meaning.specs.Types.{given};
-ghost use Rattle.rp_eval.specs.Charges.{followed};
-ghost use Rattle.rp_eval.specs.Bodies.{RunsBodies, bodies_at, world, value_at, action_at, labelled_at};
+ghost use Rattle.rp_meaning.specs.declared.tree.Expression.TheVariants as e;
+ghost use Rattle.rp_eval.specs.Charges.{charged, followed};
+ghost use Rattle.rp_eval.specs.Bodies.{RunsBodies, bodies_at, world, value_at, operation_at, action_at, labelled_at};
 ghost use Rattle.rp_eval.specs.Endings.{Ends, Turns};
 ghost use Rattle.rp_eval.specs.Beginnings.{begins};
+ghost use Rattle.rp_value.specs.declared.value.Value.TheVariants as v;
 
 use crate::frame::Frame;
-use crate::steps::charge;
+use crate::steps::{charge, charge_operator};
 use crate::turns::{Running, advanced, begun, start};
 use crate::walk::Walk;
 use ex_named::NamedDataType;
 use ex_tree::BinaryOperator;
 use plain_data::Items;
 use rp_meaning::{
-    Body, CaseAction, Control, Counter, Domain, Expression, Increment, Schema, Statement, Stop,
+    Body, CaseAction, Control, Counter, Domain, Expression, Increment, Operation, Schema,
+    Statement, Stop,
 };
-use rp_operators::{applied, given, is_true};
+use rp_operators::{applied, applied_in_place, given, is_true};
 use rp_value::Value;
 use std::alloc::Global;
 
@@ -45,6 +48,19 @@ enum Turning {
     Again,
     /// The REPEAT ends so.
     Over(Ending),
+}
+
+/// The operator and its right operand, where an expression has the variable of a slot on the left and no more than these behind it.
+fn growth(value: &Expression, slot: usize) -> Option<&Operation>
+    ensures { IfSome result (λ operation. value.now ≡ e.Chain (e.Variable slot) (operation.now ∷ [])) }
+{
+    let Expression::Chain(first, operations) = value else {
+        return None;
+    };
+    match (first.get(), operations.as_slice()) {
+        (Expression::Variable(variable), [operation]) if *variable == slot => Some(operation),
+        _ => None,
+    }
 }
 
 impl<'a, D: Domain, B: Fn(Global, &Schema, &D, u8, &mut Counter, Body) -> Result<Value, Stop>> Walk<
@@ -118,6 +134,46 @@ impl<'a, D: Domain, B: Fn(Global, &Schema, &D, u8, &mut Counter, Body) -> Result
         }
     }
 
+    /// What an operator gives of a variable and of a right operand, with the steps of all. The variable has no value then, so that
+    /// an aggregate that nobody else has grows in place.
+    fn grown(
+        &self,
+        operation: &Operation,
+        slot: usize,
+        frame: &mut Frame,
+        counter: &mut Counter,
+    ) -> Result<Value, Stop>
+        requires { RunsBodies D.population self.now.alloc self.now.schema self.now.domain self.now.levels (B.pre self.now.below) (B.post self.now.below) }
+        ensures value { Runs (charged 1 (operation_at self.now.schema.now (D.population self.now.domain.now) self.now.levels operation.now frame.old (slice_index_or frame.old.variables slot v.Indet)) counter.old) result counter.new }
+        ensures frame { OnOk result (frame.new ≡ spec.assigned frame.old slot v.Indet) }
+    {
+        charge(counter, 1)?;
+        charge(counter, 1)?;
+        let right = self.value(&operation.right, frame, counter)?;
+        let left = frame.variable(slot)?;
+        charge_operator(counter, operation.operator, &left, &right)?;
+        frame.assign(slot, Value::Indet);
+        Ok(applied_in_place(self.alloc, operation.operator, left, &right)?)
+    }
+
+    /// The value of an expression that is assigned to a variable, which may have none then.
+    fn assigned_value(
+        &self,
+        value: &Expression,
+        slot: usize,
+        frame: &mut Frame,
+        counter: &mut Counter,
+    ) -> Result<Value, Stop>
+        requires { RunsBodies D.population self.now.alloc self.now.schema self.now.domain self.now.levels (B.pre self.now.below) (B.post self.now.below) }
+        ensures value { Runs (value_at self.now.schema.now (D.population self.now.domain.now) self.now.levels value.now frame.old counter.old) result counter.new }
+        ensures frame { OnOk result ((x : _) → spec.assigned frame.new slot x ≡ spec.assigned frame.old slot x) }
+    {
+        match growth(value, slot) {
+            Some(operation) => self.grown(operation, slot, frame, counter),
+            None => self.value(value, frame, counter),
+        }
+    }
+
     /// What an assignment does behind its step.
     #[inline(never)]
     fn assignment(
@@ -131,7 +187,7 @@ impl<'a, D: Domain, B: Fn(Global, &Schema, &D, u8, &mut Counter, Body) -> Result
         requires { RunsBodies D.population self.now.alloc self.now.schema self.now.domain self.now.levels (B.pre self.now.below) (B.post self.now.below) }
         ensures { (x : _) → Ends ((followed (value_at self.now.schema.now (D.population self.now.domain.now) self.now.levels value.now frame.old) (λ a. pure (spec.Next (spec.assigned frame.old slot (given self.now.schema.now.types data_type.now a))))) counter.old) result x frame.new counter.new }
     {
-        let value = self.value(value, frame, counter)?;
+        let value = self.assigned_value(value, slot, frame, counter)?;
         let value = given(self.alloc, self.schema.types.as_slice(), data_type, &value)?;
         frame.assign(slot, value);
         Ok(Ending::Next)

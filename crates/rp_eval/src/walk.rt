@@ -14,7 +14,7 @@ ghost use Rattle.rp_eval.specs.Written.{RunsInto};
 ghost use Rattle.rp_eval.specs.Bodies.{RunsBodies, bodies_at, world};
 
 use crate::attributes::{
-    chosen, derivation_in, explicit_derivations, inverse_at, is_of, named_role, own_derivations,
+    chosen, derivation_in, explicit_derivations, inverse_at, named_role, own_derivations,
     stored_value,
 };
 use crate::frame::Frame;
@@ -23,7 +23,7 @@ use crate::users::{inverse_users, of_users};
 use ex_named::{AttributePlace, AttributeSort};
 use plain_data::Items;
 use rp_meaning::{Body, Counter, Derivation, Domain, Inverse, Role, Schema, Seen, Stop};
-use rp_operators::place_of;
+use rp_operators::{is_of, place_of};
 use rp_value::{AggregateKind, Value};
 use std::alloc::{AllocError, Global};
 
@@ -138,8 +138,8 @@ impl<'a, D: Domain, B: Fn(Global, &Schema, &D, u8, &mut Counter, Body) -> Result
     }
 
     /// The value of the first of these attributes of which the instance at a place has the entity.
-    #[inline(always)]
-    fn attribute_in(
+    #[inline(never)]
+    pub(crate) fn attribute_in(
         &self,
         attributes: &[AttributePlace],
         place: Option<u64>,
@@ -149,27 +149,10 @@ impl<'a, D: Domain, B: Fn(Global, &Schema, &D, u8, &mut Counter, Body) -> Result
         requires { RunsBodies D.population self.now.alloc self.now.schema self.now.domain self.now.levels (B.pre self.now.below) (B.post self.now.below) }
         ensures { RunsInto (spec.attribute_in (world self.now.schema.now (D.population self.now.domain.now)) (bodies_at self.now.schema.now (D.population self.now.domain.now) self.now.levels) attributes.now place counter.old) result into.new counter.new }
     {
-        match place {
-            Some(place) => self.attribute_at(attributes, place, counter, into),
-            None => {
-                *into = Value::Indet;
-                Ok(())
-            }
-        }
-    }
-
-    /// The same, where something may stand at the place.
-    #[inline(never)]
-    fn attribute_at(
-        &self,
-        attributes: &[AttributePlace],
-        place: u64,
-        counter: &mut Counter,
-        into: &mut Value,
-    ) -> Result<(), Stop>
-        requires { RunsBodies D.population self.now.alloc self.now.schema self.now.domain self.now.levels (B.pre self.now.below) (B.post self.now.below) }
-        ensures { RunsInto (spec.attribute_in (world self.now.schema.now (D.population self.now.domain.now)) (bodies_at self.now.schema.now (D.population self.now.domain.now) self.now.levels) attributes.now (Some place) counter.old) result into.new counter.new }
-    {
+        let Some(place) = place else {
+            *into = Value::Indet;
+            return Ok(());
+        };
         let Some(instance) = self.domain.instance(place as usize) else {
             *into = Value::Indet;
             return Ok(());
@@ -181,20 +164,6 @@ impl<'a, D: Domain, B: Fn(Global, &Schema, &D, u8, &mut Counter, Body) -> Result
                 Ok(())
             }
         }
-    }
-
-    /// The value of the first of these attributes of which the instance that is there has the entity.
-    #[inline(never)]
-    pub(crate) fn attribute(
-        &self,
-        attributes: &[AttributePlace],
-        counter: &mut Counter,
-        into: &mut Value,
-    ) -> Result<(), Stop>
-        requires { RunsBodies D.population self.now.alloc self.now.schema self.now.domain self.now.levels (B.pre self.now.below) (B.post self.now.below) }
-        ensures { RunsInto (spec.attribute (world self.now.schema.now (D.population self.now.domain.now)) (bodies_at self.now.schema.now (D.population self.now.domain.now) self.now.levels) attributes.now into.old counter.old) result into.new counter.new }
-    {
-        self.attribute_in(attributes, place_of(into), counter, into)
     }
 
     /// An attribute of SELF, for a step.

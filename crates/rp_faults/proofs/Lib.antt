@@ -1,7 +1,9 @@
-pub mod Characters
 pub mod Itself
 pub mod Repeated
 pub mod Places
 pub mod Faulty
 pub mod Astray
 pub mod Checked
+pub mod Sharing
+pub mod Bucketed
+pub mod Aggregates

@@ -1,5 +1,6 @@
 -- What stands twice in a list.
 use Rattle.std.proofs.Common.{◌≡◌, ℕ, suc, ◌+◌, ◌<◌, ◌≤◌, Bool, true, false, List, [], ◌∷◌, ◌++◌, map, take, drop, length, get_or, sym, ap, ◌∙◌, arith, if◌then◌else◌, add-one, drop-cons}
+use Rattle.std.proofs.Math.Seq.{take-suc}
 use Rattle.std.proofs.lemmas.Bool.Decides.{nat_tests}
 use Rattle.std.proofs.lemmas.List.{length-append, length-drop, length-map, length-take}
 use Rattle.std.specs.List.{list_any}
@@ -20,6 +21,9 @@ at-most-by xs ys y false less = omega (arith, less (xs ++ y ∷ []), length-appe
 pub at-most : (ys xs : List Value) → length (set_union xs ys) ≤ length xs + length ys
 at-most [] xs = omega arith
 at-most (y ∷ ys) xs = at-most-by xs ys y (list_any (is_same y) xs) (at-most ys)
+
+pub take-read : {A : Type 0} (xs : List A) (i : ℕ) (x : A) → i < length xs → x ≡ get_or xs i x → take (i + 1) xs ≡ take i xs ++ x ∷ []
+take-read xs i x h is = rw (add-one) (take-suc xs i x h ∙ ap (λ y. take i xs ++ y ∷ []) (sym is))
 
 -- where one is among those before it, fewer
 pub twice : (items : List Value) (i : ℕ) (x : Value) → i < length items → x ≡ get_or items i x → set_union (take i items) (drop i items) ≡ set_union [] items → list_any (is_same x) (take i items) ≡ true

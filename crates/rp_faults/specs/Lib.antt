@@ -2,3 +2,5 @@ pub mod Twice
 pub mod Tests
 pub mod Held
 pub mod Declarations
+pub mod Keys
+pub mod Buckets

@@ -15,7 +15,7 @@ use crate::twice::breaks_unique;
 use ex_named::NamedDataType;
 use ex_tree::{ArrayBounds, SimpleType, Width};
 use rp_operators::{End, holds_count, is_indeterminate};
-use rp_value::Value;
+use rp_value::{Characters, Value};
 use std::alloc::{AllocError, Global};
 
 /// What is asked.
@@ -137,11 +137,22 @@ fn breaks_width(width: Option<Width>, count: usize) -> bool
     }
 }
 
+/// Characters are counted only where there is a width.
+#[tactic(auto, using(rp_operators::proofs::Characters::counts))]
+fn breaks_text(width: Option<Width>, text: &Characters) -> bool
+    ensures { result ≡ spec.breaks_width width (char_count text.now) }
+{
+    match width {
+        None => false,
+        Some(_) => breaks_width(width, text.count()),
+    }
+}
+
 fn breaks_simple(simple: SimpleType, value: &Value) -> bool
     ensures { result ≡ spec.breaks_simple simple (out-Value value.now) }
 {
     match (simple, value) {
-        (SimpleType::String(width), Value::Str(text)) => breaks_width(width, text.count()),
+        (SimpleType::String(width), Value::Str(text)) => breaks_text(width, text),
         (SimpleType::Binary(width), Value::Bin(bits)) => breaks_width(width, bits.as_slice().len()),
         _ => false,
     }

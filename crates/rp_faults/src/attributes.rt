@@ -21,17 +21,8 @@ pub(crate) fn explicit_at(schema: &Schema, attribute: AttributePlace) -> Option<
         .get(attribute.place)
 }
 
-/// What redeclares an explicit attribute in DERIVE.
-fn derivations(schema: &Schema, attribute: AttributePlace) -> &[Derivation]
-    ensures { result.now ≡ attributes.explicit_derivations schema.now attribute }
-{
-    match explicit_at(schema, attribute) {
-        Some(explicit) => explicit.derivations.as_slice(),
-        None => &[],
-    }
-}
-
-fn is_one_derived(derivations: &[Derivation], instance: &Seen<'_>) -> bool
+/// Whether an instance derives what these redeclare in DERIVE.
+pub(crate) fn is_derived(derivations: &[Derivation], instance: &Seen<'_>) -> bool
     ensures { result ≡ is_some (find (λ x. is_of instance.now x.entity) derivations.now) }
 {
     for derivation in derivations {
@@ -46,7 +37,10 @@ fn is_one_derived(derivations: &[Derivation], instance: &Seen<'_>) -> bool
 pub fn is_checked(schema: &Schema, attribute: AttributePlace, instance: &Seen<'_>) -> bool
     ensures { result ≡ not (is_some (attributes.derivation_in schema.now (attributes.explicit_derivations schema.now attribute) instance.now)) }
 {
-    !is_one_derived(derivations(schema, attribute), instance)
+    match explicit_at(schema, attribute) {
+        Some(explicit) => !is_derived(explicit.derivations.as_slice(), instance),
+        None => true,
+    }
 }
 
 /// The attributes that an entity redeclares.

@@ -3,14 +3,18 @@
 
 mod asked;
 mod attributes;
+mod buckets;
 mod declared;
 mod faults;
 mod held;
+mod keys;
 mod references;
 mod twice;
 
 pub use attributes::is_checked;
+pub use buckets::Buckets;
 pub use declared::{declared_types, read_at};
 pub use faults::is_type;
 pub use held::{Fault, culprits};
+pub use keys::{key_of, with_number};
 pub use references::allows_choice;

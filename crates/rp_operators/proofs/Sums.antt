@@ -2,7 +2,7 @@
 use Rattle.std.proofs.Common.{◌≡◌, ℕ, ℤ, ◌+◌, Bool, true, false, if◌then◌else◌, List, [], ◌∷◌, ◌++◌, length, Option, Some, None, refl, sym, ◌∙◌, ap, subst, length-append}
 use Rattle.std.specs.Fmt.{char_count}
 use Rattle.std.specs.Prelude.{◌+ℤ◌}
-use Rattle.rp_meaning.specs.Bare.{bare, integer_of, aggregate_in}
+use Rattle.rp_meaning.specs.Bare.{bare, integer_of, aggregate_in, aggregate_of}
 use Rattle.rp_meaning.specs.Operators.{integer, of_integers, on_integers, sum, sum_seen, length_seen, cost_in, cost_of_two}
 use Rattle.rp_operations.specs.Operations.{aggregate, like, joined, union, union_seen}
 use Rattle.rp_operations.specs.Seen.{Seen, Indeterminate, Number, Text, Bits, Truth, Item, Instance, Aggregate, seen}
@@ -99,3 +99,19 @@ pub sum_cost : (x y : Value) (s t : Bare) → opened s ≡ out-Value (bare x) �
     → cost_of_two x y + length_seen (seen (sum x y)) ≡ cost_in (aggregate_in (opened s)) (aggregate_in (opened t)) + joined_length (seen_by s) (seen_by t)
 sum_cost x y s t is sees at views =
     λ i. cost_in (aggregate_in (sym is i)) (aggregate_in (sym at i)) + (sum_length x y ∙ (λ j. joined_length (sym sees j) (sym views j))) i
+
+-- ---- where one of them is no aggregate
+
+nothing-left : (b : Option (AggregateKind × Elements Value)) → cost_in None b ≡ 0
+nothing-left None = refl
+nothing-left (Some b) = refl
+
+nothing-right : (a : Option (AggregateKind × Elements Value)) → cost_in a None ≡ 0
+nothing-right None = refl
+nothing-right (Some a) = refl
+
+pub left_costs : (x y : Value) → aggregate_of x ≡ None → cost_of_two x y ≡ 0
+left_costs x y none = ap (λ a. cost_in a (aggregate_of y)) none ∙ nothing-left (aggregate_of y)
+
+pub right_costs : (x y : Value) → aggregate_of y ≡ None → cost_of_two x y ≡ 0
+right_costs x y none = ap (λ b. cost_in (aggregate_of x) b) none ∙ nothing-right (aggregate_of x)

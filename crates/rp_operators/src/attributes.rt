@@ -26,12 +26,12 @@ fn same_sort(first: AttributeSort, second: AttributeSort) -> bool
     }
 }
 
-/// Whether two are one attribute.
+/// Whether two are one attribute. Those of one entity differ in their places, which are asked first.
 #[inline]
 pub fn same_attribute(first: &AttributePlace, second: &AttributePlace) -> bool
     ensures { result ≡ uses.same_attribute first.now second.now }
 {
-    first.entity == second.entity
-        && first.place == second.place
+    first.place == second.place
+        && first.entity == second.entity
         && same_sort(first.sort, second.sort)
 }

@@ -1,7 +1,7 @@
 //! The steps that operators and initialisers cost beside their own. Each is asked with how many are left: none is told
 //! where it is more, so that nobody counts further than that.
 
-ghost use Rattle.std.specs.Prelude.{◌≡◌, ◌+◌, ◌*◌, length, map};
+ghost use Rattle.std.specs.Prelude.{◌≡◌, ◌+◌, ◌*◌, length, map, true};
 ghost use Rattle.std.specs.List.{sum};
 ghost use Rattle.rp_meaning.specs.BuiltIns.{size as size_of_initialiser};
 ghost use Rattle.rp_meaning.specs.Operators as spec;
@@ -50,12 +50,21 @@ fn of_aggregates(most: usize, x: &Value, y: &Value) -> Option<usize>
     }
 }
 
-/// The same. Of what is surely no aggregate nothing more is asked.
+/// Whether one of the two is surely no aggregate.
+#[inline(always)]
+#[tactic(auto, using(crate::proofs::Sums::left_costs, crate::proofs::Sums::right_costs))]
+fn costs_nothing(x: &Value, y: &Value) -> bool
+    ensures { result ≡ true → spec.cost_of_two x.now y.now ≡ 0 }
+{
+    is_scalar(y) || is_scalar(x)
+}
+
+/// The same. Where one of them is surely no aggregate nothing more is asked.
 #[inline]
 fn of_two(most: usize, x: &Value, y: &Value) -> Option<usize>
     ensures { result ≡ unless_more most (spec.cost_of_two x.now y.now) }
 {
-    if is_scalar(x) {
+    if costs_nothing(x, y) {
         return Some(0);
     }
     of_aggregates(most, x, y)

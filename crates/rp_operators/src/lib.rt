@@ -28,6 +28,6 @@ pub use costs::{cost, count, interval_cost, size};
 pub use declared::given;
 pub use ends::{AggregateType, End, aggregate_type, behind_names, end_of, fits};
 pub use naming::type_names;
-pub use operators::{applied, applied_to, within};
+pub use operators::{applied, applied_in_place, applied_to, within};
 pub use qualifiers::{index, range};
 pub use references::{all_present, present};

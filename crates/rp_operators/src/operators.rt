@@ -14,7 +14,9 @@ use crate::relations::{at_least, at_most, equal, greater, less, unequal};
 use crate::scalars::{by_order, joined_texts, of_integers, of_texts, of_truths};
 use ex_tree::{BinaryOperator, IntervalOperator, UnaryOperator};
 use plain_data::Items;
-use rp_operations::{aggregate_union, intersect, is_in, minus as less_elements, same};
+use rp_operations::{
+    aggregate_union, intersect, is_in, minus as less_elements, same, union_in_place,
+};
 use rp_value::{Bits, Value};
 use std::alloc::{AllocError, Global};
 
@@ -195,6 +197,33 @@ pub fn applied(
     match (x, y) {
         (Value::Int(m), Value::Int(n)) => Ok(of_integers(operator, *m, *n)),
         _ => applied_beneath(alloc, operator, x, y),
+    }
+}
+
+/// `+` of an aggregate that isn't kept: an element is put behind the others without a copy of them, where nobody else has them.
+#[inline(never)]
+fn sum_in_place(alloc: Global, x: Value, y: &Value) -> Result<Value, AllocError>
+    ensures { IfOk result (λ a. a ≡ spec.sum x y.now) }
+{
+    match beneath_names(&x) {
+        Bare::Aggregate(_, _) => union_in_place(alloc, x, y),
+        _ => applied_beneath(alloc, BinaryOperator::Add, &x, y),
+    }
+}
+
+/// What a binary operator gives of two values, of which the left one isn't kept. An aggregate that nobody else has grows in
+/// place.
+pub fn applied_in_place(
+    alloc: Global,
+    operator: BinaryOperator,
+    x: Value,
+    y: &Value,
+) -> Result<Value, AllocError>
+    ensures { IfOk result (λ a. a ≡ spec.applied operator x y.now) }
+{
+    match operator {
+        BinaryOperator::Add => sum_in_place(alloc, x, y),
+        _ => applied(alloc, operator, &x, y),
     }
 }
 

@@ -5,5 +5,8 @@ pub mod Gatherings
 pub mod Sequences
 pub mod Values
 pub mod TypeTallies
+pub mod Declarations
+pub mod Untried
+pub mod Skipped
 pub mod Sharing
 pub mod Agreements

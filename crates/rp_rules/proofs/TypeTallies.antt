@@ -4,23 +4,26 @@ use Rattle.std.proofs.lemmas.Bool.Decides.{nat_tests}
 use Rattle.std.proofs.lemmas.List.{map-append}
 use Rattle.std.proofs.lemmas.List.Elements.{filter-append}
 use Rattle.ex_named.specs.declared.reference.AttributePlace.{AttributePlace}
-use Rattle.rp_faults.specs.Declarations.{last_read}
+use Rattle.rp_faults.specs.Declarations.{declared_types, last_read}
 use Rattle.rp_meaning.specs.declared.domain.ReadValue.{ReadValue}
 use Rattle.rp_meaning.specs.declared.rule.Rule.{Rule}
 use Rattle.rp_meaning.specs.declared.rule.Rule.TheVariants as r
 use Rattle.rp_meaning.specs.declared.schema.Schema.{Schema}
+use Rattle.rp_meaning.specs.Bare.{aggregate_of, is_indeterminate}
 use Rattle.rp_meaning.specs.Expressions.{World}
 use Rattle.rp_meaning.specs.Faults.{Held, held_from, held_of, is_checked}
 use Rattle.rp_meaning.specs.Populations.{Instance, Stored, as_read, stored}
 use Rattle.rp_meaning.specs.Report.{of_attribute}
 use Rattle.rp_meaning.specs.Sequence.{Candidate, Ended, Trial, each_after, one, verdict_of}
+use Rattle.rp_meaning.specs.TypeRules.{is_tried}
 use Rattle.rp_rules.specs.declared.culprits.Culprits.{Culprits}
 use Rattle.rp_rules.specs.declared.verdicts.Verdicts.{Verdicts}
 use Rattle.rp_rules.specs.Endings.{verdicts_of, with_verdict}
 use Rattle.rp_rules.proofs.Steps.{drop-got, drop-none, drop-past, drop-read}
 use Rattle.rp_rules.proofs.Tallied.{verdicts-more}
+use Rattle.rp_rules.proofs.Values.{values-scalar, values-unset}
 use Rattle.rp_rules.specs.Tallies.{tallied, with_culprit}
-use Rattle.rp_rules.specs.TypeTallies.{candidates_among, candidates_by, candidates_in, candidates_of}
+use Rattle.rp_rules.specs.TypeTallies.{candidates_among, candidates_by, candidates_in, candidates_of, trials_in}
 use Rattle.rp_value.specs.declared.value.Value.{Value}
 
 -- ---- candidates one after the other
@@ -189,3 +192,26 @@ noted-step world rule v xs i x used h is = ap (λ (ys : List Value). noted world
 
 pub noted-end : (world : World) (rule : Rule) (v : Verdicts) (xs : List Value) (i used : ℕ) → length xs ≤ i → noted world v (map (λ x. (rule, x)) (drop i xs)) used ≡ (v, used)
 noted-end world rule v xs i used h = ap (λ (ys : List Value). noted world v (map (λ x. (rule, x)) ys) used) (drop-past xs i h)
+
+-- ---- a value that is no aggregate
+
+module _ (schema : Schema) (population : List Instance) (number place : ℕ) (entities : List ℕ) (a : AttributePlace) (x y : Value) where
+  abbrev one_trial : Value → Trial
+  one_trial z = (r.Type number place, z)
+
+  abbrev by_declarations : Bool
+  by_declarations = is_tried schema.types population number (declared_types schema entities a) x y
+
+  pub trials-unset : is_indeterminate y ≡ true → trials_in schema population number place entities a x y ≡ []
+  trials-unset is = ap (map one_trial) (values-unset schema.types population number (declared_types schema entities a) x y is)
+
+  trials-by : (b : Bool) → is_indeterminate y ≡ false → aggregate_of y ≡ None → by_declarations ≡ b → trials_in schema population number place entities a x y ≡ map one_trial (if b then y ∷ [] else [])
+  trials-by b set scalar is = ap (map one_trial) (values-scalar schema.types population number (declared_types schema entities a) x y set scalar ∙ ap (λ (b : Bool). if b then y ∷ [] else []) is)
+
+  pub trials-none : is_indeterminate y ≡ false → aggregate_of y ≡ None → by_declarations ≡ false → trials_in schema population number place entities a x y ≡ []
+  trials-none set scalar is = trials-by false set scalar is
+
+  pub trials-one : is_indeterminate y ≡ false → aggregate_of y ≡ None → by_declarations ≡ true → trials_in schema population number place entities a x y ≡ (r.Type number place, y) ∷ []
+  trials-one set scalar is = trials-by true set scalar is
+
+pub ruleset scalars = (trials-unset, trials-none, trials-one)

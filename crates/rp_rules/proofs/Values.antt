@@ -6,9 +6,9 @@ use Rattle.std.specs.Option.{option_map_or}
 use Rattle.ex_named.specs.declared.expression.NamedDataType.{NamedDataType}
 use Rattle.plain_data.specs.Numbers.{is_among}
 use Rattle.rp_meaning.specs.declared.schema.DefinedType.{DefinedType}
-use Rattle.rp_meaning.specs.Bare.{aggregate_of, is_indeterminate}
+use Rattle.rp_meaning.specs.Bare.{aggregate_of, carried, is_indeterminate}
 use Rattle.rp_meaning.specs.Populations.{Instance}
-use Rattle.rp_meaning.specs.TypeRules.{Trying, chooses, selects_to, elements_tried, element_type, inside_by, trying_by, values_tried}
+use Rattle.rp_meaning.specs.TypeRules.{Trying, chooses, selects_to, elements_tried, element_type, inside_by, trying_by, values_tried, with_beneath, written_under}
 use Rattle.rp_operators.proofs.Sights as sights
 use Rattle.rp_rules.specs.Tried.{elements_at, inside_at, itself_at, values_at}
 use Rattle.rp_rules.proofs.Steps.{drop-got, drop-none, drop-past, drop-read}
@@ -60,13 +60,40 @@ selects-between types population from x n = between-by (slice_get types from) (c
 
 pub ruleset between = (selects-between)
 
+-- the type under which a value is written
+
+under-by : (f : ℕ → List ℕ) (b : Bool) (o : Option ℕ) (under n : ℕ) → o ≡ Some under → is_among (option_map_or f (if b then o else None) []) n ≡ (is_among (f under) n && b)
+under-by f true o under n is = rw is (and-true (is_among (f under) n))
+under-by f false o under n is = and-false (is_among (f under) n)
+
+none-by : (f : ℕ → List ℕ) (b : Bool) (o : Option ℕ) (n : ℕ) → o ≡ None → is_among (option_map_or f (if b then o else None) []) n ≡ false
+none-by f true o n is = rw is refl
+none-by f false o n is = refl
+
+pub under-some : (types : List DefinedType) (population : List Instance) (from n under : ℕ) (x : Value) → carried x ≡ Some under
+    → is_among (option_map_or (with_beneath types population) (written_under types population from x) []) n ≡ (is_among (with_beneath types population under) n && chooses types population x from)
+under-some types population from n under x is = under-by (with_beneath types population) (chooses types population x from) (carried x) under n is
+
+pub under-none : (types : List DefinedType) (population : List Instance) (from n : ℕ) (x : Value) → carried x ≡ None
+    → is_among (option_map_or (with_beneath types population) (written_under types population from x) []) n ≡ false
+under-none types population from n x is = none-by (with_beneath types population) (chooses types population x from) (carried x) n is
+
+if-none : (b : Bool) (o : Option ℕ) → o ≡ None → (if b then o else None) ≡ None
+if-none true o is = is
+if-none false o is = refl
+
+pub unwritten : (types : List DefinedType) (population : List Instance) (from : ℕ) (x : Value) → carried x ≡ None → written_under types population from x ≡ None
+unwritten types population from x is = if-none (chooses types population x from) (carried x) is
+
+pub ruleset written = (under-some, under-none, unwritten)
+
 -- ---- parts of values
 
 module _ (types : List DefinedType) (population : List Instance) (number : ℕ) where
-  abbrev Part : Type 0
+  abbrev pub Part : Type 0
   Part = Trying types population number
 
-  abbrev parted : Value → Part
+  abbrev pub parted : Value → Part
   parted = fold-Value Part (trying_by types population number)
 
   abbrev kept : Part → Value
@@ -78,8 +105,11 @@ module _ (types : List DefinedType) (population : List Instance) (number : ℕ) 
   itself : (x : Value) → (parted x).itself ≡ x
   itself = sights.itself kept (trying_by types population number) keeps
 
-  abbrev Items : Type 0
+  abbrev pub Items : Type 0
   Items = Option (AggregateKind × Elements Value)
+
+  pub inside-of : (x : Value-F Value) (declared : List NamedDataType) (o : Items) → (parted (roll-Value x)).inside declared o ≡ inside_by types population number (map-Value Value Part parted x) declared o
+  inside-of x declared o = ap (λ (t : Part). t.inside declared o) (fold-roll-Value Part (trying_by types population number) x)
 
   -- ---- where the value that is read is no aggregate, nothing is in it
 
@@ -143,7 +173,7 @@ module _ (types : List DefinedType) (population : List Instance) (number : ℕ) 
   unfolding values_tried
   values-unset declared x read is = rw is refl
 
-  values-set : (declared : List NamedDataType) (x read : Value) (o : Items) → is_indeterminate read ≡ false → aggregate_of read ≡ o
+  pub values-set : (declared : List NamedDataType) (x read : Value) (o : Items) → is_indeterminate read ≡ false → aggregate_of read ≡ o
       → values_at types population number declared x read ≡ itself_at types population number declared x read ++ (parted x).inside (filter_map (element_type types population x read) declared) o
   unfolding values_tried
   values-set declared x read o is so =

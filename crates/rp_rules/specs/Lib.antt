@@ -5,5 +5,5 @@ pub mod Gatherings
 pub mod Order
 pub mod Tried
 pub mod TypeTallies
-pub mod Keys
 pub mod Buckets
+pub mod Plan

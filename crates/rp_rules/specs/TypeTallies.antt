@@ -1,14 +1,15 @@
 -- The candidates of a rule of a defined type, attribute by attribute.
 use Rattle.std.specs.Prelude.{ℕ, ◌+◌, List, [], ◌∷◌, ◌++◌, map, filter}
 use Rattle.ex_named.specs.declared.reference.AttributePlace.{AttributePlace}
-use Rattle.rp_faults.specs.Declarations.{last_read}
+use Rattle.rp_faults.specs.Declarations.{declared_types, last_read}
 use Rattle.rp_meaning.specs.declared.domain.ReadValue.{ReadValue}
 use Rattle.rp_meaning.specs.declared.rule.Rule.TheVariants as r
 use Rattle.rp_meaning.specs.declared.schema.Schema.{Schema}
 use Rattle.rp_meaning.specs.Faults.{Held, is_checked}
 use Rattle.rp_meaning.specs.Populations.{Instance, Stored}
 use Rattle.rp_meaning.specs.Report.{of_attribute}
-use Rattle.rp_meaning.specs.Sequence.{Candidate}
+use Rattle.rp_meaning.specs.Sequence.{Candidate, Trial}
+use Rattle.rp_meaning.specs.TypeRules.{values_tried}
 use Rattle.rp_value.specs.declared.value.Value.{Value}
 
 module _ (schema : Schema) (population : List Instance) (number place : ℕ) where
@@ -28,3 +29,7 @@ module _ (schema : Schema) (population : List Instance) (number place : ℕ) whe
   candidates_among at i differing slot (a ∷ attributes) (x ∷ written) =
       candidates_by at i a x (last_read x differing slot) ++ candidates_among at i differing (slot + 1) attributes written
   candidates_among at i differing slot _ _ = []
+
+  -- of a value in an attribute of an instance of these entities
+  abbrev pub trials_in : List ℕ → AttributePlace → Value → Value → List Trial
+  trials_in entities a x y = map (λ z. (r.Type number place, z)) (values_tried schema.types population number (declared_types schema entities a) x y)

@@ -17,7 +17,7 @@ use rp_value::Value;
 use std::alloc::{AllocError, Global};
 
 /// The defined type that is named.
-fn named(data_type: &NamedDataType) -> Option<usize>
+pub(crate) fn named(data_type: &NamedDataType) -> Option<usize>
     ensures { result ≡ spec.named data_type.now }
 {
     match data_type {
@@ -26,7 +26,7 @@ fn named(data_type: &NamedDataType) -> Option<usize>
     }
 }
 
-fn is_one_of(numbers: &[usize], number: usize) -> bool
+pub(crate) fn is_one_of(numbers: &[usize], number: usize) -> bool
     ensures { result ≡ is_among numbers.now number }
 {
     numbers.iter().any(|other| *other == number)
@@ -55,7 +55,7 @@ fn is_under(number: Option<usize>, choice: TypeName) -> bool
 }
 
 /// The type of the elements of what is of a type behind all names.
-fn element_of(end: End<'_>) -> Option<&NamedDataType>
+pub(crate) fn element_of(end: End<'_>) -> Option<&NamedDataType>
     ensures { option_copied result ≡ option_map (λ a. a.element) (types.aggregate_type (end_behind end.entry)) }
 {
     match aggregate_type(end) {
@@ -134,22 +134,24 @@ impl<'a, D: Domain> Choosing<'a, D> {
     }
 
     /// The type under which a value is written, in a SELECT that chooses from it.
+    #[tactic(auto, using(crate::proofs::Values::written))]
     fn written_under(&self, value: &Value, number: usize) -> Option<usize>
         ensures { result ≡ spec.written_under self.now.types.now (D.population self.now.domain.now) number value.now }
     {
-        if self.chooses(value, number) {
-            carried(value)
-        } else {
-            None
+        match carried(value) {
+            Some(under) if self.chooses(value, number) => Some(under),
+            _ => None,
         }
     }
 
     /// Whether a defined type is the one under which a value in a SELECT is written, or stands beneath it.
+    #[tactic(auto, using(crate::proofs::Values::written))]
     fn is_written_under(&self, value: &Value, from: usize, number: usize) -> bool
         ensures { result ≡ is_among (option_map_or (spec.with_beneath self.now.types.now (D.population self.now.domain.now)) (spec.written_under self.now.types.now (D.population self.now.domain.now) from value.now) []) number }
     {
-        match self.written_under(value, from) {
-            Some(under) => self.is_beneath(under, number),
+        match carried(value) {
+            // Most values carry another type, so that is asked first.
+            Some(under) => self.is_beneath(under, number) && self.chooses(value, from),
             None => false,
         }
     }
@@ -164,7 +166,7 @@ impl<'a, D: Domain> Choosing<'a, D> {
     }
 
     /// Whether they are by a declaration.
-    fn is_tried_by(
+    pub(crate) fn is_tried_by(
         &self,
         written: &Value,
         read: &Value,

@@ -5,9 +5,11 @@ mod buckets;
 mod choices;
 mod conditions;
 mod culprits;
+mod declared;
 mod ended;
-mod keys;
+mod laws;
 mod order;
+mod plan;
 mod report;
 mod rows;
 mod rules;
@@ -18,4 +20,5 @@ mod used;
 mod validation;
 mod verdicts;
 
+pub use laws::population_decides;
 pub use report::validate;

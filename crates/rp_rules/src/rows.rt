@@ -5,8 +5,8 @@ ghost use Rattle.std.specs.List.{list_any};
 ghost use Rattle.rp_meaning.specs.Bare as bare;
 ghost use Rattle.rp_meaning.specs.Report as spec;
 
-use crate::keys::{key_of, with_number};
 use plain_data::Items;
+use rp_faults::{key_of, with_number};
 use rp_meaning::Culprit;
 use rp_operations::same;
 use rp_operators::is_indeterminate;

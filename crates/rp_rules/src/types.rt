@@ -3,6 +3,7 @@
 use crate::choices::Choosing;
 use crate::culprits::Culprits;
 use crate::ended::verdict_of;
+use crate::plan::{Plan, Planning};
 use crate::tried::Trying;
 use crate::used::Used;
 use crate::validation::Validation;
@@ -11,16 +12,19 @@ use ex_named::AttributePlace;
 use plain_data::Items;
 use rp_faults::{declared_types, is_checked, read_at};
 use rp_meaning::{Check, Constraint, Culprit, Domain, ReadValue, Rule, Seen};
+use rp_operators::{aggregate_of, is_indeterminate};
 use rp_value::Value;
 use std::alloc::AllocError;
 
 impl<'a, D: Domain> Validation<'a, D> {
-    ghost use Rattle.std.specs.Prelude.{◌≡◌, [], ◌∷◌, map, IfOk, OnOk};
-    ghost use Rattle.rp_faults.specs.Declarations.{declared_types};
+    ghost use Rattle.std.specs.Prelude.{◌≡◌, [], ◌∷◌, map, None, IfOk, OnOk};
+    ghost use Rattle.rp_faults.specs.Declarations.{declared_types, last_read};
+    ghost use Rattle.rp_meaning.specs.Bare.{aggregate_of};
     ghost use Rattle.rp_meaning.specs.Report.{type_candidates, type_check, world};
     ghost use Rattle.rp_meaning.specs.Sequence.{each_after};
     ghost use Rattle.rp_meaning.specs.TypeRules.{values_tried};
     ghost use Rattle.rp_rules.specs.Endings.{verdicts_of};
+    ghost use Rattle.rp_rules.specs.Plan.{Tells};
     ghost use Rattle.rp_rules.specs.Tallies.{no_culprits, tallied};
     ghost use Rattle.rp_rules.specs.TypeTallies as spec;
 
@@ -67,6 +71,62 @@ impl<'a, D: Domain> Validation<'a, D> {
         Ok(found)
     }
 
+    /// Which verdicts a rule has for a value of an attribute that is no aggregate, if it is tried on that.
+    #[tactic(auto, using(crate::proofs::TypeTallies::scalars))]
+    fn verdicts_of_scalar(
+        &self,
+        number: usize,
+        place: usize,
+        entities: &[usize],
+        attribute: AttributePlace,
+        written: &Value,
+        read: &Value,
+        used: &mut Used,
+    ) -> Result<Verdicts, AllocError>
+        requires { aggregate_of read.now ≡ None }
+        ensures verdicts { IfOk result (λ verdicts. verdicts ≡ verdicts_of (each_after (world self.now.schema.now (D.population self.now.domain.now)) [] (spec.trials_in self.now.schema.now (D.population self.now.domain.now) number place entities.now attribute written.now read.now) used.old).0) }
+        ensures used { OnOk result (used.new ≡ (each_after (world self.now.schema.now (D.population self.now.domain.now)) [] (spec.trials_in self.now.schema.now (D.population self.now.domain.now) number place entities.now attribute written.now read.now) used.old).1) }
+    {
+        let choosing = Choosing {
+            types: self.schema.types.as_slice(),
+            domain: self.domain,
+        };
+        if is_indeterminate(read) {
+            return Ok(Verdicts::none());
+        }
+        let schema = self.schema;
+        if choosing.is_tried_in_attribute(written, read, schema, entities, attribute, number) {
+            self.verdicts(Rule::Type(number, place), read, used)
+        } else {
+            Ok(Verdicts::none())
+        }
+    }
+
+    /// Which verdicts it has for all values in an attribute on which it is tried.
+    fn verdicts_in(
+        &self,
+        number: usize,
+        place: usize,
+        entities: &[usize],
+        attribute: AttributePlace,
+        written: &Value,
+        read: &Value,
+        used: &mut Used,
+    ) -> Result<Verdicts, AllocError>
+        ensures verdicts { IfOk result (λ verdicts. verdicts ≡ verdicts_of (each_after (world self.now.schema.now (D.population self.now.domain.now)) [] (spec.trials_in self.now.schema.now (D.population self.now.domain.now) number place entities.now attribute written.now read.now) used.old).0) }
+        ensures used { OnOk result (used.new ≡ (each_after (world self.now.schema.now (D.population self.now.domain.now)) [] (spec.trials_in self.now.schema.now (D.population self.now.domain.now) number place entities.now attribute written.now read.now) used.old).1) }
+    {
+        match aggregate_of(read) {
+            None => {
+                self.verdicts_of_scalar(number, place, entities, attribute, written, read, used)
+            }
+            Some(_) => {
+                let values = self.values_tried(number, entities, attribute, written, read)?;
+                self.verdicts_of_values(Rule::Type(number, place), values.as_slice(), used)
+            }
+        }
+    }
+
     /// Adds an attribute of the instance at a place to the culprits of a rule, if a value in it is one.
     fn tally_attribute(
         &self,
@@ -86,9 +146,8 @@ impl<'a, D: Domain> Validation<'a, D> {
         if !is_checked(self.schema, attribute, instance) {
             return Ok(());
         }
-        let values = self.values_tried(number, instance.entities, attribute, written, read)?;
-        let rule = Rule::Type(number, place);
-        let verdicts = self.verdicts_of_values(rule, values.as_slice(), used)?;
+        let entities = instance.entities;
+        let verdicts = self.verdicts_in(number, place, entities, attribute, written, read, used)?;
         let culprit = Culprit {
             instance: at,
             attribute: Some(attribute),
@@ -96,9 +155,40 @@ impl<'a, D: Domain> Validation<'a, D> {
         found.add(culprit, verdicts)
     }
 
+    /// The same, unless a plan tells that nothing in it is tried, as it mostly does.
+    #[inline(always)]
+    #[tactic(auto, using(crate::proofs::Skipped::untried))]
+    fn tally_by_plan(
+        &self,
+        plan: &Plan,
+        number: usize,
+        place: usize,
+        at: usize,
+        instance: &Seen<'_>,
+        slot: usize,
+        attribute: AttributePlace,
+        written: &Value,
+        differing: &[ReadValue],
+        found: &mut Culprits,
+        used: &mut Used,
+    ) -> Result<(), AllocError>
+        requires { Tells self.now.schema.now number plan.now }
+        ensures found { OnOk result (found.new ≡ (tallied (world self.now.schema.now (D.population self.now.domain.now)) found.old (spec.candidates_by self.now.schema.now (D.population self.now.domain.now) number place at instance.now attribute written.now (last_read written.now differing.now slot)) used.old).0) }
+        ensures used { OnOk result (used.new ≡ (tallied (world self.now.schema.now (D.population self.now.domain.now)) found.old (spec.candidates_by self.now.schema.now (D.population self.now.domain.now) number place at instance.now attribute written.now (last_read written.now differing.now slot)) used.old).1) }
+    {
+        if !plan.may_have(attribute, written) {
+            return Ok(());
+        }
+        let read = read_at(written, differing, slot);
+        self.tally_attribute(
+            number, place, at, instance, attribute, written, read, found, used,
+        )
+    }
+
     /// Adds those of some attributes of the instance at a place.
     fn tally_attributes(
         &self,
+        plan: &Plan,
         number: usize,
         place: usize,
         at: usize,
@@ -109,6 +199,7 @@ impl<'a, D: Domain> Validation<'a, D> {
         found: &mut Culprits,
         used: &mut Used,
     ) -> Result<(), AllocError>
+        requires { Tells self.now.schema.now number plan.now }
         ensures found { OnOk result (found.new ≡ (tallied (world self.now.schema.now (D.population self.now.domain.now)) found.old (spec.candidates_among self.now.schema.now (D.population self.now.domain.now) number place at instance.now differing.now 0 attributes.now written.now) used.old).0) }
         ensures used { OnOk result (used.new ≡ (tallied (world self.now.schema.now (D.population self.now.domain.now)) found.old (spec.candidates_among self.now.schema.now (D.population self.now.domain.now) number place at instance.now differing.now 0 attributes.now written.now) used.old).1) }
     {
@@ -116,9 +207,8 @@ impl<'a, D: Domain> Validation<'a, D> {
             let Some(value) = written.get(slot) else {
                 return Ok(());
             };
-            let read = read_at(value, differing, slot);
-            self.tally_attribute(
-                number, place, at, instance, *attribute, value, read, found, used,
+            self.tally_by_plan(
+                plan, number, place, at, instance, slot, *attribute, value, differing, found, used,
             )?;
         }
         Ok(())
@@ -127,6 +217,7 @@ impl<'a, D: Domain> Validation<'a, D> {
     /// Adds those of the instance at a place.
     fn tally_instance(
         &self,
+        plan: &Plan,
         number: usize,
         place: usize,
         at: usize,
@@ -134,10 +225,12 @@ impl<'a, D: Domain> Validation<'a, D> {
         found: &mut Culprits,
         used: &mut Used,
     ) -> Result<(), AllocError>
+        requires { Tells self.now.schema.now number plan.now }
         ensures found { OnOk result (found.new ≡ (tallied (world self.now.schema.now (D.population self.now.domain.now)) found.old (spec.candidates_in self.now.schema.now (D.population self.now.domain.now) number place at instance.now instance.now.values) used.old).0) }
         ensures used { OnOk result (used.new ≡ (tallied (world self.now.schema.now (D.population self.now.domain.now)) found.old (spec.candidates_in self.now.schema.now (D.population self.now.domain.now) number place at instance.now instance.now.values) used.old).1) }
     {
         self.tally_attributes(
+            plan,
             number,
             place,
             at,
@@ -153,10 +246,12 @@ impl<'a, D: Domain> Validation<'a, D> {
     /// The culprits of a rule of a defined type.
     fn tallied_types(
         &self,
+        plan: &Plan,
         number: usize,
         place: usize,
         used: &mut Used,
     ) -> Result<Culprits, AllocError>
+        requires { Tells self.now.schema.now number plan.now }
         ensures culprits { IfOk result (λ found. found ≡ (tallied (world self.now.schema.now (D.population self.now.domain.now)) no_culprits (type_candidates self.now.schema.now (D.population self.now.domain.now) number place) used.old).0) }
         ensures used { OnOk result (used.new ≡ (tallied (world self.now.schema.now (D.population self.now.domain.now)) no_culprits (type_candidates self.now.schema.now (D.population self.now.domain.now) number place) used.old).1) }
     {
@@ -165,7 +260,7 @@ impl<'a, D: Domain> Validation<'a, D> {
             let Some(instance) = self.domain.instance(at) else {
                 return Ok(found);
             };
-            self.tally_instance(number, place, at, &instance, &mut found, used)?;
+            self.tally_instance(plan, number, place, at, &instance, &mut found, used)?;
         }
         Ok(found)
     }
@@ -180,7 +275,13 @@ impl<'a, D: Domain> Validation<'a, D> {
         ensures check { IfOk result (λ check. check ≡ (type_check self.now.schema.now (D.population self.now.domain.now) number place used.old).0) }
         ensures used { OnOk result (used.new ≡ (type_check self.now.schema.now (D.population self.now.domain.now) number place used.old).1) }
     {
-        let found = self.tallied_types(number, place, used)?;
+        let planning = Planning {
+            alloc: self.alloc,
+            schema: self.schema,
+            number,
+        };
+        let plan = planning.plan()?;
+        let found = self.tallied_types(&plan, number, place, used)?;
         Ok(found.into_check(Constraint::Type(number, place)))
     }
 }

@@ -37,6 +37,10 @@ place_found (i ∷ is) order name (suc at) d within same =
     let rest = place_found is order.1 name at d (omega arith) same in
     grind (arith, nat_tests)
 
+-- where an instance of the name was guessed to stand
+pub guessed : (is : List Instance) → AreAscending is → (name at : ℕ) (i : Instance) → at < length is → i ≡ get_or is at i → i.name ≡ name → at ≡ place_of is name
+guessed is order name at i within stands same = sym (place_found is order name at i within (ap (λ (j : Instance). j.name) (sym stands) ∙ same))
+
 -- where no instance has the name
 place_absent : (is : List Instance) (name : ℕ) → ((k : ℕ) (d : Instance) → k < length is → (get_or is k d).name ≢ name) → place_of is name ≡ length is
 unfolding place_of

@@ -1,9 +1,10 @@
 -- Instances whose references are the places of instances in a list.
-use Rattle.std.specs.Prelude.{ℕ, suc, ◌==◌, List, [], ◌∷◌, map, if◌then◌else◌}
-use Rattle.ex_layouts.specs.Entities.{entities_of}
+use Rattle.std.specs.Prelude.{◌≡◌, ℕ, suc, ◌==◌, List, [], ◌∷◌, map, if◌then◌else◌, slice_get, IfSome}
+use Rattle.ex_layouts.specs.Entities.{entities_of, line_of}
 use Rattle.ex_schemas.specs.Schemas.{Checked}
 use Rattle.rp_content.specs.declared.instance.Instance.{Instance}
 use Rattle.rp_domain.specs.declared.instance.WrittenInstance.{WrittenInstance}
+use Rattle.rp_trial.specs.declared.entities.Line.{Line}
 use Rattle.rp_value.specs.declared.value.Value.{Value}
 use Rattle.rp_value.specs.declared.value.Value.TheFolds.{fold-Value}
 use Rattle.rp_value.specs.declared.value.Value.TheOpen.{Value-F}
@@ -29,3 +30,11 @@ written schema instances i = record { entities = entities_of schema i.entities; 
 
 abbrev pub all_written : Checked → List Instance → List WrittenInstance
 all_written schema instances = map (written schema instances) instances
+
+-- an entity with the entities above it and itself
+abbrev pub IsLine : Checked → Line → Type 0
+IsLine schema l = l.entities ≡ line_of schema l.entity
+
+-- each of these is such
+abbrev pub AreLines : Checked → List Line → Type 0
+AreLines schema lines = (k : ℕ) → IfSome (slice_get lines k) (IsLine schema)

@@ -3,6 +3,7 @@
 #![tactic(auto)]
 
 mod answers;
+mod entities;
 mod limits;
 mod lines;
 mod loading;

@@ -1,15 +1,15 @@
 //! Instances whose references are places in a population.
 
 ghost use Rattle.std.specs.Prelude.{◌≡◌, List, map, IfOk, IsFalse};
-ghost use Rattle.ex_layouts.specs.Entities as layouts;
 ghost use Rattle.p21_bind.specs.Files.{AreAscending};
 ghost use Rattle.rp_content.specs.declared.instance.Instance.{Instance};
 ghost use Rattle.rp_value.specs.declared.value.Value.TheVariants as v;
 ghost use Rattle.rp_trial.specs.Places as spec;
 
+use crate::entities::Lines;
 use ex_layouts::Dictionary;
 use plain_data::Items;
-use rp_content::{Entities, Instance};
+use rp_content::Instance;
 use rp_domain::WrittenInstance;
 use rp_value::{AggregateKind, Elements, Value};
 use std::alloc::{AllocError, Global};
@@ -19,9 +19,29 @@ fn place_of(instances: &[Instance], name: u64) -> u64
     requires { AreAscending instances.now }
     ensures { result ≡ spec.place_of instances.now name }
 {
+    let guess = guessed_place(instances, name);
+    match instances.get(guess) {
+        Some(instance) if instance.name == name => guess as u64,
+        _ => searched_place(instances, name),
+    }
+}
+
+/// The same, by halving.
+fn searched_place(instances: &[Instance], name: u64) -> u64
+    requires { AreAscending instances.now }
+    ensures { result ≡ spec.place_of instances.now name }
+{
     match instances.binary_search_by_key(&name, |instance| instance.name) {
         Ok(place) => place as u64,
         Err(_) => instances.len() as u64,
+    }
+}
+
+/// Where an instance of a name stands where no name is left out from the first one on, as files mostly have it.
+fn guessed_place(instances: &[Instance], name: u64) -> usize {
+    match instances.first() {
+        Some(first) => name.wrapping_sub(first.name) as usize,
+        None => 0,
     }
 }
 
@@ -109,32 +129,19 @@ fn all_placed(
     Ok(found)
 }
 
-/// The entities of an instance, in the order in which its values stand.
-fn entities_of(
-    alloc: Global,
-    schema: &Dictionary<'_>,
-    entities: &Entities,
-) -> Result<Items<usize>, AllocError>
-    ensures { IfOk result (λ found. found ≡ layouts.entities_of schema.now entities.now) }
-{
-    match entities {
-        Entities::Leaf(entity) => Ok(Items::from_vec(schema.line_of(alloc, *entity)?.into_vec())),
-        Entities::Several(all) => Items::from_slice(alloc, all.as_slice()),
-    }
-}
-
 /// One of these instances, as a population has it.
 fn written(
     alloc: Global,
-    schema: &Dictionary<'_>,
+    lines: &mut Lines<'_, '_>,
     instances: &[Instance],
     instance: &Instance,
 ) -> Result<WrittenInstance, AllocError>
     requires { AreAscending instances.now }
-    ensures { IfOk result (λ i. i ≡ spec.written schema.now instances.now instance.now) }
+    ensures same { lines.new ≡ lines.old }
+    ensures written { IfOk result (λ i. i ≡ spec.written lines.old instances.now instance.now) }
 {
+    let entities = lines.entities(alloc, &instance.entities)?;
     let values = all_placed(instance.values.as_slice(), alloc, instances)?;
-    let entities = entities_of(alloc, schema, &instance.entities)?;
     Ok(WrittenInstance { entities, values })
 }
 
@@ -147,9 +154,10 @@ pub(crate) fn all_written(
     requires { AreAscending instances.now }
     ensures { IfOk result (λ found. found.items ≡ spec.all_written schema.now instances.now) }
 {
+    let mut lines = Lines::of(alloc, schema)?;
     let mut found = Vec::with_capacity(alloc, instances.len())?;
     for instance in instances {
-        found.push(written(alloc, schema, instances, instance)?)?;
+        found.push(written(alloc, &mut lines, instances, instance)?)?;
     }
     Ok(found)
 }

@@ -33,8 +33,9 @@ fn answers_over(
     ensures { IfOk result (λ found. found ≡ spec.answers (spec.world loaded.now instances.now) limits.now) }
 {
     let written = all_written(alloc, loaded.dictionary(), instances)?;
-    let domain = ListDomain::new(alloc, schema, written)?;
-    answers(alloc, schema, &domain, limits)
+    // This isn't let go of either.
+    let domain = Box::leak(Box::new(alloc, ListDomain::new(alloc, schema, written)?)?);
+    answers(alloc, schema, domain, limits)
 }
 
 /// The same of a schema that isn't compiled yet. Without a limit no population is made.

@@ -1,6 +1,7 @@
 use Rattle.std.proofs.Common.{◌≡◌, ◌∙◌, ap, sym, arith}
 use Rattle.std.specs.List.{flat_map}
 use Rattle.rp_meaning.specs.Uses.{references}
+use Rattle.rp_domain.specs.Chains.{rows}
 use Rattle.rp_domain.specs.Rows.{user_by}
 use Rattle.rp_domain.proofs.Uses.{references-elements, values_step}
 use Rattle.rp_domain.proofs.users.+uses.Goals as goal
@@ -13,5 +14,5 @@ put_value-returns-in-Agg t c =
 
 pub put_values-loop-value-preserved : goal.put_values-loop-value-preserved
 put_values-loop-value-preserved t c =
-    let step = values_step c.loop-value.rows.items (user_by c.args.place c.args.attribute.now) c.args.values.now c.loop-value.value-index c.value-item.result (omega arith) c.value-item.is in
+    let step = values_step (rows c.loop-value.users.0 c.loop-value.users.1) (user_by c.args.place c.args.attribute.now) c.args.values.now c.loop-value.value-index c.value-item.result (omega arith) c.value-item.is in
     rw c.in_ok-put_value.ensures (sym step ∙ c.loop-value.invariant)

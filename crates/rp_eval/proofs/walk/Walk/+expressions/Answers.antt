@@ -4,6 +4,7 @@ use Rattle.rp_meaning.specs.Levels.{bodies}
 use Rattle.rp_eval.specs.Bodies.{world, value_at, operation_at, qualifier_at}
 use Rattle.rp_eval.specs.Callings.{function, initialized}
 use Rattle.rp_eval.proofs.Loops.{each_step, kept_step, turn_step}
+use Rattle.rp_eval.proofs.Operands.{operand-stands, operand-gives}
 use Rattle.rp_eval.proofs.Trees.{called-list, called-one, called-two, only_is, two_are, expression-call, expression-built-in}
 use Rattle.rp_eval.proofs.walk.Walk.+expressions.Goals as goal
 
@@ -153,3 +154,13 @@ compound-returns-in-BuiltIn-clause-value g t c =
     let w = world c.args.self.now.schema.now (g.D.Domain.population c.args.self.now.domain.now) in
     let below = bodies w c.args.self.now.levels in
     rw (expression-built-in w below c.args.frame.now c.args.tree.now c.in-BuiltIn.function c.in-BuiltIn.arguments c.in-BuiltIn.is) c.built_in.ensures.value
+
+pub operation-returns-in_err-charge-2-clause-value : goal.operation-returns-in_err-charge-2-clause-value
+operation-returns-in_err-charge-2-clause-value g t c =
+    let w = world c.args.self.now.schema.now (g.D.Domain.population c.args.self.now.domain.now) in
+    rw (operand-stands w (bodies w c.args.self.now.levels) c.args.operation.now c.args.frame.now c.args.into.now c.in-Some.right.now c.in_ok-charge.field-0 c.args.counter.now c.charge.new.counter c.in-Some.ensures c.in_ok-charge.ensures) (search rules)
+
+pub operation-returns-in-Some-clause-value : goal.operation-returns-in-Some-clause-value
+operation-returns-in-Some-clause-value g t c =
+    let w = world c.args.self.now.schema.now (g.D.Domain.population c.args.self.now.domain.now) in
+    rw (operand-gives w (bodies w c.args.self.now.levels) c.args.operation.now c.args.frame.now c.args.into.now c.in-Some.right.now c.in_ok-charge.field-0 c.in_ok-charge-2.field-0 c.args.counter.now c.charge.new.counter c.charge-in-Some.new.counter c.in-Some.ensures c.in_ok-charge.ensures c.in_ok-charge-2.ensures) c.operate.ensures

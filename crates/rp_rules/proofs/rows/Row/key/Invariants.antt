@@ -1,5 +1,5 @@
 use Rattle.std.proofs.Common.{◌≡◌, drop}
-use Rattle.rp_rules.specs.Keys.{with_values}
+use Rattle.rp_rules.specs.Buckets.{with_values}
 use Rattle.rp_rules.proofs.rows.Row.key.Given as goal
 
 abbrev pub invariant-loop-value : goal.invariant-loop-value

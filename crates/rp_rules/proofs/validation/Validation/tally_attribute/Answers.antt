@@ -15,5 +15,5 @@ returns-clause-found g c =
     let by = by-checked schema population c.args.number c.args.place c.args.at c.args.instance.now c.args.attribute c.args.written.now c.args.read.now (sym c.is_checked.ensures ∙ checked) in
     let all = ap (λ (cs : List Candidate). (tallied (world schema population) c.args.found.now cs c.args.used.now).0) (sym by) in
     let entities = ap (λ (i : Instance). i.entities) c.instance.view_is in
-    let found = rw (c.in_ok-verdicts.ensures.verdicts, c.as_slice.ensures, c.in_ok-values.ensures, entities) at c.add.ensures in
+    let found = rw (c.in_ok-verdicts.ensures.verdicts, entities) at c.add.ensures in
     subst (λ (cs : Culprits). OnOk c.add.result (c.add.new.self ≡ cs)) all found

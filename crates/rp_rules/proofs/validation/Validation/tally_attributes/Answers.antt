@@ -8,7 +8,7 @@ loop-slot-preserved g c =
     let schema = c.args.self.now.schema.now in
     let population = g.D.Domain.population c.args.self.now.domain.now in
     let step = attributes-step schema population c.args.number c.args.place (world schema population) c.loop-slot.found c.loop-slot.used c.args.at c.args.instance.now c.args.differing.now c.args.attributes.now c.args.written.now c.loop-slot.slot _ c.in-Some.value.now (omega arith) (search rules) (search rules) (search rules) in
-    rw (c.in_ok-tally_attribute.ensures.found, c.in_ok-tally_attribute.ensures.used, c.read_at-read.ensures) (sym step ∙ c.loop-slot.invariant)
+    rw (c.in_ok-tally_by_plan.ensures.found, c.in_ok-tally_by_plan.ensures.used) (sym step ∙ c.loop-slot.invariant)
 
 pub returns-in_default-clause-found : goal.returns-in_default-clause-found
 returns-in_default-clause-found g c =

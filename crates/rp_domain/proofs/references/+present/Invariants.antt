@@ -1,6 +1,0 @@
-use Rattle.std.proofs.Common.{◌≡◌, ◌++◌, map, drop}
-use Rattle.rp_meaning.specs.Reading.{present}
-use Rattle.rp_domain.proofs.references.+present.Given as goal
-
-abbrev pub invariant-present_elements-loop-value : goal.invariant-present_elements-loop-value
-invariant-present_elements-loop-value l = l.found ++ map (present l.count) (drop l.value-index l.values) ≡ map (present l.count) l.values

@@ -1,0 +1,53 @@
+-- Where a plan tells that nothing in an attribute may be tried, it changes nothing.
+use Rattle.std.proofs.Common.{◌≡◌, ℕ, Bool, true, false, List, [], ◌∷◌, map, is_some, refl, ap, ◌∙◌, append-nil}
+use Rattle.std.specs.List.{list_any}
+use Rattle.ex_named.specs.declared.reference.AttributePlace.{AttributePlace}
+use Rattle.rp_faults.specs.Declarations.{declared_types}
+use Rattle.rp_meaning.specs.declared.report.Culprit.{Culprit}
+use Rattle.rp_meaning.specs.declared.rule.Rule.TheVariants as r
+use Rattle.rp_meaning.specs.declared.schema.Schema.{Schema}
+use Rattle.rp_meaning.specs.Bare.{carried}
+use Rattle.rp_meaning.specs.Expressions.{World}
+use Rattle.rp_meaning.specs.Faults.{Held, is_checked}
+use Rattle.rp_meaning.specs.Populations.{Instance}
+use Rattle.rp_meaning.specs.Report.{attribute_culprit}
+use Rattle.rp_meaning.specs.Sequence.{Candidate}
+use Rattle.rp_meaning.specs.TypeRules.{values_tried}
+use Rattle.rp_rules.specs.declared.culprits.Culprits.{Culprits}
+use Rattle.rp_rules.specs.declared.plan.Plan.{Plan}
+use Rattle.rp_rules.specs.Endings.{verdicts_of}
+use Rattle.rp_rules.specs.Plan as plan
+use Rattle.rp_rules.specs.Tallies.{tallied, with_culprit}
+use Rattle.rp_rules.specs.TypeTallies.{candidates_by}
+use Rattle.rp_rules.proofs.TypeTallies.{by-checked, by-unchecked}
+use Rattle.rp_rules.proofs.Untried.{hopeful, values-none}
+use Rattle.rp_value.specs.declared.value.Value.{Value}
+
+with-none : (found : Culprits) (culprit : Culprit) → with_culprit found culprit (verdicts_of []) ≡ found
+with-none found culprit = λ i. record {
+  violating = append-nil found.violating i;
+  limited = append-nil found.limited i;
+  not_run = append-nil found.not_run i;
+  unknown = append-nil found.unknown i;
+}
+
+module _ (schema : Schema) (population : List Instance) (number place : ℕ) (world : World) (found : Culprits) (used at : ℕ) (i : Instance) (a : AttributePlace) (x y : Value) where
+  abbrev held : Held
+  held = record { place = at; instance = i; value = record { attribute = a; written = x; read = y } }
+
+  nothing-tallied : (b : Bool) → is_checked schema held ≡ b → values_tried schema.types population number (declared_types schema i.entities a) x y ≡ []
+      → tallied world found (candidates_by schema population number place at i a x y) used ≡ (found, used)
+  nothing-tallied false is none = ap (λ (cs : List Candidate). tallied world found cs used) (by-unchecked schema population number place at i a x y is)
+  nothing-tallied true is none =
+      ap (λ (cs : List Candidate). tallied world found cs used) (by-checked schema population number place at i a x y is)
+      ∙ ap (λ (zs : List Value). tallied world found ((attribute_culprit held, map (λ z. (r.Type number place, z)) zs) ∷ []) used) none
+      ∙ ap (λ (cs : Culprits). (cs, used)) (with-none found (attribute_culprit held))
+
+  pub untried-tallied : (p : Plan) → plan.Tells schema number p → plan.may_have p a x ≡ false
+      → tallied world found (candidates_by schema population number place at i a x y) used ≡ (found, used)
+  untried-tallied p tells none =
+      let silent : list_any (plan.may_stand schema.types number 8 (is_some (carried x))) (declared_types schema i.entities a) ≡ false =
+      tells a i.entities (is_some (carried x)) (hopeful (plan.prospect_at p a) (is_some (carried x)) none) in
+      nothing-tallied (is_checked schema held) refl (values-none schema.types population number x y 8 (is_some (carried x)) (declared_types schema i.entities a) (λ is. is) silent)
+
+pub ruleset untried = (untried-tallied)

@@ -1,0 +1,307 @@
+//! Which attributes may have something in their values on which the rules of a defined type are tried, by their declarations.
+
+ghost use Rattle.std.specs.Prelude.{◌≡◌, slice_index_or};
+ghost use Rattle.rp_rules.specs.Plan as spec;
+
+use crate::choices::{element_of, is_one_of, named};
+use ex_named::{AttributePlace, NamedDataType, TypeName};
+use plain_data::Items;
+use rp_meaning::{Entity, ExplicitAttribute, Redeclaration, Schema};
+use rp_operators::{End, aggregate_type, behind_names, carried, end_of};
+use rp_value::Value;
+use std::alloc::{AllocError, Global};
+
+/// Whether the rules may be tried on something in a value: in one that carries no type, and in one that does.
+#[derive(Clone, Copy)]
+pub(crate) struct Prospect {
+    pub(crate) bare: bool,
+    pub(crate) named: bool,
+}
+
+impl Prospect {
+    ghost use Rattle.std.specs.Prelude.{◌≡◌};
+    ghost use Rattle.rp_rules.specs.Plan as spec;
+
+    fn nothing() -> Prospect
+        ensures { result ≡ spec.nothing }
+    {
+        Prospect {
+            bare: false,
+            named: false,
+        }
+    }
+
+    fn anything() -> Prospect
+        ensures { result ≡ spec.anything }
+    {
+        Prospect {
+            bare: true,
+            named: true,
+        }
+    }
+
+    #[inline(always)]
+    fn or(self, other: Prospect) -> Prospect
+        ensures { result ≡ spec.either self other }
+    {
+        Prospect {
+            bare: self.bare || other.bare,
+            named: self.named || other.named,
+        }
+    }
+
+    fn is_hopeful(self) -> bool
+        ensures { result ≡ spec.is_hopeful self }
+    {
+        self.bare || self.named
+    }
+}
+
+/// What stands at a place, or else another.
+#[inline(always)]
+fn prospect_or(prospects: &[Prospect], place: usize, other: Prospect) -> Prospect
+    ensures { result ≡ slice_index_or prospects.now place other }
+{
+    match prospects.get(place) {
+        Some(prospect) => *prospect,
+        None => other,
+    }
+}
+
+/// What is there to hope for in the attributes of a schema.
+pub(crate) struct Plan {
+    /// By the entities that declare attributes, of all redeclarations of these.
+    again: Items<Prospect>,
+    /// By entities and the places of their explicit attributes; of an entity without hope there are none.
+    own: Items<Items<Prospect>>,
+}
+
+impl Drop for Plan {
+    fn drop(self) {
+        let Plan { again, own } = self;
+        drop(again);
+        drop(own);
+    }
+}
+
+impl Plan {
+    ghost use Rattle.std.specs.Prelude.{◌≡◌};
+    ghost use Rattle.rp_rules.specs.Plan as spec;
+
+    #[inline(always)]
+    fn again(&self, entity: usize) -> Prospect
+        ensures { result ≡ spec.at_entity self.now.again entity }
+    {
+        prospect_or(self.again.as_slice(), entity, Prospect::anything())
+    }
+
+    #[inline(always)]
+    fn own(&self, attribute: AttributePlace) -> Prospect
+        ensures { result ≡ spec.own_at self.now.own attribute }
+    {
+        match self.own.get(attribute.entity) {
+            Some(row) => prospect_or(row.as_slice(), attribute.place, Prospect::nothing()),
+            None => Prospect::nothing(),
+        }
+    }
+
+    /// Whether the rules may be tried on something in a value of an attribute.
+    #[inline(always)]
+    pub(crate) fn may_have(&self, attribute: AttributePlace, written: &Value) -> bool
+        ensures { result ≡ spec.may_have self.now attribute written.now }
+    {
+        let prospect = self.own(attribute).or(self.again(attribute.entity));
+        prospect.bare || (prospect.named && carried(written).is_some())
+    }
+}
+
+/// Puts what is there to hope for beside what there is by others of an entity.
+fn put(found: &mut Vec<Prospect>, entity: usize, prospect: Prospect)
+    ensures { found.new.items ≡ spec.put found.old.items entity prospect }
+{
+    if entity < found.len() {
+        found[entity] = found[entity].or(prospect);
+    }
+}
+
+/// What makes the plan for the rules of a defined type.
+#[derive(Drop)]
+pub(crate) struct Planning<'a> {
+    pub(crate) alloc: Global,
+    pub(crate) schema: &'a Schema,
+    pub(crate) number: usize,
+}
+
+/// It is looked into as many aggregates in one another.
+const DEPTH: usize = 8;
+
+impl<'a> Planning<'a> {
+    ghost use Rattle.std.specs.Prelude.{◌≡◌, [], length, map, replicate, IfOk};
+    ghost use Rattle.std.specs.List.{list_any};
+    ghost use Rattle.rp_meaning.specs.TypeRules.{named};
+    ghost use Rattle.rp_meaning.specs.Types.{end};
+    ghost use Rattle.rp_rules.specs.Plan as spec;
+
+    /// Whether a defined type is the one with the rules, or renames it.
+    fn is_under(&self, from: usize) -> bool
+        ensures { result ≡ spec.is_under self.now.schema.now.types self.now.number from }
+    {
+        from == self.number
+            || match self.schema.types.get(from) {
+                Some(defined_type) => is_one_of(defined_type.beneath.as_slice(), self.number),
+                None => false,
+            }
+    }
+
+    /// Whether they may be tried on a value, or on something in it, that is written as a choice of a SELECT.
+    fn may_choose(&self, choice: TypeName) -> bool
+        ensures { result ≡ spec.may_choose self.now.schema.now.types self.now.number choice }
+    {
+        match choice {
+            TypeName::Entity(_) => true,
+            TypeName::Defined(other) => {
+                self.is_under(other)
+                    || aggregate_type(end_of(self.schema.types.as_slice(), other)).is_some()
+            }
+        }
+    }
+
+    fn may_choose_one(&self, choices: &[TypeName]) -> bool
+        ensures { result ≡ list_any (spec.may_choose self.now.schema.now.types self.now.number) choices.now }
+    {
+        choices.iter().any(|choice| self.may_choose(*choice))
+    }
+
+    /// Whether they may be on one that carries a type, in a SELECT.
+    fn may_carry(&self, from: usize) -> bool
+        ensures { result ≡ spec.may_carry self.now.schema.now.types self.now.number from }
+    {
+        match self.schema.types.get(from) {
+            Some(defined_type) => self.may_choose_one(defined_type.choices.as_slice()),
+            None => false,
+        }
+    }
+
+    /// Whether the type is one of the SELECTs on the ways from a SELECT.
+    fn is_between(&self, from: usize) -> bool
+        ensures { result ≡ spec.is_between self.now.schema.now.types self.now.number from }
+    {
+        match self.schema.types.get(from) {
+            Some(defined_type) => is_one_of(defined_type.selects.as_slice(), self.number),
+            None => false,
+        }
+    }
+
+    /// Whether they may be on a value itself, which carries a type or none.
+    fn may_be(&self, data_type: &NamedDataType, is_named: bool) -> bool
+        ensures { result ≡ spec.may_be_by self.now.schema.now.types self.now.number (end self.now.schema.now.types data_type.now) (named data_type.now) is_named }
+    {
+        let end = behind_names(self.schema.types.as_slice(), data_type);
+        match (end, named(data_type)) {
+            (End::Select(_), Some(from)) => {
+                from == self.number || self.is_between(from) || (is_named && self.may_carry(from))
+            }
+            (_, Some(from)) => self.is_under(from),
+            (_, None) => false,
+        }
+    }
+
+    /// Whether they may be on something in a value.
+    fn may_stand(&self, data_type: &NamedDataType, is_named: bool) -> bool
+        ensures { result ≡ spec.may_stand self.now.schema.now.types self.now.number 8 is_named data_type.now }
+    {
+        let mut inner = data_type;
+        let mut carries = is_named;
+        for _depth in 0..DEPTH {
+            if self.may_be(inner, carries) {
+                return true;
+            }
+            let end = behind_names(self.schema.types.as_slice(), inner);
+            let Some(element) = element_of(end) else {
+                return false;
+            };
+            inner = element;
+            carries = true;
+        }
+        true
+    }
+
+    fn prospect(&self, data_type: &NamedDataType) -> Prospect
+        ensures { result ≡ spec.prospect self.now.schema.now.types self.now.number data_type.now }
+    {
+        Prospect {
+            bare: self.may_stand(data_type, false),
+            named: self.may_stand(data_type, true),
+        }
+    }
+
+    fn put_all(&self, redeclarations: &[Redeclaration], found: &mut Vec<Prospect>)
+        ensures { found.new.items ≡ spec.put_all self.now.schema.now.types self.now.number found.old.items redeclarations.now }
+    {
+        for redeclaration in redeclarations {
+            let prospect = self.prospect(&redeclaration.declaration.data_type);
+            put(found, redeclaration.attribute.entity, prospect);
+        }
+    }
+
+    /// By entities, what is there to hope for by what redeclares their attributes.
+    fn again(&self, entities: &[Entity]) -> Result<Vec<Prospect>, AllocError>
+        ensures { IfOk result (λ found. found.items ≡ spec.put_of self.now.schema.now.types self.now.number (replicate (length entities.now) spec.nothing) entities.now) }
+    {
+        let mut found = Vec::with_capacity(self.alloc, entities.len())?;
+        found.resize(entities.len(), Prospect::nothing())?;
+        for entity in entities {
+            self.put_all(entity.redeclarations.as_slice(), &mut found);
+        }
+        Ok(found)
+    }
+
+    fn by_declaration(&self, attribute: &ExplicitAttribute) -> Prospect
+        ensures { result ≡ spec.by_declaration self.now.schema.now.types self.now.number attribute.now }
+    {
+        self.prospect(&attribute.declaration.data_type)
+    }
+
+    fn has_one(&self, explicit: &[ExplicitAttribute]) -> bool
+        ensures { result ≡ list_any (λ x. spec.is_hopeful (spec.by_declaration self.now.schema.now.types self.now.number x)) explicit.now }
+    {
+        explicit
+            .iter()
+            .any(|attribute| self.by_declaration(attribute).is_hopeful())
+    }
+
+    /// What is there to hope for in the explicit attributes of an entity.
+    fn own(&self, explicit: &[ExplicitAttribute]) -> Result<Items<Prospect>, AllocError>
+        ensures { IfOk result (λ found. found ≡ spec.own self.now.schema.now.types self.now.number explicit.now) }
+    {
+        let mut found = Items::new(self.alloc);
+        if !self.has_one(explicit) {
+            return Ok(found);
+        }
+        for attribute in explicit {
+            found.push(self.by_declaration(attribute))?;
+        }
+        Ok(found)
+    }
+
+    fn all_own(&self, entities: &[Entity]) -> Result<Items<Items<Prospect>>, AllocError>
+        ensures { IfOk result (λ found. found ≡ map (λ e. spec.own self.now.schema.now.types self.now.number e.explicit) entities.now) }
+    {
+        let mut found = Items::new(self.alloc);
+        for entity in entities {
+            found.push(self.own(entity.explicit.as_slice())?)?;
+        }
+        Ok(found)
+    }
+
+    /// The plan for the rules.
+    pub(crate) fn plan(&self) -> Result<Plan, AllocError>
+        ensures { IfOk result (λ plan. spec.Tells self.now.schema.now self.now.number plan) }
+    {
+        let entities = self.schema.entities.as_slice();
+        Ok(Plan {
+            again: Items::from_vec(self.again(entities)?),
+            own: self.all_own(entities)?,
+        })
+    }
+}

@@ -1,0 +1,10 @@
+pub mod Lists
+pub mod Lines
+pub mod Referring
+pub mod Naming
+pub mod Slots
+pub mod Using
+pub mod Populations
+pub mod Roles
+pub mod NoRoles
+pub mod Agreeing
