@@ -50,10 +50,20 @@ enum Turning {
     Over(Ending),
 }
 
-/// The operator and its right operand, where an expression has the variable of a slot on the left and no more than these behind it.
-fn growth(value: &Expression, slot: usize) -> Option<&Operation>
+/// The operator and its right operand, where an expression has the variable of a slot on the left, which is an aggregate, and no
+/// more than these behind it.
+fn growth<'e>(value: &'e Expression, slot: usize, frame: &Frame) -> Option<&'e Operation>
     ensures { IfSome result (λ operation. value.now ≡ e.Chain (e.Variable slot) (operation.now ∷ [])) }
 {
+    let Some(
+        Value::Agg {
+            kind: _,
+            elements: _,
+        },
+    ) = frame.variable_at(slot)
+    else {
+        return None;
+    };
     let Expression::Chain(first, operations) = value else {
         return None;
     };
@@ -168,7 +178,7 @@ impl<'a, D: Domain, B: Fn(Global, &Schema, &D, u8, &mut Counter, Body) -> Result
         ensures value { Runs (value_at self.now.schema.now (D.population self.now.domain.now) self.now.levels value.now frame.old counter.old) result counter.new }
         ensures frame { OnOk result ((x : _) → spec.assigned frame.new slot x ≡ spec.assigned frame.old slot x) }
     {
-        match growth(value, slot) {
+        match growth(value, slot, frame) {
             Some(operation) => self.grown(operation, slot, frame, counter),
             None => self.value(value, frame, counter),
         }
