@@ -14,6 +14,7 @@ hundredth.
 All replies are compared with what they must be. Those of the first table are reckoned from what the plain reading of rules in
 tests/lib tells of one part and of two: each part more adds as many steps.
 """
+import itertools
 import json
 import os
 import re
@@ -221,17 +222,21 @@ def hostile(share):
     grows with the square, the files are a hundredth and a fiftieth of what a put takes, so that their growth is seen."""
     most = INSTANCES // share
     wide = FILE_LIMIT // share // 8
-    few = max(INSTANCES // max(share, 100), 100)
-    small = FILE_LIMIT // max(share, 100) // 8
+    small = FILE_LIMIT // max(share, 100) // 24
     thousands = max(wide // 1000, 1)
     listed = of_elements(1000, str)
     rows = lambda k: f"E(({k},{k + 1},{k + 2}))"
-    yield "UNIQUE, lists of one count", entity("l : LIST OF INTEGER; UNIQUE " + ten("l")), [(rows, few), (rows, 2 * few)]
+    yield "UNIQUE, lists of one count", entity("l : LIST OF INTEGER; UNIQUE " + ten("l")), [(rows, most)]
     yield ("UNIQUE, texts alike but at their end", entity("t : STRING; UNIQUE " + ten("t")), [(lambda k: f"E('{'a' * 20}{k:06}')", most)])
-    for name, kind, of_width in (("a SET's bounds, whole numbers", "INTEGER", lambda width: of_elements(width, str)),
-                                 ("a SET's bounds, texts", "STRING", lambda width: of_elements(width, lambda i: f"'t{i:07}'")),
-                                 ("a SET's bounds, lists", "LIST OF INTEGER", lambda width: of_elements(width, lambda i: f"({i},1)"))):
-        yield name, entity(f"l : SET OF {kind};"), [(of_width(small // 2), 1), (of_width(small), 1)]
+    # (elements of so many bytes each)
+    for name, kind, size, element in (("a SET's bounds, whole numbers", "INTEGER", 8, lambda i: f"{i:07}"),
+                                      ("a SET's bounds, texts", "STRING", 11, lambda i: f"'t{i:07}'"),
+                                      ("a SET's bounds, lists", "LIST OF INTEGER", 12, lambda i: f"({i:07},1)")):
+        yield name, entity(f"l : SET OF {kind};"), [(of_elements((FILE_LIMIT - 1000) // share // size, element), 1)]
+    orders = list(itertools.islice(itertools.permutations(range(10)), small))
+    for count in (small // 2, small):
+        elements = ",".join(f"({','.join(map(str, orders[k]))})" for k in range(count))
+        yield "a SET's bounds, orders of one list", entity("l : SET OF LIST OF INTEGER;"), [(lambda k, elements=elements: f"E(({elements}))", 1)]
     yield "IN, lists of 1,000", entity("l : LIST OF INTEGER; WHERE " + ten("NOT (0 IN l)")), [(listed, thousands)]
     yield "= of lists of 1,000", entity("l : LIST OF INTEGER; WHERE " + ten("l = l")), [(listed, thousands)]
     yield "= of bags of 1,000", entity("l : BAG OF INTEGER; WHERE " + ten("l = l")), [(listed, thousands)]
