@@ -9,5 +9,6 @@ pub mod Powers
 pub mod Sizes
 pub mod Sums
 pub mod Texts
+pub mod Kept
 pub mod Sets
 pub mod Replaced

@@ -1,15 +1,23 @@
 -- Names of types, one after the other.
-use Rattle.std.proofs.Common.{◌≡◌, ◌<◌, ℕ, ◌+◌, Bool, true, false, if◌then◌else◌, List, [], ◌∷◌, ◌++◌, map, filter, drop, get_or, length, Option, None, refl, sym, ◌∙◌, ap, append_assoc, add-one, drop-cons}
+use Rattle.std.proofs.Common.{◌≡◌, ◌<◌, ℕ, ◌+◌, Bool, true, false, if◌then◌else◌, List, [], ◌∷◌, ◌++◌, map, filter, drop, get_or, length, Option, None, Some, refl, sym, ◌∙◌, ap, append_assoc, add-one, drop-cons, slice_get}
 use Rattle.std.proofs.lemmas.List.{map-append, append-nil}
-use Rattle.std.proofs.lemmas.List.Elements.{filter_map-append, filter-append}
-use Rattle.std.specs.List.{filter_map}
+use Rattle.std.proofs.lemmas.List.Elements.{filter_map-append}
+use Rattle.std.proofs.lemmas.Option.{slice_get-map}
+use Rattle.std.specs.List.{filter_map, cons_option}
+use Rattle.std.specs.Option.{option_map}
 use Rattle.plain_data.specs.Numbers.{is_among}
+use Rattle.rp_meaning.specs.Attributes.{aggregate}
+use Rattle.rp_meaning.specs.Bare.{carried, carried_by}
+use Rattle.rp_meaning.specs.Populations.{Instance}
 use Rattle.rp_meaning.specs.TypeNames as names
 use Rattle.rp_meaning.specs.declared.schema.Schema.{Schema}
-use Rattle.rp_operators.specs.Naming.{texts, type_texts, entity_texts, unnamed, with_enumeration}
+use Rattle.rp_operators.proofs.Sights.{bare-Inst}
+use Rattle.rp_operators.specs.Naming.{entity_names, texts, texts_at, unnamed, defined_types, with_enumeration}
+use Rattle.rp_value.specs.declared.value.AggregateKind.TheVariants as k
 use Rattle.rp_value.specs.declared.value.Value.{Value}
 use Rattle.rp_value.specs.declared.value.Value.TheOpen.{Value-F}
 use Rattle.rp_value.specs.declared.value.Value.TheVariants as v
+use Rattle.rp_value.specs.declared.value.Value.TheViews.{out-roll-Value}
 
 next : (xs : List ℕ) (i : ℕ) → i < length xs → drop i xs ≡ get_or xs i 0 ∷ drop (i + 1) xs
 next xs i within = rw (add-one) (drop-cons xs i 0 within)
@@ -19,70 +27,86 @@ in_parts : (of : List ℕ → List Value) → ((xs ys : List ℕ) → of (xs ++ 
     → (found new : List Value) (xs ys : List ℕ) → new ≡ found ++ of xs → new ++ of ys ≡ found ++ of (xs ++ ys)
 in_parts of appends found new xs ys is = ap (λ zs. zs ++ of ys) is ∙ append_assoc found (of xs) (of ys) ∙ ap (λ zs. found ++ zs) (sym (appends xs ys))
 
--- where there is no name
-pub nothing_more : (name : ℕ → Option (List ℕ)) (number : ℕ) (found : List Value) → None ≡ name number → found ≡ found ++ map (λ text. v.Str text) (filter_map name (number ∷ []))
-nothing_more name number found is = rw (sym is) (sym (append-nil found))
-
 with_unless : (numbers : List ℕ) (enumeration : ℕ) (among : Bool) → (if among then numbers else numbers ++ enumeration ∷ []) ≡ numbers ++ (if among then [] else enumeration ∷ [])
 with_unless numbers enumeration true = sym (append-nil numbers)
 with_unless numbers enumeration false = refl
 
-module _ (schema : Schema) where
-  texts_append : (xs ys : List (List ℕ)) → texts schema (xs ++ ys) ≡ texts schema xs ++ texts schema ys
-  texts_append xs ys = map-append (λ text. v.Str text) xs ys
+with_unnamed : (schema : Schema) (numbers : List ℕ) (y : Value-F Value) → with_enumeration schema numbers y ≡ numbers ++ unnamed numbers y
+with_unnamed schema numbers (Value-F.Item enumeration place) = with_unless numbers enumeration (is_among numbers enumeration)
+with_unnamed schema numbers Value-F.Indet = sym (append-nil numbers)
+with_unnamed schema numbers (Value-F.Int n) = sym (append-nil numbers)
+with_unnamed schema numbers (Value-F.Dec d) = sym (append-nil numbers)
+with_unnamed schema numbers (Value-F.Str text) = sym (append-nil numbers)
+with_unnamed schema numbers (Value-F.Bin bits) = sym (append-nil numbers)
+with_unnamed schema numbers (Value-F.Log x) = sym (append-nil numbers)
+with_unnamed schema numbers (Value-F.Inst name) = sym (append-nil numbers)
+with_unnamed schema numbers (Value-F.Agg kind elements) = sym (append-nil numbers)
+with_unnamed schema numbers (Value-F.Named n x) = sym (append-nil numbers)
 
-  types_append : (xs ys : List ℕ) → type_texts schema (xs ++ ys) ≡ type_texts schema xs ++ type_texts schema ys
-  types_append xs ys = ap (texts schema) (filter_map-append (names.type_name schema []) xs ys) ∙ texts_append _ _
+module _ (all : List Value) where
+  -- where there is no name
+  pub nothing_more : (number : ℕ) (found : List Value) → None ≡ slice_get all number → found ≡ found ++ texts_at all (number ∷ [])
+  nothing_more number found is = rw (sym is) (sym (append-nil found))
 
-  entities_append : (entities xs ys : List ℕ) → entity_texts schema entities (xs ++ ys) ≡ entity_texts schema entities xs ++ entity_texts schema entities ys
-  entities_append entities xs ys =
-      ap (λ zs. texts schema (filter_map (names.entity_name schema []) zs)) (filter-append (is_among entities) xs ys)
-      ∙ ap (texts schema) (filter_map-append (names.entity_name schema []) (filter (is_among entities) xs) (filter (is_among entities) ys))
-      ∙ texts_append _ _
-
-  pub one_entity : (entities : List ℕ) (number : ℕ) (among : Bool) → is_among entities number ≡ among
-      → entity_texts schema entities (number ∷ []) ≡ (if among then texts schema (filter_map (names.entity_name schema []) (number ∷ [])) else [])
-  one_entity entities number true is = rw is refl
-  one_entity entities number false is = rw is refl
-
-  -- a type more
-  pub type_step : (numbers : List ℕ) (i : ℕ) (found new : List Value) → i < length numbers → new ≡ found ++ type_texts schema (get_or numbers i 0 ∷ [])
-      → new ++ type_texts schema (drop (i + 1) numbers) ≡ found ++ type_texts schema (drop i numbers)
-  type_step numbers i found new within is =
-      in_parts (type_texts schema) types_append found new (get_or numbers i 0 ∷ []) (drop (i + 1) numbers) is ∙ ap (λ rest. found ++ type_texts schema rest) (sym (next numbers i within))
-
-  -- an entity more, if it is among them
-  pub entity_step : (entities numbers : List ℕ) (i : ℕ) (found new : List Value) → i < length numbers → new ≡ found ++ entity_texts schema entities (get_or numbers i 0 ∷ [])
-      → new ++ entity_texts schema entities (drop (i + 1) numbers) ≡ found ++ entity_texts schema entities (drop i numbers)
-  entity_step entities numbers i found new within is =
-      in_parts (entity_texts schema entities) (entities_append entities) found new (get_or numbers i 0 ∷ []) (drop (i + 1) numbers) is
-      ∙ ap (λ rest. found ++ entity_texts schema entities rest) (sym (next numbers i within))
+  -- a number more
+  pub number_step : (numbers : List ℕ) (i : ℕ) (found new : List Value) → i < length numbers → new ≡ found ++ texts_at all (get_or numbers i 0 ∷ [])
+      → new ++ texts_at all (drop (i + 1) numbers) ≡ found ++ texts_at all (drop i numbers)
+  number_step numbers i found new within is =
+      in_parts (texts_at all) (filter_map-append (slice_get all)) found new (get_or numbers i 0 ∷ []) (drop (i + 1) numbers) is
+      ∙ ap (λ rest. found ++ texts_at all rest) (sym (next numbers i within))
 
   -- those beneath
-  pub named_step : (number : ℕ) (below all : List ℕ) (found new : List Value) → new ≡ found ++ type_texts schema (number ∷ []) → below ≡ all
-      → new ++ type_texts schema below ≡ found ++ type_texts schema (number ∷ all)
-  named_step number below all found new is whole =
-      in_parts (type_texts schema) types_append found new (number ∷ []) below is ∙ ap (λ rest. found ++ type_texts schema (number ∷ rest)) whole
-
-  with_unnamed : (numbers : List ℕ) (y : Value-F Value) → with_enumeration schema numbers y ≡ numbers ++ unnamed numbers y
-  with_unnamed numbers (Value-F.Item enumeration place) = with_unless numbers enumeration (is_among numbers enumeration)
-  with_unnamed numbers Value-F.Indet = sym (append-nil numbers)
-  with_unnamed numbers (Value-F.Int n) = sym (append-nil numbers)
-  with_unnamed numbers (Value-F.Dec d) = sym (append-nil numbers)
-  with_unnamed numbers (Value-F.Str text) = sym (append-nil numbers)
-  with_unnamed numbers (Value-F.Bin bits) = sym (append-nil numbers)
-  with_unnamed numbers (Value-F.Log x) = sym (append-nil numbers)
-  with_unnamed numbers (Value-F.Inst name) = sym (append-nil numbers)
-  with_unnamed numbers (Value-F.Agg kind elements) = sym (append-nil numbers)
-  with_unnamed numbers (Value-F.Named n x) = sym (append-nil numbers)
+  pub named_step : (number : ℕ) (below renamed : List ℕ) (found new : List Value) → new ≡ found ++ texts_at all (number ∷ []) → below ≡ renamed
+      → new ++ texts_at all below ≡ found ++ texts_at all (number ∷ renamed)
+  named_step number below renamed found new is whole =
+      in_parts (texts_at all) (filter_map-append (slice_get all)) found new (number ∷ []) below is ∙ ap (λ rest. found ++ texts_at all (number ∷ rest)) whole
 
   -- the type of an enumeration
-  pub unnamed_step : (numbers : List ℕ) (y : Value-F Value) (found new : List Value) → new ≡ found ++ type_texts schema numbers
-      → new ++ type_texts schema (unnamed numbers y) ≡ found ++ type_texts schema (with_enumeration schema numbers y)
-  unnamed_step numbers y found new is =
-      in_parts (type_texts schema) types_append found new numbers (unnamed numbers y) is ∙ ap (λ rest. found ++ type_texts schema rest) (sym (with_unnamed numbers y))
+  unnamed_step : (schema : Schema) (numbers : List ℕ) (y : Value-F Value) (found new : List Value) → new ≡ found ++ texts_at all numbers
+      → new ++ texts_at all (unnamed numbers y) ≡ found ++ texts_at all (with_enumeration schema numbers y)
+  unnamed_step schema numbers y found new is =
+      in_parts (texts_at all) (filter_map-append (slice_get all)) found new numbers (unnamed numbers y) is
+      ∙ ap (λ rest. found ++ texts_at all rest) (sym (with_unnamed schema numbers y))
 
-  -- all of them
-  pub all_names : (defined : List ℕ) (simple : List (List ℕ)) (found all : List Value) → found ≡ type_texts schema defined → all ≡ found ++ texts schema simple
-      → all ≡ texts schema (filter_map (names.type_name schema []) defined ++ simple)
-  all_names defined simple found all is more = more ∙ ap (λ xs. xs ++ texts schema simple) is ∙ sym (texts_append (filter_map (names.type_name schema []) defined) simple)
+module _ {A : Type 0} (name : A → List ℕ) (xs : List A) where
+  first_named : (x : Option A) (rest : List (List ℕ)) → cons_option (option_map (λ x. v.Str (name x)) x) (map (λ text. v.Str text) rest) ≡ map (λ text. v.Str text) (cons_option (option_map name x) rest)
+  first_named None rest = refl
+  first_named (Some x) rest = refl
+
+  -- the texts of names are those of what has them
+  pub texts_named : (numbers : List ℕ) → texts_at (map (λ x. v.Str (name x)) xs) numbers ≡ map (λ text. v.Str text) (filter_map (λ number. option_map name (slice_get xs number)) numbers)
+  texts_named [] = refl
+  texts_named (number ∷ numbers) =
+      (λ i. cons_option (slice_get-map (λ x. v.Str (name x)) xs number i) (texts_named numbers i))
+      ∙ first_named (slice_get xs number) (filter_map (λ number. option_map name (slice_get xs number)) numbers)
+
+-- all of them
+pub all_names : (schema : Schema) (numbers : List ℕ) (y : Value-F Value) (undefined : List (List ℕ)) (carried unnamed_too all : List Value)
+    → carried ≡ texts_at (map (λ x. v.Str x.name) schema.types) numbers
+    → unnamed_too ≡ carried ++ texts_at (map (λ x. v.Str x.name) schema.types) (unnamed numbers y)
+    → all ≡ unnamed_too ++ texts schema undefined
+    → all ≡ texts schema (filter_map (names.type_name schema []) (with_enumeration schema numbers y) ++ undefined)
+all_names schema numbers y undefined carried unnamed_too all first more last =
+    last
+    ∙ ap (λ zs. zs ++ texts schema undefined) (more ∙ unnamed_step (map (λ x. v.Str x.name) schema.types) schema numbers y [] carried first ∙ texts_named (λ x. x.name) schema.types (with_enumeration schema numbers y))
+    ∙ sym (map-append (λ text. v.Str text) (filter_map (names.type_name schema []) (with_enumeration schema numbers y)) undefined)
+
+module _ (schema : Schema) where
+  -- those of the entities of an instance
+  pub entity_texts : (all : List Value) (entities order : List ℕ) → all ≡ map (λ x. v.Str x.name) schema.entities → order ≡ schema.entity_order
+      → texts_at all (filter (is_among entities) order) ≡ texts schema (filter_map (names.entity_name schema []) (filter (is_among entities) schema.entity_order))
+  entity_texts all entities order named ordered = (λ i. texts_at (named i) (filter (is_among entities) (ordered i))) ∙ texts_named (λ x. x.name) schema.entities (filter (is_among entities) schema.entity_order)
+
+  pub of_entities : (all : List Value) (entities same order : List ℕ) (none found : List Value) → all ≡ map (λ x. v.Str x.name) schema.entities → order ≡ schema.entity_order → same ≡ entities → none ≡ []
+      → found ≡ none ++ texts_at all (filter (is_among entities) order) → aggregate k.Set found ≡ entity_names schema same
+  of_entities all entities same order none found named ordered are empty is =
+      ap (aggregate k.Set) (is ∙ ap (λ zs. zs ++ texts_at all (filter (is_among entities) order)) empty ∙ entity_texts all entities order named ordered)
+      ∙ ap (entity_names schema) (sym are)
+
+  -- an instance carries no defined type
+  pub of_instance : (population : List Instance) (x : Value) (place : ℕ) (i : Instance) → x ≡ v.Inst place → Some i ≡ slice_get population place
+      → entity_names schema i.entities ≡ aggregate k.Set (names.texts schema population (names.type_names schema population x))
+  of_instance population x place i is stands =
+      let none : None ≡ carried x = sym (ap carried (is ∙ sym (v.rolls-Inst place)) ∙ ap carried_by (out-roll-Value (Value-F.Inst place))) in
+      ap (λ o. aggregate k.Set (texts schema (names.entity_names schema population o))) stands
+      ∙ (λ j. aggregate k.Set (texts schema (filter_map (names.type_name schema []) (with_enumeration schema (defined_types schema (none j)) (bare-Inst x place is j)) ++ names.simple_names schema population (bare-Inst x place is j))))

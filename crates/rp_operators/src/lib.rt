@@ -16,6 +16,7 @@ mod qualifiers;
 mod references;
 mod relations;
 mod scalars;
+mod type_names;
 
 pub use attributes::{is_of, same_attribute};
 pub use bare::{aggregate_of, carried, integer_of, is_indeterminate, is_true, place_of, text_of};
@@ -27,7 +28,7 @@ pub use built_ins::{
 pub use costs::{cost, count, interval_cost, size};
 pub use declared::given;
 pub use ends::{AggregateType, End, aggregate_type, behind_names, end_of, fits};
-pub use naming::type_names;
 pub use operators::{applied, applied_in_place, applied_to, within};
 pub use qualifiers::{index, range};
 pub use references::{all_present, present};
+pub use type_names::TypeNames;

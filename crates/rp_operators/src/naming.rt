@@ -1,69 +1,171 @@
-//! TYPEOF: the names of the types of a value.
+//! The names of types and entities as texts, and those that TYPEOF tells of values.
 
-ghost use Rattle.std.specs.Prelude.{◌≡◌, [], ◌∷◌, ◌++◌, map, slice_get, Some, IfOk, OnOk};
-ghost use Rattle.std.specs.List.{filter_map};
-ghost use Rattle.std.specs.Option.{option_copied};
+ghost use Rattle.std.specs.Prelude.{◌≡◌, [], ◌∷◌, ◌++◌, filter, map, slice_get, Some, IfOk, OnOk};
 ghost use Rattle.plain_data.specs.Numbers.{is_among};
-ghost use Rattle.rp_meaning.specs.TypeNames as spec;
-ghost use Rattle.rp_operators.specs.Naming as names;
+ghost use Rattle.rp_meaning.specs.Attributes.{aggregate};
+ghost use Rattle.rp_meaning.specs.TypeNames as meaning;
+ghost use Rattle.rp_operators.specs.Naming as spec;
 ghost use Rattle.rp_operators.specs.Sights.{opened};
+ghost use Rattle.rp_value.specs.declared.value.AggregateKind.TheVariants as k;
 ghost use Rattle.rp_value.specs.declared.value.Value.TheVariants as v;
 
 use crate::bare::{Bare, beneath_names, carried};
 use plain_data::{Items, Text};
-use rp_meaning::{Domain, Schema};
+use rp_meaning::{DefinedType, Domain, Entity, Schema};
 use rp_value::{AggregateKind, Logical, Value};
 use std::alloc::{AllocError, Global};
 
-fn push_text(alloc: Global, found: &mut Items<Value>, name: &str) -> Result<(), AllocError>
-    ensures { OnOk result (found.new ≡ found.old ++ v.Str name.now ∷ []) }
-{
-    let text = Text::from_str(alloc, name)?;
-    found.push(Value::text(alloc, text)?)?;
-    Ok(())
+// ---- texts that all share
+
+/// The names of the simple types of which TYPEOF tells.
+#[derive(Drop)]
+pub(crate) struct SimpleNames {
+    integer: Value,
+    real: Value,
+    string: Value,
+    binary: Value,
+    boolean: Value,
+    logical: Value,
 }
 
-fn type_name(schema: &Schema, number: usize) -> Option<&str>
-    ensures { option_copied result ≡ spec.type_name schema.now [] number }
-{
-    match schema.types.as_slice().get(number) {
-        Some(defined_type) => Some(defined_type.name.as_str()),
-        None => None,
+/// The names of the aggregation types.
+#[derive(Drop)]
+pub(crate) struct AggregateNames {
+    array: Value,
+    bag: Value,
+    set: Value,
+    list: Value,
+}
+
+/// The names of the types and the entities of a schema, by their numbers, and of the types that are in all.
+pub(crate) struct Names {
+    types: Items<Value>,
+    pub(crate) entities: Items<Value>,
+    simple: SimpleNames,
+    aggregates: AggregateNames,
+}
+
+impl Drop for Names {
+    fn drop(self) {
+        let Names {
+            types,
+            entities,
+            simple,
+            aggregates,
+        } = self;
+        drop(types);
+        drop(entities);
+        drop(simple);
+        drop(aggregates);
     }
 }
 
-/// Adds the name of a defined type, if there is one of this number.
-fn push_type(
-    alloc: Global,
+fn text(alloc: Global, name: &str) -> Result<Value, AllocError>
+    ensures { IfOk result (λ x. x ≡ v.Str name.now) }
+{
+    let text = Text::from_str(alloc, name)?;
+    Value::text(alloc, text)
+}
+
+fn simple_names(alloc: Global) -> Result<SimpleNames, AllocError>
+    ensures { IfOk result (λ names. names ≡ spec.simple_names) }
+{
+    Ok(SimpleNames {
+        integer: text(alloc, "INTEGER")?,
+        real: text(alloc, "REAL")?,
+        string: text(alloc, "STRING")?,
+        binary: text(alloc, "BINARY")?,
+        boolean: text(alloc, "BOOLEAN")?,
+        logical: text(alloc, "LOGICAL")?,
+    })
+}
+
+fn aggregate_names(alloc: Global) -> Result<AggregateNames, AllocError>
+    ensures { IfOk result (λ names. names ≡ spec.aggregate_names) }
+{
+    Ok(AggregateNames {
+        array: text(alloc, "ARRAY")?,
+        bag: text(alloc, "BAG")?,
+        set: text(alloc, "SET")?,
+        list: text(alloc, "LIST")?,
+    })
+}
+
+fn names_of_types(alloc: Global, types: &[DefinedType]) -> Result<Items<Value>, AllocError>
+    ensures { IfOk result (λ texts. texts ≡ map (λ x. v.Str x.name) types.now) }
+{
+    let mut texts = Items::new(alloc);
+    for defined_type in types {
+        texts.push(text(alloc, defined_type.name.as_str())?)?;
+    }
+    Ok(texts)
+}
+
+fn names_of_entities(alloc: Global, entities: &[Entity]) -> Result<Items<Value>, AllocError>
+    ensures { IfOk result (λ texts. texts ≡ map (λ x. v.Str x.name) entities.now) }
+{
+    let mut texts = Items::new(alloc);
+    for entity in entities {
+        texts.push(text(alloc, entity.name.as_str())?)?;
+    }
+    Ok(texts)
+}
+
+/// The names of types and entities of a schema.
+pub(crate) fn names_of(alloc: Global, schema: &Schema) -> Result<Names, AllocError>
+    ensures { IfOk result (λ names. names ≡ spec.names_of schema.now) }
+{
+    let types = names_of_types(alloc, schema.types.as_slice())?;
+    let entities = names_of_entities(alloc, schema.entities.as_slice())?;
+    let aggregates = aggregate_names(alloc)?;
+    Ok(Names {
+        types,
+        entities,
+        simple: simple_names(alloc)?,
+        aggregates,
+    })
+}
+
+// ---- those of a value
+
+/// Adds one of the texts.
+fn push_text(found: &mut Items<Value>, text: &Value) -> Result<(), AllocError>
+    ensures { OnOk result (found.new ≡ found.old ++ text.now ∷ []) }
+{
+    found.push(text.copy()?)?;
+    Ok(())
+}
+
+/// Adds the text of this number, if there is one.
+fn push_number(
     found: &mut Items<Value>,
-    schema: &Schema,
+    texts: &Items<Value>,
     number: usize,
 ) -> Result<(), AllocError>
-    ensures { OnOk result (found.new ≡ found.old ++ names.type_texts schema.now (number ∷ [])) }
+    ensures { OnOk result (found.new ≡ found.old ++ spec.texts_at texts.now (number ∷ [])) }
 {
-    match type_name(schema, number) {
-        Some(name) => push_text(alloc, found, name),
+    match texts.get(number) {
+        Some(text) => push_text(found, text),
         None => Ok(()),
     }
 }
 
-fn push_types(
-    alloc: Global,
+fn push_numbers(
     found: &mut Items<Value>,
-    schema: &Schema,
+    texts: &Items<Value>,
     numbers: &[usize],
 ) -> Result<(), AllocError>
-    ensures { OnOk result (found.new ≡ found.old ++ names.type_texts schema.now numbers.now) }
+    ensures { OnOk result (found.new ≡ found.old ++ spec.texts_at texts.now numbers.now) }
 {
     for number in numbers {
-        push_type(alloc, found, schema, *number)?;
+        push_number(found, texts, *number)?;
     }
     Ok(())
 }
 
 /// The defined types that a defined type renames.
 fn beneath(schema: &Schema, number: usize) -> &[usize]
-    ensures { result.now ≡ names.beneath schema.now number }
+    ensures { result.now ≡ spec.beneath schema.now number }
 {
     match schema.types.as_slice().get(number) {
         Some(defined_type) => defined_type.beneath.as_slice(),
@@ -71,31 +173,21 @@ fn beneath(schema: &Schema, number: usize) -> &[usize]
     }
 }
 
-/// Adds a defined type and those beneath it.
-fn push_named(
-    alloc: Global,
-    found: &mut Items<Value>,
-    schema: &Schema,
-    number: usize,
-) -> Result<(), AllocError>
-    ensures { OnOk result (found.new ≡ found.old ++ names.type_texts schema.now (names.defined_types schema.now (Some number))) }
-{
-    push_type(alloc, found, schema, number)?;
-    push_types(alloc, found, schema, beneath(schema, number))
-}
-
 /// Adds the defined type that a value carries, and those beneath it.
 fn push_carried(
-    alloc: Global,
     found: &mut Items<Value>,
+    texts: &Items<Value>,
     schema: &Schema,
     carried: Option<usize>,
 ) -> Result<(), AllocError>
-    ensures { OnOk result (found.new ≡ found.old ++ names.type_texts schema.now (names.defined_types schema.now carried)) }
+    ensures { OnOk result (found.new ≡ found.old ++ spec.texts_at texts.now (spec.defined_types schema.now carried)) }
 {
     match carried {
         None => Ok(()),
-        Some(number) => push_named(alloc, found, schema, number),
+        Some(number) => {
+            push_number(found, texts, number)?;
+            push_numbers(found, texts, beneath(schema, number))
+        }
     }
 }
 
@@ -105,201 +197,133 @@ fn is_one_of(numbers: &[usize], number: usize) -> bool
     numbers.iter().any(|other| *other == number)
 }
 
-/// Whether a defined type is this one, or renames it.
-fn is_renaming(schema: &Schema, own: usize, number: usize) -> bool
-    ensures { result ≡ is_among (names.defined_types schema.now (Some own)) number }
-{
-    own == number || is_one_of(beneath(schema, own), number)
-}
-
 /// Whether a value that carries a defined type is of this one.
 fn is_named(schema: &Schema, carried: Option<usize>, number: usize) -> bool
-    ensures { result ≡ is_among (names.defined_types schema.now carried) number }
+    ensures { result ≡ is_among (spec.defined_types schema.now carried) number }
 {
     match carried {
         None => false,
-        Some(own) => is_renaming(schema, own, number),
+        Some(own) => own == number || is_one_of(beneath(schema, own), number),
     }
 }
 
 /// Adds the type of an enumeration, where the value of it isn't of that already.
 fn push_enumeration(
-    alloc: Global,
     found: &mut Items<Value>,
+    texts: &Items<Value>,
     schema: &Schema,
     carried: Option<usize>,
     number: usize,
 ) -> Result<(), AllocError>
-    ensures { OnOk result (found.new ≡ found.old ++ names.type_texts schema.now (names.unless_named (names.defined_types schema.now carried) number)) }
+    ensures { OnOk result (found.new ≡ found.old ++ spec.texts_at texts.now (spec.unless_named (spec.defined_types schema.now carried) number)) }
 {
     if is_named(schema, carried, number) {
         Ok(())
     } else {
-        push_type(alloc, found, schema, number)
+        push_number(found, texts, number)
     }
 }
 
 /// Adds the type of the enumeration that a value is of, where it isn't of that already.
 fn push_unnamed(
-    alloc: Global,
     found: &mut Items<Value>,
+    texts: &Items<Value>,
     schema: &Schema,
     carried: Option<usize>,
     x: Bare<'_>,
 ) -> Result<(), AllocError>
-    ensures { OnOk result (found.new ≡ found.old ++ names.type_texts schema.now (names.unnamed (names.defined_types schema.now carried) (opened x.entry))) }
+    ensures { OnOk result (found.new ≡ found.old ++ spec.texts_at texts.now (spec.unnamed (spec.defined_types schema.now carried) (opened x.entry))) }
 {
     match x {
-        Bare::Item(enumeration, _) => push_enumeration(alloc, found, schema, carried, enumeration),
+        Bare::Item(enumeration, _) => push_enumeration(found, texts, schema, carried, enumeration),
         _ => Ok(()),
     }
 }
 
-/// Adds the defined types of a value: those that it carries, and the type of its enumeration where it isn't among them.
-fn push_defined(
-    alloc: Global,
+/// Adds the texts of these entities, in an order of all.
+pub(crate) fn push_entities(
     found: &mut Items<Value>,
-    schema: &Schema,
-    carried: Option<usize>,
-    x: Bare<'_>,
-) -> Result<(), AllocError>
-    ensures { OnOk result (found.new ≡ found.old ++ names.type_texts schema.now (names.with_enumeration schema.now (names.defined_types schema.now carried) (opened x.entry))) }
-{
-    push_carried(alloc, found, schema, carried)?;
-    push_unnamed(alloc, found, schema, carried, x)
-}
-
-fn entity_name(schema: &Schema, number: usize) -> Option<&str>
-    ensures { option_copied result ≡ spec.entity_name schema.now [] number }
-{
-    match schema.entities.as_slice().get(number) {
-        Some(entity) => Some(entity.name.as_str()),
-        None => None,
-    }
-}
-
-/// Adds the name of an entity, if there is one of this number.
-fn push_entity_name(
-    alloc: Global,
-    found: &mut Items<Value>,
-    schema: &Schema,
-    number: usize,
-) -> Result<(), AllocError>
-    ensures { OnOk result (found.new ≡ found.old ++ names.texts schema.now (filter_map (spec.entity_name schema.now []) (number ∷ []))) }
-{
-    match entity_name(schema, number) {
-        Some(name) => push_text(alloc, found, name),
-        None => Ok(()),
-    }
-}
-
-/// Adds the name of an entity, if it is one of these.
-fn push_entity(
-    alloc: Global,
-    found: &mut Items<Value>,
-    schema: &Schema,
-    entities: &[usize],
-    number: usize,
-) -> Result<(), AllocError>
-    ensures { OnOk result (found.new ≡ found.old ++ names.entity_texts schema.now entities.now (number ∷ [])) }
-{
-    if is_one_of(entities, number) {
-        push_entity_name(alloc, found, schema, number)
-    } else {
-        Ok(())
-    }
-}
-
-/// Adds those of these entities in an order of all.
-fn push_entities(
-    alloc: Global,
-    found: &mut Items<Value>,
-    schema: &Schema,
+    texts: &Items<Value>,
     entities: &[usize],
     order: &[usize],
 ) -> Result<(), AllocError>
-    ensures { OnOk result (found.new ≡ found.old ++ names.entity_texts schema.now entities.now order.now) }
+    ensures { OnOk result (found.new ≡ found.old ++ spec.texts_at texts.now (filter (is_among entities.now) order.now)) }
 {
     for number in order {
-        push_entity(alloc, found, schema, entities, *number)?;
+        if is_one_of(entities, *number) {
+            push_number(found, texts, *number)?;
+        }
     }
     Ok(())
 }
 
-fn aggregate_name(kind: AggregateKind) -> &'static str
-    ensures { result.now ≡ spec.aggregate_name kind }
-{
-    match kind {
-        AggregateKind::Array => "ARRAY",
-        AggregateKind::Bag => "BAG",
-        AggregateKind::Set => "SET",
-        AggregateKind::List | AggregateKind::Initializer => "LIST",
-    }
-}
-
-fn push_logical(alloc: Global, found: &mut Items<Value>, logical: Logical) -> Result<(), AllocError>
-    ensures { OnOk result (found.new ≡ found.old ++ map (λ text. v.Str text) (spec.logical_names logical)) }
-{
-    match logical {
-        Logical::Unknown => {}
-        Logical::False | Logical::True => push_text(alloc, found, "BOOLEAN")?,
-    }
-    push_text(alloc, found, "LOGICAL")
-}
-
 /// Adds the types of the instance at a place.
 fn push_instance<D: Domain>(
-    alloc: Global,
     found: &mut Items<Value>,
+    names: &Names,
     schema: &Schema,
     domain: &D,
     place: u64,
 ) -> Result<(), AllocError>
-    ensures { OnOk result (found.new ≡ found.old ++ names.texts schema.now (spec.entity_names schema.now (D.population domain.now) (slice_get (D.population domain.now) place))) }
+    requires { names.now ≡ spec.names_of schema.now }
+    ensures { OnOk result (found.new ≡ found.old ++ spec.texts schema.now (meaning.entity_names schema.now (D.population domain.now) (slice_get (D.population domain.now) place))) }
 {
     match domain.instance(place as usize) {
         Some(instance) => {
             let order = schema.entity_order.as_slice();
-            push_entities(alloc, found, schema, instance.entities, order)
+            push_entities(found, &names.entities, instance.entities, order)
         }
         None => Ok(()),
     }
 }
 
 /// Adds the names of the types of a value that aren't defined.
-fn push_simple<D: Domain>(
-    alloc: Global,
+fn push_undefined<D: Domain>(
     found: &mut Items<Value>,
+    names: &Names,
     schema: &Schema,
     domain: &D,
     x: Bare<'_>,
 ) -> Result<(), AllocError>
-    ensures { OnOk result (found.new ≡ found.old ++ names.texts schema.now (spec.simple_names schema.now (D.population domain.now) (opened x.entry))) }
+    requires { names.now ≡ spec.names_of schema.now }
+    ensures { OnOk result (found.new ≡ found.old ++ spec.texts schema.now (meaning.simple_names schema.now (D.population domain.now) (opened x.entry))) }
 {
+    let (simple, aggregates) = (&names.simple, &names.aggregates);
     match x {
-        Bare::Integer(_) => push_text(alloc, found, "INTEGER"),
-        Bare::Real(_) => push_text(alloc, found, "REAL"),
-        Bare::Text(_) => push_text(alloc, found, "STRING"),
-        Bare::Bits(_) => push_text(alloc, found, "BINARY"),
-        Bare::Truth(logical) => push_logical(alloc, found, logical),
-        Bare::Instance(place) => push_instance(alloc, found, schema, domain, place),
-        Bare::Aggregate(kind, _) => push_text(alloc, found, aggregate_name(kind)),
         Bare::Indeterminate | Bare::Item(_, _) => Ok(()),
+        Bare::Integer(_) => push_text(found, &simple.integer),
+        Bare::Real(_) => push_text(found, &simple.real),
+        Bare::Text(_) => push_text(found, &simple.string),
+        Bare::Bits(_) => push_text(found, &simple.binary),
+        Bare::Truth(Logical::Unknown) => push_text(found, &simple.logical),
+        Bare::Truth(_) => {
+            push_text(found, &simple.boolean)?;
+            push_text(found, &simple.logical)
+        }
+        Bare::Instance(place) => push_instance(found, names, schema, domain, place),
+        Bare::Aggregate(AggregateKind::Array, _) => push_text(found, &aggregates.array),
+        Bare::Aggregate(AggregateKind::Bag, _) => push_text(found, &aggregates.bag),
+        Bare::Aggregate(AggregateKind::Set, _) => push_text(found, &aggregates.set),
+        Bare::Aggregate(_, _) => push_text(found, &aggregates.list),
     }
 }
 
-/// The names of the types of a value, as texts.
-pub fn type_names<D: Domain>(
+/// The names of the types of a value.
+pub(crate) fn value_names<D: Domain>(
     alloc: Global,
+    names: &Names,
     schema: &Schema,
     domain: &D,
     value: &Value,
-) -> Result<Items<Value>, AllocError>
-    ensures { IfOk result (λ found. found ≡ spec.texts schema.now (D.population domain.now) (spec.type_names schema.now (D.population domain.now) value.now)) }
+) -> Result<Value, AllocError>
+    requires { names.now ≡ spec.names_of schema.now }
+    ensures { IfOk result (λ x. x ≡ aggregate k.Set (meaning.texts schema.now (D.population domain.now) (meaning.type_names schema.now (D.population domain.now) value.now))) }
 {
-    let x = beneath_names(value);
+    let (carried, x) = (carried(value), beneath_names(value));
+    let texts = &names.types;
     let mut found = Items::new(alloc);
-    push_defined(alloc, &mut found, schema, carried(value), x)?;
-    push_simple(alloc, &mut found, schema, domain, x)?;
-    Ok(found)
+    push_carried(&mut found, texts, schema, carried)?;
+    push_unnamed(&mut found, texts, schema, carried, x)?;
+    push_undefined(&mut found, names, schema, domain, x)?;
+    Value::aggregate(alloc, AggregateKind::Set, 1, found)
 }
