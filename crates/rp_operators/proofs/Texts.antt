@@ -1,5 +1,5 @@
 -- Names of types, one after the other.
-use Rattle.std.proofs.Common.{◌≡◌, ◌<◌, ℕ, ◌+◌, Bool, true, false, if◌then◌else◌, List, [], ◌∷◌, ◌++◌, map, filter, drop, get_or, length, Option, None, Some, refl, sym, ◌∙◌, ap, append_assoc, add-one, drop-cons, slice_get}
+use Rattle.std.proofs.Common.{◌≡◌, ℕ, Bool, true, false, if◌then◌else◌, List, [], ◌∷◌, ◌++◌, map, filter, Option, None, Some, refl, sym, ◌∙◌, ap, slice_get}
 use Rattle.std.proofs.lemmas.List.{map-append, append-nil}
 use Rattle.std.proofs.lemmas.List.Elements.{filter_map-append}
 use Rattle.std.proofs.lemmas.Option.{slice_get-map}
@@ -19,14 +19,6 @@ use Rattle.rp_value.specs.declared.value.Value.TheOpen.{Value-F}
 use Rattle.rp_value.specs.declared.value.Value.TheVariants as v
 use Rattle.rp_value.specs.declared.value.Value.TheViews.{out-roll-Value}
 
-next : (xs : List ℕ) (i : ℕ) → i < length xs → drop i xs ≡ get_or xs i 0 ∷ drop (i + 1) xs
-next xs i within = rw (add-one) (drop-cons xs i 0 within)
-
--- what is put behind others, part by part
-in_parts : (of : List ℕ → List Value) → ((xs ys : List ℕ) → of (xs ++ ys) ≡ of xs ++ of ys)
-    → (found new : List Value) (xs ys : List ℕ) → new ≡ found ++ of xs → new ++ of ys ≡ found ++ of (xs ++ ys)
-in_parts of appends found new xs ys is = ap (λ zs. zs ++ of ys) is ∙ append_assoc found (of xs) (of ys) ∙ ap (λ zs. found ++ zs) (sym (appends xs ys))
-
 with_unless : (numbers : List ℕ) (enumeration : ℕ) (among : Bool) → (if among then numbers else numbers ++ enumeration ∷ []) ≡ numbers ++ (if among then [] else enumeration ∷ [])
 with_unless numbers enumeration true = sym (append-nil numbers)
 with_unless numbers enumeration false = refl
@@ -43,30 +35,9 @@ with_unnamed schema numbers (Value-F.Inst name) = sym (append-nil numbers)
 with_unnamed schema numbers (Value-F.Agg kind elements) = sym (append-nil numbers)
 with_unnamed schema numbers (Value-F.Named n x) = sym (append-nil numbers)
 
-module _ (all : List Value) where
-  -- where there is no name
-  pub nothing_more : (number : ℕ) (found : List Value) → None ≡ slice_get all number → found ≡ found ++ texts_at all (number ∷ [])
-  nothing_more number found is = rw (sym is) (sym (append-nil found))
-
-  -- a number more
-  pub number_step : (numbers : List ℕ) (i : ℕ) (found new : List Value) → i < length numbers → new ≡ found ++ texts_at all (get_or numbers i 0 ∷ [])
-      → new ++ texts_at all (drop (i + 1) numbers) ≡ found ++ texts_at all (drop i numbers)
-  number_step numbers i found new within is =
-      in_parts (texts_at all) (filter_map-append (slice_get all)) found new (get_or numbers i 0 ∷ []) (drop (i + 1) numbers) is
-      ∙ ap (λ rest. found ++ texts_at all rest) (sym (next numbers i within))
-
-  -- those beneath
-  pub named_step : (number : ℕ) (below renamed : List ℕ) (found new : List Value) → new ≡ found ++ texts_at all (number ∷ []) → below ≡ renamed
-      → new ++ texts_at all below ≡ found ++ texts_at all (number ∷ renamed)
-  named_step number below renamed found new is whole =
-      in_parts (texts_at all) (filter_map-append (slice_get all)) found new (number ∷ []) below is ∙ ap (λ rest. found ++ texts_at all (number ∷ rest)) whole
-
-  -- the type of an enumeration
-  unnamed_step : (schema : Schema) (numbers : List ℕ) (y : Value-F Value) (found new : List Value) → new ≡ found ++ texts_at all numbers
-      → new ++ texts_at all (unnamed numbers y) ≡ found ++ texts_at all (with_enumeration schema numbers y)
-  unnamed_step schema numbers y found new is =
-      in_parts (texts_at all) (filter_map-append (slice_get all)) found new numbers (unnamed numbers y) is
-      ∙ ap (λ rest. found ++ texts_at all rest) (sym (with_unnamed schema numbers y))
+-- where there is no name
+pub nothing_more : (all : List Value) (number : ℕ) (found : List Value) → None ≡ slice_get all number → found ≡ found ++ texts_at all (number ∷ [])
+nothing_more all number found is = rw (sym is) (sym (append-nil found))
 
 module _ {A : Type 0} (name : A → List ℕ) (xs : List A) where
   first_named : (x : Option A) (rest : List (List ℕ)) → cons_option (option_map (λ x. v.Str (name x)) x) (map (λ text. v.Str text) rest) ≡ map (λ text. v.Str text) (cons_option (option_map name x) rest)
@@ -87,8 +58,14 @@ pub all_names : (schema : Schema) (numbers : List ℕ) (y : Value-F Value) (unde
     → all ≡ unnamed_too ++ texts schema undefined
     → all ≡ texts schema (filter_map (names.type_name schema []) (with_enumeration schema numbers y) ++ undefined)
 all_names schema numbers y undefined carried unnamed_too all first more last =
+    let of_types : List Value = map (λ x. v.Str x.name) schema.types in
     last
-    ∙ ap (λ zs. zs ++ texts schema undefined) (more ∙ unnamed_step (map (λ x. v.Str x.name) schema.types) schema numbers y [] carried first ∙ texts_named (λ x. x.name) schema.types (with_enumeration schema numbers y))
+    ∙ ap (λ zs. zs ++ texts schema undefined)
+    (more
+    ∙ ap (λ zs. zs ++ texts_at of_types (unnamed numbers y)) first
+    ∙ sym (filter_map-append (slice_get of_types) numbers (unnamed numbers y))
+    ∙ ap (texts_at of_types) (sym (with_unnamed schema numbers y))
+    ∙ texts_named (λ x. x.name) schema.types (with_enumeration schema numbers y))
     ∙ sym (map-append (λ text. v.Str text) (filter_map (names.type_name schema []) (with_enumeration schema numbers y)) undefined)
 
 module _ (schema : Schema) where
