@@ -14,7 +14,7 @@ use Rattle.rp_meaning.specs.Types as types
 use Rattle.rp_meaning.specs.Types.{End, Select, is_of_end, is_of_choice, is_of_written, is_of_simple, is_instance, end_of, fits, given, part, part_under}
 use Rattle.rp_meaning.specs.declared.schema.DefinedType.{DefinedType}
 use Rattle.rp_operators.specs.Ends.{inside, under, element_under, elements_under, an_aggregate, takes}
-use Rattle.rp_operators.proofs.Sights.{bare-Agg, bare-Named}
+use Rattle.rp_operators.proofs.Sights.{bare-Agg, bare-Inst, bare-Named}
 use Rattle.rp_operators.proofs.Parts.{inside-rolls, inside-Agg, inside-Named, under-part}
 use Rattle.rp_value.specs.Elements.{Elements}
 use Rattle.rp_value.specs.declared.value.AggregateKind.{AggregateKind}
@@ -94,27 +94,37 @@ module _ (defined : List DefinedType) where
   -- ---- what is of a type without a name is given as it is
 
   module _ (x : Value) (y : Value-F Value) (is : y ≡ out-Value (bare x)) (some : is_indeterminate_in y ≡ false) where
-    kept : (data_type : NamedDataType) → fits defined data_type x ≡ true → under defined data_type x ≡ inside defined None x → given defined data_type x ≡ x
+    kept : (data_type : NamedDataType) → fits defined data_type x ≡ true → under defined data_type x ≡ x → given defined data_type x ≡ x
     unfolding given
     kept data_type fit within =
         (λ i. if (ap is_indeterminate_in (sym is) ∙ some) i || not (fit i) then v.Indet else part_under defined data_type (part defined x))
-        ∙ sym (under-part defined data_type x) ∙ within ∙ nothing x
+        ∙ sym (under-part defined data_type x) ∙ within
 
     pub kept-Simple : (data_type : NamedDataType) (simple : SimpleType) → data_type ≡ d.Simple simple → is_of_simple simple y ≡ true → given defined data_type x ≡ x
     unfolding fits out-NamedDataType denote.Hole.Carrier.out
-    kept-Simple data_type simple at holds = subst (λ z. given defined z x ≡ x) (sym at) (kept (d.Simple simple) (ap (is_of_simple simple) (sym is) ∙ holds) (under-Simple simple x))
+    kept-Simple data_type simple at holds = subst (λ z. given defined z x ≡ x) (sym at) (kept (d.Simple simple) (ap (is_of_simple simple) (sym is) ∙ holds) (under-Simple simple x ∙ nothing x))
 
     kept-Entity : (data_type : NamedDataType) (entity : ℕ) → data_type ≡ d.Named (t.Entity entity) → is_instance y ≡ true → given defined data_type x ≡ x
     unfolding fits out-NamedDataType denote.Hole.Carrier.out
-    kept-Entity data_type entity at holds = subst (λ z. given defined z x ≡ x) (sym at) (kept (d.Named (t.Entity entity)) (ap is_instance (sym is) ∙ holds) (under-Entity entity x))
+    kept-Entity data_type entity at holds = subst (λ z. given defined z x ≡ x) (sym at) (kept (d.Named (t.Entity entity)) (ap is_instance (sym is) ∙ holds) (under-Entity entity x ∙ nothing x))
+
+    pub kept-Generic : given defined d.Generic x ≡ x
+    unfolding fits out-NamedDataType denote.Hole.Carrier.out
+    kept-Generic = kept d.Generic refl (under-Generic x ∙ nothing x)
 
     kept_by : (data_type : NamedDataType) (t : NamedDataType-F NamedDataType) → roll-NamedDataType t ≡ data_type → takes t y ≡ true → given defined data_type x ≡ x
     kept_by data_type (NamedDataType-F.Simple simple) at holds = kept-Simple data_type simple (sym at ∙ d.rolls-Simple simple) holds
     kept_by data_type (NamedDataType-F.Named (t.Entity entity)) at holds = kept-Entity data_type entity (sym at ∙ d.rolls-Named (t.Entity entity)) holds
+    kept_by data_type NamedDataType-F.Generic at holds = subst (λ z. given defined z x ≡ x) (sym d.rolls-Generic ∙ at) kept-Generic
     kept_by data_type _ at holds = absurd (true≢false (sym holds))
 
     pub kept-takes : (data_type : NamedDataType) → takes (out-NamedDataType data_type) y ≡ true → given defined data_type x ≡ x
     kept-takes data_type = kept_by data_type (out-NamedDataType data_type) (roll-out-NamedDataType data_type)
+
+  -- nothing is given of `?`
+  pub unset : (data_type : NamedDataType) (x : Value) → is_indeterminate x ≡ true → given defined data_type x ≡ v.Indet
+  unfolding given
+  unset data_type x is = λ i. if is i || not (fits defined data_type x) then v.Indet else part_under defined data_type (part defined x)
 
   either : (b : Bool) → (b || true) ≡ true
   either true = refl
@@ -216,5 +226,25 @@ module _ (defined : List DefinedType) where
   pub stays-Select : (data_type : NamedDataType) (number : ℕ) (choices : List TypeName) (x : Value) → data_type ≡ d.Named (t.Defined number) → Select choices ≡ end_of defined number
       → list_any (is_of_choice defined an_aggregate) choices ≡ false → element_under defined data_type x ≡ x
   stays-Select data_type number choices x is chosen none = subst (λ z. element_under defined z x ≡ x) (sym is) (chosen_stays choices none number x chosen)
+
+  -- ---- an instance in a SELECT
+
+  module _ (choices : List TypeName) (place : ℕ) where
+    selected_named : (data_type : NamedDataType) (t : NamedDataType-F NamedDataType) (x : Value) → Select choices ≡ types.end_in defined data_type t → types.named_in defined t x ≡ x
+    selected_named data_type (NamedDataType-F.Named (t.Defined number)) x is = subst (λ e. types.named_by defined number e x ≡ x) is refl
+    selected_named data_type _ x is = refl
+
+    inside-Inst : (declared : Option types.AggregateType) → inside defined declared (v.Inst place) ≡ v.Inst place
+    inside-Inst declared = ap (inside defined declared) (sym (v.rolls-Inst place)) ∙ inside-rolls defined declared (Value-F.Inst place) ∙ v.rolls-Inst place
+
+    pub kept-Select : (data_type : NamedDataType) → Select choices ≡ types.end defined data_type → list_any (is_of_choice defined (Value-F.Inst place)) choices ≡ true → given defined data_type (v.Inst place) ≡ v.Inst place
+    unfolding fits
+    kept-Select data_type at holds =
+        let bare_is = bare-Inst (v.Inst place) place refl in
+        kept (v.Inst place) (Value-F.Inst place) bare_is refl data_type
+        ((λ i. types.is_of_kind defined (sym at i) (sym bare_is i)) ∙ holds)
+        (selected_named data_type (out-NamedDataType data_type) _ at ∙ inside-Inst _)
+
+pub ruleset selected = (kept-Select)
 
 pub ruleset elements_stay = (stays-Simple, stays-Entity, stays-Generic)

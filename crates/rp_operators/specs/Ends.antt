@@ -1,5 +1,5 @@
 -- Declared types, as the code has them.
-use Rattle.std.specs.Prelude.{Bool, false, pos, List, [], map, not, ◌||◌, Option, Some, None, if◌then◌else◌}
+use Rattle.std.specs.Prelude.{Bool, true, false, pos, List, [], map, not, ◌||◌, Option, Some, None, if◌then◌else◌}
 use Rattle.ex_named.specs.declared.expression.NamedDataType.{NamedDataType, NamedDataType-F, out-NamedDataType}
 use Rattle.ex_named.specs.declared.reference.TypeName.TheVariants as t
 use Rattle.rp_meaning.specs.Bare.{carried, is_indeterminate}
@@ -41,10 +41,11 @@ module _ (defined : List DefinedType) where
   elements_under None kind xs = v.Agg kind xs
   elements_under (Some a) kind xs = types.as_aggregate a.kind kind xs.low (map (element_under a.element) xs.items)
 
--- whether a type without a name takes a value without one
+-- whether a type without a name takes a value without one that is not `?`
 abbrev pub takes : NamedDataType-F NamedDataType → Value-F Value → Bool
 takes (NamedDataType-F.Simple simple) x = types.is_of_simple simple x
 takes (NamedDataType-F.Named (t.Entity entity)) x = types.is_instance x
+takes NamedDataType-F.Generic x = true
 takes _ x = false
 
 -- a type takes all aggregates, or none

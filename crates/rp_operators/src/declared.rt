@@ -13,8 +13,11 @@ ghost use Rattle.rp_value.specs.declared.value.Value.{Value};
 ghost use Rattle.rp_value.specs.declared.value.Value.TheOpen.{Value-F};
 ghost use Rattle.rp_value.specs.declared.value.Value.TheVariants as v;
 
-use crate::bare::{beneath_names, carried, is_indeterminate, without_names};
-use crate::ends::{AggregateType, End, changes_nothing, end_of, fits, inner_type, is_of_simple};
+use crate::bare::{Bare, beneath_names, carried, is_indeterminate, without_names};
+use crate::ends::{
+    AggregateType, End, behind_names, changes_nothing, end_of, fits, inner_type, is_of_simple,
+    is_of_some_choice,
+};
 use ex_named::{NamedDataType, TypeName};
 use ex_tree::SimpleType;
 use plain_data::Items;
@@ -334,6 +337,27 @@ fn given_simple(simple: SimpleType, value: &Value) -> Result<Value, AllocError>
     Ok(Value::Indet)
 }
 
+/// A value once it is declared with GENERIC, which takes all but `?`.
+fn given_generic(value: &Value) -> Result<Value, AllocError>
+    ensures { (types : List DefinedType) → IfOk result (λ x. x ≡ spec.given types d.Generic value.now) }
+{
+    if is_indeterminate(value) {
+        return Ok(Value::Indet);
+    }
+    value.copy()
+}
+
+/// Whether an instance is of a SELECT, by which it stays as it is.
+#[tactic(auto, using(crate::proofs::Staying::selected))]
+fn is_selected(types: &[DefinedType], data_type: &NamedDataType, place: u64) -> bool
+    ensures { result ≡ true → spec.given types.now data_type.now (v.Inst place) ≡ v.Inst place }
+{
+    match behind_names(types, data_type) {
+        End::Select(choices) => is_of_some_choice(types, choices, Bare::Instance(place)),
+        _ => false,
+    }
+}
+
 #[tactic(auto, using(crate::proofs::Parts::under_part), unfolding(rp_meaning::specs::Types::given))]
 fn given_by_name(
     alloc: Global,
@@ -358,8 +382,10 @@ fn given_any(
 ) -> Result<Value, AllocError>
     ensures { IfOk result (λ x. x ≡ spec.given types.now data_type.now value.now) }
 {
-    match data_type {
-        NamedDataType::Simple(simple) => given_simple(*simple, value),
+    match (data_type, value) {
+        (NamedDataType::Simple(simple), _) => given_simple(*simple, value),
+        (NamedDataType::Generic, _) => given_generic(value),
+        (_, Value::Inst(place)) if is_selected(types, data_type, *place) => Ok(Value::Inst(*place)),
         _ => given_by_name(alloc, types, data_type, value),
     }
 }
@@ -370,6 +396,7 @@ fn takes_integers(data_type: &NamedDataType) -> bool
 {
     match data_type {
         NamedDataType::Simple(SimpleType::Integer | SimpleType::Real | SimpleType::Number) => true,
+        NamedDataType::Generic => true,
         _ => false,
     }
 }
@@ -380,6 +407,7 @@ fn takes_truths(data_type: &NamedDataType) -> bool
 {
     match data_type {
         NamedDataType::Simple(SimpleType::Boolean | SimpleType::Logical) => true,
+        NamedDataType::Generic => true,
         _ => false,
     }
 }
@@ -389,7 +417,7 @@ fn takes_instances(data_type: &NamedDataType) -> bool
     ensures { (place : ℕ) → result ≡ takes (out-NamedDataType data_type.now) (Value-F.Inst place) }
 {
     match data_type {
-        NamedDataType::Named(TypeName::Entity(_)) => true,
+        NamedDataType::Named(TypeName::Entity(_)) | NamedDataType::Generic => true,
         _ => false,
     }
 }

@@ -134,7 +134,7 @@ fn is_of_choice(types: &[DefinedType], x: Bare<'_>, choice: TypeName) -> bool
     }
 }
 
-fn is_of_some_choice(types: &[DefinedType], choices: &[TypeName], x: Bare<'_>) -> bool
+pub(crate) fn is_of_some_choice(types: &[DefinedType], choices: &[TypeName], x: Bare<'_>) -> bool
     ensures { result ≡ list_any (spec.is_of_choice types.now (opened x.entry)) choices.now }
 {
     choices.iter().any(|choice| is_of_choice(types, x, *choice))
