@@ -10,5 +10,6 @@ pub mod Sizes
 pub mod Sums
 pub mod Texts
 pub mod Kept
+pub mod Members
 pub mod Sets
 pub mod Replaced

@@ -1,5 +1,6 @@
--- What operators give of two values of one kind that are no aggregates, of which nothing is `?`.
-use Rattle.std.specs.Prelude.{ℕ, ℤ, int_div, int_rem, ◌+ℤ◌, ◌-ℤ◌, ◌*ℤ◌, List, ◌++◌}
+-- What operators give of two values of one kind that are no aggregates, of which nothing is `?`, and of a value and others.
+use Rattle.std.specs.Prelude.{ℕ, ℤ, int_div, int_rem, ◌+ℤ◌, ◌-ℤ◌, ◌*ℤ◌, ◌||◌, if◌then◌else◌, List, ◌++◌}
+use Rattle.std.specs.List.{list_any}
 use Rattle.std.specs.Cmp.Lexicographic.{slice_cmp}
 use Rattle.std.specs.Ordering.{nat_cmp, int_cmp, is_eq, is_ne, is_lt, is_gt, is_le, is_ge}
 use Rattle.std.specs.declared.cmp.Ordering.{Ordering}
@@ -7,7 +8,10 @@ use Rattle.ex_tree.specs.declared.expression.BinaryOperator.{BinaryOperator}
 use Rattle.ex_tree.specs.declared.expression.BinaryOperator.TheVariants as o
 use Rattle.rp_numbers.specs.Logical.{rank, of_test, conjunction, disjunction, exclusive_disjunction}
 use Rattle.rp_numbers.specs.declared.Logical.{Logical}
+use Rattle.rp_numbers.specs.declared.Logical.TheVariants.{False, Unknown, True}
 use Rattle.rp_meaning.specs.Operators.{integer, of_natural, power}
+use Rattle.rp_operations.specs.Operations.{is_same}
+use Rattle.rp_operations.specs.Seen.{seen, is_indeterminate}
 use Rattle.rp_value.specs.declared.value.Value.{Value}
 use Rattle.rp_value.specs.declared.value.Value.TheVariants as v
 
@@ -42,3 +46,7 @@ of_truths operator x y = by_order operator (nat_cmp (rank x) (rank y))
 abbrev pub of_texts : BinaryOperator → List ℕ → List ℕ → Value
 of_texts o.Add s t = v.Str (s ++ t)
 of_texts operator s t = by_order operator (slice_cmp nat_cmp s t)
+
+-- whether a value is one of these
+abbrev pub is_in : Value → List Value → Logical
+is_in x ys = if list_any (is_same x) ys then True else if is_indeterminate (seen x) || list_any (λ y. is_indeterminate (seen y)) ys then Unknown else False

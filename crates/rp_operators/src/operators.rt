@@ -11,13 +11,13 @@ use crate::bare::{Bare, beneath, beneath_names, integer_of, truth_of};
 use crate::decimals::{compare_decimals, compare_whole, compare_with_whole};
 use crate::numbers::{minus, negated, plain, plus, power, quotient, rest, times};
 use crate::relations::{at_least, at_most, equal, greater, less, unequal};
-use crate::scalars::{by_order, joined_texts, of_integers, of_texts, of_truths};
+use crate::scalars::{by_order, found_among, joined_texts, of_integers, of_texts, of_truths};
 use ex_tree::{BinaryOperator, IntervalOperator, UnaryOperator};
 use plain_data::Items;
 use rp_operations::{
     aggregate_union, intersect, is_in, minus as less_elements, same, union_in_place,
 };
-use rp_value::{Bits, Value};
+use rp_value::{Bits, Logical, Value};
 use std::alloc::{AllocError, Global};
 
 /// The bits of the one behind those of the other.
@@ -180,6 +180,12 @@ fn applied_beneath(
         (Value::Int(m), Value::Dec(n)) => Ok(by_order(operator, compare_whole(*m, n))),
         (Value::Dec(m), Value::Int(n)) => Ok(by_order(operator, compare_with_whole(m, *n))),
         (Value::Str(s), Value::Str(t)) => of_texts(alloc, operator, s, t),
+        (Value::Str(s), Value::Agg { kind: _, elements }) => {
+            match found_among(operator, s, elements.as_slice()) {
+                Some(found) => Ok(Value::Log(Logical::of(found))),
+                None => applied_to_any(alloc, operator, x, y),
+            }
+        }
         _ => applied_to_any(alloc, operator, x, y),
     }
 }

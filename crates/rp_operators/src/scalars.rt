@@ -1,9 +1,13 @@
 //! What operators give of two values of one kind that are no aggregates.
 
-ghost use Rattle.std.specs.Prelude.{◌≡◌, ◌++◌, IfOk};
+ghost use Rattle.std.specs.Prelude.{◌≡◌, ◌++◌, IfOk, IfSome};
 ghost use Rattle.std.specs.Cmp.Lexicographic.{slice_cmp};
 ghost use Rattle.std.specs.Ordering.{is_eq, nat_cmp};
+ghost use Rattle.ex_tree.specs.declared.expression.BinaryOperator.TheVariants as o;
+ghost use Rattle.rp_numbers.specs.Logical.{of_test};
+ghost use Rattle.rp_operations.specs.Seen.{Text as SeenText, seen};
 ghost use Rattle.rp_operators.specs.Scalars as spec;
+ghost use Rattle.rp_value.specs.declared.value.Value.{Value};
 ghost use Rattle.rp_value.specs.declared.value.Value.TheVariants as v;
 
 use crate::numbers::{minus, plus, power, quotient, rest, times};
@@ -102,5 +106,35 @@ pub(crate) fn of_texts(
             Ok(Value::Log(Logical::of(!are_equal(s, t))))
         }
         _ => Ok(by_order(operator, s.as_bytes().cmp(t.as_bytes()))),
+    }
+}
+
+/// Whether a text is among others. Nothing is told where something else stands before it.
+fn is_among_texts(text: &Characters, values: &[Value]) -> Option<bool>
+    ensures { (x : Value) → seen x ≡ SeenText text.now → IfSome result (λ found. of_test found ≡ spec.is_in x values.now) }
+{
+    for value in values {
+        match value {
+            Value::Str(other) if are_equal(text, other) => return Some(true),
+            Value::Str(_) => {}
+            _ => return None,
+        }
+    }
+    Some(false)
+}
+
+/// Whether a text is among others, where that is asked.
+#[inline]
+pub(crate) fn found_among(
+    operator: BinaryOperator,
+    text: &Characters,
+    values: &[Value],
+) -> Option<bool>
+    ensures asked { IfSome result (λ found. operator ≡ o.In) }
+    ensures found { (x : Value) → seen x ≡ SeenText text.now → IfSome result (λ found. of_test found ≡ spec.is_in x values.now) }
+{
+    match operator {
+        BinaryOperator::In => is_among_texts(text, values),
+        _ => None,
     }
 }

@@ -3,9 +3,11 @@ use Rattle.std.proofs.lemmas.Int.{ints}
 use mir.Syntax.{w64}
 use Rattle.std.specs.Prelude.{IfOk}
 use Rattle.rp_operators.proofs.Alike.{integers, truths, texts, decimals, whole_and_decimal, decimal_and_whole}
+use Rattle.rp_operators.proofs.Members.{member}
 use Rattle.rp_operators.proofs.Sights.{beneath}
 use Rattle.rp_operators.proofs.operators.applied_beneath.Goals as goal
-use Rattle.rp_operators.specs.Scalars.{by_order, of_integers}
+use Rattle.rp_operators.specs.Scalars.{by_order, is_in, of_integers}
+use Rattle.rp_meaning.specs.Operators.{applied}
 use Rattle.rp_numbers.specs.Decimals.{scaled, scaled_whole}
 use Rattle.std.specs.Ordering.{int_cmp}
 use Rattle.rp_value.specs.declared.value.Value.TheOpen.{Value-F}
@@ -75,3 +77,15 @@ returns-in-Str-Str c =
     (beneath c.args.y.now c.beneath-2.result.now (Value-F.Str k.t) c.beneath-2.ensures (k.is-1 ∙ sym (v.rolls-Str k.t)))
     c.args.operator)
     c.of_texts.ensures
+
+pub returns-in-Some : goal.returns-in-Some
+returns-in-Some c =
+    let k = c.in-Str-Agg in
+    let x = c.args.x.now in
+    let y = c.args.y.now in
+    ap v.Log
+    (c.of.ensures
+    ∙ c.in-Some.ensures.found x ((beneath x c.beneath.result.now (Value-F.Str k.s) c.beneath.ensures (k.is-0 ∙ sym (v.rolls-Str k.s))).sees)
+    ∙ ap (is_in x) c.as_slice.ensures)
+    ∙ member x y c.beneath-2.result.now k.kind-1 k.elements c.beneath-2.ensures k.is-1
+    ∙ ap (λ operator. applied operator x y) (sym c.in-Some.ensures.asked)
