@@ -1,5 +1,5 @@
 -- What is found in lists.
-use Rattle.std.proofs.Common.{◌≡◌, ℕ, zero, suc, ◌<◌, ◌≤◌, Bool, true, false, Option, Some, None, List, [], ◌∷◌, length, drop, get_or, set, refl, sym, ap, arith, cond, slice_get, slice_set, ◌==◌}
+use Rattle.std.proofs.Common.{◌≡◌, ◌∙◌, pos, ℕ, zero, suc, ◌<◌, ◌≤◌, Bool, true, false, Option, Some, None, List, [], ◌∷◌, length, drop, get_or, set, refl, sym, ap, arith, cond, slice_get, slice_set, ◌==◌}
 use Rattle.std.proofs.Math.ListN.{drop_of_length-le}
 use Rattle.std.proofs.lemmas.Bool.Decides.{nat_tests}
 use Rattle.ex_named.specs.declared.reference.AttributePlace.{AttributePlace}
@@ -10,8 +10,12 @@ use Rattle.ex_tree.specs.declared.declaration.InverseAggregate.{InverseAggregate
 use Rattle.rp_meaning.specs.declared.schema.Inverse.{Inverse}
 use Rattle.rp_meaning.specs.declared.schema.Schema.{Schema}
 use Rattle.rp_meaning.specs.Attributes as spec
+use Rattle.rp_meaning.specs.Attributes.{aggregate}
+use Rattle.rp_meaning.specs.Operators.{count, count_in}
+use Rattle.rp_operators.proofs.Sights.{bare-Agg}
+use Rattle.rp_value.specs.declared.value.AggregateKind.TheVariants as k
 use Rattle.rp_meaning.specs.TypeNames.{texts}
-use Rattle.rp_meaning.specs.Bare.{place_in}
+use Rattle.rp_meaning.specs.Bare.{aggregate_in, place_in}
 use Rattle.rp_meaning.specs.declared.domain.ReadValue.{ReadValue}
 use Rattle.rp_meaning.specs.Populations.{Instance, as_read, stored, instances}
 use Rattle.rp_meaning.specs.Uses.{same_attribute}
@@ -122,6 +126,11 @@ users_give (Some a) places = refl
 
 pub texts_count : (schema : Schema) (population : List Instance) (names : List (List ℕ)) → length (texts schema population names) ≡ length names
 texts_count schema population names = length-map names (λ text. v.Str text)
+
+-- TYPEOF counts its names
+pub names_count : (schema : Schema) (population : List Instance) (names : List (List ℕ)) (x : Value) → x ≡ aggregate k.Set (texts schema population names) → count x ≡ length names
+names_count schema population names x h =
+    ap (λ y. count_in (aggregate_in y)) (sym (bare-Agg x k.Set (record { low = pos 1; items = texts schema population names }) h)) ∙ texts_count schema population names
 
 pub role_of_name : (schema : Schema) (name : List ℕ) → ¬ (name ≡ []) → spec.role_named schema.roles name ≡ counts.named_role schema.roles name
 role_of_name schema [] h = absurd (h refl)

@@ -17,7 +17,9 @@ use Rattle.rp_meaning.specs.Computations.{Computation, and_then, pure, steps, �
 use Rattle.rp_meaning.specs.Expressions.{Scope, World, Meaning, Operating, each_after, in_turn, tested, kept_after, kept_one, expression}
 use Rattle.rp_meaning.specs.Levels.{most_turns}
 use Rattle.rp_meaning.specs.Operators.{equal}
-use Rattle.rp_meaning.specs.Statements.{Action, Next, Turn, Labelled, Running, going_on, one_by_one, turn, again, from_start, started, advanced, running, step_value, counted, repeated, repeats, any_equal, is_hit, matched, statement_layer, action_layer, statement, labelled, statements, given_value, initialized, all_assigned}
+use Rattle.rp_meaning.specs.Types.{given}
+use Rattle.ex_named.specs.declared.expression.NamedDataType.{NamedDataType}
+use Rattle.rp_meaning.specs.Statements.{Action, Next, Turn, Labelled, Running, going_on, one_by_one, turn, again, from_start, started, advanced, running, step_value, counted, repeated, repeats, any_equal, is_hit, matched, statement_layer, action_layer, statement, labelled, statements, given_value, initialized, all_assigned, assigned}
 use Rattle.rp_eval.specs.declared.statements.Ending.{Ending}
 use Rattle.rp_eval.specs.declared.statements.Ending.TheVariants as n
 use Rattle.rp_eval.specs.Beginnings.{begins}
@@ -74,6 +76,12 @@ module _ (world : World) (turns : ℕ) (below : Body → Computation Value) wher
   unfolding statement
   statement-repeat s x control body is = ap (λ y. statement world turns below y s) (is ∙ sym (v.rolls-Repeat control body))
       ∙ ap (λ b. b s) (fold-roll-Statement Action Labelled (statement_layer world turns below) (action_layer world turns below) (Statement-F.Repeat control body))
+
+  pub statement-assignment : (s : Scope) (x : Statement) (slot : ℕ) (data_type : NamedDataType) (value : Expression) → x ≡ v.Assignment slot data_type value
+      → statement world turns below x s ≡ (steps 1 >> (expression world below value s >>= (λ a. pure (Next (assigned s slot (given world.schema.types data_type a))))))
+  unfolding statement
+  statement-assignment s x slot data_type value is = ap (λ y. statement world turns below y s) (is ∙ sym (v.rolls-Assignment slot data_type value))
+      ∙ ap (λ b. b s) (fold-roll-Statement Action Labelled (statement_layer world turns below) (action_layer world turns below) (Statement-F.Assignment slot data_type value))
 
   pub statement-case : (s : Scope) (x : Statement) (selector : Expression) (actions : List CaseAction) → x ≡ v.Case selector actions
       → statement world turns below x s ≡ (steps 1 >> (expression world below selector s >>= (λ a. matched (expression world below) a (map (labelled world turns below) actions) s)))

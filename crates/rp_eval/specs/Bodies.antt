@@ -25,37 +25,37 @@ abbrev pub world : Schema → List Instance → World
 world schema population = record { schema = schema; population = population }
 
 -- what bodies mean where so many may nest
-abbrev pub bodies_at : Schema → List Instance → ℕ → Body → Computation Value
-bodies_at schema population levels = bodies (world schema population) levels
+abbrev pub bodies_at : World → ℕ → Body → Computation Value
+bodies_at w levels = bodies w levels
 
 -- what expressions and their parts mean there
-abbrev pub value_at : Schema → List Instance → ℕ → Expression → Meaning
-value_at schema population levels = expression (world schema population) (bodies (world schema population) levels)
+abbrev pub value_at : World → ℕ → Expression → Meaning
+value_at w levels = expression w (bodies w levels)
 
-abbrev pub qualifier_at : Schema → List Instance → ℕ → Qualifier → Operating
-qualifier_at schema population levels = qualifier (world schema population) (bodies (world schema population) levels)
+abbrev pub qualifier_at : World → ℕ → Qualifier → Operating
+qualifier_at w levels = qualifier w (bodies w levels)
 
-abbrev pub operation_at : Schema → List Instance → ℕ → Operation → Operating
-operation_at schema population levels = operation (world schema population) (bodies (world schema population) levels)
+abbrev pub operation_at : World → ℕ → Operation → Operating
+operation_at w levels = operation w (bodies w levels)
 
-abbrev pub interval_at : Schema → List Instance → ℕ → Interval → Meaning
-interval_at schema population levels = interval (world schema population) (bodies (world schema population) levels)
+abbrev pub interval_at : World → ℕ → Interval → Meaning
+interval_at w levels = interval w (bodies w levels)
 
-abbrev pub query_at : Schema → List Instance → ℕ → Query → Meaning
-query_at schema population levels = query (world schema population) (bodies (world schema population) levels)
+abbrev pub query_at : World → ℕ → Query → Meaning
+query_at w levels = query w (bodies w levels)
 
 -- what statements mean there
-abbrev pub action_at : Schema → List Instance → ℕ → List Statement → Action
-action_at schema population levels = statements (world schema population) most_turns (bodies (world schema population) levels)
+abbrev pub action_at : World → ℕ → List Statement → Action
+action_at w levels = statements w most_turns (bodies w levels)
 
 -- what actions of a CASE mean there
-abbrev pub labelled_at : Schema → List Instance → ℕ → CaseAction → Labelled
-labelled_at schema population levels = labelled (world schema population) most_turns (bodies (world schema population) levels)
+abbrev pub labelled_at : World → ℕ → CaseAction → Labelled
+labelled_at w levels = labelled w most_turns (bodies w levels)
 
--- of this schema and domain, and where so many bodies may nest, the function value runs what bodies mean
-pub record RunsBodies {D : Type 0} (population : D → List Instance) (alloc : Global) (schema : Bor Schema) (domain : Bor D) (levels : ℕ)
-    (pre : Global → Bor Schema → Bor D → ℕ → MutBor Counter → Body → Type 0)
-    (post : Global → Bor Schema → Bor D → ℕ → MutBor Counter → Body → Result Value Stop → MutBor Counter → Type 0) : Type 0 where
-  pub callable : (counter : MutBor Counter) (body : Body) → pre alloc schema domain levels counter body
-  pub runs : (old new : MutBor Counter) (body : Body) (r : Result Value Stop) → post alloc schema domain levels old body r new
-      → Runs (bodies (world schema.now (population domain.now)) levels body old.now) r new.now
+-- of this world, and where so many bodies may nest, the function value runs what bodies mean
+pub record RunsBodies {W : Type 0} (seen : W → World) (alloc : Global) (world : Bor W) (levels : ℕ)
+    (pre : Global → Bor W → ℕ → MutBor Counter → Body → Type 0)
+    (post : Global → Bor W → ℕ → MutBor Counter → Body → Result Value Stop → MutBor Counter → Type 0) : Type 0 where
+  pub callable : (counter : MutBor Counter) (body : Body) → pre alloc world levels counter body
+  pub runs : (old new : MutBor Counter) (body : Body) (r : Result Value Stop) → post alloc world levels old body r new
+      → Runs (bodies (seen world.now) levels body old.now) r new.now

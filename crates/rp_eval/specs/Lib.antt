@@ -6,3 +6,4 @@ pub mod Limits
 pub mod Charges
 pub mod Written
 pub mod Beginnings
+pub mod Serving

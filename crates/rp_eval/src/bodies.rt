@@ -8,23 +8,24 @@ ghost use Rattle.rp_meaning.specs.Levels.{most_turns};
 ghost use Rattle.rp_meaning.specs.Statements as spec;
 ghost use Rattle.rp_value.specs.declared.value.Value.TheVariants as v;
 ghost use Rattle.rp_eval.specs.Charges.{followed};
-ghost use Rattle.rp_eval.specs.Bodies.{RunsBodies, bodies_at, world};
+ghost use Rattle.rp_eval.specs.Bodies.{RunsBodies, bodies_at};
 ghost use Rattle.rp_eval.specs.Endings.{Ends, Leaves, after};
 
 use crate::attributes::derivation;
 use crate::frame::Frame;
+use crate::setting::Setting;
 use crate::statements::Ending;
 use crate::walk::Walk;
 use ex_named::NamedDataType;
 use plain_data::Items;
-use rp_meaning::{Algorithm, Body, Counter, Domain, Function, Given, Initial, Schema, Stop};
+use rp_meaning::{Algorithm, Body, Counter, Function, Given, Initial, Stop};
 use rp_operators::given;
 use rp_value::Value;
 use std::alloc::{AllocError, Global};
 
-impl<'a, D: Domain, B: Fn(Global, &Schema, &D, u8, &mut Counter, Body) -> Result<Value, Stop>> Walk<
+impl<'a, W: Setting, B: Fn(Global, &W, u8, &mut Counter, Body) -> Result<Value, Stop>> Walk<
     'a,
-    D,
+    W,
     B,
 > {
     /// The value of an expression, by the type with which it is declared.
@@ -34,14 +35,14 @@ impl<'a, D: Domain, B: Fn(Global, &Schema, &D, u8, &mut Counter, Body) -> Result
         frame: &mut Frame,
         counter: &mut Counter,
     ) -> Result<Value, Stop>
-        requires { RunsBodies D.population self.now.alloc self.now.schema self.now.domain self.now.levels (B.pre self.now.below) (B.post self.now.below) }
-        ensures value { Runs (spec.given_value (world self.now.schema.now (D.population self.now.domain.now)) most_turns (bodies_at self.now.schema.now (D.population self.now.domain.now) self.now.levels) declared.now frame.old counter.old) result counter.new }
+        requires { RunsBodies W.world self.now.alloc self.now.world self.now.levels (B.pre self.now.below) (B.post self.now.below) }
+        ensures value { Runs (spec.given_value (W.world self.now.world.now) most_turns (bodies_at (W.world self.now.world.now) self.now.levels) declared.now frame.old counter.old) result counter.new }
         ensures frame { OnOk result (frame.new ≡ frame.old) }
     {
         let value = self.value(&declared.value, frame, counter)?;
         Ok(given(
             self.alloc,
-            self.schema.types.as_slice(),
+            self.world.schema().types.as_slice(),
             &declared.data_type,
             &value,
         )?)
@@ -54,8 +55,8 @@ impl<'a, D: Domain, B: Fn(Global, &Schema, &D, u8, &mut Counter, Body) -> Result
         frame: &mut Frame,
         counter: &mut Counter,
     ) -> Result<(), Stop>
-        requires { RunsBodies D.population self.now.alloc self.now.schema self.now.domain self.now.levels (B.pre self.now.below) (B.post self.now.below) }
-        ensures { Leaves ((followed (spec.given_value (world self.now.schema.now (D.population self.now.domain.now)) most_turns (bodies_at self.now.schema.now (D.population self.now.domain.now) self.now.levels) initial.now.given frame.old) (λ a. pure (spec.all_assigned initial.now.slot initial.now.count a frame.old))) counter.old) result frame.new counter.new }
+        requires { RunsBodies W.world self.now.alloc self.now.world self.now.levels (B.pre self.now.below) (B.post self.now.below) }
+        ensures { Leaves ((followed (spec.given_value (W.world self.now.world.now) most_turns (bodies_at (W.world self.now.world.now) self.now.levels) initial.now.given frame.old) (λ a. pure (spec.all_assigned initial.now.slot initial.now.count a frame.old))) counter.old) result frame.new counter.new }
     {
         let value = self.given_value(&initial.given, frame, counter)?;
         frame.assign_all(initial.slot, initial.count, &value)?;
@@ -69,8 +70,8 @@ impl<'a, D: Domain, B: Fn(Global, &Schema, &D, u8, &mut Counter, Body) -> Result
         frame: &mut Frame,
         counter: &mut Counter,
     ) -> Result<(), Stop>
-        requires { RunsBodies D.population self.now.alloc self.now.schema self.now.domain self.now.levels (B.pre self.now.below) (B.post self.now.below) }
-        ensures { Leaves (spec.initialized (world self.now.schema.now (D.population self.now.domain.now)) most_turns (bodies_at self.now.schema.now (D.population self.now.domain.now) self.now.levels) initials.now frame.old counter.old) result frame.new counter.new }
+        requires { RunsBodies W.world self.now.alloc self.now.world self.now.levels (B.pre self.now.below) (B.post self.now.below) }
+        ensures { Leaves (spec.initialized (W.world self.now.world.now) most_turns (bodies_at (W.world self.now.world.now) self.now.levels) initials.now frame.old counter.old) result frame.new counter.new }
     {
         for initial in initials {
             self.initial(initial, frame, counter)?;
@@ -86,8 +87,8 @@ impl<'a, D: Domain, B: Fn(Global, &Schema, &D, u8, &mut Counter, Body) -> Result
         counter: &mut Counter,
         into: &mut Value,
     ) -> Result<Ending, Stop>
-        requires { RunsBodies D.population self.now.alloc self.now.schema self.now.domain self.now.levels (B.pre self.now.below) (B.post self.now.below) }
-        ensures { Ends (spec.algorithm (world self.now.schema.now (D.population self.now.domain.now)) most_turns (bodies_at self.now.schema.now (D.population self.now.domain.now) self.now.levels) algorithm.now frame.old counter.old) result into.new frame.new counter.new }
+        requires { RunsBodies W.world self.now.alloc self.now.world self.now.levels (B.pre self.now.below) (B.post self.now.below) }
+        ensures { Ends (spec.algorithm (W.world self.now.world.now) most_turns (bodies_at (W.world self.now.world.now) self.now.levels) algorithm.now frame.old counter.old) result into.new frame.new counter.new }
     {
         self.initials(algorithm.initial.as_slice(), frame, counter)?;
         self.statements(algorithm.statements.as_slice(), frame, counter, into)
@@ -99,14 +100,14 @@ impl<'a, D: Domain, B: Fn(Global, &Schema, &D, u8, &mut Counter, Body) -> Result
         data_types: &[NamedDataType],
         arguments: &[Value],
     ) -> Result<Items<Value>, AllocError>
-        ensures { IfOk result (λ found. found ≡ level.parameters_given (world self.now.schema.now (D.population self.now.domain.now)) most_turns data_types.now arguments.now) }
+        ensures { IfOk result (λ found. found ≡ level.parameters_given (W.world self.now.world.now) most_turns data_types.now arguments.now) }
     {
         let mut found = Items::new(self.alloc);
         for place in 0..data_types.len() {
             let Some(argument) = arguments.get(place) else {
                 return Ok(found);
             };
-            let types = self.schema.types.as_slice();
+            let types = self.world.schema().types.as_slice();
             found.push(given(self.alloc, types, &data_types[place], argument)?)?;
         }
         Ok(found)
@@ -119,11 +120,16 @@ impl<'a, D: Domain, B: Fn(Global, &Schema, &D, u8, &mut Counter, Body) -> Result
         ending: Ending,
         value: &Value,
     ) -> Result<Value, AllocError>
-        ensures { (s : _) → IfOk result (λ found. found ≡ level.result_by (world self.now.schema.now (D.population self.now.domain.now)) most_turns data_type.now (after ending value.now s)) }
+        ensures { (s : _) → IfOk result (λ found. found ≡ level.result_by (W.world self.now.world.now) most_turns data_type.now (after ending value.now s)) }
     {
         match ending {
             Ending::Returned => {
-                given(self.alloc, self.schema.types.as_slice(), data_type, value)
+                given(
+                    self.alloc,
+                    self.world.schema().types.as_slice(),
+                    data_type,
+                    value,
+                )
             }
             _ => Ok(Value::Indet),
         }
@@ -136,8 +142,8 @@ impl<'a, D: Domain, B: Fn(Global, &Schema, &D, u8, &mut Counter, Body) -> Result
         arguments: &[Value],
         counter: &mut Counter,
     ) -> Result<Value, Stop>
-        requires { RunsBodies D.population self.now.alloc self.now.schema self.now.domain self.now.levels (B.pre self.now.below) (B.post self.now.below) }
-        ensures { Runs (level.called (world self.now.schema.now (D.population self.now.domain.now)) most_turns (bodies_at self.now.schema.now (D.population self.now.domain.now) self.now.levels) (Some function.now) arguments.now counter.old) result counter.new }
+        requires { RunsBodies W.world self.now.alloc self.now.world self.now.levels (B.pre self.now.below) (B.post self.now.below) }
+        ensures { Runs (level.called (W.world self.now.world.now) most_turns (bodies_at (W.world self.now.world.now) self.now.levels) (Some function.now) arguments.now counter.old) result counter.new }
     {
         let parameters = self.parameters(function.parameters.as_slice(), arguments)?;
         let mut frame = Frame::of_locals(parameters, function.algorithm.locals)?;
@@ -153,8 +159,8 @@ impl<'a, D: Domain, B: Fn(Global, &Schema, &D, u8, &mut Counter, Body) -> Result
         itself: Value,
         counter: &mut Counter,
     ) -> Result<Value, Stop>
-        requires { RunsBodies D.population self.now.alloc self.now.schema self.now.domain self.now.levels (B.pre self.now.below) (B.post self.now.below) }
-        ensures { Runs (level.given_by (world self.now.schema.now (D.population self.now.domain.now)) most_turns (bodies_at self.now.schema.now (D.population self.now.domain.now) self.now.levels) (option_copied declared.entry) itself counter.old) result counter.new }
+        requires { RunsBodies W.world self.now.alloc self.now.world self.now.levels (B.pre self.now.below) (B.post self.now.below) }
+        ensures { Runs (level.given_by (W.world self.now.world.now) most_turns (bodies_at (W.world self.now.world.now) self.now.levels) (option_copied declared.entry) itself counter.old) result counter.new }
     {
         let Some(declared) = declared else {
             return Ok(Value::Indet);
@@ -165,19 +171,23 @@ impl<'a, D: Domain, B: Fn(Global, &Schema, &D, u8, &mut Counter, Body) -> Result
 
     /// What a body gives, beneath which so many more may nest.
     fn body(&self, body: Body, counter: &mut Counter) -> Result<Value, Stop>
-        requires { RunsBodies D.population self.now.alloc self.now.schema self.now.domain self.now.levels (B.pre self.now.below) (B.post self.now.below) }
-        ensures { Runs (level.body_with (world self.now.schema.now (D.population self.now.domain.now)) most_turns (bodies_at self.now.schema.now (D.population self.now.domain.now) self.now.levels) body counter.old) result counter.new }
+        requires { RunsBodies W.world self.now.alloc self.now.world self.now.levels (B.pre self.now.below) (B.post self.now.below) }
+        ensures { Runs (level.body_with (W.world self.now.world.now) most_turns (bodies_at (W.world self.now.world.now) self.now.levels) body counter.old) result counter.new }
     {
         match &body {
             Body::Derived(entity, place, instance) => self.given_by(
-                derivation(self.schema, *entity, *place),
+                derivation(self.world.schema(), *entity, *place),
                 Value::Inst(*instance),
                 counter,
             ),
             Body::Constant(number) => {
-                self.given_by(self.schema.constants.get(*number), Value::Indet, counter)
+                self.given_by(
+                    self.world.schema().constants.get(*number),
+                    Value::Indet,
+                    counter,
+                )
             }
-            Body::Function(number, arguments) => match self.schema.functions.get(*number) {
+            Body::Function(number, arguments) => match self.world.schema().functions.get(*number) {
                 Some(function) => self.function(function, arguments.as_slice(), counter),
                 None => Ok(Value::Indet),
             },
@@ -186,25 +196,23 @@ impl<'a, D: Domain, B: Fn(Global, &Schema, &D, u8, &mut Counter, Body) -> Result
 }
 
 /// A body, where so many bodies may nest, itself among them.
-pub(crate) fn run_body<D: Domain>(
+pub(crate) fn run_body<W: Setting>(
     alloc: Global,
-    schema: &Schema,
-    domain: &D,
+    world: &W,
     levels: u8,
     counter: &mut Counter,
     body: Body,
 ) -> Result<Value, Stop>
-    ensures { Runs (level.bodies (world schema.now (D.population domain.now)) levels body counter.old) result counter.new }
+    ensures { Runs (level.bodies (W.world world.now) levels body counter.old) result counter.new }
 {
     if levels == 0 {
         return Err(Stop::Limit);
     }
     let walk = Walk {
         alloc,
-        schema,
-        domain,
+        world,
         levels: levels - 1,
-        below: run_body::<D>,
+        below: run_body::<W>,
     };
     let outer = counter.nesting;
     counter.nesting = 0;

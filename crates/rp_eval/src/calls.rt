@@ -3,42 +3,43 @@
 ghost use Rattle.std.specs.Prelude.{◌≡◌};
 ghost use Rattle.rp_meaning.specs.Computations.{Runs};
 ghost use Rattle.rp_meaning.specs.Expressions as spec;
-ghost use Rattle.rp_eval.specs.Bodies.{RunsBodies, bodies_at, world};
+ghost use Rattle.rp_eval.specs.Bodies.{RunsBodies, bodies_at};
 ghost use Rattle.rp_eval.specs.Callings as callings;
 ghost use Rattle.rp_eval.specs.Written.{RunsInto};
 ghost use Rattle.ex_tree.specs.declared.expression.BuiltInFunction.TheVariants as f;
 
+use crate::setting::Setting;
 use crate::steps::{charge, charge_initializer};
 use crate::walk::Walk;
 use ex_tree::BuiltInFunction;
 use plain_data::Items;
-use rp_meaning::{Body, Counter, Domain, Schema, Stop};
+use rp_meaning::{Body, Counter, Stop};
 use rp_operators::{
     absolute, binary_length, count, exists, high_index, initializer, low_index, null_value, odd,
-    place_of, size_of, text_length, text_of, type_names, value_in,
+    place_of, size_of, text_length, text_of, value_in,
 };
-use rp_value::{AggregateKind, Value};
+use rp_value::Value;
 use std::alloc::Global;
 
-impl<'a, D: Domain, B: Fn(Global, &Schema, &D, u8, &mut Counter, Body) -> Result<Value, Stop>> Walk<
+impl<'a, W: Setting, B: Fn(Global, &W, u8, &mut Counter, Body) -> Result<Value, Stop>> Walk<
     'a,
-    D,
+    W,
     B,
 > {
     /// The names of the types of the value that is there.
-    #[tactic(auto, using(crate::proofs::Found::texts_count))]
+    #[tactic(auto, using(crate::proofs::Found::names_count))]
     fn type_names_value(&self, counter: &mut Counter, into: &mut Value) -> Result<(), Stop>
-        ensures { RunsInto (spec.type_names_value (world self.now.schema.now (D.population self.now.domain.now)) (bodies_at self.now.schema.now (D.population self.now.domain.now) self.now.levels) into.old counter.old) result into.new counter.new }
+        ensures { RunsInto (spec.type_names_value (W.world self.now.world.now) (bodies_at (W.world self.now.world.now) self.now.levels) into.old counter.old) result into.new counter.new }
     {
-        let names = type_names(self.alloc, self.schema, self.domain, into)?;
-        charge(counter, names.len())?;
-        *into = Value::aggregate(self.alloc, AggregateKind::Set, 1, names)?;
+        let names = self.world.type_names(self.alloc, into)?;
+        charge(counter, count(&names))?;
+        *into = names;
         Ok(())
     }
 
     /// The users of the instance that is there in the role that a text names.
     fn used_in_by(&self, role: &Value, counter: &mut Counter, into: &mut Value) -> Result<(), Stop>
-        ensures { RunsInto (spec.of_two (world self.now.schema.now (D.population self.now.domain.now)) (bodies_at self.now.schema.now (D.population self.now.domain.now) self.now.levels) f.UsedIn into.old role.now counter.old) result into.new counter.new }
+        ensures { RunsInto (spec.of_two (W.world self.now.world.now) (bodies_at (W.world self.now.world.now) self.now.levels) f.UsedIn into.old role.now counter.old) result into.new counter.new }
     {
         match text_of(role) {
             Some(name) => self.used_in_named(name.as_str(), place_of(into), counter, into),
@@ -51,7 +52,7 @@ impl<'a, D: Domain, B: Fn(Global, &Schema, &D, u8, &mut Counter, Body) -> Result
 
     /// Whether a value is an element of the aggregate that is there, for a step of each element.
     fn value_in(&self, value: &Value, counter: &mut Counter, into: &mut Value) -> Result<(), Stop>
-        ensures { RunsInto (spec.of_two (world self.now.schema.now (D.population self.now.domain.now)) (bodies_at self.now.schema.now (D.population self.now.domain.now) self.now.levels) f.ValueIn into.old value.now counter.old) result into.new counter.new }
+        ensures { RunsInto (spec.of_two (W.world self.now.world.now) (bodies_at (W.world self.now.world.now) self.now.levels) f.ValueIn into.old value.now counter.old) result into.new counter.new }
     {
         charge(counter, count(into))?;
         *into = value_in(into, value);
@@ -66,7 +67,7 @@ impl<'a, D: Domain, B: Fn(Global, &Schema, &D, u8, &mut Counter, Body) -> Result
         counter: &mut Counter,
         into: &mut Value,
     ) -> Result<(), Stop>
-        ensures { RunsInto (spec.of_one (world self.now.schema.now (D.population self.now.domain.now)) (bodies_at self.now.schema.now (D.population self.now.domain.now) self.now.levels) function into.old counter.old) result into.new counter.new }
+        ensures { RunsInto (spec.of_one (W.world self.now.world.now) (bodies_at (W.world self.now.world.now) self.now.levels) function into.old counter.old) result into.new counter.new }
     {
         *into = match function {
             BuiltInFunction::Abs => absolute(into),
@@ -94,7 +95,7 @@ impl<'a, D: Domain, B: Fn(Global, &Schema, &D, u8, &mut Counter, Body) -> Result
         counter: &mut Counter,
         into: &mut Value,
     ) -> Result<(), Stop>
-        ensures { RunsInto (spec.of_two (world self.now.schema.now (D.population self.now.domain.now)) (bodies_at self.now.schema.now (D.population self.now.domain.now) self.now.levels) function into.old second.now counter.old) result into.new counter.new }
+        ensures { RunsInto (spec.of_two (W.world self.now.world.now) (bodies_at (W.world self.now.world.now) self.now.levels) function into.old second.now counter.old) result into.new counter.new }
     {
         match function {
             BuiltInFunction::Nvl => {
@@ -119,7 +120,7 @@ impl<'a, D: Domain, B: Fn(Global, &Schema, &D, u8, &mut Counter, Body) -> Result
         counter: &mut Counter,
         into: &mut Value,
     ) -> Result<(), Stop>
-        ensures { RunsInto (spec.built_in (world self.now.schema.now (D.population self.now.domain.now)) (bodies_at self.now.schema.now (D.population self.now.domain.now) self.now.levels) function values.now counter.old) result into.new counter.new }
+        ensures { RunsInto (spec.built_in (W.world self.now.world.now) (bodies_at (W.world self.now.world.now) self.now.levels) function values.now counter.old) result into.new counter.new }
     {
         match values {
             [value] => {
@@ -160,8 +161,8 @@ impl<'a, D: Domain, B: Fn(Global, &Schema, &D, u8, &mut Counter, Body) -> Result
         counter: &mut Counter,
         into: &mut Value,
     ) -> Result<(), Stop>
-        requires { RunsBodies D.population self.now.alloc self.now.schema self.now.domain self.now.levels (B.pre self.now.below) (B.post self.now.below) }
-        ensures { RunsInto (callings.function (bodies_at self.now.schema.now (D.population self.now.domain.now) self.now.levels) number values counter.old) result into.new counter.new }
+        requires { RunsBodies W.world self.now.alloc self.now.world self.now.levels (B.pre self.now.below) (B.post self.now.below) }
+        ensures { RunsInto (callings.function (bodies_at (W.world self.now.world.now) self.now.levels) number values counter.old) result into.new counter.new }
     {
         *into = self.body_below(Body::Function(number, values), counter)?;
         Ok(())

@@ -9,19 +9,18 @@ ghost use Rattle.rp_meaning.specs.BuiltIns as built_ins;
 ghost use Rattle.rp_meaning.specs.Expressions as spec;
 ghost use Rattle.rp_meaning.specs.Operators as operators;
 ghost use Rattle.rp_eval.specs.Charges.{charged, followed};
-ghost use Rattle.rp_eval.specs.Bodies.{RunsBodies, bodies_at, interval_at, operation_at, qualifier_at, query_at, value_at, world};
+ghost use Rattle.rp_eval.specs.Bodies.{RunsBodies, bodies_at, interval_at, operation_at, qualifier_at, query_at, value_at};
 ghost use Rattle.rp_eval.specs.Callings as callings;
 ghost use Rattle.rp_eval.specs.Written.{RunsInto};
 
 use crate::copies::copied;
 use crate::frame::Frame;
+use crate::setting::Setting;
 use crate::steps::{charge, charge_interval, charge_operator, known, variable};
 use crate::walk::Walk;
 use ex_tree::{BuiltInFunction, UnaryOperator};
 use plain_data::Items;
-use rp_meaning::{
-    Body, Counter, Domain, Expression, Interval, Operation, Qualifier, Query, Role, Schema, Stop,
-};
+use rp_meaning::{Body, Counter, Expression, Interval, Operation, Qualifier, Query, Role, Stop};
 use rp_operators::{aggregate_of, applied, applied_to, index, is_true, place_of, range, within};
 use rp_value::Value;
 use std::alloc::{AllocError, Global};
@@ -44,15 +43,15 @@ fn keep(found: &mut Items<Value>, element: &Value, holds: bool) -> Result<(), Al
     Ok(())
 }
 
-impl<'a, D: Domain, B: Fn(Global, &Schema, &D, u8, &mut Counter, Body) -> Result<Value, Stop>> Walk<
+impl<'a, W: Setting, B: Fn(Global, &W, u8, &mut Counter, Body) -> Result<Value, Stop>> Walk<
     'a,
-    D,
+    W,
     B,
 > {
     /// The value of an expression that is a literal, SELF or a variable, where it stands.
     #[inline(always)]
     fn standing<'v>(&self, tree: &'v Expression, frame: &'v Frame) -> Option<&'v Value>
-        ensures { IfSome result (λ value. value_at self.now.schema.now (D.population self.now.domain.now) self.now.levels tree.now frame.now ≡ charged 1 (pure value.now)) }
+        ensures { IfSome result (λ value. value_at (W.world self.now.world.now) self.now.levels tree.now frame.now ≡ charged 1 (pure value.now)) }
     {
         match tree {
             Expression::Literal(value) => Some(value),
@@ -112,8 +111,8 @@ impl<'a, D: Domain, B: Fn(Global, &Schema, &D, u8, &mut Counter, Body) -> Result
         counter: &mut Counter,
         into: &mut Value,
     ) -> Result<(), Stop>
-        requires { RunsBodies D.population self.now.alloc self.now.schema self.now.domain self.now.levels (B.pre self.now.below) (B.post self.now.below) }
-        ensures value { RunsInto (value_at self.now.schema.now (D.population self.now.domain.now) self.now.levels tree.now frame.old counter.old) result into.new counter.new }
+        requires { RunsBodies W.world self.now.alloc self.now.world self.now.levels (B.pre self.now.below) (B.post self.now.below) }
+        ensures value { RunsInto (value_at (W.world self.now.world.now) self.now.levels tree.now frame.old counter.old) result into.new counter.new }
         ensures frame { OnOk result (frame.new ≡ frame.old) }
     {
         match tree {
@@ -134,8 +133,8 @@ impl<'a, D: Domain, B: Fn(Global, &Schema, &D, u8, &mut Counter, Body) -> Result
         counter: &mut Counter,
         into: &mut Value,
     ) -> Result<(), Stop>
-        requires { RunsBodies D.population self.now.alloc self.now.schema self.now.domain self.now.levels (B.pre self.now.below) (B.post self.now.below) }
-        ensures value { RunsInto (value_at self.now.schema.now (D.population self.now.domain.now) self.now.levels tree.now frame.old counter.old) result into.new counter.new }
+        requires { RunsBodies W.world self.now.alloc self.now.world self.now.levels (B.pre self.now.below) (B.post self.now.below) }
+        ensures value { RunsInto (value_at (W.world self.now.world.now) self.now.levels tree.now frame.old counter.old) result into.new counter.new }
         ensures frame { OnOk result (frame.new ≡ frame.old) }
     {
         match tree {
@@ -180,8 +179,8 @@ impl<'a, D: Domain, B: Fn(Global, &Schema, &D, u8, &mut Counter, Body) -> Result
         counter: &mut Counter,
         values: &mut Items<Value>,
     ) -> Result<(), Stop>
-        requires { RunsBodies D.population self.now.alloc self.now.schema self.now.domain self.now.levels (B.pre self.now.below) (B.post self.now.below) }
-        ensures value { RunsInto (spec.each_after frame.old values.old (map (value_at self.now.schema.now (D.population self.now.domain.now) self.now.levels) trees.now) counter.old) result values.new counter.new }
+        requires { RunsBodies W.world self.now.alloc self.now.world self.now.levels (B.pre self.now.below) (B.post self.now.below) }
+        ensures value { RunsInto (spec.each_after frame.old values.old (map (value_at (W.world self.now.world.now) self.now.levels) trees.now) counter.old) result values.new counter.new }
         ensures frame { OnOk result (frame.new ≡ frame.old) }
     {
         for tree in trees {
@@ -203,8 +202,8 @@ impl<'a, D: Domain, B: Fn(Global, &Schema, &D, u8, &mut Counter, Body) -> Result
         counter: &mut Counter,
         into: &mut Value,
     ) -> Result<(), Stop>
-        requires { RunsBodies D.population self.now.alloc self.now.schema self.now.domain self.now.levels (B.pre self.now.below) (B.post self.now.below) }
-        ensures value { RunsInto (charged 1 (followed (spec.each_after frame.old [] (map (value_at self.now.schema.now (D.population self.now.domain.now) self.now.levels) arguments.now)) (callings.function (bodies_at self.now.schema.now (D.population self.now.domain.now) self.now.levels) number)) counter.old) result into.new counter.new }
+        requires { RunsBodies W.world self.now.alloc self.now.world self.now.levels (B.pre self.now.below) (B.post self.now.below) }
+        ensures value { RunsInto (charged 1 (followed (spec.each_after frame.old [] (map (value_at (W.world self.now.world.now) self.now.levels) arguments.now)) (callings.function (bodies_at (W.world self.now.world.now) self.now.levels) number)) counter.old) result into.new counter.new }
         ensures frame { OnOk result (frame.new ≡ frame.old) }
     {
         charge(counter, 1)?;
@@ -223,8 +222,8 @@ impl<'a, D: Domain, B: Fn(Global, &Schema, &D, u8, &mut Counter, Body) -> Result
         counter: &mut Counter,
         into: &mut Value,
     ) -> Result<(), Stop>
-        requires { RunsBodies D.population self.now.alloc self.now.schema self.now.domain self.now.levels (B.pre self.now.below) (B.post self.now.below) }
-        ensures value { RunsInto (charged 1 (followed (spec.each_after frame.old [] (map (value_at self.now.schema.now (D.population self.now.domain.now) self.now.levels) arguments.now)) callings.initialized) counter.old) result into.new counter.new }
+        requires { RunsBodies W.world self.now.alloc self.now.world self.now.levels (B.pre self.now.below) (B.post self.now.below) }
+        ensures value { RunsInto (charged 1 (followed (spec.each_after frame.old [] (map (value_at (W.world self.now.world.now) self.now.levels) arguments.now)) callings.initialized) counter.old) result into.new counter.new }
         ensures frame { OnOk result (frame.new ≡ frame.old) }
     {
         charge(counter, 1)?;
@@ -244,8 +243,8 @@ impl<'a, D: Domain, B: Fn(Global, &Schema, &D, u8, &mut Counter, Body) -> Result
         counter: &mut Counter,
         into: &mut Value,
     ) -> Result<(), Stop>
-        requires { RunsBodies D.population self.now.alloc self.now.schema self.now.domain self.now.levels (B.pre self.now.below) (B.post self.now.below) }
-        ensures value { RunsInto (charged 1 (followed (spec.each_after frame.old [] (map (value_at self.now.schema.now (D.population self.now.domain.now) self.now.levels) arguments.now)) (spec.built_in (world self.now.schema.now (D.population self.now.domain.now)) (bodies_at self.now.schema.now (D.population self.now.domain.now) self.now.levels) function)) counter.old) result into.new counter.new }
+        requires { RunsBodies W.world self.now.alloc self.now.world self.now.levels (B.pre self.now.below) (B.post self.now.below) }
+        ensures value { RunsInto (charged 1 (followed (spec.each_after frame.old [] (map (value_at (W.world self.now.world.now) self.now.levels) arguments.now)) (spec.built_in (W.world self.now.world.now) (bodies_at (W.world self.now.world.now) self.now.levels) function)) counter.old) result into.new counter.new }
         ensures frame { OnOk result (frame.new ≡ frame.old) }
     {
         charge(counter, 1)?;
@@ -279,8 +278,8 @@ impl<'a, D: Domain, B: Fn(Global, &Schema, &D, u8, &mut Counter, Body) -> Result
         counter: &mut Counter,
         into: &mut Value,
     ) -> Result<(), Stop>
-        requires { RunsBodies D.population self.now.alloc self.now.schema self.now.domain self.now.levels (B.pre self.now.below) (B.post self.now.below) }
-        ensures value { RunsInto (charged 2 (followed (value_at self.now.schema.now (D.population self.now.domain.now) self.now.levels instance.now frame.old) (λ a. spec.used_in_role (world self.now.schema.now (D.population self.now.domain.now)) (bodies_at self.now.schema.now (D.population self.now.domain.now) self.now.levels) role.now (place_of a))) counter.old) result into.new counter.new }
+        requires { RunsBodies W.world self.now.alloc self.now.world self.now.levels (B.pre self.now.below) (B.post self.now.below) }
+        ensures value { RunsInto (charged 2 (followed (value_at (W.world self.now.world.now) self.now.levels instance.now frame.old) (λ a. spec.used_in_role (W.world self.now.world.now) (bodies_at (W.world self.now.world.now) self.now.levels) role.now (place_of a))) counter.old) result into.new counter.new }
         ensures frame { OnOk result (frame.new ≡ frame.old) }
     {
         charge(counter, 2)?;
@@ -299,8 +298,8 @@ impl<'a, D: Domain, B: Fn(Global, &Schema, &D, u8, &mut Counter, Body) -> Result
         counter: &mut Counter,
         into: &mut Value,
     ) -> Result<(), Stop>
-        requires { RunsBodies D.population self.now.alloc self.now.schema self.now.domain self.now.levels (B.pre self.now.below) (B.post self.now.below) }
-        ensures value { RunsInto (charged 1 (followed (value_at self.now.schema.now (D.population self.now.domain.now) self.now.levels right.now frame.old) (λ a. pure (operators.applied_to operator a))) counter.old) result into.new counter.new }
+        requires { RunsBodies W.world self.now.alloc self.now.world self.now.levels (B.pre self.now.below) (B.post self.now.below) }
+        ensures value { RunsInto (charged 1 (followed (value_at (W.world self.now.world.now) self.now.levels right.now frame.old) (λ a. pure (operators.applied_to operator a))) counter.old) result into.new counter.new }
         ensures frame { OnOk result (frame.new ≡ frame.old) }
     {
         charge(counter, 1)?;
@@ -319,8 +318,8 @@ impl<'a, D: Domain, B: Fn(Global, &Schema, &D, u8, &mut Counter, Body) -> Result
         counter: &mut Counter,
         into: &mut Value,
     ) -> Result<(), Stop>
-        requires { RunsBodies D.population self.now.alloc self.now.schema self.now.domain self.now.levels (B.pre self.now.below) (B.post self.now.below) }
-        ensures value { RunsInto (spec.in_turn frame.old (map (operation_at self.now.schema.now (D.population self.now.domain.now) self.now.levels) operations.now) into.old counter.old) result into.new counter.new }
+        requires { RunsBodies W.world self.now.alloc self.now.world self.now.levels (B.pre self.now.below) (B.post self.now.below) }
+        ensures value { RunsInto (spec.in_turn frame.old (map (operation_at (W.world self.now.world.now) self.now.levels) operations.now) into.old counter.old) result into.new counter.new }
         ensures frame { OnOk result (frame.new ≡ frame.old) }
     {
         for operation in operations {
@@ -338,8 +337,8 @@ impl<'a, D: Domain, B: Fn(Global, &Schema, &D, u8, &mut Counter, Body) -> Result
         counter: &mut Counter,
         into: &mut Value,
     ) -> Result<(), Stop>
-        requires { RunsBodies D.population self.now.alloc self.now.schema self.now.domain self.now.levels (B.pre self.now.below) (B.post self.now.below) }
-        ensures value { RunsInto (operation_at self.now.schema.now (D.population self.now.domain.now) self.now.levels operation.now frame.old into.old counter.old) result into.new counter.new }
+        requires { RunsBodies W.world self.now.alloc self.now.world self.now.levels (B.pre self.now.below) (B.post self.now.below) }
+        ensures value { RunsInto (operation_at (W.world self.now.world.now) self.now.levels operation.now frame.old into.old counter.old) result into.new counter.new }
         ensures frame { OnOk result (frame.new ≡ frame.old) }
     {
         charge(counter, 1)?;
@@ -362,8 +361,8 @@ impl<'a, D: Domain, B: Fn(Global, &Schema, &D, u8, &mut Counter, Body) -> Result
         counter: &mut Counter,
         into: &mut Value,
     ) -> Result<(), Stop>
-        requires { RunsBodies D.population self.now.alloc self.now.schema self.now.domain self.now.levels (B.pre self.now.below) (B.post self.now.below) }
-        ensures value { RunsInto (spec.in_turn frame.old (map (qualifier_at self.now.schema.now (D.population self.now.domain.now) self.now.levels) qualifiers.now) into.old counter.old) result into.new counter.new }
+        requires { RunsBodies W.world self.now.alloc self.now.world self.now.levels (B.pre self.now.below) (B.post self.now.below) }
+        ensures value { RunsInto (spec.in_turn frame.old (map (qualifier_at (W.world self.now.world.now) self.now.levels) qualifiers.now) into.old counter.old) result into.new counter.new }
         ensures frame { OnOk result (frame.new ≡ frame.old) }
     {
         for qualifier in qualifiers {
@@ -381,8 +380,8 @@ impl<'a, D: Domain, B: Fn(Global, &Schema, &D, u8, &mut Counter, Body) -> Result
         counter: &mut Counter,
         into: &mut Value,
     ) -> Result<(), Stop>
-        requires { RunsBodies D.population self.now.alloc self.now.schema self.now.domain self.now.levels (B.pre self.now.below) (B.post self.now.below) }
-        ensures value { RunsInto (qualifier_at self.now.schema.now (D.population self.now.domain.now) self.now.levels qualifier.now frame.old into.old counter.old) result into.new counter.new }
+        requires { RunsBodies W.world self.now.alloc self.now.world self.now.levels (B.pre self.now.below) (B.post self.now.below) }
+        ensures value { RunsInto (qualifier_at (W.world self.now.world.now) self.now.levels qualifier.now frame.old into.old counter.old) result into.new counter.new }
         ensures frame { OnOk result (frame.new ≡ frame.old) }
     {
         charge(counter, 1)?;
@@ -413,8 +412,8 @@ impl<'a, D: Domain, B: Fn(Global, &Schema, &D, u8, &mut Counter, Body) -> Result
         counter: &mut Counter,
         into: &mut Value,
     ) -> Result<(), Stop>
-        requires { RunsBodies D.population self.now.alloc self.now.schema self.now.domain self.now.levels (B.pre self.now.below) (B.post self.now.below) }
-        ensures value { RunsInto (followed (value_at self.now.schema.now (D.population self.now.domain.now) self.now.levels at.now frame.old) (λ place. pure (built_ins.index into.old place)) counter.old) result into.new counter.new }
+        requires { RunsBodies W.world self.now.alloc self.now.world self.now.levels (B.pre self.now.below) (B.post self.now.below) }
+        ensures value { RunsInto (followed (value_at (W.world self.now.world.now) self.now.levels at.now frame.old) (λ place. pure (built_ins.index into.old place)) counter.old) result into.new counter.new }
         ensures frame { OnOk result (frame.new ≡ frame.old) }
     {
         let mut place = Value::Indet;
@@ -434,8 +433,8 @@ impl<'a, D: Domain, B: Fn(Global, &Schema, &D, u8, &mut Counter, Body) -> Result
         counter: &mut Counter,
         into: &mut Value,
     ) -> Result<(), Stop>
-        requires { RunsBodies D.population self.now.alloc self.now.schema self.now.domain self.now.levels (B.pre self.now.below) (B.post self.now.below) }
-        ensures value { RunsInto (followed (value_at self.now.schema.now (D.population self.now.domain.now) self.now.levels last.now frame.old) (λ high. pure (built_ins.range into.old low.now high)) counter.old) result into.new counter.new }
+        requires { RunsBodies W.world self.now.alloc self.now.world self.now.levels (B.pre self.now.below) (B.post self.now.below) }
+        ensures value { RunsInto (followed (value_at (W.world self.now.world.now) self.now.levels last.now frame.old) (λ high. pure (built_ins.range into.old low.now high)) counter.old) result into.new counter.new }
         ensures frame { OnOk result (frame.new ≡ frame.old) }
     {
         let mut high = Value::Indet;
@@ -454,8 +453,8 @@ impl<'a, D: Domain, B: Fn(Global, &Schema, &D, u8, &mut Counter, Body) -> Result
         counter: &mut Counter,
         into: &mut Value,
     ) -> Result<(), Stop>
-        requires { RunsBodies D.population self.now.alloc self.now.schema self.now.domain self.now.levels (B.pre self.now.below) (B.post self.now.below) }
-        ensures value { RunsInto (charged 1 (interval_at self.now.schema.now (D.population self.now.domain.now) self.now.levels interval.now frame.old) counter.old) result into.new counter.new }
+        requires { RunsBodies W.world self.now.alloc self.now.world self.now.levels (B.pre self.now.below) (B.post self.now.below) }
+        ensures value { RunsInto (charged 1 (interval_at (W.world self.now.world.now) self.now.levels interval.now frame.old) counter.old) result into.new counter.new }
         ensures frame { OnOk result (frame.new ≡ frame.old) }
     {
         charge(counter, 1)?;
@@ -477,8 +476,8 @@ impl<'a, D: Domain, B: Fn(Global, &Schema, &D, u8, &mut Counter, Body) -> Result
         counter: &mut Counter,
         into: &mut Value,
     ) -> Result<(), Stop>
-        requires { RunsBodies D.population self.now.alloc self.now.schema self.now.domain self.now.levels (B.pre self.now.below) (B.post self.now.below) }
-        ensures value { RunsInto (charged 1 (query_at self.now.schema.now (D.population self.now.domain.now) self.now.levels query.now frame.old) counter.old) result into.new counter.new }
+        requires { RunsBodies W.world self.now.alloc self.now.world self.now.levels (B.pre self.now.below) (B.post self.now.below) }
+        ensures value { RunsInto (charged 1 (query_at (W.world self.now.world.now) self.now.levels query.now frame.old) counter.old) result into.new counter.new }
         ensures frame { OnOk result (frame.new ≡ frame.old) }
     {
         charge(counter, 1)?;
@@ -509,8 +508,8 @@ impl<'a, D: Domain, B: Fn(Global, &Schema, &D, u8, &mut Counter, Body) -> Result
         counter: &mut Counter,
         room: &mut Value,
     ) -> Result<bool, Stop>
-        requires { RunsBodies D.population self.now.alloc self.now.schema self.now.domain self.now.levels (B.pre self.now.below) (B.post self.now.below) }
-        ensures value { Runs (spec.tested (value_at self.now.schema.now (D.population self.now.domain.now) self.now.levels condition.now) frame.old element.now counter.old) result counter.new }
+        requires { RunsBodies W.world self.now.alloc self.now.world self.now.levels (B.pre self.now.below) (B.post self.now.below) }
+        ensures value { Runs (spec.tested (value_at (W.world self.now.world.now) self.now.levels condition.now) frame.old element.now counter.old) result counter.new }
         ensures frame { OnOk result (frame.new ≡ frame.old) }
     {
         charge(counter, 1)?;
@@ -530,8 +529,8 @@ impl<'a, D: Domain, B: Fn(Global, &Schema, &D, u8, &mut Counter, Body) -> Result
         counter: &mut Counter,
         found: &mut Items<Value>,
     ) -> Result<(), Stop>
-        requires { RunsBodies D.population self.now.alloc self.now.schema self.now.domain self.now.levels (B.pre self.now.below) (B.post self.now.below) }
-        ensures value { RunsInto (spec.kept_after (value_at self.now.schema.now (D.population self.now.domain.now) self.now.levels condition.now) frame.old found.old elements.now counter.old) result found.new counter.new }
+        requires { RunsBodies W.world self.now.alloc self.now.world self.now.levels (B.pre self.now.below) (B.post self.now.below) }
+        ensures value { RunsInto (spec.kept_after (value_at (W.world self.now.world.now) self.now.levels condition.now) frame.old found.old elements.now counter.old) result found.new counter.new }
         ensures frame { OnOk result (frame.new ≡ frame.old) }
     {
         let mut room = Value::Indet;
@@ -549,8 +548,8 @@ impl<'a, D: Domain, B: Fn(Global, &Schema, &D, u8, &mut Counter, Body) -> Result
         frame: &mut Frame,
         counter: &mut Counter,
     ) -> Result<Value, Stop>
-        requires { RunsBodies D.population self.now.alloc self.now.schema self.now.domain self.now.levels (B.pre self.now.below) (B.post self.now.below) }
-        ensures value { Runs (value_at self.now.schema.now (D.population self.now.domain.now) self.now.levels tree.now frame.old counter.old) result counter.new }
+        requires { RunsBodies W.world self.now.alloc self.now.world self.now.levels (B.pre self.now.below) (B.post self.now.below) }
+        ensures value { Runs (value_at (W.world self.now.world.now) self.now.levels tree.now frame.old counter.old) result counter.new }
         ensures frame { OnOk result (frame.new ≡ frame.old) }
     {
         let mut value = Value::Indet;

@@ -9,6 +9,7 @@ mod expressions;
 mod frame;
 mod laws;
 mod rules;
+mod setting;
 mod statements;
 mod steps;
 mod turns;
@@ -16,4 +17,5 @@ mod users;
 mod walk;
 
 pub use laws::population_decides;
-pub use rules::{Code, eval};
+pub use rules::eval;
+pub use setting::World;

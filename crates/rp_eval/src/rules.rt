@@ -7,12 +7,13 @@ ghost use Rattle.rp_meaning.specs.Computations.{Runs};
 ghost use Rattle.rp_meaning.specs.Levels.{alone};
 ghost use Rattle.rp_meaning.specs.Outcomes as spec;
 ghost use Rattle.rp_eval.specs.Limits.{IsWithin};
-ghost use Rattle.rp_eval.specs.Bodies.{RunsBodies, bodies_at, world};
+ghost use Rattle.rp_eval.specs.Bodies.{RunsBodies, bodies_at};
 ghost use Rattle.rp_eval.specs.Endings.{after};
 
 use crate::attributes::inverse_at;
 use crate::bodies::run_body;
 use crate::frame::Frame;
+use crate::setting::{MOST_BODIES, Setting, World};
 use crate::statements::Ending;
 use crate::steps::charge;
 use crate::users::inverse_users;
@@ -26,16 +27,6 @@ use rp_meaning::{
 use rp_operators::place_of;
 use rp_value::{Logical, Value};
 use std::alloc::{AllocError, Global};
-
-/// How many bodies may nest.
-const MOST_BODIES: u8 = 200;
-
-/// A rule of a schema, to be evaluated.
-#[derive(Clone, Copy)]
-pub struct Code<'s> {
-    pub schema: &'s Schema,
-    pub rule: Rule,
-}
 
 fn holds_count(bounds: Bounds, count: usize) -> bool
     ensures { result ≡ spec.holds_count bounds count }
@@ -90,9 +81,9 @@ fn unique_attribute(
         .copied()
 }
 
-impl<'a, D: Domain, B: Fn(Global, &Schema, &D, u8, &mut Counter, Body) -> Result<Value, Stop>> Walk<
+impl<'a, W: Setting, B: Fn(Global, &W, u8, &mut Counter, Body) -> Result<Value, Stop>> Walk<
     'a,
-    D,
+    W,
     B,
 > {
     /// The value of a condition.
@@ -102,8 +93,8 @@ impl<'a, D: Domain, B: Fn(Global, &Schema, &D, u8, &mut Counter, Body) -> Result
         frame: &mut Frame,
         counter: &mut Counter,
     ) -> Result<Value, Stop>
-        requires { RunsBodies D.population self.now.alloc self.now.schema self.now.domain self.now.levels (B.pre self.now.below) (B.post self.now.below) }
-        ensures { Runs (spec.value_by (world self.now.schema.now (D.population self.now.domain.now)) (bodies_at self.now.schema.now (D.population self.now.domain.now) self.now.levels) (option_copied condition.entry) frame.old counter.old) result counter.new }
+        requires { RunsBodies W.world self.now.alloc self.now.world self.now.levels (B.pre self.now.below) (B.post self.now.below) }
+        ensures { Runs (spec.value_by (W.world self.now.world.now) (bodies_at (W.world self.now.world.now) self.now.levels) (option_copied condition.entry) frame.old counter.old) result counter.new }
     {
         match condition {
             Some(condition) => self.value(condition, frame, counter),
@@ -118,8 +109,8 @@ impl<'a, D: Domain, B: Fn(Global, &Schema, &D, u8, &mut Counter, Body) -> Result
         itself: Value,
         counter: &mut Counter,
     ) -> Result<Value, Stop>
-        requires { RunsBodies D.population self.now.alloc self.now.schema self.now.domain self.now.levels (B.pre self.now.below) (B.post self.now.below) }
-        ensures { Runs (spec.value_by (world self.now.schema.now (D.population self.now.domain.now)) (bodies_at self.now.schema.now (D.population self.now.domain.now) self.now.levels) (option_copied condition.entry) (alone itself) counter.old) result counter.new }
+        requires { RunsBodies W.world self.now.alloc self.now.world self.now.levels (B.pre self.now.below) (B.post self.now.below) }
+        ensures { Runs (spec.value_by (W.world self.now.world.now) (bodies_at (W.world self.now.world.now) self.now.levels) (option_copied condition.entry) (alone itself) counter.old) result counter.new }
     {
         let mut frame = Frame::alone(self.alloc, itself);
         self.value_by(condition, &mut frame, counter)
@@ -132,8 +123,8 @@ impl<'a, D: Domain, B: Fn(Global, &Schema, &D, u8, &mut Counter, Body) -> Result
         itself: Value,
         counter: &mut Counter,
     ) -> Result<Value, Stop>
-        requires { RunsBodies D.population self.now.alloc self.now.schema self.now.domain self.now.levels (B.pre self.now.below) (B.post self.now.below) }
-        ensures { Runs (spec.attribute_value (world self.now.schema.now (D.population self.now.domain.now)) (bodies_at self.now.schema.now (D.population self.now.domain.now) self.now.levels) attribute itself counter.old) result counter.new }
+        requires { RunsBodies W.world self.now.alloc self.now.world self.now.levels (B.pre self.now.below) (B.post self.now.below) }
+        ensures { Runs (spec.attribute_value (W.world self.now.world.now) (bodies_at (W.world self.now.world.now) self.now.levels) attribute itself counter.old) result counter.new }
     {
         match attribute {
             Some(attribute) => {
@@ -154,12 +145,12 @@ impl<'a, D: Domain, B: Fn(Global, &Schema, &D, u8, &mut Counter, Body) -> Result
         place: Option<u64>,
         counter: &mut Counter,
     ) -> Result<Value, Stop>
-        ensures { Runs (spec.bounds_value (world self.now.schema.now (D.population self.now.domain.now)) (bodies_at self.now.schema.now (D.population self.now.domain.now) self.now.levels) (option_copied inverse.entry) place counter.old) result counter.new }
+        ensures { Runs (spec.bounds_value (W.world self.now.world.now) (bodies_at (W.world self.now.world.now) self.now.levels) (option_copied inverse.entry) place counter.old) result counter.new }
     {
         let (Some(inverse), Some(place)) = (inverse, place) else {
             return Ok(Value::Indet);
         };
-        let users = inverse_users(self.alloc, self.domain, inverse, place as usize)?;
+        let users = inverse_users(self.alloc, self.world, inverse, place as usize)?;
         charge(counter, 1 + users.as_slice().len())?;
         Ok(Value::Log(Logical::of(is_count_of(inverse.aggregate, users.len()))))
     }
@@ -172,8 +163,8 @@ impl<'a, D: Domain, B: Fn(Global, &Schema, &D, u8, &mut Counter, Body) -> Result
         frame: &mut Frame,
         counter: &mut Counter,
     ) -> Result<Value, Stop>
-        requires { RunsBodies D.population self.now.alloc self.now.schema self.now.domain self.now.levels (B.pre self.now.below) (B.post self.now.below) }
-        ensures { (x : _) → Runs (spec.condition_after (world self.now.schema.now (D.population self.now.domain.now)) (bodies_at self.now.schema.now (D.population self.now.domain.now) self.now.levels) (option_copied condition.entry) (after ending x frame.old) counter.old) result counter.new }
+        requires { RunsBodies W.world self.now.alloc self.now.world self.now.levels (B.pre self.now.below) (B.post self.now.below) }
+        ensures { (x : _) → Runs (spec.condition_after (W.world self.now.world.now) (bodies_at (W.world self.now.world.now) self.now.levels) (option_copied condition.entry) (after ending x frame.old) counter.old) result counter.new }
     {
         match ending {
             Ending::Next => self.value_by(condition, frame, counter),
@@ -188,8 +179,8 @@ impl<'a, D: Domain, B: Fn(Global, &Schema, &D, u8, &mut Counter, Body) -> Result
         place: usize,
         counter: &mut Counter,
     ) -> Result<Value, Stop>
-        requires { RunsBodies D.population self.now.alloc self.now.schema self.now.domain self.now.levels (B.pre self.now.below) (B.post self.now.below) }
-        ensures { Runs (spec.rule_value (world self.now.schema.now (D.population self.now.domain.now)) (bodies_at self.now.schema.now (D.population self.now.domain.now) self.now.levels) (option_copied rule.entry) place counter.old) result counter.new }
+        requires { RunsBodies W.world self.now.alloc self.now.world self.now.levels (B.pre self.now.below) (B.post self.now.below) }
+        ensures { Runs (spec.rule_value (W.world self.now.world.now) (bodies_at (W.world self.now.world.now) self.now.levels) (option_copied rule.entry) place counter.old) result counter.new }
     {
         let Some(rule) = rule else {
             return Ok(Value::Indet);
@@ -202,29 +193,33 @@ impl<'a, D: Domain, B: Fn(Global, &Schema, &D, u8, &mut Counter, Body) -> Result
 
     /// What a rule says of SELF.
     fn evaluation(&self, rule: Rule, itself: Value, counter: &mut Counter) -> Result<Value, Stop>
-        requires { RunsBodies D.population self.now.alloc self.now.schema self.now.domain self.now.levels (B.pre self.now.below) (B.post self.now.below) }
-        ensures { Runs (spec.evaluation (world self.now.schema.now (D.population self.now.domain.now)) (bodies_at self.now.schema.now (D.population self.now.domain.now) self.now.levels) rule itself counter.old) result counter.new }
+        requires { RunsBodies W.world self.now.alloc self.now.world self.now.levels (B.pre self.now.below) (B.post self.now.below) }
+        ensures { Runs (spec.evaluation (W.world self.now.world.now) (bodies_at (W.world self.now.world.now) self.now.levels) rule itself counter.old) result counter.new }
     {
         match rule {
             Rule::Type(number, place) => {
-                self.condition(type_condition(self.schema, number, place), itself, counter)
+                self.condition(
+                    type_condition(self.world.schema(), number, place),
+                    itself,
+                    counter,
+                )
             }
             Rule::Entity(number, place) => {
                 self.condition(
-                    entity_condition(self.schema, number, place),
+                    entity_condition(self.world.schema(), number, place),
                     itself,
                     counter,
                 )
             }
             Rule::Global(number, place) => {
-                self.rule_value(self.schema.rules.get(number), place, counter)
+                self.rule_value(self.world.schema().rules.get(number), place, counter)
             }
             Rule::Unique(number, place, at) => {
-                let attribute = unique_attribute(self.schema, number, place, at);
+                let attribute = unique_attribute(self.world.schema(), number, place, at);
                 self.unique_value(attribute, itself, counter)
             }
             Rule::Inverse(number, place) => {
-                let inverse = inverse_at(self.schema, number, place);
+                let inverse = inverse_at(self.world.schema(), number, place);
                 self.bounds_value(inverse, place_of(&itself), counter)
             }
         }
@@ -236,26 +231,25 @@ impl<'a, D: Domain, B: Fn(Global, &Schema, &D, u8, &mut Counter, Body) -> Result
 #[tactic(auto, unfolding(rp_meaning::specs::Outcomes::outcome))]
 pub fn eval<D: Domain>(
     alloc: Global,
-    code: &Code<'_>,
-    domain: &D,
+    world: &World<'_, D>,
+    rule: Rule,
     itself: Value,
     limit: usize,
 ) -> Result<Outcome, AllocError>
     ensures steps { IfOk result (λ found. IsWithin limit found) }
-    ensures value { IfOk result (λ found. found ≡ spec.outcome (world code.now.schema.now (D.population domain.now)) code.now.rule itself limit) }
+    ensures value { IfOk result (λ found. found ≡ spec.outcome world.now rule itself limit) }
 {
     let walk = Walk {
         alloc,
-        schema: code.schema,
-        domain,
+        world,
         levels: MOST_BODIES,
-        below: run_body::<D>,
+        below: run_body::<World<'_, D>>,
     };
     let mut counter = Counter {
         left: limit,
         nesting: 0,
     };
-    match walk.evaluation(code.rule, itself, &mut counter) {
+    match walk.evaluation(rule, itself, &mut counter) {
         Ok(value) => Ok(Outcome::Value(value, limit - counter.left)),
         Err(Stop::Limit) => Ok(Outcome::Limit),
         Err(Stop::NoMemory) => Err(AllocError),

@@ -10,12 +10,13 @@ ghost use Rattle.rp_meaning.specs.Operators as operators;
 ghost use Rattle.rp_meaning.specs.Types.{given};
 ghost use Rattle.rp_meaning.specs.declared.tree.Expression.TheVariants as e;
 ghost use Rattle.rp_eval.specs.Charges.{charged, followed};
-ghost use Rattle.rp_eval.specs.Bodies.{RunsBodies, bodies_at, world, value_at, operation_at, action_at, labelled_at};
+ghost use Rattle.rp_eval.specs.Bodies.{RunsBodies, bodies_at, value_at, operation_at, action_at, labelled_at};
 ghost use Rattle.rp_eval.specs.Endings.{Ends, Turns};
 ghost use Rattle.rp_eval.specs.Beginnings.{begins};
 ghost use Rattle.rp_value.specs.declared.value.Value.TheVariants as v;
 
 use crate::frame::Frame;
+use crate::setting::Setting;
 use crate::steps::{charge, charge_operator};
 use crate::turns::{Running, advanced, begun, start};
 use crate::walk::Walk;
@@ -23,8 +24,7 @@ use ex_named::NamedDataType;
 use ex_tree::BinaryOperator;
 use plain_data::Items;
 use rp_meaning::{
-    Body, CaseAction, Control, Counter, Domain, Expression, Increment, Operation, Schema,
-    Statement, Stop,
+    Body, CaseAction, Control, Counter, Expression, Increment, Operation, Statement, Stop,
 };
 use rp_operators::{applied, applied_in_place, given, is_true};
 use rp_value::Value;
@@ -73,9 +73,9 @@ fn growth<'e>(value: &'e Expression, slot: usize, frame: &Frame) -> Option<&'e O
     }
 }
 
-impl<'a, D: Domain, B: Fn(Global, &Schema, &D, u8, &mut Counter, Body) -> Result<Value, Stop>> Walk<
+impl<'a, W: Setting, B: Fn(Global, &W, u8, &mut Counter, Body) -> Result<Value, Stop>> Walk<
     'a,
-    D,
+    W,
     B,
 > {
     /// One after the other. The place of the value that is returned serves for other values until then.
@@ -88,8 +88,8 @@ impl<'a, D: Domain, B: Fn(Global, &Schema, &D, u8, &mut Counter, Body) -> Result
         counter: &mut Counter,
         into: &mut Value,
     ) -> Result<Ending, Stop>
-        requires { RunsBodies D.population self.now.alloc self.now.schema self.now.domain self.now.levels (B.pre self.now.below) (B.post self.now.below) }
-        ensures { Ends (action_at self.now.schema.now (D.population self.now.domain.now) self.now.levels list.now frame.old counter.old) result into.new frame.new counter.new }
+        requires { RunsBodies W.world self.now.alloc self.now.world self.now.levels (B.pre self.now.below) (B.post self.now.below) }
+        ensures { Ends (action_at (W.world self.now.world.now) self.now.levels list.now frame.old counter.old) result into.new frame.new counter.new }
     {
         for item in list {
             match self.statement(item, frame, counter, into)? {
@@ -109,8 +109,8 @@ impl<'a, D: Domain, B: Fn(Global, &Schema, &D, u8, &mut Counter, Body) -> Result
         counter: &mut Counter,
         into: &mut Value,
     ) -> Result<Ending, Stop>
-        requires { RunsBodies D.population self.now.alloc self.now.schema self.now.domain self.now.levels (B.pre self.now.below) (B.post self.now.below) }
-        ensures { Ends (spec.statement (world self.now.schema.now (D.population self.now.domain.now)) most_turns (bodies_at self.now.schema.now (D.population self.now.domain.now) self.now.levels) item.now frame.old counter.old) result into.new frame.new counter.new }
+        requires { RunsBodies W.world self.now.alloc self.now.world self.now.levels (B.pre self.now.below) (B.post self.now.below) }
+        ensures { Ends (spec.statement (W.world self.now.world.now) most_turns (bodies_at (W.world self.now.world.now) self.now.levels) item.now frame.old counter.old) result into.new frame.new counter.new }
     {
         charge(counter, 1)?;
         match item {
@@ -153,8 +153,8 @@ impl<'a, D: Domain, B: Fn(Global, &Schema, &D, u8, &mut Counter, Body) -> Result
         frame: &mut Frame,
         counter: &mut Counter,
     ) -> Result<Value, Stop>
-        requires { RunsBodies D.population self.now.alloc self.now.schema self.now.domain self.now.levels (B.pre self.now.below) (B.post self.now.below) }
-        ensures value { Runs (charged 1 (operation_at self.now.schema.now (D.population self.now.domain.now) self.now.levels operation.now frame.old (slice_index_or frame.old.variables slot v.Indet)) counter.old) result counter.new }
+        requires { RunsBodies W.world self.now.alloc self.now.world self.now.levels (B.pre self.now.below) (B.post self.now.below) }
+        ensures value { Runs (charged 1 (operation_at (W.world self.now.world.now) self.now.levels operation.now frame.old (slice_index_or frame.old.variables slot v.Indet)) counter.old) result counter.new }
         ensures frame { OnOk result (frame.new ≡ spec.assigned frame.old slot v.Indet) }
     {
         charge(counter, 1)?;
@@ -174,8 +174,8 @@ impl<'a, D: Domain, B: Fn(Global, &Schema, &D, u8, &mut Counter, Body) -> Result
         frame: &mut Frame,
         counter: &mut Counter,
     ) -> Result<Value, Stop>
-        requires { RunsBodies D.population self.now.alloc self.now.schema self.now.domain self.now.levels (B.pre self.now.below) (B.post self.now.below) }
-        ensures value { Runs (value_at self.now.schema.now (D.population self.now.domain.now) self.now.levels value.now frame.old counter.old) result counter.new }
+        requires { RunsBodies W.world self.now.alloc self.now.world self.now.levels (B.pre self.now.below) (B.post self.now.below) }
+        ensures value { Runs (value_at (W.world self.now.world.now) self.now.levels value.now frame.old counter.old) result counter.new }
         ensures frame { OnOk result ((x : _) → spec.assigned frame.new slot x ≡ spec.assigned frame.old slot x) }
     {
         match growth(value, slot, frame) {
@@ -194,11 +194,16 @@ impl<'a, D: Domain, B: Fn(Global, &Schema, &D, u8, &mut Counter, Body) -> Result
         frame: &mut Frame,
         counter: &mut Counter,
     ) -> Result<Ending, Stop>
-        requires { RunsBodies D.population self.now.alloc self.now.schema self.now.domain self.now.levels (B.pre self.now.below) (B.post self.now.below) }
-        ensures { (x : _) → Ends ((followed (value_at self.now.schema.now (D.population self.now.domain.now) self.now.levels value.now frame.old) (λ a. pure (spec.Next (spec.assigned frame.old slot (given self.now.schema.now.types data_type.now a))))) counter.old) result x frame.new counter.new }
+        requires { RunsBodies W.world self.now.alloc self.now.world self.now.levels (B.pre self.now.below) (B.post self.now.below) }
+        ensures { (x : _) → Ends ((followed (value_at (W.world self.now.world.now) self.now.levels value.now frame.old) (λ a. pure (spec.Next (spec.assigned frame.old slot (given (W.world self.now.world.now).schema.types data_type.now a))))) counter.old) result x frame.new counter.new }
     {
         let value = self.assigned_value(value, slot, frame, counter)?;
-        let value = given(self.alloc, self.schema.types.as_slice(), data_type, &value)?;
+        let value = given(
+            self.alloc,
+            self.world.schema().types.as_slice(),
+            data_type,
+            &value,
+        )?;
         frame.assign(slot, value);
         Ok(Ending::Next)
     }
@@ -211,8 +216,8 @@ impl<'a, D: Domain, B: Fn(Global, &Schema, &D, u8, &mut Counter, Body) -> Result
         frame: &mut Frame,
         counter: &mut Counter,
     ) -> Result<bool, Stop>
-        requires { RunsBodies D.population self.now.alloc self.now.schema self.now.domain self.now.levels (B.pre self.now.below) (B.post self.now.below) }
-        ensures value { Runs (spec.asked (value_at self.now.schema.now (D.population self.now.domain.now) self.now.levels) none condition.now frame.old counter.old) result counter.new }
+        requires { RunsBodies W.world self.now.alloc self.now.world self.now.levels (B.pre self.now.below) (B.post self.now.below) }
+        ensures value { Runs (spec.asked (value_at (W.world self.now.world.now) self.now.levels) none condition.now frame.old counter.old) result counter.new }
         ensures frame { OnOk result (frame.new ≡ frame.old) }
     {
         match condition {
@@ -231,8 +236,8 @@ impl<'a, D: Domain, B: Fn(Global, &Schema, &D, u8, &mut Counter, Body) -> Result
         frame: &mut Frame,
         counter: &mut Counter,
     ) -> Result<Value, Stop>
-        requires { RunsBodies D.population self.now.alloc self.now.schema self.now.domain self.now.levels (B.pre self.now.below) (B.post self.now.below) }
-        ensures value { Runs (spec.step_value (value_at self.now.schema.now (D.population self.now.domain.now) self.now.levels) step.now frame.old counter.old) result counter.new }
+        requires { RunsBodies W.world self.now.alloc self.now.world self.now.levels (B.pre self.now.below) (B.post self.now.below) }
+        ensures value { Runs (spec.step_value (value_at (W.world self.now.world.now) self.now.levels) step.now frame.old counter.old) result counter.new }
         ensures frame { OnOk result (frame.new ≡ frame.old) }
     {
         match step {
@@ -249,8 +254,8 @@ impl<'a, D: Domain, B: Fn(Global, &Schema, &D, u8, &mut Counter, Body) -> Result
         frame: &mut Frame,
         counter: &mut Counter,
     ) -> Result<bool, Stop>
-        requires { RunsBodies D.population self.now.alloc self.now.schema self.now.domain self.now.levels (B.pre self.now.below) (B.post self.now.below) }
-        ensures value { Runs ((followed (value_at self.now.schema.now (D.population self.now.domain.now) self.now.levels label.now frame.old) (λ b. pure (bare.is_true (operators.equal selector.now b)))) counter.old) result counter.new }
+        requires { RunsBodies W.world self.now.alloc self.now.world self.now.levels (B.pre self.now.below) (B.post self.now.below) }
+        ensures value { Runs ((followed (value_at (W.world self.now.world.now) self.now.levels label.now frame.old) (λ b. pure (bare.is_true (operators.equal selector.now b)))) counter.old) result counter.new }
         ensures frame { OnOk result (frame.new ≡ frame.old) }
     {
         let value = self.value(label, frame, counter)?;
@@ -266,8 +271,8 @@ impl<'a, D: Domain, B: Fn(Global, &Schema, &D, u8, &mut Counter, Body) -> Result
         frame: &mut Frame,
         counter: &mut Counter,
     ) -> Result<bool, Stop>
-        requires { RunsBodies D.population self.now.alloc self.now.schema self.now.domain self.now.levels (B.pre self.now.below) (B.post self.now.below) }
-        ensures value { Runs (spec.any_equal (value_at self.now.schema.now (D.population self.now.domain.now) self.now.levels) selector.now labels.now frame.old counter.old) result counter.new }
+        requires { RunsBodies W.world self.now.alloc self.now.world self.now.levels (B.pre self.now.below) (B.post self.now.below) }
+        ensures value { Runs (spec.any_equal (value_at (W.world self.now.world.now) self.now.levels) selector.now labels.now frame.old counter.old) result counter.new }
         ensures frame { OnOk result (frame.new ≡ frame.old) }
     {
         for label in labels {
@@ -286,8 +291,8 @@ impl<'a, D: Domain, B: Fn(Global, &Schema, &D, u8, &mut Counter, Body) -> Result
         frame: &mut Frame,
         counter: &mut Counter,
     ) -> Result<bool, Stop>
-        requires { RunsBodies D.population self.now.alloc self.now.schema self.now.domain self.now.levels (B.pre self.now.below) (B.post self.now.below) }
-        ensures value { Runs (spec.is_hit (value_at self.now.schema.now (D.population self.now.domain.now) self.now.levels) selector.now labels.now frame.old counter.old) result counter.new }
+        requires { RunsBodies W.world self.now.alloc self.now.world self.now.levels (B.pre self.now.below) (B.post self.now.below) }
+        ensures value { Runs (spec.is_hit (value_at (W.world self.now.world.now) self.now.levels) selector.now labels.now frame.old counter.old) result counter.new }
         ensures frame { OnOk result (frame.new ≡ frame.old) }
     {
         match labels {
@@ -307,8 +312,8 @@ impl<'a, D: Domain, B: Fn(Global, &Schema, &D, u8, &mut Counter, Body) -> Result
         counter: &mut Counter,
         into: &mut Value,
     ) -> Result<Ending, Stop>
-        requires { RunsBodies D.population self.now.alloc self.now.schema self.now.domain self.now.levels (B.pre self.now.below) (B.post self.now.below) }
-        ensures { Ends (followed (value_at self.now.schema.now (D.population self.now.domain.now) self.now.levels selector.now frame.old) (λ a. spec.matched (value_at self.now.schema.now (D.population self.now.domain.now) self.now.levels) a (map (labelled_at self.now.schema.now (D.population self.now.domain.now) self.now.levels) actions.now) frame.old) counter.old) result into.new frame.new counter.new }
+        requires { RunsBodies W.world self.now.alloc self.now.world self.now.levels (B.pre self.now.below) (B.post self.now.below) }
+        ensures { Ends (followed (value_at (W.world self.now.world.now) self.now.levels selector.now frame.old) (λ a. spec.matched (value_at (W.world self.now.world.now) self.now.levels) a (map (labelled_at (W.world self.now.world.now) self.now.levels) actions.now) frame.old) counter.old) result into.new frame.new counter.new }
     {
         let selector = self.value(selector, frame, counter)?;
         self.matched(actions.as_slice(), &selector, frame, counter, into)
@@ -325,8 +330,8 @@ impl<'a, D: Domain, B: Fn(Global, &Schema, &D, u8, &mut Counter, Body) -> Result
         counter: &mut Counter,
         into: &mut Value,
     ) -> Result<Ending, Stop>
-        requires { RunsBodies D.population self.now.alloc self.now.schema self.now.domain self.now.levels (B.pre self.now.below) (B.post self.now.below) }
-        ensures { Ends (spec.matched (value_at self.now.schema.now (D.population self.now.domain.now) self.now.levels) selector.now (map (labelled_at self.now.schema.now (D.population self.now.domain.now) self.now.levels) actions.now) frame.old counter.old) result into.new frame.new counter.new }
+        requires { RunsBodies W.world self.now.alloc self.now.world self.now.levels (B.pre self.now.below) (B.post self.now.below) }
+        ensures { Ends (spec.matched (value_at (W.world self.now.world.now) self.now.levels) selector.now (map (labelled_at (W.world self.now.world.now) self.now.levels) actions.now) frame.old counter.old) result into.new frame.new counter.new }
     {
         for action in actions {
             if self.is_hit(selector, &action.labels, frame, counter)? {
@@ -343,8 +348,8 @@ impl<'a, D: Domain, B: Fn(Global, &Schema, &D, u8, &mut Counter, Body) -> Result
         frame: &mut Frame,
         counter: &mut Counter,
     ) -> Result<Turning, Stop>
-        requires { RunsBodies D.population self.now.alloc self.now.schema self.now.domain self.now.levels (B.pre self.now.below) (B.post self.now.below) }
-        ensures { (x : _) → Turns (spec.turned (spec.asked (value_at self.now.schema.now (D.population self.now.domain.now) self.now.levels) false control.now.until_condition) (spec.Next frame.old) counter.old) result x frame.new counter.new }
+        requires { RunsBodies W.world self.now.alloc self.now.world self.now.levels (B.pre self.now.below) (B.post self.now.below) }
+        ensures { (x : _) → Turns (spec.turned (spec.asked (value_at (W.world self.now.world.now) self.now.levels) false control.now.until_condition) (spec.Next frame.old) counter.old) result x frame.new counter.new }
     {
         if self.asked(false, &control.until_condition, frame, counter)? {
             Ok(Turning::Over(Ending::Next))
@@ -363,8 +368,8 @@ impl<'a, D: Domain, B: Fn(Global, &Schema, &D, u8, &mut Counter, Body) -> Result
         counter: &mut Counter,
         into: &mut Value,
     ) -> Result<Turning, Stop>
-        requires { RunsBodies D.population self.now.alloc self.now.schema self.now.domain self.now.levels (B.pre self.now.below) (B.post self.now.below) }
-        ensures { Turns (spec.turn (value_at self.now.schema.now (D.population self.now.domain.now) self.now.levels) control.now (action_at self.now.schema.now (D.population self.now.domain.now) self.now.levels body.now) frame.old counter.old) result into.new frame.new counter.new }
+        requires { RunsBodies W.world self.now.alloc self.now.world self.now.levels (B.pre self.now.below) (B.post self.now.below) }
+        ensures { Turns (spec.turn (value_at (W.world self.now.world.now) self.now.levels) control.now (action_at (W.world self.now.world.now) self.now.levels body.now) frame.old counter.old) result into.new frame.new counter.new }
     {
         if !self.asked(true, &control.while_condition, frame, counter)? {
             return Ok(Turning::Over(Ending::Next));
@@ -388,8 +393,8 @@ impl<'a, D: Domain, B: Fn(Global, &Schema, &D, u8, &mut Counter, Body) -> Result
         counter: &mut Counter,
         into: &mut Value,
     ) -> Result<Ending, Stop>
-        requires { RunsBodies D.population self.now.alloc self.now.schema self.now.domain self.now.levels (B.pre self.now.below) (B.post self.now.below) }
-        ensures { Ends (spec.repeated most_turns (spec.turn (value_at self.now.schema.now (D.population self.now.domain.now) self.now.levels) control.now (action_at self.now.schema.now (D.population self.now.domain.now) self.now.levels body.now)) running frame.old counter.old) result into.new frame.new counter.new }
+        requires { RunsBodies W.world self.now.alloc self.now.world self.now.levels (B.pre self.now.below) (B.post self.now.below) }
+        ensures { Ends (spec.repeated most_turns (spec.turn (value_at (W.world self.now.world.now) self.now.levels) control.now (action_at (W.world self.now.world.now) self.now.levels body.now)) running frame.old counter.old) result into.new frame.new counter.new }
     {
         let mut running = running;
         for _turn in 0..usize::MAX {
@@ -415,8 +420,8 @@ impl<'a, D: Domain, B: Fn(Global, &Schema, &D, u8, &mut Counter, Body) -> Result
         counter: &mut Counter,
         into: &mut Value,
     ) -> Result<Ending, Stop>
-        requires { RunsBodies D.population self.now.alloc self.now.schema self.now.domain self.now.levels (B.pre self.now.below) (B.post self.now.below) }
-        ensures { Ends (spec.counted most_turns (spec.turn (value_at self.now.schema.now (D.population self.now.domain.now) self.now.levels) control.now (action_at self.now.schema.now (D.population self.now.domain.now) self.now.levels body.now)) (Some running) frame.old counter.old) result into.new frame.new counter.new }
+        requires { RunsBodies W.world self.now.alloc self.now.world self.now.levels (B.pre self.now.below) (B.post self.now.below) }
+        ensures { Ends (spec.counted most_turns (spec.turn (value_at (W.world self.now.world.now) self.now.levels) control.now (action_at (W.world self.now.world.now) self.now.levels body.now)) (Some running) frame.old counter.old) result into.new frame.new counter.new }
     {
         frame.open(Value::Indet)?;
         let ending = self.turns(body, control, Some(running), frame, counter, into)?;
@@ -432,8 +437,8 @@ impl<'a, D: Domain, B: Fn(Global, &Schema, &D, u8, &mut Counter, Body) -> Result
         frame: &mut Frame,
         counter: &mut Counter,
     ) -> Result<Option<Running>, Stop>
-        requires { RunsBodies D.population self.now.alloc self.now.schema self.now.domain self.now.levels (B.pre self.now.below) (B.post self.now.below) }
-        ensures value { Runs (begins (value_at self.now.schema.now (D.population self.now.domain.now) self.now.levels) increment.now frame.old counter.old) result counter.new }
+        requires { RunsBodies W.world self.now.alloc self.now.world self.now.levels (B.pre self.now.below) (B.post self.now.below) }
+        ensures value { Runs (begins (value_at (W.world self.now.world.now) self.now.levels) increment.now frame.old counter.old) result counter.new }
         ensures frame { OnOk result (frame.new ≡ frame.old) }
     {
         let first = self.value(&increment.first, frame, counter)?;
@@ -454,8 +459,8 @@ impl<'a, D: Domain, B: Fn(Global, &Schema, &D, u8, &mut Counter, Body) -> Result
         counter: &mut Counter,
         into: &mut Value,
     ) -> Result<Ending, Stop>
-        requires { RunsBodies D.population self.now.alloc self.now.schema self.now.domain self.now.levels (B.pre self.now.below) (B.post self.now.below) }
-        ensures { Ends (spec.repeats most_turns (value_at self.now.schema.now (D.population self.now.domain.now) self.now.levels) (spec.turn (value_at self.now.schema.now (D.population self.now.domain.now) self.now.levels) control.now (action_at self.now.schema.now (D.population self.now.domain.now) self.now.levels body.now)) (Some increment.now) frame.old counter.old) result into.new frame.new counter.new }
+        requires { RunsBodies W.world self.now.alloc self.now.world self.now.levels (B.pre self.now.below) (B.post self.now.below) }
+        ensures { Ends (spec.repeats most_turns (value_at (W.world self.now.world.now) self.now.levels) (spec.turn (value_at (W.world self.now.world.now) self.now.levels) control.now (action_at (W.world self.now.world.now) self.now.levels body.now)) (Some increment.now) frame.old counter.old) result into.new frame.new counter.new }
     {
         match self.running(increment, frame, counter)? {
             None => Ok(Ending::Next),
@@ -474,8 +479,8 @@ impl<'a, D: Domain, B: Fn(Global, &Schema, &D, u8, &mut Counter, Body) -> Result
         counter: &mut Counter,
         into: &mut Value,
     ) -> Result<Ending, Stop>
-        requires { RunsBodies D.population self.now.alloc self.now.schema self.now.domain self.now.levels (B.pre self.now.below) (B.post self.now.below) }
-        ensures { Ends (spec.repeats most_turns (value_at self.now.schema.now (D.population self.now.domain.now) self.now.levels) (spec.turn (value_at self.now.schema.now (D.population self.now.domain.now) self.now.levels) control.now (action_at self.now.schema.now (D.population self.now.domain.now) self.now.levels body.now)) control.now.increment frame.old counter.old) result into.new frame.new counter.new }
+        requires { RunsBodies W.world self.now.alloc self.now.world self.now.levels (B.pre self.now.below) (B.post self.now.below) }
+        ensures { Ends (spec.repeats most_turns (value_at (W.world self.now.world.now) self.now.levels) (spec.turn (value_at (W.world self.now.world.now) self.now.levels) control.now (action_at (W.world self.now.world.now) self.now.levels body.now)) control.now.increment frame.old counter.old) result into.new frame.new counter.new }
     {
         match &control.increment {
             None => self.turns(body.as_slice(), control, None, frame, counter, into),

@@ -6,11 +6,13 @@ ghost use Rattle.rp_meaning.specs.Computations.{Runs, pure};
 ghost use Rattle.rp_eval.specs.Charges.{charged};
 ghost use Rattle.rp_eval.specs.Written.{RunsInto};
 ghost use Rattle.rp_meaning.specs.BuiltIns as built_ins;
+ghost use Rattle.rp_meaning.specs.Laws as laws;
 ghost use Rattle.rp_meaning.specs.Operators as operators;
 ghost use Rattle.rp_value.specs.declared.value.Value.TheVariants as v;
 
 use crate::copies::copied;
 use crate::frame::Frame;
+use crate::setting::Kept;
 use ex_tree::BinaryOperator;
 use rp_meaning::{Counter, Stop};
 use rp_operators::{cost, interval_cost, size};
@@ -92,5 +94,23 @@ pub(crate) fn variable(
 {
     charge(counter, 1)?;
     *into = frame.variable(slot)?;
+    Ok(())
+}
+
+/// A value that is kept, where so many bodies may nest, for the steps that it took.
+pub(crate) fn serve(
+    kept: &Kept,
+    levels: u8,
+    counter: &mut Counter,
+    into: &mut Value,
+) -> Result<(), Stop>
+    ensures { RunsInto (laws.kept kept.now.steps kept.now.bodies kept.now.value levels counter.old) result into.new counter.new }
+{
+    if counter.left < kept.steps || (levels as usize) < kept.bodies {
+        return Err(Stop::Limit);
+    }
+    counter.left -= kept.steps;
+    counter.nesting = counter.nesting.max(kept.bodies);
+    *into = copied(&kept.value)?;
     Ok(())
 }

@@ -8,9 +8,10 @@ ghost use Rattle.rp_value.specs.declared.value.Value.{out-Value};
 ghost use Rattle.rp_meaning.specs.Bare.{place_in};
 ghost use Rattle.rp_eval.specs.Counts as counts;
 
+use crate::setting::Setting;
 use ex_tree::{InverseAggregate, SetOrBag};
 use plain_data::Items;
-use rp_meaning::{Domain, Inverse};
+use rp_meaning::Inverse;
 use rp_value::{AggregateKind, Value};
 use std::alloc::{AllocError, Global};
 
@@ -77,15 +78,15 @@ fn is_bag(aggregate: Option<InverseAggregate>) -> bool
 }
 
 /// The users of what stands at a place that an inverse attribute counts.
-pub(crate) fn inverse_users<D: Domain>(
+pub(crate) fn inverse_users<W: Setting>(
     alloc: Global,
-    domain: &D,
+    world: &W,
     inverse: &Inverse,
     place: usize,
 ) -> Result<Items<Value>, AllocError>
-    ensures { IfOk result (λ found. found ≡ instances (spec.inverse_places (D.population domain.now) inverse.now place)) }
+    ensures { IfOk result (λ found. found ≡ instances (spec.inverse_places (W.world world.now).population inverse.now place)) }
 {
-    let users = domain.users(alloc, place, &inverse.role)?;
+    let users = world.users(alloc, place, &inverse.role)?;
     if is_bag(inverse.aggregate) {
         return Ok(users);
     }

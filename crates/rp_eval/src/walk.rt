@@ -11,51 +11,44 @@ ghost use Rattle.rp_meaning.specs.declared.body.Body.TheVariants as b;
 ghost use Rattle.rp_value.specs.declared.value.Value.TheVariants as v;
 ghost use Rattle.rp_eval.specs.Charges.{charged};
 ghost use Rattle.rp_eval.specs.Written.{RunsInto};
-ghost use Rattle.rp_eval.specs.Bodies.{RunsBodies, bodies_at, world};
+ghost use Rattle.rp_eval.specs.Bodies.{RunsBodies, bodies_at};
 
 use crate::attributes::{
     chosen, derivation_in, explicit_derivations, inverse_at, named_role, own_derivations,
     stored_value,
 };
 use crate::frame::Frame;
-use crate::steps::charge;
+use crate::setting::Setting;
+use crate::steps::{charge, serve};
 use crate::users::{inverse_users, of_users};
 use ex_named::{AttributePlace, AttributeSort};
 use plain_data::Items;
-use rp_meaning::{Body, Counter, Derivation, Domain, Inverse, Role, Schema, Seen, Stop};
+use rp_meaning::{Body, Counter, Derivation, Inverse, Role, Seen, Stop};
 use rp_operators::{is_of, place_of};
 use rp_value::{AggregateKind, Value};
 use std::alloc::{AllocError, Global};
 
 /// One level of bodies.
 #[derive(Drop)]
-pub(crate) struct Walk<'a, D, B> {
+pub(crate) struct Walk<'a, W, B> {
     pub(crate) alloc: Global,
-    pub(crate) schema: &'a Schema,
-    pub(crate) domain: &'a D,
+    pub(crate) world: &'a W,
     /// How many bodies may nest beneath.
     pub(crate) levels: u8,
     pub(crate) below: B,
 }
 
-impl<'a, D: Domain, B: Fn(Global, &Schema, &D, u8, &mut Counter, Body) -> Result<Value, Stop>> Walk<
+impl<'a, W: Setting, B: Fn(Global, &W, u8, &mut Counter, Body) -> Result<Value, Stop>> Walk<
     'a,
-    D,
+    W,
     B,
 > {
     /// What a body beneath gives.
     pub(crate) fn body_below(&self, body: Body, counter: &mut Counter) -> Result<Value, Stop>
-        requires { RunsBodies D.population self.now.alloc self.now.schema self.now.domain self.now.levels (B.pre self.now.below) (B.post self.now.below) }
-        ensures { Runs ((bodies_at self.now.schema.now (D.population self.now.domain.now) self.now.levels) body counter.old) result counter.new }
+        requires { RunsBodies W.world self.now.alloc self.now.world self.now.levels (B.pre self.now.below) (B.post self.now.below) }
+        ensures { Runs ((bodies_at (W.world self.now.world.now) self.now.levels) body counter.old) result counter.new }
     {
-        (self.below)(
-            self.alloc,
-            self.schema,
-            self.domain,
-            self.levels,
-            counter,
-            body,
-        )
+        (self.below)(self.alloc, self.world, self.levels, counter, body)
     }
 
     /// What a derivation gives for the instance at a place.
@@ -67,8 +60,8 @@ impl<'a, D: Domain, B: Fn(Global, &Schema, &D, u8, &mut Counter, Body) -> Result
         counter: &mut Counter,
         into: &mut Value,
     ) -> Result<(), Stop>
-        requires { RunsBodies D.population self.now.alloc self.now.schema self.now.domain self.now.levels (B.pre self.now.below) (B.post self.now.below) }
-        ensures { RunsInto (bodies_at self.now.schema.now (D.population self.now.domain.now) self.now.levels (b.Derived derivation.entity derivation.place place) counter.old) result into.new counter.new }
+        requires { RunsBodies W.world self.now.alloc self.now.world self.now.levels (B.pre self.now.below) (B.post self.now.below) }
+        ensures { RunsInto (bodies_at (W.world self.now.world.now) self.now.levels (b.Derived derivation.entity derivation.place place) counter.old) result into.new counter.new }
     {
         let body = Body::Derived(derivation.entity, derivation.place, place);
         *into = self.body_below(body, counter)?;
@@ -85,13 +78,13 @@ impl<'a, D: Domain, B: Fn(Global, &Schema, &D, u8, &mut Counter, Body) -> Result
         counter: &mut Counter,
         into: &mut Value,
     ) -> Result<(), Stop>
-        ensures { RunsInto (spec.inverse_by (world self.now.schema.now (D.population self.now.domain.now)) (bodies_at self.now.schema.now (D.population self.now.domain.now) self.now.levels) (option_copied inverse.entry) place counter.old) result into.new counter.new }
+        ensures { RunsInto (spec.inverse_by (W.world self.now.world.now) (bodies_at (W.world self.now.world.now) self.now.levels) (option_copied inverse.entry) place counter.old) result into.new counter.new }
     {
         let Some(inverse) = inverse else {
             *into = Value::Indet;
             return Ok(());
         };
-        let users = inverse_users(self.alloc, self.domain, inverse, place as usize)?;
+        let users = inverse_users(self.alloc, self.world, inverse, place as usize)?;
         charge(counter, users.len())?;
         *into = of_users(self.alloc, inverse.aggregate, users)?;
         Ok(())
@@ -106,12 +99,13 @@ impl<'a, D: Domain, B: Fn(Global, &Schema, &D, u8, &mut Counter, Body) -> Result
         counter: &mut Counter,
         into: &mut Value,
     ) -> Result<(), Stop>
-        requires { RunsBodies D.population self.now.alloc self.now.schema self.now.domain self.now.levels (B.pre self.now.below) (B.post self.now.below) }
-        ensures { RunsInto (spec.attribute_by (world self.now.schema.now (D.population self.now.domain.now)) (bodies_at self.now.schema.now (D.population self.now.domain.now) self.now.levels) attribute.now.sort attribute.now instance.now place counter.old) result into.new counter.new }
+        requires { RunsBodies W.world self.now.alloc self.now.world self.now.levels (B.pre self.now.below) (B.post self.now.below) }
+        ensures { RunsInto (spec.attribute_by (W.world self.now.world.now) (bodies_at (W.world self.now.world.now) self.now.levels) attribute.now.sort attribute.now instance.now place counter.old) result into.new counter.new }
     {
+        let schema = self.world.schema();
         match attribute.sort {
             AttributeSort::Explicit => {
-                let derivations = explicit_derivations(self.schema, attribute);
+                let derivations = explicit_derivations(schema, attribute);
                 match derivation_in(derivations, instance) {
                     Some(derivation) => self.derived(derivation, place, counter, into),
                     None => {
@@ -121,7 +115,7 @@ impl<'a, D: Domain, B: Fn(Global, &Schema, &D, u8, &mut Counter, Body) -> Result
                 }
             }
             AttributeSort::Derived => {
-                let derivations = own_derivations(self.schema, attribute);
+                let derivations = own_derivations(schema, attribute);
                 match derivation_in(derivations, instance) {
                     Some(derivation) => self.derived(derivation, place, counter, into),
                     None => {
@@ -131,7 +125,7 @@ impl<'a, D: Domain, B: Fn(Global, &Schema, &D, u8, &mut Counter, Body) -> Result
                 }
             }
             AttributeSort::Inverse => {
-                let inverse = inverse_at(self.schema, attribute.entity, attribute.place);
+                let inverse = inverse_at(schema, attribute.entity, attribute.place);
                 self.inverse_by(inverse, place, counter, into)
             }
         }
@@ -146,14 +140,14 @@ impl<'a, D: Domain, B: Fn(Global, &Schema, &D, u8, &mut Counter, Body) -> Result
         counter: &mut Counter,
         into: &mut Value,
     ) -> Result<(), Stop>
-        requires { RunsBodies D.population self.now.alloc self.now.schema self.now.domain self.now.levels (B.pre self.now.below) (B.post self.now.below) }
-        ensures { RunsInto (spec.attribute_in (world self.now.schema.now (D.population self.now.domain.now)) (bodies_at self.now.schema.now (D.population self.now.domain.now) self.now.levels) attributes.now place counter.old) result into.new counter.new }
+        requires { RunsBodies W.world self.now.alloc self.now.world self.now.levels (B.pre self.now.below) (B.post self.now.below) }
+        ensures { RunsInto (spec.attribute_in (W.world self.now.world.now) (bodies_at (W.world self.now.world.now) self.now.levels) attributes.now place counter.old) result into.new counter.new }
     {
         let Some(place) = place else {
             *into = Value::Indet;
             return Ok(());
         };
-        let Some(instance) = self.domain.instance(place as usize) else {
+        let Some(instance) = self.world.instance(place as usize) else {
             *into = Value::Indet;
             return Ok(());
         };
@@ -175,8 +169,8 @@ impl<'a, D: Domain, B: Fn(Global, &Schema, &D, u8, &mut Counter, Body) -> Result
         counter: &mut Counter,
         into: &mut Value,
     ) -> Result<(), Stop>
-        requires { RunsBodies D.population self.now.alloc self.now.schema self.now.domain self.now.levels (B.pre self.now.below) (B.post self.now.below) }
-        ensures { RunsInto (charged 1 (spec.attribute (world self.now.schema.now (D.population self.now.domain.now)) (bodies_at self.now.schema.now (D.population self.now.domain.now) self.now.levels) (attribute.now ∷ []) frame.now.itself) counter.old) result into.new counter.new }
+        requires { RunsBodies W.world self.now.alloc self.now.world self.now.levels (B.pre self.now.below) (B.post self.now.below) }
+        ensures { RunsInto (charged 1 (spec.attribute (W.world self.now.world.now) (bodies_at (W.world self.now.world.now) self.now.levels) (attribute.now ∷ []) frame.now.itself) counter.old) result into.new counter.new }
     {
         charge(counter, 1)?;
         self.attribute_in(&[*attribute], place_of(frame.itself()), counter, into)
@@ -190,22 +184,27 @@ impl<'a, D: Domain, B: Fn(Global, &Schema, &D, u8, &mut Counter, Body) -> Result
         counter: &mut Counter,
         into: &mut Value,
     ) -> Result<(), Stop>
-        requires { RunsBodies D.population self.now.alloc self.now.schema self.now.domain self.now.levels (B.pre self.now.below) (B.post self.now.below) }
-        ensures { RunsInto (charged 1 (bodies_at self.now.schema.now (D.population self.now.domain.now) self.now.levels (b.Constant number)) counter.old) result into.new counter.new }
+        requires { RunsBodies W.world self.now.alloc self.now.world self.now.levels (B.pre self.now.below) (B.post self.now.below) }
+        ensures { RunsInto (charged 1 (bodies_at (W.world self.now.world.now) self.now.levels (b.Constant number)) counter.old) result into.new counter.new }
     {
         charge(counter, 1)?;
-        *into = self.body_below(Body::Constant(number), counter)?;
-        Ok(())
+        match self.world.constant(number) {
+            Some(kept) => serve(kept, self.levels, counter, into),
+            None => {
+                *into = self.body_below(Body::Constant(number), counter)?;
+                Ok(())
+            }
+        }
     }
 
     /// Whether the instance that is there is of the entity.
     fn is_of_entity(&self, entity: usize, value: &Value) -> bool
-        ensures { spec.group (world self.now.schema.now (D.population self.now.domain.now)) (bodies_at self.now.schema.now (D.population self.now.domain.now) self.now.levels) entity value.now ≡ if result then value.now else v.Indet }
+        ensures { spec.group (W.world self.now.world.now) (bodies_at (W.world self.now.world.now) self.now.levels) entity value.now ≡ if result then value.now else v.Indet }
     {
         let Some(place) = place_of(value) else {
             return false;
         };
-        match self.domain.instance(place as usize) {
+        match self.world.instance(place as usize) {
             Some(instance) => is_of(&instance, entity),
             None => false,
         }
@@ -214,7 +213,7 @@ impl<'a, D: Domain, B: Fn(Global, &Schema, &D, u8, &mut Counter, Body) -> Result
     /// The instance that is there stays, if it is of the entity.
     #[inline(never)]
     pub(crate) fn group(&self, entity: usize, into: &mut Value)
-        ensures { into.new ≡ spec.group (world self.now.schema.now (D.population self.now.domain.now)) (bodies_at self.now.schema.now (D.population self.now.domain.now) self.now.levels) entity into.old }
+        ensures { into.new ≡ spec.group (W.world self.now.world.now) (bodies_at (W.world self.now.world.now) self.now.levels) entity into.old }
     {
         if !self.is_of_entity(entity, into) {
             *into = Value::Indet;
@@ -229,10 +228,10 @@ impl<'a, D: Domain, B: Fn(Global, &Schema, &D, u8, &mut Counter, Body) -> Result
         counter: &mut Counter,
         into: &mut Value,
     ) -> Result<(), Stop>
-        ensures { RunsInto (charged 1 (spec.extent_value (world self.now.schema.now (D.population self.now.domain.now)) (bodies_at self.now.schema.now (D.population self.now.domain.now) self.now.levels) entity) counter.old) result into.new counter.new }
+        ensures { RunsInto (charged 1 (spec.extent_value (W.world self.now.world.now) (bodies_at (W.world self.now.world.now) self.now.levels) entity) counter.old) result into.new counter.new }
     {
         charge(counter, 1)?;
-        let found = self.domain.extent(self.alloc, entity)?;
+        let found = self.world.extent(self.alloc, entity)?;
         charge(counter, found.len())?;
         *into = Value::aggregate(self.alloc, AggregateKind::Set, 1, found)?;
         Ok(())
@@ -247,14 +246,14 @@ impl<'a, D: Domain, B: Fn(Global, &Schema, &D, u8, &mut Counter, Body) -> Result
         counter: &mut Counter,
         into: &mut Value,
     ) -> Result<(), Stop>
-        ensures { RunsInto (spec.used_in_role (world self.now.schema.now (D.population self.now.domain.now)) (bodies_at self.now.schema.now (D.population self.now.domain.now) self.now.levels) (option_copied role.entry) place counter.old) result into.new counter.new }
+        ensures { RunsInto (spec.used_in_role (W.world self.now.world.now) (bodies_at (W.world self.now.world.now) self.now.levels) (option_copied role.entry) place counter.old) result into.new counter.new }
     {
         let Some(place) = place else {
             *into = Value::Indet;
             return Ok(());
         };
         let found = match role {
-            Some(role) => self.domain.users(self.alloc, place as usize, role)?,
+            Some(role) => self.world.users(self.alloc, place as usize, role)?,
             None => Items::new(self.alloc),
         };
         charge(counter, found.len())?;
@@ -271,12 +270,12 @@ impl<'a, D: Domain, B: Fn(Global, &Schema, &D, u8, &mut Counter, Body) -> Result
         counter: &mut Counter,
         into: &mut Value,
     ) -> Result<(), Stop>
-        ensures { RunsInto (spec.used_in_role (world self.now.schema.now (D.population self.now.domain.now)) (bodies_at self.now.schema.now (D.population self.now.domain.now) self.now.levels) (role_named self.now.schema.now.roles name.now) place counter.old) result into.new counter.new }
+        ensures { RunsInto (spec.used_in_role (W.world self.now.world.now) (bodies_at (W.world self.now.world.now) self.now.levels) (role_named (W.world self.now.world.now).schema.roles name.now) place counter.old) result into.new counter.new }
     {
         if name.is_empty() {
             self.used_in_role(Some(&Role::Every), place, counter, into)
         } else {
-            let role = named_role(self.schema.roles.as_slice(), name);
+            let role = named_role(self.world.schema().roles.as_slice(), name);
             self.used_in_role(role, place, counter, into)
         }
     }

@@ -8,7 +8,7 @@ ghost use Rattle.rp_trial.specs.Answers as spec;
 
 use plain_data::Items;
 use rp_domain::ListDomain;
-use rp_eval::{Code, eval};
+use rp_eval::{World, eval};
 use rp_meaning::{Domain, Entity, Expression, GlobalRule, Outcome, Rule, Schema};
 use rp_value::Value;
 use std::alloc::{AllocError, Global};
@@ -109,17 +109,17 @@ fn selves(alloc: Global, domain: &ListDomain, condition: Rule) -> Result<Items<V
 
 fn answer_for(
     alloc: Global,
-    code: &Code<'_>,
-    domain: &ListDomain,
+    world: &World<'_, ListDomain>,
+    rule: Rule,
     limit: usize,
     itself: &Value,
 ) -> Result<Answer, AllocError>
-    ensures { IfOk result (λ found. found ≡ spec.answer (world code.now.schema.now domain.now) limit code.now.rule itself.now) }
+    ensures { IfOk result (λ found. found ≡ spec.answer world.now limit rule itself.now) }
 {
-    let outcome = eval(alloc, code, domain, itself.copy()?, limit)?;
+    let outcome = eval(alloc, world, rule, itself.copy()?, limit)?;
     Ok(Answer {
         limit,
-        condition: code.rule,
+        condition: rule,
         itself: itself.copy()?,
         outcome,
     })
@@ -129,15 +129,15 @@ fn answer_for(
 fn push_answers(
     found: &mut Items<Answer>,
     alloc: Global,
-    code: &Code<'_>,
-    domain: &ListDomain,
+    world: &World<'_, ListDomain>,
+    rule: Rule,
     limit: usize,
 ) -> Result<(), AllocError>
-    ensures { OnOk result (found.new ≡ found.old ++ spec.answers_of (world code.now.schema.now domain.now) limit code.now.rule) }
+    ensures { OnOk result (found.new ≡ found.old ++ spec.answers_of world.now limit rule) }
 {
-    let selves = selves(alloc, domain, code.rule)?;
+    let selves = selves(alloc, world.domain(), rule)?;
     for itself in selves.as_slice() {
-        found.push(answer_for(alloc, code, domain, limit, itself)?)?;
+        found.push(answer_for(alloc, world, rule, limit, itself)?)?;
     }
     Ok(())
 }
@@ -146,19 +146,14 @@ fn push_answers(
 fn push_within(
     found: &mut Items<Answer>,
     alloc: Global,
-    schema: &Schema,
+    world: &World<'_, ListDomain>,
     conditions: &[Rule],
-    domain: &ListDomain,
     limit: usize,
 ) -> Result<(), AllocError>
-    ensures { OnOk result (found.new ≡ found.old ++ spec.answers_within (world schema.now domain.now) conditions.now limit) }
+    ensures { OnOk result (found.new ≡ found.old ++ spec.answers_within world.now conditions.now limit) }
 {
     for condition in conditions {
-        let code = Code {
-            schema,
-            rule: *condition,
-        };
-        push_answers(found, alloc, &code, domain, limit)?;
+        push_answers(found, alloc, world, *condition, limit)?;
     }
     Ok(())
 }
@@ -173,17 +168,11 @@ pub(crate) fn answers(
 ) -> Result<Items<Answer>, AllocError>
     ensures { IfOk result (λ found. found ≡ spec.answers (world schema.now domain.now) limits.now) }
 {
+    let world = World::new(alloc, schema, domain)?;
     let conditions = conditions(alloc, schema)?;
     let mut found = Items::new(alloc);
     for limit in limits {
-        push_within(
-            &mut found,
-            alloc,
-            schema,
-            conditions.as_slice(),
-            domain,
-            *limit,
-        )?;
+        push_within(&mut found, alloc, &world, conditions.as_slice(), *limit)?;
     }
     Ok(found)
 }

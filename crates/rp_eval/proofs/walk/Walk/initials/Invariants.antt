@@ -6,6 +6,5 @@ use Rattle.rp_eval.proofs.walk.Walk.initials.Given as goal
 
 abbrev pub invariant-loop-initial : goal.invariant-loop-initial
 invariant-loop-initial g l =
-    let population = g.D.Domain.population l.self.domain.now in
-    let means = spec.initialized (world l.self.schema.now population) most_turns (bodies_at l.self.schema.now population l.self.levels) in
+    let means = spec.initialized (g.W.Setting.world l.self.world.now) most_turns (bodies_at (g.W.Setting.world l.self.world.now) l.self.levels) in
     means (drop l.initial-index l.initials) l.frame l.counter ≡ means l.initials l.fn.frame l.fn.counter
