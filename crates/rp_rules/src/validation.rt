@@ -1,21 +1,30 @@
 //! Evaluations one after the other, within the steps that a validation may use.
 
+ghost use Rattle.std.specs.Prelude.{◌≡◌};
+ghost use Rattle.rp_meaning.specs.Report as report;
+ghost use Rattle.rp_rules.specs.Layouts.{Lays};
+
 use crate::ended::{Ended, steps_of, verdict_of};
+use crate::layouts::Layouts;
 use crate::used::{MOST_STEPS, Used};
 use crate::verdicts::Verdicts;
-use rp_eval::{Code, eval};
+use rp_eval::{World, eval};
 use rp_meaning::{Domain, Rule, Schema};
 use rp_value::Value;
 use std::alloc::{AllocError, Global};
 
 /// What is validated, and by what.
 #[derive(Drop)]
-pub(crate) struct Validation<'a, D> {
+pub(crate) struct Validation<'a, D: Domain> {
     pub(crate) alloc: Global,
     pub(crate) schema: &'a Schema,
     pub(crate) domain: &'a D,
-    /// Whether there are so many instances that a plan for each type with rules takes less than it saves.
-    pub(crate) is_planned: bool,
+    /// What evaluations see of these.
+    pub(crate) world: &'a World<'a, D>,
+    /// None, where there are so few instances that a plan for each type with rules takes more than it saves.
+    pub(crate) layouts: &'a Layouts,
+    ghost seen: { world.now ≡ report.world schema.now (D.population domain.now) },
+    ghost lays: { Lays (D.population domain.now) layouts.now },
 }
 
 impl<'a, D: Domain> Validation<'a, D> {
@@ -38,11 +47,7 @@ impl<'a, D: Domain> Validation<'a, D> {
         if !used.may_begin() {
             return Ok(Ended::NotRun);
         }
-        let code = Code {
-            schema: self.schema,
-            rule,
-        };
-        let outcome = eval(self.alloc, &code, self.domain, itself, MOST_STEPS)?;
+        let outcome = eval(self.alloc, self.world, rule, itself, MOST_STEPS)?;
         used.add(steps_of(&outcome));
         Ok(Ended::Begun(outcome))
     }
