@@ -3,12 +3,11 @@
 ghost use Rattle.std.specs.Prelude.{◌≡◌, ◌++◌, map, IfOk, OnOk};
 ghost use Rattle.std.specs.List.{flat_map};
 ghost use Rattle.plain_data.specs.Numbers.{numbered};
-ghost use Rattle.rp_eval.specs.Bodies.{world};
 ghost use Rattle.rp_trial.specs.Answers as spec;
 
 use plain_data::Items;
 use rp_domain::ListDomain;
-use rp_eval::{Code, eval};
+use rp_eval::{World, eval};
 use rp_meaning::{Domain, Entity, Expression, GlobalRule, Outcome, Rule, Schema};
 use rp_value::Value;
 use std::alloc::{AllocError, Global};
@@ -94,11 +93,15 @@ fn conditions(alloc: Global, schema: &Schema) -> Result<Items<Rule>, AllocError>
 }
 
 /// What SELF is in turn: of a rule it is nothing.
-fn selves(alloc: Global, domain: &ListDomain, condition: Rule) -> Result<Items<Value>, AllocError>
-    ensures { IfOk result (λ found. found ≡ spec.selves domain.now condition) }
+fn selves(
+    alloc: Global,
+    world: &World<'_, ListDomain>,
+    condition: Rule,
+) -> Result<Items<Value>, AllocError>
+    ensures { IfOk result (λ found. found ≡ spec.selves world.now.population condition) }
 {
     match condition {
-        Rule::Entity(entity, _) => domain.extent(alloc, entity),
+        Rule::Entity(entity, _) => world.domain().extent(alloc, entity),
         _ => {
             let mut nothing = Items::new(alloc);
             nothing.push(Value::Indet)?;
@@ -109,17 +112,17 @@ fn selves(alloc: Global, domain: &ListDomain, condition: Rule) -> Result<Items<V
 
 fn answer_for(
     alloc: Global,
-    code: &Code<'_>,
-    domain: &ListDomain,
-    limit: usize,
+    world: &World<'_, ListDomain>,
+    condition: Rule,
     itself: &Value,
+    limit: usize,
 ) -> Result<Answer, AllocError>
-    ensures { IfOk result (λ found. found ≡ spec.answer (world code.now.schema.now domain.now) limit code.now.rule itself.now) }
+    ensures { IfOk result (λ found. found ≡ spec.answer world.now limit condition itself.now) }
 {
-    let outcome = eval(alloc, code, domain, itself.copy()?, limit)?;
+    let outcome = eval(alloc, world, condition, itself.copy()?, limit)?;
     Ok(Answer {
         limit,
-        condition: code.rule,
+        condition,
         itself: itself.copy()?,
         outcome,
     })
@@ -129,15 +132,15 @@ fn answer_for(
 fn push_answers(
     found: &mut Items<Answer>,
     alloc: Global,
-    code: &Code<'_>,
-    domain: &ListDomain,
+    world: &World<'_, ListDomain>,
+    condition: Rule,
     limit: usize,
 ) -> Result<(), AllocError>
-    ensures { OnOk result (found.new ≡ found.old ++ spec.answers_of (world code.now.schema.now domain.now) limit code.now.rule) }
+    ensures { OnOk result (found.new ≡ found.old ++ spec.answers_of world.now limit condition) }
 {
-    let selves = selves(alloc, domain, code.rule)?;
+    let selves = selves(alloc, world, condition)?;
     for itself in selves.as_slice() {
-        found.push(answer_for(alloc, code, domain, limit, itself)?)?;
+        found.push(answer_for(alloc, world, condition, itself, limit)?)?;
     }
     Ok(())
 }
@@ -146,19 +149,14 @@ fn push_answers(
 fn push_within(
     found: &mut Items<Answer>,
     alloc: Global,
-    schema: &Schema,
+    world: &World<'_, ListDomain>,
     conditions: &[Rule],
-    domain: &ListDomain,
     limit: usize,
 ) -> Result<(), AllocError>
-    ensures { OnOk result (found.new ≡ found.old ++ spec.answers_within (world schema.now domain.now) conditions.now limit) }
+    ensures { OnOk result (found.new ≡ found.old ++ spec.answers_within world.now conditions.now limit) }
 {
     for condition in conditions {
-        let code = Code {
-            schema,
-            rule: *condition,
-        };
-        push_answers(found, alloc, &code, domain, limit)?;
+        push_answers(found, alloc, world, *condition, limit)?;
     }
     Ok(())
 }
@@ -167,23 +165,15 @@ fn push_within(
 #[tactic(auto, unfolding(crate::specs::Answers::answers))]
 pub(crate) fn answers(
     alloc: Global,
-    schema: &Schema,
-    domain: &ListDomain,
+    world: &World<'_, ListDomain>,
     limits: &[usize],
 ) -> Result<Items<Answer>, AllocError>
-    ensures { IfOk result (λ found. found ≡ spec.answers (world schema.now domain.now) limits.now) }
+    ensures { IfOk result (λ found. found ≡ spec.answers world.now limits.now) }
 {
-    let conditions = conditions(alloc, schema)?;
+    let conditions = conditions(alloc, world.schema())?;
     let mut found = Items::new(alloc);
     for limit in limits {
-        push_within(
-            &mut found,
-            alloc,
-            schema,
-            conditions.as_slice(),
-            domain,
-            *limit,
-        )?;
+        push_within(&mut found, alloc, world, conditions.as_slice(), *limit)?;
     }
     Ok(found)
 }

@@ -14,6 +14,8 @@ use ex_loaded::LoadedSchema;
 use plain_data::{Failure, Items, Text};
 use rp_compile::compile;
 use rp_content::Content;
+use rp_domain::ListDomain;
+use rp_eval::World;
 use rp_group_domain::{CountedModel, domain_of, population_of};
 use rp_meaning::Schema;
 use rp_rows::rows::Key;
@@ -35,8 +37,9 @@ fn answers_over(
     let population = population_of(alloc, models)?;
     let domain = domain_of(alloc, schema, loaded.dictionary(), models, &population)?;
     // This isn't let go of either.
-    let domain = Box::leak(Box::new(alloc, domain)?);
-    answers(alloc, schema, domain, limits)
+    let domain: &ListDomain = Box::leak(Box::new(alloc, domain)?);
+    let world = World::new(alloc, schema, domain)?;
+    answers(alloc, &world, limits)
 }
 
 /// The same of a schema that isn't compiled yet. Without a limit no population is made.
