@@ -20,7 +20,7 @@ use Rattle.rp_rules.specs.Plan as plan
 use Rattle.rp_rules.specs.Tallies.{tallied, with_culprit}
 use Rattle.rp_rules.specs.TypeTallies.{candidates_by}
 use Rattle.rp_rules.proofs.TypeTallies.{by-checked, by-unchecked}
-use Rattle.rp_rules.proofs.Untried.{hopeful, values-none}
+use Rattle.rp_rules.proofs.Untried.{on-neither, values-none}
 use Rattle.rp_value.specs.declared.value.Value.{Value}
 
 with-none : (found : Culprits) (culprit : Culprit) → with_culprit found culprit (verdicts_of []) ≡ found
@@ -47,7 +47,7 @@ module _ (schema : Schema) (population : List Instance) (number place : ℕ) (wo
       → tallied world found (candidates_by schema population number place at i a x y) used ≡ (found, used)
   untried-tallied p tells none =
       let silent : list_any (plan.may_stand schema.types number 8 (is_some (carried x))) (declared_types schema i.entities a) ≡ false =
-      tells a i.entities (is_some (carried x)) (hopeful (plan.prospect_at p a) (is_some (carried x)) none) in
+      tells a i.entities (is_some (carried x)) (on-neither (plan.tryable_at p a) (is_some (carried x)) none) in
       nothing-tallied (is_checked schema held) refl (values-none schema.types population number x y 8 (is_some (carried x)) (declared_types schema i.entities a) (λ is. is) silent)
 
 pub ruleset untried = (untried-tallied)

@@ -20,7 +20,7 @@ use Rattle.rp_meaning.specs.Populations.{Instance}
 use Rattle.rp_meaning.specs.TypeRules.{chooses, element_by, element_of, element_type, elements_tried, inside_by, is_choice_of, is_tried, named, selects_to, types_by, values_tried, with_beneath, written_under}
 use Rattle.rp_meaning.specs.Types.{AggregateType, End, Enumeration, Select, Written, aggregate_type, defined, end, end_of, fits}
 use Rattle.rp_meaning.specs.Uses.{same_attribute, same_sort}
-use Rattle.rp_rules.specs.declared.plan.Prospect.{Prospect}
+use Rattle.rp_rules.specs.declared.plan.Tryable.{Tryable}
 use Rattle.rp_rules.specs.Plan as plan
 use Rattle.rp_rules.specs.Tried.{redeclarations_of, values_at}
 use Rattle.rp_rules.proofs.Declarations.{again_passes, any-declared, any-none}
@@ -54,23 +54,23 @@ module _ (types : List DefinedType) (population : List Instance) (number : ℕ) 
   abbrev may : ℕ → Bool → NamedDataType → Bool
   may = plan.may_stand types number
 
-  abbrev Hopeless : ℕ → Type 0
-  Hopeless under = (plan.is_under types number under ≡ false) × (is_some (aggregate_type (end_of types under)) ≡ false)
+  abbrev NeverTried : ℕ → Type 0
+  NeverTried under = (plan.is_under types number under ≡ false) × (is_some (aggregate_type (end_of types under)) ≡ false)
 
   no-instance : (o : Option Instance) (other : ℕ) → option_map_or (λ i. allows_choice i (t.Defined other)) o false ≡ false
   no-instance None other = refl
   no-instance (Some i) other = refl
 
   choice-by : (x : Value) (under other : ℕ) (choices : List TypeName) → carried x ≡ Some under
-      → (list_any (plan.may_choose types number) choices ≡ false → list_any (is_choice_of types population x) choices ≡ true → Hopeless under)
+      → (list_any (plan.may_choose types number) choices ≡ false → list_any (is_choice_of types population x) choices ≡ true → NeverTried under)
       → list_any (plan.may_choose types number) (t.Defined other ∷ choices) ≡ false → list_any (is_choice_of types population x) (t.Defined other ∷ choices) ≡ true
-      → (same : Bool) → (other == under) ≡ same → Hopeless under
+      → (same : Bool) → (other == under) ≡ same → NeverTried under
   choice-by x under other choices carries more none chosen true is =
       let here : plan.may_choose types number (t.Defined other) ≡ false = or-left (plan.may_choose types number (t.Defined other)) (list_any (plan.may_choose types number) choices) none in
       let same : other ≡ under = eqb-true other under is in
       let under : plan.is_under types number other ≡ false =
       or-right (plan.is_long types number other) (plan.is_under types number other) (or-left (plan.is_long types number other || plan.is_under types number other) (is_some (aggregate_type (end_of types other))) here) in
-      subst Hopeless same (under, or-right (plan.is_long types number other || plan.is_under types number other) (is_some (aggregate_type (end_of types other))) here)
+      subst NeverTried same (under, or-right (plan.is_long types number other || plan.is_under types number other) (is_some (aggregate_type (end_of types other))) here)
   choice-by x under other choices carries more none chosen false is =
       let others : list_any (plan.may_choose types number) choices ≡ false = or-right (plan.may_choose types number (t.Defined other)) (list_any (plan.may_choose types number) choices) none in
       let here : is_choice_of types population x (t.Defined other) ≡ false =
@@ -79,13 +79,13 @@ module _ (types : List DefinedType) (population : List Instance) (number : ℕ) 
 
   -- the type that a value carries, once it is among the choices
   choice-of : (x : Value) (under : ℕ) (choices : List TypeName) → carried x ≡ Some under → list_any (plan.may_choose types number) choices ≡ false → list_any (is_choice_of types population x) choices ≡ true
-      → Hopeless under
+      → NeverTried under
   choice-of x under [] carries none chosen = absurd (cc)
   choice-of x under (t.Entity entity ∷ choices) carries none chosen = absurd (cc)
   choice-of x under (t.Defined other ∷ choices) carries none chosen = choice-by x under other choices carries (choice-of x under choices carries) none chosen (other == under) refl
 
   carries-by : (x : Value) (under : ℕ) (o : Option DefinedType) → carried x ≡ Some under → option_map_or (λ (y : DefinedType). nat_lt 100 (length y.choices) || list_any (plan.may_choose types number) y.choices) o false ≡ false
-      → option_map_or (λ (y : DefinedType). list_any (is_choice_of types population x) y.choices) o false ≡ true → Hopeless under
+      → option_map_or (λ (y : DefinedType). list_any (is_choice_of types population x) y.choices) o false ≡ true → NeverTried under
   carries-by x under None carries none chosen = absurd (cc)
   carries-by x under (Some y) carries none chosen = choice-of x under y.choices carries (or-right (nat_lt 100 (length y.choices)) (list_any (plan.may_choose types number) y.choices) none) chosen
 
@@ -95,9 +95,9 @@ module _ (types : List DefinedType) (population : List Instance) (number : ℕ) 
       → is_among (option_map_or (with_beneath types population) (written_under types population from x) []) number ≡ false
   under-is from is_named x None carries on none = under-none types population from number x carries
   under-is from is_named x (Some under) carries on none =
-      let hopeless : plan.may_carry types number from ≡ false = ap (λ (b : Bool). b && plan.may_carry types number from) (sym (on refl)) ∙ none in
+      let never : plan.may_carry types number from ≡ false = ap (λ (b : Bool). b && plan.may_carry types number from) (sym (on refl)) ∙ none in
       under-some types population from number under x carries
-      ∙ and-unless (is_among (with_beneath types population under) number) (chooses types population x from) (λ chosen. (carries-by x under (slice_get types from) carries hopeless chosen).0)
+      ∙ and-unless (is_among (with_beneath types population under) number) (chooses types population x from) (λ chosen. (carries-by x under (slice_get types from) carries never chosen).0)
 
   in-select : (from : ℕ) (is_named : Bool) (x : Value) → (is_some (carried x) ≡ true → is_named ≡ true) → (from == number || plan.is_between types number from || is_named && plan.may_carry types number from) ≡ false
       → is_among (from ∷ selects_to types population from x ++ option_map_or (with_beneath types population) (written_under types population from x) []) number ≡ false
@@ -151,8 +151,8 @@ module _ (types : List DefinedType) (population : List Instance) (number : ℕ) 
       let carry = or-right (from == number || plan.is_between types number from) (is_named && plan.may_carry types number from) none in
       under-inside passes x (carried x) (chooses types population x from) (λ under carries chosen.
       let it_is : is_named ≡ true = on (ap is_some carries) in
-      let hopeless : plan.may_carry types number from ≡ false = ap (λ (b : Bool). b && plan.may_carry types number from) (sym it_is) ∙ carry in
-      (carries-by x under (slice_get types from) carries hopeless chosen).1)
+      let never : plan.may_carry types number from ≡ false = ap (λ (b : Bool). b && plan.may_carry types number from) (sym it_is) ∙ carry in
+      (carries-by x under (slice_get types from) carries never chosen).1)
 
   -- ---- by all declarations
 
@@ -237,23 +237,23 @@ module _ (types : List DefinedType) (population : List Instance) (number : ℕ) 
       → values_at types population number declared x y ≡ []
   values-none x y depth is_named declared on none = set-silent x y is_named declared (silent x) on (depth, none) (is_indeterminate y) refl
 
--- ---- prospects
+-- ---- what may be tried
 
 named-alone : (b : Bool) → (b && true) ≡ false → b ≡ false
 named-alone true none = none
 named-alone false none = refl
 
-pub hopeful : (p : Prospect) (b : Bool) → (p.bare || p.named && b) ≡ false → plan.on_named p b ≡ false
-hopeful p true none = named-alone p.named (or-right p.bare (p.named && true) none)
-hopeful p false none = or-left p.bare (p.named && false) none
+pub on-neither : (p : Tryable) (b : Bool) → (p.bare || p.named && b) ≡ false → plan.on_named p b ≡ false
+on-neither p true none = named-alone p.named (or-right p.bare (p.named && true) none)
+on-neither p false none = or-left p.bare (p.named && false) none
 
 -- ---- what a plan is made of
 
-on-either : (p q : Prospect) (b : Bool) → plan.on_named (plan.either p q) b ≡ false → (plan.on_named p b ≡ false) × (plan.on_named q b ≡ false)
+on-either : (p q : Tryable) (b : Bool) → plan.on_named (plan.either p q) b ≡ false → (plan.on_named p b ≡ false) × (plan.on_named q b ≡ false)
 on-either p q true none = (or-left p.named q.named none, or-right p.named q.named none)
 on-either p q false none = (or-left p.bare q.bare none, or-right p.bare q.bare none)
 
-set-keeps : (found : List Prospect) (m n : ℕ) (w : Prospect) (b : Bool) → (plan.on_named w b ≡ false → plan.on_named (plan.at_entity found m) b ≡ false)
+set-keeps : (found : List Tryable) (m n : ℕ) (w : Tryable) (b : Bool) → (plan.on_named w b ≡ false → plan.on_named (plan.at_entity found m) b ≡ false)
     → plan.on_named (plan.at_entity (slice_set found m w) n) b ≡ false → plan.on_named (plan.at_entity found n) b ≡ false
 set-keeps [] m n w b low none = none
 set-keeps (q ∷ found) zero zero w b low none = low none
@@ -261,7 +261,7 @@ set-keeps (q ∷ found) zero (suc n) w b low none = none
 set-keeps (q ∷ found) (suc m) zero w b low none = none
 set-keeps (q ∷ found) (suc m) (suc n) w b low none = set-keeps found m n w b low none
 
-set-covers : (found : List Prospect) (m : ℕ) (w : Prospect) (b : Bool) → plan.on_named (plan.at_entity (slice_set found m w) m) b ≡ false → plan.on_named w b ≡ false
+set-covers : (found : List Tryable) (m : ℕ) (w : Tryable) (b : Bool) → plan.on_named (plan.at_entity (slice_set found m w) m) b ≡ false → plan.on_named w b ≡ false
 set-covers [] m w true none = absurd (cc)
 set-covers [] m w false none = absurd (cc)
 set-covers (q ∷ found) zero w b none = none
@@ -271,45 +271,45 @@ module _ (types : List DefinedType) (number : ℕ) where
   abbrev may_at : Bool → NamedDataType → Bool
   may_at = plan.may_stand types number 8
 
-  on-prospect : (d : NamedDataType) (b : Bool) → plan.on_named (plan.prospect types number d) b ≡ may_at b d
-  on-prospect d true = refl
-  on-prospect d false = refl
+  on-tryable : (d : NamedDataType) (b : Bool) → plan.on_named (plan.tryable types number d) b ≡ may_at b d
+  on-tryable d true = refl
+  on-tryable d false = refl
 
-  put-keeps : (found : List Prospect) (m n : ℕ) (p : Prospect) (b : Bool) → plan.on_named (plan.at_entity (plan.put found m p) n) b ≡ false → plan.on_named (plan.at_entity found n) b ≡ false
+  put-keeps : (found : List Tryable) (m n : ℕ) (p : Tryable) (b : Bool) → plan.on_named (plan.at_entity (plan.put found m p) n) b ≡ false → plan.on_named (plan.at_entity found n) b ≡ false
   put-keeps found m n p b none = set-keeps found m n (plan.either (plan.at_entity found m) p) b (λ h. (on-either (plan.at_entity found m) p b h).0) none
 
-  put-covers : (found : List Prospect) (m : ℕ) (p : Prospect) (b : Bool) → plan.on_named (plan.at_entity (plan.put found m p) m) b ≡ false → plan.on_named p b ≡ false
+  put-covers : (found : List Tryable) (m : ℕ) (p : Tryable) (b : Bool) → plan.on_named (plan.at_entity (plan.put found m p) m) b ≡ false → plan.on_named p b ≡ false
   put-covers found m p b none = (on-either (plan.at_entity found m) p b (set-covers found m (plan.either (plan.at_entity found m) p) b none)).1
 
-  all-keeps : (found : List Prospect) (rs : List Redeclaration) (n : ℕ) (b : Bool) → plan.on_named (plan.at_entity (plan.put_all types number found rs) n) b ≡ false → plan.on_named (plan.at_entity found n) b ≡ false
+  all-keeps : (found : List Tryable) (rs : List Redeclaration) (n : ℕ) (b : Bool) → plan.on_named (plan.at_entity (plan.put_all types number found rs) n) b ≡ false → plan.on_named (plan.at_entity found n) b ≡ false
   all-keeps found [] n b none = none
   all-keeps found (r ∷ rs) n b none =
-      put-keeps found r.attribute.entity n (plan.prospect types number r.declaration.data_type) b (all-keeps (plan.put found r.attribute.entity (plan.prospect types number r.declaration.data_type)) rs n b none)
+      put-keeps found r.attribute.entity n (plan.tryable types number r.declaration.data_type) b (all-keeps (plan.put found r.attribute.entity (plan.tryable types number r.declaration.data_type)) rs n b none)
 
-  of-keeps : (found : List Prospect) (es : List Entity) (n : ℕ) (b : Bool) → plan.on_named (plan.at_entity (plan.put_of types number found es) n) b ≡ false → plan.on_named (plan.at_entity found n) b ≡ false
+  of-keeps : (found : List Tryable) (es : List Entity) (n : ℕ) (b : Bool) → plan.on_named (plan.at_entity (plan.put_of types number found es) n) b ≡ false → plan.on_named (plan.at_entity found n) b ≡ false
   of-keeps found [] n b none = none
   of-keeps found (e ∷ es) n b none = all-keeps found e.redeclarations n b (of-keeps (plan.put_all types number found e.redeclarations) es n b none)
 
   same-entity : (a : AttributePlace) (r : Redeclaration) → same_attribute r.attribute a ≡ true → r.attribute.entity ≡ a.entity
   same-entity a r same = eqb-true r.attribute.entity a.entity (and-first (r.attribute.entity == a.entity) (same_sort r.attribute.sort a.sort) (and-first (r.attribute.entity == a.entity && same_sort r.attribute.sort a.sort) (r.attribute.place == a.place) same))
 
-  one-covers : (found : List Prospect) (a : AttributePlace) (r : Redeclaration) (b same : Bool) → same_attribute r.attribute a ≡ same
-      → plan.on_named (plan.at_entity (plan.put found r.attribute.entity (plan.prospect types number r.declaration.data_type)) a.entity) b ≡ false → again_passes (may_at b) a r ≡ false
+  one-covers : (found : List Tryable) (a : AttributePlace) (r : Redeclaration) (b same : Bool) → same_attribute r.attribute a ≡ same
+      → plan.on_named (plan.at_entity (plan.put found r.attribute.entity (plan.tryable types number r.declaration.data_type)) a.entity) b ≡ false → again_passes (may_at b) a r ≡ false
   one-covers found a r b false is none = ap (λ (c : Bool). c && may_at b r.declaration.data_type) is
   one-covers found a r b true is none =
-      let at : plan.on_named (plan.at_entity (plan.put found r.attribute.entity (plan.prospect types number r.declaration.data_type)) r.attribute.entity) b ≡ false =
-      ap (λ (n : ℕ). plan.on_named (plan.at_entity (plan.put found r.attribute.entity (plan.prospect types number r.declaration.data_type)) n) b) (same-entity a r is) ∙ none in
+      let at : plan.on_named (plan.at_entity (plan.put found r.attribute.entity (plan.tryable types number r.declaration.data_type)) r.attribute.entity) b ≡ false =
+      ap (λ (n : ℕ). plan.on_named (plan.at_entity (plan.put found r.attribute.entity (plan.tryable types number r.declaration.data_type)) n) b) (same-entity a r is) ∙ none in
       ap (λ (c : Bool). c && may_at b r.declaration.data_type) is
-      ∙ sym (on-prospect r.declaration.data_type b) ∙ put-covers found r.attribute.entity (plan.prospect types number r.declaration.data_type) b at
+      ∙ sym (on-tryable r.declaration.data_type b) ∙ put-covers found r.attribute.entity (plan.tryable types number r.declaration.data_type) b at
 
-  all-covers : (found : List Prospect) (rs : List Redeclaration) (a : AttributePlace) (b : Bool) → plan.on_named (plan.at_entity (plan.put_all types number found rs) a.entity) b ≡ false
+  all-covers : (found : List Tryable) (rs : List Redeclaration) (a : AttributePlace) (b : Bool) → plan.on_named (plan.at_entity (plan.put_all types number found rs) a.entity) b ≡ false
       → list_any (again_passes (may_at b) a) rs ≡ false
   all-covers found [] a b none = refl
   all-covers found (r ∷ rs) a b none =
-      let next = plan.put found r.attribute.entity (plan.prospect types number r.declaration.data_type) in
+      let next = plan.put found r.attribute.entity (plan.tryable types number r.declaration.data_type) in
       λ i. one-covers found a r b (same_attribute r.attribute a) refl (all-keeps next rs a.entity b none) i || all-covers next rs a b none i
 
-  of-covers : (found : List Prospect) (es : List Entity) (n : ℕ) (a : AttributePlace) (b : Bool) → plan.on_named (plan.at_entity (plan.put_of types number found es) a.entity) b ≡ false
+  of-covers : (found : List Tryable) (es : List Entity) (n : ℕ) (a : AttributePlace) (b : Bool) → plan.on_named (plan.at_entity (plan.put_of types number found es) a.entity) b ≡ false
       → list_any (again_passes (may_at b) a) (option_map_or (λ (e : Entity). e.redeclarations) (slice_get es n) []) ≡ false
   of-covers found [] n a b none = refl
   of-covers found (e ∷ es) zero a b none = all-covers found e.redeclarations a b (of-keeps (plan.put_all types number found e.redeclarations) es a.entity b none)
@@ -322,35 +322,35 @@ module _ (types : List DefinedType) (number : ℕ) where
 
   map-covers : (xs : List ExplicitAttribute) (at : ℕ) (b : Bool) → plan.on_named (slice_index_or (map (plan.by_declaration types number) xs) at plan.nothing) b ≡ false → option_map_or (may_by b) (slice_get xs at) false ≡ false
   map-covers [] at b none = refl
-  map-covers (x ∷ xs) zero b none = sym (on-prospect x.declaration.data_type b) ∙ none
+  map-covers (x ∷ xs) zero b none = sym (on-tryable x.declaration.data_type b) ∙ none
   map-covers (x ∷ xs) (suc at) b none = map-covers xs at b none
 
-  none-covers : (xs : List ExplicitAttribute) (at : ℕ) (b : Bool) → list_any (λ x. plan.is_hopeful (plan.by_declaration types number x)) xs ≡ false → option_map_or (may_by b) (slice_get xs at) false ≡ false
+  none-covers : (xs : List ExplicitAttribute) (at : ℕ) (b : Bool) → list_any (λ x. plan.may_be_tried (plan.by_declaration types number x)) xs ≡ false → option_map_or (may_by b) (slice_get xs at) false ≡ false
   none-covers [] at b none = refl
   none-covers (x ∷ xs) zero true none =
-      or-right (may_by false x) (may_by true x) (or-left (may_by false x || may_by true x) (list_any (λ x. plan.is_hopeful (plan.by_declaration types number x)) xs) none)
+      or-right (may_by false x) (may_by true x) (or-left (may_by false x || may_by true x) (list_any (λ x. plan.may_be_tried (plan.by_declaration types number x)) xs) none)
   none-covers (x ∷ xs) zero false none =
-      or-left (may_by false x) (may_by true x) (or-left (may_by false x || may_by true x) (list_any (λ x. plan.is_hopeful (plan.by_declaration types number x)) xs) none)
-  none-covers (x ∷ xs) (suc at) b none = none-covers xs at b (or-right (may_by false x || may_by true x) (list_any (λ x. plan.is_hopeful (plan.by_declaration types number x)) xs) none)
+      or-left (may_by false x) (may_by true x) (or-left (may_by false x || may_by true x) (list_any (λ x. plan.may_be_tried (plan.by_declaration types number x)) xs) none)
+  none-covers (x ∷ xs) (suc at) b none = none-covers xs at b (or-right (may_by false x || may_by true x) (list_any (λ x. plan.may_be_tried (plan.by_declaration types number x)) xs) none)
 
-  own-covers : (xs : List ExplicitAttribute) (at : ℕ) (b any : Bool) → list_any (λ x. plan.is_hopeful (plan.by_declaration types number x)) xs ≡ any
+  own-covers : (xs : List ExplicitAttribute) (at : ℕ) (b any : Bool) → list_any (λ x. plan.may_be_tried (plan.by_declaration types number x)) xs ≡ any
       → plan.on_named (slice_index_or (if any then map (plan.by_declaration types number) xs else []) at plan.nothing) b ≡ false → option_map_or (may_by b) (slice_get xs at) false ≡ false
   own-covers xs at b true is none = map-covers xs at b none
   own-covers xs at b false is none = none-covers xs at b is
 
   rows-cover : (es : List Entity) (n at : ℕ) (b : Bool)
-      → plan.on_named (option_map_or (λ (row : List Prospect). slice_index_or row at plan.nothing) (slice_get (map (λ (e : Entity). plan.own types number e.explicit) es) n) plan.nothing) b ≡ false
+      → plan.on_named (option_map_or (λ (row : List Tryable). slice_index_or row at plan.nothing) (slice_get (map (λ (e : Entity). plan.own types number e.explicit) es) n) plan.nothing) b ≡ false
       → option_map_or (may_by b) (option_and_then (λ (e : Entity). slice_get e.explicit at) (slice_get es n)) false ≡ false
   rows-cover [] n at b none = refl
-  rows-cover (e ∷ es) zero at b none = own-covers e.explicit at b (list_any (λ x. plan.is_hopeful (plan.by_declaration types number x)) e.explicit) refl none
+  rows-cover (e ∷ es) zero at b none = own-covers e.explicit at b (list_any (λ x. plan.may_be_tried (plan.by_declaration types number x)) e.explicit) refl none
   rows-cover (e ∷ es) (suc n) at b none = rows-cover es n at b none
 
-pub plan-tells : (schema : Schema) (number : ℕ) (again : List Prospect) (own : List (List Prospect)) → again ≡ plan.put_of schema.types number (replicate (length schema.entities) plan.nothing) schema.entities
+pub plan-tells : (schema : Schema) (number : ℕ) (again : List Tryable) (own : List (List Tryable)) → again ≡ plan.put_of schema.types number (replicate (length schema.entities) plan.nothing) schema.entities
     → own ≡ map (λ (e : Entity). plan.own schema.types number e.explicit) schema.entities → plan.Tells schema number (record { again = again; own = own })
 plan-tells schema number again own is-again is-own a entities b none =
     let both = on-either (plan.own_at own a) (plan.at_entity again a.entity) b none in
-    let own-none = ap (λ (rows : List (List Prospect)). plan.on_named (plan.own_at rows a) b) (sym is-own) ∙ both.0 in
-    let again-none = ap (λ (found : List Prospect). plan.on_named (plan.at_entity found a.entity) b) (sym is-again) ∙ both.1 in
+    let own-none = ap (λ (rows : List (List Tryable)). plan.on_named (plan.own_at rows a) b) (sym is-own) ∙ both.0 in
+    let again-none = ap (λ (found : List Tryable). plan.on_named (plan.at_entity found a.entity) b) (sym is-again) ∙ both.1 in
     any-declared (plan.may_stand schema.types number 8 b) schema entities a
     ∙ (λ i. rows-cover schema.types number schema.entities a.entity a.place b own-none i
     || any-none (λ entity. list_any (again_passes (plan.may_stand schema.types number 8 b) a) (redeclarations_of schema entity)) (λ entity. of-covers schema.types number (replicate (length schema.entities) plan.nothing) schema.entities entity a b again-none) entities i)

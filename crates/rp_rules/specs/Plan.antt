@@ -17,7 +17,7 @@ use Rattle.rp_meaning.specs.declared.schema.Schema.{Schema}
 use Rattle.rp_meaning.specs.TypeRules.{element_of, named, with_beneath}
 use Rattle.rp_meaning.specs.Types.{End, Select, aggregate_type, end, end_of}
 use Rattle.rp_rules.specs.declared.plan.Plan.{Plan}
-use Rattle.rp_rules.specs.declared.plan.Prospect.{Prospect}
+use Rattle.rp_rules.specs.declared.plan.Tryable.{Tryable}
 use Rattle.rp_value.specs.declared.value.Value.{Value}
 
 -- ---- by a declared type
@@ -55,68 +55,68 @@ module _ (types : List DefinedType) (number : ℕ) where
   may_stand (suc depth) is_named data_type =
       may_be_by (end types data_type) (named data_type) is_named || option_map_or (may_stand depth true) (element_of types [] data_type) false
 
-  abbrev pub prospect : NamedDataType → Prospect
-  prospect data_type = record { bare = may_stand 8 false data_type; named = may_stand 8 true data_type }
+  abbrev pub tryable : NamedDataType → Tryable
+  tryable data_type = record { bare = may_stand 8 false data_type; named = may_stand 8 true data_type }
 
--- ---- prospects
+-- ---- what may be tried
 
-abbrev pub nothing : Prospect
+abbrev pub nothing : Tryable
 nothing = record { bare = false; named = false }
 
-abbrev pub anything : Prospect
+abbrev pub anything : Tryable
 anything = record { bare = true; named = true }
 
-abbrev pub either : Prospect → Prospect → Prospect
+abbrev pub either : Tryable → Tryable → Tryable
 either p q = record { bare = p.bare || q.bare; named = p.named || q.named }
 
-abbrev pub is_hopeful : Prospect → Bool
-is_hopeful p = p.bare || p.named
+abbrev pub may_be_tried : Tryable → Bool
+may_be_tried p = p.bare || p.named
 
 -- ---- by redeclarations, beside others of the same entity
 
-abbrev pub at_entity : List Prospect → ℕ → Prospect
+abbrev pub at_entity : List Tryable → ℕ → Tryable
 at_entity found entity = slice_index_or found entity anything
 
-abbrev pub put : List Prospect → ℕ → Prospect → List Prospect
+abbrev pub put : List Tryable → ℕ → Tryable → List Tryable
 put found entity p = slice_set found entity (either (at_entity found entity) p)
 
 module _ (types : List DefinedType) (number : ℕ) where
-  abbrev pub put_all : List Prospect → List Redeclaration → List Prospect
+  abbrev pub put_all : List Tryable → List Redeclaration → List Tryable
   put_all found [] = found
-  put_all found (r ∷ others) = put_all (put found r.attribute.entity (prospect types number r.declaration.data_type)) others
+  put_all found (r ∷ others) = put_all (put found r.attribute.entity (tryable types number r.declaration.data_type)) others
 
-  abbrev pub put_of : List Prospect → List Entity → List Prospect
+  abbrev pub put_of : List Tryable → List Entity → List Tryable
   put_of found [] = found
   put_of found (e ∷ others) = put_of (put_all found e.redeclarations) others
 
   -- ---- by declarations
 
-  abbrev pub by_declaration : ExplicitAttribute → Prospect
-  by_declaration x = prospect types number x.declaration.data_type
+  abbrev pub by_declaration : ExplicitAttribute → Tryable
+  by_declaration x = tryable types number x.declaration.data_type
 
   -- of the explicit attributes of an entity, none where there is none to have
-  abbrev pub own : List ExplicitAttribute → List Prospect
-  own explicit = if list_any (λ x. is_hopeful (by_declaration x)) explicit then map by_declaration explicit else []
+  abbrev pub own : List ExplicitAttribute → List Tryable
+  own explicit = if list_any (λ x. may_be_tried (by_declaration x)) explicit then map by_declaration explicit else []
 
 -- ---- of attributes
 
-abbrev pub own_at : List (List Prospect) → AttributePlace → Prospect
+abbrev pub own_at : List (List Tryable) → AttributePlace → Tryable
 own_at rows a = option_map_or (λ row. slice_index_or row a.place nothing) (slice_get rows a.entity) nothing
 
-abbrev pub prospect_at : Plan → AttributePlace → Prospect
-prospect_at plan a = either (own_at plan.own a) (at_entity plan.again a.entity)
+abbrev pub tryable_at : Plan → AttributePlace → Tryable
+tryable_at plan a = either (own_at plan.own a) (at_entity plan.again a.entity)
 
 -- whether something in a value may be tried
 abbrev pub may_have : Plan → AttributePlace → Value → Bool
-may_have plan a x = (prospect_at plan a).bare || (prospect_at plan a).named && is_some (carried x)
+may_have plan a x = (tryable_at plan a).bare || (tryable_at plan a).named && is_some (carried x)
 
-abbrev pub on_named : Prospect → Bool → Bool
+abbrev pub on_named : Tryable → Bool → Bool
 on_named p true = p.named
 on_named p false = p.bare
 
 -- Where a plan says that nothing may be tried, none of the declarations lets anything.
 abbrev pub Tells : Schema → ℕ → Plan → Type 0
-Tells schema number plan = (a : AttributePlace) (entities : List ℕ) (is_named : Bool) → on_named (prospect_at plan a) is_named ≡ false
+Tells schema number plan = (a : AttributePlace) (entities : List ℕ) (is_named : Bool) → on_named (tryable_at plan a) is_named ≡ false
     → list_any (may_stand schema.types number 8 is_named) (declared_types schema entities a) ≡ false
 
 -- it says that everything may be

@@ -13,45 +13,45 @@ use std::alloc::{AllocError, Global};
 
 /// Whether the rules may be tried on something in a value: in one that carries no type, and in one that does.
 #[derive(Clone, Copy)]
-pub(crate) struct Prospect {
+pub(crate) struct Tryable {
     pub(crate) bare: bool,
     pub(crate) named: bool,
 }
 
-impl Prospect {
+impl Tryable {
     ghost use Rattle.std.specs.Prelude.{◌≡◌};
     ghost use Rattle.rp_rules.specs.Plan as spec;
 
-    fn nothing() -> Prospect
+    fn nothing() -> Tryable
         ensures { result ≡ spec.nothing }
     {
-        Prospect {
+        Tryable {
             bare: false,
             named: false,
         }
     }
 
-    fn anything() -> Prospect
+    fn anything() -> Tryable
         ensures { result ≡ spec.anything }
     {
-        Prospect {
+        Tryable {
             bare: true,
             named: true,
         }
     }
 
     #[inline(always)]
-    fn or(self, other: Prospect) -> Prospect
+    fn or(self, other: Tryable) -> Tryable
         ensures { result ≡ spec.either self other }
     {
-        Prospect {
+        Tryable {
             bare: self.bare || other.bare,
             named: self.named || other.named,
         }
     }
 
-    fn is_hopeful(self) -> bool
-        ensures { result ≡ spec.is_hopeful self }
+    fn may_be_tried(self) -> bool
+        ensures { result ≡ spec.may_be_tried self }
     {
         self.bare || self.named
     }
@@ -59,21 +59,21 @@ impl Prospect {
 
 /// What stands at a place, or else another.
 #[inline(always)]
-fn prospect_or(prospects: &[Prospect], place: usize, other: Prospect) -> Prospect
-    ensures { result ≡ slice_index_or prospects.now place other }
+fn tryable_or(row: &[Tryable], place: usize, other: Tryable) -> Tryable
+    ensures { result ≡ slice_index_or row.now place other }
 {
-    match prospects.get(place) {
-        Some(prospect) => *prospect,
+    match row.get(place) {
+        Some(tryable) => *tryable,
         None => other,
     }
 }
 
-/// What is there to hope for in the attributes of a schema.
+/// What may be tried in the attributes of a schema.
 pub(crate) struct Plan {
     /// By the entities that declare attributes, of all redeclarations of these.
-    again: Items<Prospect>,
-    /// By entities and the places of their explicit attributes; of an entity without hope there are none.
-    own: Items<Items<Prospect>>,
+    again: Items<Tryable>,
+    /// By entities and the places of their explicit attributes; of an entity in which nothing may be tried there are none.
+    own: Items<Items<Tryable>>,
 }
 
 impl Drop for Plan {
@@ -88,7 +88,7 @@ impl Plan {
     ghost use Rattle.std.specs.Prelude.{◌≡◌};
     ghost use Rattle.rp_rules.specs.Plan as spec;
 
-    /// With hope everywhere.
+    /// By which anything may be tried everywhere.
     pub(crate) fn without(alloc: Global) -> Plan
         ensures { result ≡ spec.no_plan }
     {
@@ -99,19 +99,19 @@ impl Plan {
     }
 
     #[inline(always)]
-    fn again(&self, entity: usize) -> Prospect
+    fn again(&self, entity: usize) -> Tryable
         ensures { result ≡ spec.at_entity self.now.again entity }
     {
-        prospect_or(self.again.as_slice(), entity, Prospect::anything())
+        tryable_or(self.again.as_slice(), entity, Tryable::anything())
     }
 
     #[inline(always)]
-    fn own(&self, attribute: AttributePlace) -> Prospect
+    fn own(&self, attribute: AttributePlace) -> Tryable
         ensures { result ≡ spec.own_at self.now.own attribute }
     {
         match self.own.get(attribute.entity) {
-            Some(row) => prospect_or(row.as_slice(), attribute.place, Prospect::nothing()),
-            None => Prospect::nothing(),
+            Some(row) => tryable_or(row.as_slice(), attribute.place, Tryable::nothing()),
+            None => Tryable::nothing(),
         }
     }
 
@@ -120,8 +120,8 @@ impl Plan {
     pub(crate) fn may_have(&self, attribute: AttributePlace, written: &Value) -> bool
         ensures { result ≡ spec.may_have self.now attribute written.now }
     {
-        let prospect = self.own(attribute).or(self.again(attribute.entity));
-        prospect.bare || (prospect.named && carried(written).is_some())
+        let tryable = self.own(attribute).or(self.again(attribute.entity));
+        tryable.bare || (tryable.named && carried(written).is_some())
     }
 }
 
@@ -135,12 +135,12 @@ pub(crate) fn count_of_attributes(schema: &Schema) -> usize {
     count
 }
 
-/// Puts what is there to hope for beside what there is by others of an entity.
-fn put(found: &mut Vec<Prospect>, entity: usize, prospect: Prospect)
-    ensures { found.new.items ≡ spec.put found.old.items entity prospect }
+/// Adds what may be tried by a redeclaration to what may be by others of an entity.
+fn put(found: &mut Vec<Tryable>, entity: usize, tryable: Tryable)
+    ensures { found.new.items ≡ spec.put found.old.items entity tryable }
 {
     if entity < found.len() {
-        found[entity] = found[entity].or(prospect);
+        found[entity] = found[entity].or(tryable);
     }
 }
 
@@ -263,52 +263,52 @@ impl<'a> Planning<'a> {
         true
     }
 
-    fn prospect(&self, data_type: &NamedDataType) -> Prospect
-        ensures { result ≡ spec.prospect self.now.schema.now.types self.now.number data_type.now }
+    fn tryable(&self, data_type: &NamedDataType) -> Tryable
+        ensures { result ≡ spec.tryable self.now.schema.now.types self.now.number data_type.now }
     {
-        Prospect {
+        Tryable {
             bare: self.may_stand(data_type, false),
             named: self.may_stand(data_type, true),
         }
     }
 
-    fn put_all(&self, redeclarations: &[Redeclaration], found: &mut Vec<Prospect>)
+    fn put_all(&self, redeclarations: &[Redeclaration], found: &mut Vec<Tryable>)
         ensures { found.new.items ≡ spec.put_all self.now.schema.now.types self.now.number found.old.items redeclarations.now }
     {
         for redeclaration in redeclarations {
-            let prospect = self.prospect(&redeclaration.declaration.data_type);
-            put(found, redeclaration.attribute.entity, prospect);
+            let tryable = self.tryable(&redeclaration.declaration.data_type);
+            put(found, redeclaration.attribute.entity, tryable);
         }
     }
 
-    /// By entities, what is there to hope for by what redeclares their attributes.
-    fn again(&self, entities: &[Entity]) -> Result<Vec<Prospect>, AllocError>
+    /// By entities, what may be tried by what redeclares their attributes.
+    fn again(&self, entities: &[Entity]) -> Result<Vec<Tryable>, AllocError>
         ensures { IfOk result (λ found. found.items ≡ spec.put_of self.now.schema.now.types self.now.number (replicate (length entities.now) spec.nothing) entities.now) }
     {
         let mut found = Vec::with_capacity(self.alloc, entities.len())?;
-        found.resize(entities.len(), Prospect::nothing())?;
+        found.resize(entities.len(), Tryable::nothing())?;
         for entity in entities {
             self.put_all(entity.redeclarations.as_slice(), &mut found);
         }
         Ok(found)
     }
 
-    fn by_declaration(&self, attribute: &ExplicitAttribute) -> Prospect
+    fn by_declaration(&self, attribute: &ExplicitAttribute) -> Tryable
         ensures { result ≡ spec.by_declaration self.now.schema.now.types self.now.number attribute.now }
     {
-        self.prospect(&attribute.declaration.data_type)
+        self.tryable(&attribute.declaration.data_type)
     }
 
     fn has_one(&self, explicit: &[ExplicitAttribute]) -> bool
-        ensures { result ≡ list_any (λ x. spec.is_hopeful (spec.by_declaration self.now.schema.now.types self.now.number x)) explicit.now }
+        ensures { result ≡ list_any (λ x. spec.may_be_tried (spec.by_declaration self.now.schema.now.types self.now.number x)) explicit.now }
     {
         explicit
             .iter()
-            .any(|attribute| self.by_declaration(attribute).is_hopeful())
+            .any(|attribute| self.by_declaration(attribute).may_be_tried())
     }
 
-    /// What is there to hope for in the explicit attributes of an entity.
-    fn own(&self, explicit: &[ExplicitAttribute]) -> Result<Items<Prospect>, AllocError>
+    /// What may be tried in the explicit attributes of an entity.
+    fn own(&self, explicit: &[ExplicitAttribute]) -> Result<Items<Tryable>, AllocError>
         ensures { IfOk result (λ found. found ≡ spec.own self.now.schema.now.types self.now.number explicit.now) }
     {
         let mut found = Items::new(self.alloc);
@@ -321,7 +321,7 @@ impl<'a> Planning<'a> {
         Ok(found)
     }
 
-    fn all_own(&self, entities: &[Entity]) -> Result<Items<Items<Prospect>>, AllocError>
+    fn all_own(&self, entities: &[Entity]) -> Result<Items<Items<Tryable>>, AllocError>
         ensures { IfOk result (λ found. found ≡ map (λ e. spec.own self.now.schema.now.types self.now.number e.explicit) entities.now) }
     {
         let mut found = Items::new(self.alloc);
