@@ -7,6 +7,7 @@ pub mod Values
 pub mod TypeTallies
 pub mod Declarations
 pub mod Untried
+pub mod Laid
 pub mod Skipped
 pub mod Sharing
 pub mod Agreements

@@ -16,6 +16,11 @@ drop-none [] (suc i) h = refl
 drop-none (y ∷ xs) zero h = absurd (cc)
 drop-none (y ∷ xs) (suc i) h = drop-none xs i h
 
+pub none-behind : {A : Type 0} (xs : List A) (i : ℕ) → slice_get xs i ≡ None → slice_get xs (i + 1) ≡ None
+none-behind [] i h = refl
+none-behind (y ∷ xs) zero h = absurd (cc)
+none-behind (y ∷ xs) (suc i) h = let e : suc i + 1 ≡ suc (i + 1) = omega arith in rw e (none-behind xs i h)
+
 pub drop-past : {A : Type 0} (xs : List A) (i : ℕ) → length xs ≤ i → drop i xs ≡ []
 drop-past [] zero h = refl
 drop-past [] (suc i) h = refl

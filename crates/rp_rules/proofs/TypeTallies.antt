@@ -1,8 +1,9 @@
 -- The culprits of a rule of a defined type, attribute by attribute.
-use Rattle.std.proofs.Common.{◌≡◌, ℕ, zero, suc, ◌+◌, ◌<◌, ◌≤◌, ◌==◌, Bool, true, false, List, [], ◌∷◌, ◌++◌, map, filter, length, drop, get_or, Some, None, slice_get, slice_set, refl, sym, ap, ◌∙◌, arith, if◌then◌else◌}
+use Rattle.std.proofs.Common.{◌≡◌, ℕ, zero, suc, ◌+◌, ◌<◌, ◌≤◌, ◌==◌, Bool, true, false, List, [], ◌∷◌, ◌++◌, map, filter, length, drop, get_or, Option, Some, None, slice_get, slice_set, refl, sym, ap, ◌∙◌, arith, if◌then◌else◌}
 use Rattle.std.proofs.lemmas.Bool.Decides.{nat_tests}
 use Rattle.std.proofs.lemmas.List.{map-append}
 use Rattle.std.proofs.lemmas.List.Elements.{filter-append}
+use Rattle.std.specs.Option.{option_map_or}
 use Rattle.ex_named.specs.declared.reference.AttributePlace.{AttributePlace}
 use Rattle.rp_faults.specs.Declarations.{declared_types, last_read}
 use Rattle.rp_meaning.specs.declared.domain.ReadValue.{ReadValue}
@@ -19,11 +20,11 @@ use Rattle.rp_meaning.specs.TypeRules.{is_tried}
 use Rattle.rp_rules.specs.declared.culprits.Culprits.{Culprits}
 use Rattle.rp_rules.specs.declared.verdicts.Verdicts.{Verdicts}
 use Rattle.rp_rules.specs.Endings.{verdicts_of, with_verdict}
-use Rattle.rp_rules.proofs.Steps.{drop-got, drop-none, drop-past, drop-read}
+use Rattle.rp_rules.proofs.Steps.{drop-got, drop-none, drop-past, drop-read, none-behind}
 use Rattle.rp_rules.proofs.Tallied.{verdicts-more}
 use Rattle.rp_rules.proofs.Values.{values-scalar, values-unset}
 use Rattle.rp_rules.specs.Tallies.{tallied, with_culprit}
-use Rattle.rp_rules.specs.TypeTallies.{candidates_among, candidates_by, candidates_in, candidates_of, trials_in}
+use Rattle.rp_rules.specs.TypeTallies.{candidates_among, candidates_at, candidates_by, candidates_in, candidates_of, trials_in}
 use Rattle.rp_value.specs.declared.value.Value.{Value}
 
 -- ---- candidates one after the other
@@ -71,7 +72,7 @@ reads-are (r ∷ differing) xs = reads-are differing (slice_set xs r.place r.val
 -- ---- the candidates of a rule
 
 module _ (schema : Schema) (population : List Instance) (number place : ℕ) where
-  candidates-append : (hs others : List Held) → candidates_of schema population number place (hs ++ others) ≡ candidates_of schema population number place hs ++ candidates_of schema population number place others
+  pub candidates-append : (hs others : List Held) → candidates_of schema population number place (hs ++ others) ≡ candidates_of schema population number place hs ++ candidates_of schema population number place others
   candidates-append hs others =
       ap (map (of_attribute schema population (r.Type number place) number)) (filter-append (is_checked schema) hs others)
       ∙ map-append (of_attribute schema population (r.Type number place) number) (filter (is_checked schema) hs) (filter (is_checked schema) others)
@@ -88,7 +89,7 @@ module _ (schema : Schema) (population : List Instance) (number place : ℕ) whe
         ap (λ (cs : List Candidate). candidates_by schema population number place at i a x (last_read x differing slot) ++ cs) (among-reads (slot + 1) attributes written)
         ∙ sym (candidates-append (h ∷ []) others)
 
-    pub among-all : (attributes : List AttributePlace) (written : List Value)
+    among-all : (attributes : List AttributePlace) (written : List Value)
         → candidates_among schema population number place at i differing 0 attributes written ≡ candidates_in schema population number place at i (stored attributes written (as_read differing written))
     among-all attributes written =
         among-reads 0 attributes written ∙ ap (λ (read : List Value). candidates_in schema population number place at i (stored attributes written read)) (sym (reads-are differing written))
@@ -108,17 +109,27 @@ module _ (schema : Schema) (population : List Instance) (number place : ℕ) whe
         ap (candidates_among schema population number place at i differing slot (drop slot attributes)) (drop-past written slot h) ∙ among-none slot (drop slot attributes)
 
   -- one instance more
-  pub from-step : (at : ℕ) (i : Instance) → slice_get population at ≡ Some i
+  from-got : (at : ℕ) (i : Instance) → slice_get population at ≡ Some i
       → candidates_of schema population number place (held_from at (drop at population))
       ≡ candidates_in schema population number place at i i.values ++ candidates_of schema population number place (held_from (at + 1) (drop (at + 1) population))
   unfolding held_from
-  from-step at i read =
+  from-got at i read =
       ap (λ (is : List Instance). candidates_of schema population number place (held_from at is)) (drop-got population at i read)
       ∙ candidates-append (held_of at i) (held_from (at + 1) (drop (at + 1) population))
 
-  pub from-end : (at : ℕ) → slice_get population at ≡ None → candidates_of schema population number place (held_from at (drop at population)) ≡ []
+  from-none : (at : ℕ) → slice_get population at ≡ None → candidates_of schema population number place (held_from at (drop at population)) ≡ []
   unfolding held_from
-  from-end at none = ap (λ (is : List Instance). candidates_of schema population number place (held_from at is)) (drop-none population at none)
+  from-none at none = ap (λ (is : List Instance). candidates_of schema population number place (held_from at is)) (drop-none population at none)
+
+  from-by : (at : ℕ) (o : Option Instance) → slice_get population at ≡ o
+      → candidates_of schema population number place (held_from at (drop at population))
+      ≡ option_map_or (λ (i : Instance). candidates_in schema population number place at i i.values) o [] ++ candidates_of schema population number place (held_from (at + 1) (drop (at + 1) population))
+  from-by at (Some i) read = from-got at i read
+  from-by at None none = from-none at none ∙ sym (from-none (at + 1) (none-behind population at none))
+
+  from-step : (at : ℕ) → candidates_of schema population number place (held_from at (drop at population))
+      ≡ candidates_at schema population number place at ++ candidates_of schema population number place (held_from (at + 1) (drop (at + 1) population))
+  from-step at = from-by at (slice_get population at) refl
 
   pub from-past : (at : ℕ) → length population ≤ at → candidates_of schema population number place (held_from at (drop at population)) ≡ []
   unfolding held_from
@@ -142,20 +153,22 @@ module _ (schema : Schema) (population : List Instance) (number place : ℕ) whe
         → after (candidates_among schema population number place at i differing slot (drop slot attributes) (drop slot written)) ≡ (found, used)
     attributes-end at i differing attributes written slot h = ap after (among-end at i differing attributes written slot h)
 
+    pub attributes-whole : (at : ℕ) (i : Instance) (entities : List ℕ) (differing : List ReadValue) (attributes : List AttributePlace) (written : List Value)
+        → record { entities = entities; values = stored attributes written (as_read differing written) } ≡ i
+        → after (candidates_among schema population number place at i differing 0 attributes written) ≡ after (candidates_in schema population number place at i i.values)
+    attributes-whole at i entities differing attributes written is =
+        ap after (among-all at i differing attributes written ∙ ap (λ (j : Instance). candidates_in schema population number place at i j.values) is)
+
     pub attributes-past : (at : ℕ) (i : Instance) (differing : List ReadValue) (attributes : List AttributePlace) (written : List Value) (slot : ℕ) → length attributes ≤ slot
         → after (candidates_among schema population number place at i differing slot (drop slot attributes) (drop slot written)) ≡ (found, used)
     attributes-past at i differing attributes written slot h =
         ap (λ (left : List AttributePlace). after (candidates_among schema population number place at i differing slot left (drop slot written))) (drop-past attributes slot h)
 
-    pub instances-step : (at : ℕ) (i : Instance) → slice_get population at ≡ Some i
-        → after (candidates_of schema population number place (held_from at (drop at population)))
-        ≡ tallied world (after (candidates_in schema population number place at i i.values)).0 (candidates_of schema population number place (held_from (at + 1) (drop (at + 1) population))) (after (candidates_in schema population number place at i i.values)).1
-    instances-step at i read =
-        ap after (from-step at i read)
-        ∙ tallied-append world found (candidates_in schema population number place at i i.values) (candidates_of schema population number place (held_from (at + 1) (drop (at + 1) population))) used
-
-    pub instances-end : (at : ℕ) → slice_get population at ≡ None → after (candidates_of schema population number place (held_from at (drop at population))) ≡ (found, used)
-    instances-end at none = ap after (from-end at none)
+    pub instances-step : (at : ℕ) → after (candidates_of schema population number place (held_from at (drop at population)))
+        ≡ tallied world (after (candidates_at schema population number place at)).0 (candidates_of schema population number place (held_from (at + 1) (drop (at + 1) population))) (after (candidates_at schema population number place at)).1
+    instances-step at =
+        ap after (from-step at)
+        ∙ tallied-append world found (candidates_at schema population number place at) (candidates_of schema population number place (held_from (at + 1) (drop (at + 1) population))) used
 
     pub instances-past : (at : ℕ) → length population ≤ at → after (candidates_of schema population number place (held_from at (drop at population))) ≡ (found, used)
     instances-past at h = ap after (from-past at h)

@@ -31,11 +31,11 @@ use Rattle.rp_value.specs.declared.value.Value.TheOpen.{Value-F}
 
 -- ---- truth
 
-or-left : (a b : Bool) → (a || b) ≡ false → a ≡ false
+pub or-left : (a b : Bool) → (a || b) ≡ false → a ≡ false
 or-left true b h = h
 or-left false b h = refl
 
-or-right : (a b : Bool) → (a || b) ≡ false → b ≡ false
+pub or-right : (a b : Bool) → (a || b) ≡ false → b ≡ false
 or-right true b h = absurd (cc)
 or-right false b h = h
 
@@ -325,24 +325,11 @@ module _ (types : List DefinedType) (number : ℕ) where
   map-covers (x ∷ xs) zero b none = sym (on-tryable x.declaration.data_type b) ∙ none
   map-covers (x ∷ xs) (suc at) b none = map-covers xs at b none
 
-  none-covers : (xs : List ExplicitAttribute) (at : ℕ) (b : Bool) → list_any (λ x. plan.may_be_tried (plan.by_declaration types number x)) xs ≡ false → option_map_or (may_by b) (slice_get xs at) false ≡ false
-  none-covers [] at b none = refl
-  none-covers (x ∷ xs) zero true none =
-      or-right (may_by false x) (may_by true x) (or-left (may_by false x || may_by true x) (list_any (λ x. plan.may_be_tried (plan.by_declaration types number x)) xs) none)
-  none-covers (x ∷ xs) zero false none =
-      or-left (may_by false x) (may_by true x) (or-left (may_by false x || may_by true x) (list_any (λ x. plan.may_be_tried (plan.by_declaration types number x)) xs) none)
-  none-covers (x ∷ xs) (suc at) b none = none-covers xs at b (or-right (may_by false x || may_by true x) (list_any (λ x. plan.may_be_tried (plan.by_declaration types number x)) xs) none)
-
-  own-covers : (xs : List ExplicitAttribute) (at : ℕ) (b any : Bool) → list_any (λ x. plan.may_be_tried (plan.by_declaration types number x)) xs ≡ any
-      → plan.on_named (slice_index_or (if any then map (plan.by_declaration types number) xs else []) at plan.nothing) b ≡ false → option_map_or (may_by b) (slice_get xs at) false ≡ false
-  own-covers xs at b true is none = map-covers xs at b none
-  own-covers xs at b false is none = none-covers xs at b is
-
   rows-cover : (es : List Entity) (n at : ℕ) (b : Bool)
       → plan.on_named (option_map_or (λ (row : List Tryable). slice_index_or row at plan.nothing) (slice_get (map (λ (e : Entity). plan.own types number e.explicit) es) n) plan.nothing) b ≡ false
       → option_map_or (may_by b) (option_and_then (λ (e : Entity). slice_get e.explicit at) (slice_get es n)) false ≡ false
   rows-cover [] n at b none = refl
-  rows-cover (e ∷ es) zero at b none = own-covers e.explicit at b (list_any (λ x. plan.may_be_tried (plan.by_declaration types number x)) e.explicit) refl none
+  rows-cover (e ∷ es) zero at b none = map-covers e.explicit at b none
   rows-cover (e ∷ es) (suc n) at b none = rows-cover es n at b none
 
 pub plan-tells : (schema : Schema) (number : ℕ) (again : List Tryable) (own : List (List Tryable)) → again ≡ plan.put_of schema.types number (replicate (length schema.entities) plan.nothing) schema.entities

@@ -7,3 +7,5 @@ pub mod Tried
 pub mod TypeTallies
 pub mod Buckets
 pub mod Plan
+pub mod Layouts
+pub mod Walks

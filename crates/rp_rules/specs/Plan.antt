@@ -1,5 +1,5 @@
 -- Whether rules of a defined type may be tried on something in the values of an attribute, by its declarations alone.
-use Rattle.std.specs.Prelude.{◌≡◌, ℕ, zero, suc, ◌==◌, ◌&&◌, ◌||◌, Bool, true, false, List, [], ◌∷◌, map, length, nat_lt, Option, Some, None, is_some, slice_get, slice_set, slice_index_or, if◌then◌else◌}
+use Rattle.std.specs.Prelude.{◌≡◌, ℕ, zero, suc, ◌==◌, ◌&&◌, ◌||◌, Bool, true, false, List, [], ◌∷◌, map, length, nat_lt, Option, Some, None, is_some, slice_get, slice_set, slice_index_or}
 use Rattle.std.specs.List.{list_any}
 use Rattle.std.specs.Option.{option_map_or}
 use Rattle.plain_data.specs.Numbers.{is_among}
@@ -94,9 +94,9 @@ module _ (types : List DefinedType) (number : ℕ) where
   abbrev pub by_declaration : ExplicitAttribute → Tryable
   by_declaration x = tryable types number x.declaration.data_type
 
-  -- of the explicit attributes of an entity, none where there is none to have
+  -- of the explicit attributes of an entity
   abbrev pub own : List ExplicitAttribute → List Tryable
-  own explicit = if list_any (λ x. may_be_tried (by_declaration x)) explicit then map by_declaration explicit else []
+  own explicit = map by_declaration explicit
 
 -- ---- of attributes
 
@@ -109,6 +109,10 @@ tryable_at plan a = either (own_at plan.own a) (at_entity plan.again a.entity)
 -- whether something in a value may be tried
 abbrev pub may_have : Plan → AttributePlace → Value → Bool
 may_have plan a x = (tryable_at plan a).bare || (tryable_at plan a).named && is_some (carried x)
+
+-- or in any values of these attributes
+abbrev pub may_have_any : Plan → List AttributePlace → Bool
+may_have_any plan attributes = list_any (λ a. may_be_tried (tryable_at plan a)) attributes
 
 abbrev pub on_named : Tryable → Bool → Bool
 on_named p true = p.named

@@ -1,5 +1,6 @@
 -- The candidates of a rule of a defined type, attribute by attribute.
-use Rattle.std.specs.Prelude.{ℕ, ◌+◌, List, [], ◌∷◌, ◌++◌, map, filter}
+use Rattle.std.specs.Prelude.{ℕ, ◌+◌, List, [], ◌∷◌, ◌++◌, map, filter, slice_get}
+use Rattle.std.specs.Option.{option_map_or}
 use Rattle.ex_named.specs.declared.reference.AttributePlace.{AttributePlace}
 use Rattle.rp_faults.specs.Declarations.{declared_types, last_read}
 use Rattle.rp_meaning.specs.declared.domain.ReadValue.{ReadValue}
@@ -20,7 +21,11 @@ module _ (schema : Schema) (population : List Instance) (number place : ℕ) whe
   abbrev pub candidates_in : ℕ → Instance → List Stored → List Candidate
   candidates_in at i values = candidates_of (map (λ x. record { place = at; instance = i; value = x }) values)
 
-  -- of one
+  -- of the instance at a place, if there is one
+  abbrev pub candidates_at : ℕ → List Candidate
+  candidates_at at = option_map_or (λ i. candidates_in at i i.values) (slice_get population at) []
+
+  -- of one value
   abbrev pub candidates_by : ℕ → Instance → AttributePlace → Value → Value → List Candidate
   candidates_by at i a x y = candidates_in at i ((record { attribute = a; written = x; read = y }) ∷ [])
 

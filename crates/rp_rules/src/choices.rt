@@ -1,6 +1,6 @@
 //! What values in a SELECT are written as, and which types' rules declarations bring.
 
-ghost use Rattle.std.specs.Prelude.{◌≡◌, false, slice_get};
+ghost use Rattle.std.specs.Prelude.{◌≡◌, false, [], slice_get};
 ghost use Rattle.std.specs.List.{list_any};
 ghost use Rattle.std.specs.Option.{option_and_then, option_copied, option_map, option_map_or};
 ghost use Rattle.plain_data.specs.Numbers.{is_among};
@@ -26,7 +26,7 @@ pub(crate) fn named(data_type: &NamedDataType) -> Option<usize>
     }
 }
 
-pub(crate) fn is_one_of(numbers: &[usize], number: usize) -> bool
+fn is_one_of(numbers: &[usize], number: usize) -> bool
     ensures { result ≡ is_among numbers.now number }
 {
     numbers.iter().any(|other| *other == number)
@@ -61,6 +61,27 @@ pub(crate) fn element_of(end: End<'_>) -> Option<&NamedDataType>
     match aggregate_type(end) {
         Some(aggregate) => Some(aggregate.element),
         None => None,
+    }
+}
+
+/// Whether a defined type is another, or stands beneath it.
+pub(crate) fn is_beneath(types: &[DefinedType], from: usize, number: usize) -> bool
+    ensures { result ≡ is_among (spec.with_beneath types.now [] from) number }
+{
+    from == number
+        || match types.get(from) {
+            Some(defined_type) => is_one_of(defined_type.beneath.as_slice(), number),
+            None => false,
+        }
+}
+
+/// Whether a SELECT is one of those on the ways from another.
+pub(crate) fn is_between(types: &[DefinedType], from: usize, number: usize) -> bool
+    ensures { result ≡ is_among (option_map_or (λ y. y.selects) (slice_get types.now from) []) number }
+{
+    match types.get(from) {
+        Some(defined_type) => is_one_of(defined_type.selects.as_slice(), number),
+        None => false,
     }
 }
 
@@ -104,33 +125,12 @@ impl<'a, D: Domain> Choosing<'a, D> {
         }
     }
 
-    /// The SELECTs on the ways from a SELECT.
-    fn selects(&self, from: usize) -> &[usize]
-        ensures { result.now ≡ option_map_or (λ y. y.selects) (slice_get self.now.types.now from) [] }
-    {
-        match self.types.get(from) {
-            Some(defined_type) => defined_type.selects.as_slice(),
-            None => &[],
-        }
-    }
-
     /// Whether a SELECT stands on a way from another to what a value is written as.
     #[tactic(auto, using(crate::proofs::Values::between))]
     fn is_between(&self, value: &Value, from: usize, number: usize) -> bool
         ensures { result ≡ is_among (spec.selects_to self.now.types.now (D.population self.now.domain.now) from value.now) number }
     {
-        is_one_of(self.selects(from), number) && self.chooses(value, number)
-    }
-
-    /// Whether a defined type is another, or stands beneath it.
-    fn is_beneath(&self, from: usize, number: usize) -> bool
-        ensures { result ≡ is_among (spec.with_beneath self.now.types.now (D.population self.now.domain.now) from) number }
-    {
-        from == number
-            || match self.types.get(from) {
-                Some(defined_type) => is_one_of(defined_type.beneath.as_slice(), number),
-                None => false,
-            }
+        is_between(self.types, from, number) && self.chooses(value, number)
     }
 
     /// The type under which a value is written, in a SELECT that chooses from it.
@@ -151,7 +151,7 @@ impl<'a, D: Domain> Choosing<'a, D> {
     {
         match carried(value) {
             // Most values carry another type, so that is asked first.
-            Some(under) => self.is_beneath(under, number) && self.chooses(value, from),
+            Some(under) => is_beneath(self.types, under, number) && self.chooses(value, from),
             None => false,
         }
     }
@@ -178,7 +178,7 @@ impl<'a, D: Domain> Choosing<'a, D> {
         match (behind_names(self.types, data_type), named(data_type)) {
             (End::Select(_), Some(from)) => self.is_tried_in(written, from, number),
             (_, Some(from)) => {
-                self.is_beneath(from, number) && fits(self.types, data_type, read)
+                is_beneath(self.types, from, number) && fits(self.types, data_type, read)
             }
             (_, None) => false,
         }

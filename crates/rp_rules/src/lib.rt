@@ -8,6 +8,7 @@ mod culprits;
 mod declared;
 mod ended;
 mod laws;
+mod layouts;
 mod order;
 mod plan;
 mod report;

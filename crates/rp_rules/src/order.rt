@@ -4,6 +4,7 @@ ghost use Rattle.std.specs.Prelude.{◌≡◌, slice_get};
 ghost use Rattle.std.specs.Option.{option_copied};
 ghost use Rattle.rp_rules.specs.Order as spec;
 
+use crate::types::Walk;
 use crate::used::Used;
 use crate::validation::Validation;
 use ex_named::AttributePlace;
@@ -12,7 +13,7 @@ use rp_meaning::{Check, Constraint, Domain, Rule, Schema};
 use std::alloc::AllocError;
 
 /// What rules are of.
-#[derive(Clone, Copy)]
+#[derive(Clone, Copy, PartialEq, Eq)]
 pub(crate) enum Sort {
     /// The WHERE clause of a defined type.
     Type,
@@ -69,20 +70,23 @@ impl<'a, D: Domain> Validation<'a, D> {
     ghost use Rattle.std.specs.Prelude.{◌≡◌, IfOk, OnOk};
     ghost use Rattle.rp_meaning.specs.Sequence.{in_sequence_after};
     ghost use Rattle.rp_rules.specs.Order as spec;
+    ghost use Rattle.rp_rules.specs.Walks.{Leads};
 
     /// The check of a rule.
     fn check(
         &self,
+        walk: &Walk,
         sort: Sort,
         number: usize,
         place: usize,
         used: &mut Used,
     ) -> Result<Check, AllocError>
+        requires { Leads self.now.schema.now (D.population self.now.domain.now) number self.now.layouts.now.numbers walk.now }
         ensures check { IfOk result (λ check. check ≡ (spec.check_at self.now.schema.now (D.population self.now.domain.now) sort number place used.old).0) }
         ensures used { OnOk result (used.new ≡ (spec.check_at self.now.schema.now (D.population self.now.domain.now) sort number place used.old).1) }
     {
         match sort {
-            Sort::Type => self.of_type(number, place, used),
+            Sort::Type => self.of_type(walk, number, place, used),
             Sort::Where => {
                 let constraint = Constraint::Where(number, place);
                 self.of_instances(constraint, number, Rule::Entity(number, place), used)
@@ -110,8 +114,10 @@ impl<'a, D: Domain> Validation<'a, D> {
         ensures checks { OnOk result (checks.new ≡ (in_sequence_after checks.old (spec.checks_at self.now.schema.now (D.population self.now.domain.now) sort number) used.old).0) }
         ensures used { OnOk result (used.new ≡ (in_sequence_after checks.old (spec.checks_at self.now.schema.now (D.population self.now.domain.now) sort number) used.old).1) }
     {
-        for place in 0..count_of(self.schema, sort, number) {
-            let check = self.check(sort, number, place, used)?;
+        let count = count_of(self.schema, sort, number);
+        let walk = self.walk(number, sort == Sort::Type && count > 0)?;
+        for place in 0..count {
+            let check = self.check(&walk, sort, number, place, used)?;
             checks.push(check)?;
         }
         Ok(())

@@ -3,7 +3,7 @@
 ghost use Rattle.std.specs.Prelude.{◌≡◌, slice_index_or};
 ghost use Rattle.rp_rules.specs.Plan as spec;
 
-use crate::choices::{element_of, is_one_of, named};
+use crate::choices::{element_of, is_beneath, is_between, named};
 use ex_named::{AttributePlace, NamedDataType, TypeName};
 use plain_data::Items;
 use rp_meaning::{Entity, ExplicitAttribute, Redeclaration, Schema};
@@ -72,7 +72,7 @@ fn tryable_or(row: &[Tryable], place: usize, other: Tryable) -> Tryable
 pub(crate) struct Plan {
     /// By the entities that declare attributes, of all redeclarations of these.
     again: Items<Tryable>,
-    /// By entities and the places of their explicit attributes; of an entity in which nothing may be tried there are none.
+    /// By entities and the places of their explicit attributes.
     own: Items<Items<Tryable>>,
 }
 
@@ -99,13 +99,6 @@ impl Plan {
     }
 
     #[inline(always)]
-    fn again(&self, entity: usize) -> Tryable
-        ensures { result ≡ spec.at_entity self.now.again entity }
-    {
-        tryable_or(self.again.as_slice(), entity, Tryable::anything())
-    }
-
-    #[inline(always)]
     fn own(&self, attribute: AttributePlace) -> Tryable
         ensures { result ≡ spec.own_at self.now.own attribute }
     {
@@ -115,24 +108,49 @@ impl Plan {
         }
     }
 
+    #[inline(always)]
+    fn tryable(&self, attribute: AttributePlace) -> Tryable
+        ensures { result ≡ spec.tryable_at self.now attribute }
+    {
+        let again = tryable_or(self.again.as_slice(), attribute.entity, Tryable::anything());
+        self.own(attribute).or(again)
+    }
+
     /// Whether the rules may be tried on something in a value of an attribute.
     #[inline(always)]
     pub(crate) fn may_have(&self, attribute: AttributePlace, written: &Value) -> bool
         ensures { result ≡ spec.may_have self.now attribute written.now }
     {
-        let tryable = self.own(attribute).or(self.again(attribute.entity));
+        let tryable = self.tryable(attribute);
         tryable.bare || (tryable.named && carried(written).is_some())
+    }
+
+    /// Whether they may be on something in any values of these attributes.
+    pub(crate) fn may_have_any(&self, attributes: &[AttributePlace]) -> bool
+        ensures { result ≡ spec.may_have_any self.now attributes.now }
+    {
+        attributes
+            .iter()
+            .any(|attribute| self.tryable(*attribute).may_be_tried())
     }
 }
 
 /// How many attributes a schema declares and redeclares: as many a plan looks at.
-pub(crate) fn count_of_attributes(schema: &Schema) -> usize {
+fn count_of_attributes(schema: &Schema) -> usize {
     let mut count = 0usize;
     for entity in schema.entities.as_slice() {
         count = count.wrapping_add(entity.explicit.len());
         count = count.wrapping_add(entity.redeclarations.len());
     }
     count
+}
+
+/// How many of so many instances plans are made for: all or none, as plans take less or more than they save.
+pub(crate) fn count_of_planned(schema: &Schema, count: usize) -> usize {
+    let mut types = schema.types.as_slice().iter();
+    let has_rules = types.any(|defined_type| !defined_type.domain_rules.is_empty());
+    let is_planned = has_rules && count_of_attributes(schema) <= count;
+    if is_planned { count } else { 0 }
 }
 
 /// Adds what may be tried by a redeclaration to what may be by others of an entity.
@@ -165,17 +183,6 @@ impl<'a> Planning<'a> {
     ghost use Rattle.rp_meaning.specs.Types.{end};
     ghost use Rattle.rp_rules.specs.Plan as spec;
 
-    /// Whether a defined type is the one with the rules, or renames it.
-    fn is_under(&self, from: usize) -> bool
-        ensures { result ≡ spec.is_under self.now.schema.now.types self.now.number from }
-    {
-        from == self.number
-            || match self.schema.types.get(from) {
-                Some(defined_type) => is_one_of(defined_type.beneath.as_slice(), self.number),
-                None => false,
-            }
-    }
-
     /// Whether a defined type renames so many that they are not looked through for each choice of a SELECT.
     fn is_long(&self, from: usize) -> bool
         ensures { result ≡ spec.is_long self.now.schema.now.types self.now.number from }
@@ -193,9 +200,10 @@ impl<'a> Planning<'a> {
         match choice {
             TypeName::Entity(_) => true,
             TypeName::Defined(other) => {
+                let types = self.schema.types.as_slice();
                 self.is_long(other)
-                    || self.is_under(other)
-                    || aggregate_type(end_of(self.schema.types.as_slice(), other)).is_some()
+                    || is_beneath(types, other, self.number)
+                    || aggregate_type(end_of(types, other)).is_some()
             }
         }
     }
@@ -219,26 +227,18 @@ impl<'a> Planning<'a> {
         }
     }
 
-    /// Whether the type is one of the SELECTs on the ways from a SELECT.
-    fn is_between(&self, from: usize) -> bool
-        ensures { result ≡ spec.is_between self.now.schema.now.types self.now.number from }
-    {
-        match self.schema.types.get(from) {
-            Some(defined_type) => is_one_of(defined_type.selects.as_slice(), self.number),
-            None => false,
-        }
-    }
-
     /// Whether they may be on a value itself, which carries a type or none.
     fn may_be(&self, data_type: &NamedDataType, is_named: bool) -> bool
         ensures { result ≡ spec.may_be_by self.now.schema.now.types self.now.number (end self.now.schema.now.types data_type.now) (named data_type.now) is_named }
     {
-        let end = behind_names(self.schema.types.as_slice(), data_type);
-        match (end, named(data_type)) {
+        let types = self.schema.types.as_slice();
+        match (behind_names(types, data_type), named(data_type)) {
             (End::Select(_), Some(from)) => {
-                from == self.number || self.is_between(from) || (is_named && self.may_carry(from))
+                from == self.number
+                    || is_between(types, from, self.number)
+                    || (is_named && self.may_carry(from))
             }
-            (_, Some(from)) => self.is_under(from),
+            (_, Some(from)) => is_beneath(types, from, self.number),
             (_, None) => false,
         }
     }
@@ -293,30 +293,13 @@ impl<'a> Planning<'a> {
         Ok(found)
     }
 
-    fn by_declaration(&self, attribute: &ExplicitAttribute) -> Tryable
-        ensures { result ≡ spec.by_declaration self.now.schema.now.types self.now.number attribute.now }
-    {
-        self.tryable(&attribute.declaration.data_type)
-    }
-
-    fn has_one(&self, explicit: &[ExplicitAttribute]) -> bool
-        ensures { result ≡ list_any (λ x. spec.may_be_tried (spec.by_declaration self.now.schema.now.types self.now.number x)) explicit.now }
-    {
-        explicit
-            .iter()
-            .any(|attribute| self.by_declaration(attribute).may_be_tried())
-    }
-
     /// What may be tried in the explicit attributes of an entity.
     fn own(&self, explicit: &[ExplicitAttribute]) -> Result<Items<Tryable>, AllocError>
         ensures { IfOk result (λ found. found ≡ spec.own self.now.schema.now.types self.now.number explicit.now) }
     {
         let mut found = Items::new(self.alloc);
-        if !self.has_one(explicit) {
-            return Ok(found);
-        }
         for attribute in explicit {
-            found.push(self.by_declaration(attribute))?;
+            found.push(self.tryable(&attribute.declaration.data_type))?;
         }
         Ok(found)
     }

@@ -4,8 +4,9 @@ ghost use Rattle.std.specs.Prelude.{◌≡◌, IfOk};
 ghost use Rattle.rp_meaning.specs.Report as spec;
 
 use crate::culprits::Culprits;
+use crate::layouts::layouts_of;
 use crate::order::Sort;
-use crate::plan::count_of_attributes;
+use crate::plan::count_of_planned;
 use crate::used::Used;
 use crate::validation::Validation;
 use plain_data::Items;
@@ -61,11 +62,12 @@ impl<'a, D: Domain> Validation<'a, D> {
 pub fn validate<D: Domain>(alloc: Global, schema: &Schema, domain: &D) -> Result<Report, AllocError>
     ensures { IfOk result (λ report. report ≡ spec.report schema.now (D.population domain.now)) }
 {
+    let layouts = layouts_of(alloc, domain, count_of_planned(schema, domain.count()))?;
     let validation = Validation {
         alloc,
         schema,
         domain,
-        is_planned: count_of_attributes(schema) <= domain.count(),
+        layouts: &layouts,
     };
     let mut checks = validation.attribute_checks()?;
     let mut used = Used::new();

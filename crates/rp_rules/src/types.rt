@@ -3,6 +3,7 @@
 use crate::choices::Choosing;
 use crate::culprits::Culprits;
 use crate::ended::verdict_of;
+use crate::layouts::attributes_at;
 use crate::plan::{Plan, Planning};
 use crate::tried::Trying;
 use crate::used::Used;
@@ -16,17 +17,27 @@ use rp_operators::{aggregate_of, is_indeterminate};
 use rp_value::Value;
 use std::alloc::AllocError;
 
+/// Where the rules of a defined type may be tried.
+#[derive(Drop)]
+pub(crate) struct Walk {
+    plan: Plan,
+    /// By the numbers of layouts whether on anything in what has it.
+    layouts: Items<bool>,
+}
+
 impl<'a, D: Domain> Validation<'a, D> {
-    ghost use Rattle.std.specs.Prelude.{◌≡◌, [], ◌∷◌, map, None, IfOk, OnOk};
+    ghost use Rattle.std.specs.Prelude.{◌≡◌, [], ◌∷◌, map, false, None, IsTrue, IfOk, OnOk};
     ghost use Rattle.rp_faults.specs.Declarations.{declared_types, last_read};
     ghost use Rattle.rp_meaning.specs.Bare.{aggregate_of};
     ghost use Rattle.rp_meaning.specs.Report.{type_candidates, type_check, world};
     ghost use Rattle.rp_meaning.specs.Sequence.{each_after};
     ghost use Rattle.rp_meaning.specs.TypeRules.{values_tried};
     ghost use Rattle.rp_rules.specs.Endings.{verdicts_of};
-    ghost use Rattle.rp_rules.specs.Plan.{Tells};
+    ghost use Rattle.rp_rules.specs.Layouts as layouts;
+    ghost use Rattle.rp_rules.specs.Plan.{Tells, may_have_any};
     ghost use Rattle.rp_rules.specs.Tallies.{no_culprits, tallied};
     ghost use Rattle.rp_rules.specs.TypeTallies as spec;
+    ghost use Rattle.rp_rules.specs.Walks.{Leads};
 
     /// Which verdicts a rule has for values.
     fn verdicts_of_values(
@@ -127,38 +138,10 @@ impl<'a, D: Domain> Validation<'a, D> {
         }
     }
 
-    /// Adds an attribute of the instance at a place to the culprits of a rule, if a value in it is one.
-    fn tally_attribute(
-        &self,
-        number: usize,
-        place: usize,
-        at: usize,
-        instance: &Seen<'_>,
-        attribute: AttributePlace,
-        written: &Value,
-        read: &Value,
-        found: &mut Culprits,
-        used: &mut Used,
-    ) -> Result<(), AllocError>
-        ensures found { OnOk result (found.new ≡ (tallied (world self.now.schema.now (D.population self.now.domain.now)) found.old (spec.candidates_by self.now.schema.now (D.population self.now.domain.now) number place at instance.now attribute written.now read.now) used.old).0) }
-        ensures used { OnOk result (used.new ≡ (tallied (world self.now.schema.now (D.population self.now.domain.now)) found.old (spec.candidates_by self.now.schema.now (D.population self.now.domain.now) number place at instance.now attribute written.now read.now) used.old).1) }
-    {
-        if !is_checked(self.schema, attribute, instance) {
-            return Ok(());
-        }
-        let entities = instance.entities;
-        let verdicts = self.verdicts_in(number, place, entities, attribute, written, read, used)?;
-        let culprit = Culprit {
-            instance: at,
-            attribute: Some(attribute),
-        };
-        found.add(culprit, verdicts)
-    }
-
-    /// The same, unless a plan tells that nothing in it is tried, as it mostly does.
+    /// Adds an attribute of the instance at a place to the culprits of a rule, if a value in it is one. Mostly nothing in it is tried.
     #[inline(always)]
     #[tactic(auto, using(crate::proofs::Skipped::untried))]
-    fn tally_by_plan(
+    fn tally_attribute(
         &self,
         plan: &Plan,
         number: usize,
@@ -179,43 +162,21 @@ impl<'a, D: Domain> Validation<'a, D> {
         if !plan.may_have(attribute, written) {
             return Ok(());
         }
-        let read = read_at(written, differing, slot);
-        self.tally_attribute(
-            number, place, at, instance, attribute, written, read, found, used,
-        )
-    }
-
-    /// Adds those of some attributes of the instance at a place.
-    fn tally_attributes(
-        &self,
-        plan: &Plan,
-        number: usize,
-        place: usize,
-        at: usize,
-        instance: &Seen<'_>,
-        attributes: &[AttributePlace],
-        written: &[Value],
-        differing: &[ReadValue],
-        found: &mut Culprits,
-        used: &mut Used,
-    ) -> Result<(), AllocError>
-        requires { Tells self.now.schema.now number plan.now }
-        ensures found { OnOk result (found.new ≡ (tallied (world self.now.schema.now (D.population self.now.domain.now)) found.old (spec.candidates_among self.now.schema.now (D.population self.now.domain.now) number place at instance.now differing.now 0 attributes.now written.now) used.old).0) }
-        ensures used { OnOk result (used.new ≡ (tallied (world self.now.schema.now (D.population self.now.domain.now)) found.old (spec.candidates_among self.now.schema.now (D.population self.now.domain.now) number place at instance.now differing.now 0 attributes.now written.now) used.old).1) }
-    {
-        for (slot, attribute) in attributes.iter().enumerate() {
-            let Some(value) = written.get(slot) else {
-                return Ok(());
-            };
-            self.tally_by_plan(
-                plan, number, place, at, instance, slot, *attribute, value, differing, found, used,
-            )?;
+        if !is_checked(self.schema, attribute, instance) {
+            return Ok(());
         }
-        Ok(())
+        let read = read_at(written, differing, slot);
+        let entities = instance.entities;
+        let verdicts = self.verdicts_in(number, place, entities, attribute, written, read, used)?;
+        let culprit = Culprit {
+            instance: at,
+            attribute: Some(attribute),
+        };
+        found.add(culprit, verdicts)
     }
 
     /// Adds those of the instance at a place.
-    fn tally_instance(
+    fn tally_attributes(
         &self,
         plan: &Plan,
         number: usize,
@@ -229,69 +190,123 @@ impl<'a, D: Domain> Validation<'a, D> {
         ensures found { OnOk result (found.new ≡ (tallied (world self.now.schema.now (D.population self.now.domain.now)) found.old (spec.candidates_in self.now.schema.now (D.population self.now.domain.now) number place at instance.now instance.now.values) used.old).0) }
         ensures used { OnOk result (used.new ≡ (tallied (world self.now.schema.now (D.population self.now.domain.now)) found.old (spec.candidates_in self.now.schema.now (D.population self.now.domain.now) number place at instance.now instance.now.values) used.old).1) }
     {
-        self.tally_attributes(
-            plan,
-            number,
-            place,
-            at,
-            instance,
-            instance.attributes,
-            instance.written,
-            instance.differing,
-            found,
-            used,
-        )
+        let differing = instance.differing;
+        let written = instance.written;
+        let attributes = instance.attributes;
+        for (slot, attribute) in attributes.iter().enumerate() {
+            let Some(value) = written.get(slot) else {
+                return Ok(());
+            };
+            self.tally_attribute(
+                plan, number, place, at, instance, slot, *attribute, value, differing, found, used,
+            )?;
+        }
+        Ok(())
     }
 
-    /// The culprits of a rule of a defined type.
-    fn tallied_types(
-        &self,
-        plan: &Plan,
-        number: usize,
-        place: usize,
-        used: &mut Used,
-    ) -> Result<Culprits, AllocError>
-        requires { Tells self.now.schema.now number plan.now }
-        ensures culprits { IfOk result (λ found. found ≡ (tallied (world self.now.schema.now (D.population self.now.domain.now)) no_culprits (type_candidates self.now.schema.now (D.population self.now.domain.now) number place) used.old).0) }
-        ensures used { OnOk result (used.new ≡ (tallied (world self.now.schema.now (D.population self.now.domain.now)) no_culprits (type_candidates self.now.schema.now (D.population self.now.domain.now) number place) used.old).1) }
+    /// By layouts, whether anything may be tried in the instances of each.
+    fn by_layouts(&self, plan: &Plan) -> Result<Items<bool>, AllocError>
+        ensures { IfOk result (λ found. found ≡ map (λ at. may_have_any plan.now (layouts.attributes_at (D.population self.now.domain.now) at)) self.now.layouts.now.examples) }
     {
-        let mut found = Culprits::none(self.alloc);
-        for at in 0..self.domain.count() {
-            let Some(instance) = self.domain.instance(at) else {
-                return Ok(found);
-            };
-            self.tally_instance(plan, number, place, at, &instance, &mut found, used)?;
+        let mut found = Items::new(self.alloc);
+        for place in self.layouts.examples.as_slice() {
+            found.push(plan.may_have_any(attributes_at(self.domain, *place)))?;
         }
         Ok(found)
     }
 
-    /// Where the rules of a type may be tried on anything.
-    fn plan(&self, number: usize) -> Result<Plan, AllocError>
-        ensures { IfOk result (λ plan. Tells self.now.schema.now number plan) }
+    /// Where the rules of a type may be tried: everywhere, if nobody wants to know or there are no layouts.
+    pub(crate) fn walk(&self, number: usize, is_wanted: bool) -> Result<Walk, AllocError>
+        ensures { IfOk result (λ walk. Leads self.now.schema.now (D.population self.now.domain.now) number self.now.layouts.now.numbers walk) }
     {
-        if !self.is_planned {
-            return Ok(Plan::without(self.alloc));
+        if !is_wanted || self.layouts.examples.is_empty() {
+            return Ok(Walk {
+                plan: Plan::without(self.alloc),
+                layouts: Items::new(self.alloc),
+            });
         }
         let planning = Planning {
             alloc: self.alloc,
             schema: self.schema,
             number,
         };
-        planning.plan()
+        let plan = planning.plan()?;
+        let layouts = self.by_layouts(&plan)?;
+        Ok(Walk { plan, layouts })
+    }
+
+    /// Whether they are tried on nothing in the instance at a place, by its layout.
+    #[inline(always)]
+    fn skips(&self, walk: &Walk, number: usize, at: usize) -> bool
+        requires { Leads self.now.schema.now (D.population self.now.domain.now) number self.now.layouts.now.numbers walk.now }
+        ensures { IsTrue result → may_have_any walk.now.plan (layouts.attributes_at (D.population self.now.domain.now) at) ≡ false }
+    {
+        let Some(layout) = self.layouts.numbers.get(at) else {
+            return false;
+        };
+        match walk.layouts.get(*layout) {
+            Some(may_have_any) => !*may_have_any,
+            None => false,
+        }
+    }
+
+    /// Adds those of the instance at a place, which isn't looked at if nothing in it may be tried.
+    #[inline(always)]
+    #[tactic(auto, using(crate::proofs::Skipped::skipped))]
+    fn tally_instance(
+        &self,
+        walk: &Walk,
+        number: usize,
+        place: usize,
+        at: usize,
+        found: &mut Culprits,
+        used: &mut Used,
+    ) -> Result<(), AllocError>
+        requires { Leads self.now.schema.now (D.population self.now.domain.now) number self.now.layouts.now.numbers walk.now }
+        ensures found { OnOk result (found.new ≡ (tallied (world self.now.schema.now (D.population self.now.domain.now)) found.old (spec.candidates_at self.now.schema.now (D.population self.now.domain.now) number place at) used.old).0) }
+        ensures used { OnOk result (used.new ≡ (tallied (world self.now.schema.now (D.population self.now.domain.now)) found.old (spec.candidates_at self.now.schema.now (D.population self.now.domain.now) number place at) used.old).1) }
+    {
+        if self.skips(walk, number, at) {
+            return Ok(());
+        }
+        let Some(instance) = self.domain.instance(at) else {
+            return Ok(());
+        };
+        self.tally_attributes(&walk.plan, number, place, at, &instance, found, used)
+    }
+
+    /// The culprits of a rule of a defined type.
+    fn tallied_types(
+        &self,
+        walk: &Walk,
+        number: usize,
+        place: usize,
+        used: &mut Used,
+    ) -> Result<Culprits, AllocError>
+        requires { Leads self.now.schema.now (D.population self.now.domain.now) number self.now.layouts.now.numbers walk.now }
+        ensures culprits { IfOk result (λ found. found ≡ (tallied (world self.now.schema.now (D.population self.now.domain.now)) no_culprits (type_candidates self.now.schema.now (D.population self.now.domain.now) number place) used.old).0) }
+        ensures used { OnOk result (used.new ≡ (tallied (world self.now.schema.now (D.population self.now.domain.now)) no_culprits (type_candidates self.now.schema.now (D.population self.now.domain.now) number place) used.old).1) }
+    {
+        let mut found = Culprits::none(self.alloc);
+        for at in 0..self.domain.count() {
+            self.tally_instance(walk, number, place, at, &mut found, used)?;
+        }
+        Ok(found)
     }
 
     /// The check of a rule of a defined type.
     pub(crate) fn of_type(
         &self,
+        walk: &Walk,
         number: usize,
         place: usize,
         used: &mut Used,
     ) -> Result<Check, AllocError>
+        requires { Leads self.now.schema.now (D.population self.now.domain.now) number self.now.layouts.now.numbers walk.now }
         ensures check { IfOk result (λ check. check ≡ (type_check self.now.schema.now (D.population self.now.domain.now) number place used.old).0) }
         ensures used { OnOk result (used.new ≡ (type_check self.now.schema.now (D.population self.now.domain.now) number place used.old).1) }
     {
-        let plan = self.plan(number)?;
-        let found = self.tallied_types(&plan, number, place, used)?;
+        let found = self.tallied_types(walk, number, place, used)?;
         Ok(found.into_check(Constraint::Type(number, place)))
     }
 }

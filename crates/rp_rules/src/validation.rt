@@ -1,6 +1,9 @@
 //! Evaluations one after the other, within the steps that a validation may use.
 
+ghost use Rattle.rp_rules.specs.Layouts.{Lays};
+
 use crate::ended::{Ended, steps_of, verdict_of};
+use crate::layouts::Layouts;
 use crate::used::{MOST_STEPS, Used};
 use crate::verdicts::Verdicts;
 use rp_eval::{Code, eval};
@@ -10,12 +13,13 @@ use std::alloc::{AllocError, Global};
 
 /// What is validated, and by what.
 #[derive(Drop)]
-pub(crate) struct Validation<'a, D> {
+pub(crate) struct Validation<'a, D: Domain> {
     pub(crate) alloc: Global,
     pub(crate) schema: &'a Schema,
     pub(crate) domain: &'a D,
-    /// Whether there are so many instances that a plan for each type with rules takes less than it saves.
-    pub(crate) is_planned: bool,
+    /// None, where there are so few instances that a plan for each type with rules takes more than it saves.
+    pub(crate) layouts: &'a Layouts,
+    ghost lays: { Lays (D.population domain.now) layouts.now },
 }
 
 impl<'a, D: Domain> Validation<'a, D> {

@@ -1,4 +1,4 @@
-use Rattle.std.proofs.Common.{rules, sym, ap, ◌∙◌, arith}
+use Rattle.std.proofs.Common.{sym, ap, ◌∙◌, arith}
 use Rattle.rp_meaning.specs.Report.{world}
 use Rattle.rp_rules.proofs.TypeTallies.{instances-past, instances-step}
 use Rattle.rp_rules.proofs.validation.Validation.tallied_types.Goals as goal
@@ -7,7 +7,7 @@ pub loop-at-preserved : goal.loop-at-preserved
 loop-at-preserved g c =
     let schema = c.args.self.now.schema.now in
     let population = g.D.Domain.population c.args.self.now.domain.now in
-    let step = instances-step schema population c.args.number c.args.place (world schema population) c.loop-at.found c.loop-at.used c.loop-at.at _ (search rules) in
+    let step = instances-step schema population c.args.number c.args.place (world schema population) c.loop-at.found c.loop-at.used c.loop-at.at in
     rw (c.in_ok-tally_instance.ensures.found, c.in_ok-tally_instance.ensures.used) (sym step ∙ c.loop-at.invariant)
 
 pub returns-clause-culprits : goal.returns-clause-culprits
