@@ -11,7 +11,7 @@ use rp_meaning::{Derivation, ExplicitAttribute, Redeclaration, Schema, Seen};
 use rp_operators::is_of;
 
 /// An explicit attribute.
-pub(crate) fn explicit_at(schema: &Schema, attribute: AttributePlace) -> Option<&ExplicitAttribute>
+pub fn explicit_at(schema: &Schema, attribute: AttributePlace) -> Option<&ExplicitAttribute>
     ensures { option_copied result ≡ option_and_then (λ e. slice_get e.explicit attribute.place) (attributes.entity_at schema.now attribute.entity) }
 {
     schema
@@ -44,7 +44,7 @@ pub fn is_checked(schema: &Schema, attribute: AttributePlace, instance: &Seen<'_
 }
 
 /// The attributes that an entity redeclares.
-pub(crate) fn redeclarations(schema: &Schema, entity: usize) -> &[Redeclaration]
+pub fn redeclarations(schema: &Schema, entity: usize) -> &[Redeclaration]
     ensures { result.now ≡ option_map_or (λ e. e.redeclarations) (attributes.entity_at schema.now entity) [] }
 {
     match schema.entities.get(entity) {

@@ -11,7 +11,7 @@ mod keys;
 mod references;
 mod twice;
 
-pub use attributes::is_checked;
+pub use attributes::{explicit_at, is_checked, redeclarations};
 pub use buckets::Buckets;
 pub use declared::{declared_types, read_at};
 pub use faults::is_type;

@@ -1,36 +1,11 @@
 //! On which values of attributes the rules of a defined type are tried, by all declarations of these.
 
-ghost use Rattle.std.specs.Prelude.{◌≡◌, slice_get};
-ghost use Rattle.std.specs.Option.{option_and_then, option_copied};
-ghost use Rattle.rp_meaning.specs.Attributes.{entity_at};
-ghost use Rattle.rp_rules.specs.Tried.{redeclarations_of};
-
 use crate::choices::Choosing;
 use ex_named::AttributePlace;
+use rp_faults::{explicit_at, redeclarations};
 use rp_meaning::{Domain, ExplicitAttribute, Redeclaration, Schema};
 use rp_operators::same_attribute;
 use rp_value::Value;
-
-/// An explicit attribute.
-fn explicit_at(schema: &Schema, attribute: AttributePlace) -> Option<&ExplicitAttribute>
-    ensures { option_copied result ≡ option_and_then (λ e. slice_get e.explicit attribute.place) (entity_at schema.now attribute.entity) }
-{
-    schema
-        .entities
-        .get(attribute.entity)?
-        .explicit
-        .get(attribute.place)
-}
-
-/// The attributes that an entity redeclares.
-fn redeclarations(schema: &Schema, entity: usize) -> &[Redeclaration]
-    ensures { result.now ≡ redeclarations_of schema.now entity }
-{
-    match schema.entities.get(entity) {
-        Some(entity) => entity.redeclarations.as_slice(),
-        None => &[],
-    }
-}
 
 impl<'a, D: Domain> Choosing<'a, D> {
     ghost use Rattle.std.specs.Prelude.{◌≡◌, false};
