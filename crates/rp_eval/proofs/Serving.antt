@@ -1,5 +1,5 @@
 -- Values that are kept.
-use Rattle.std.proofs.Common.{◌≡◌, ◌∙◌, ℕ, zero, suc, ◌-◌, ◌≤◌, max, Option, Some, None, IfSome, List, [], ◌∷◌, ◌++◌, length, slice_get, refl, ap, sym, subst, arith}
+use Rattle.std.proofs.Common.{◌≡◌, ◌∙◌, ℕ, zero, suc, ◌-◌, ◌≤◌, Option, Some, None, IfSome, List, [], ◌∷◌, ◌++◌, length, slice_get, refl, ap, sym, subst, arith}
 use Rattle.rp_value.specs.declared.value.Value.{Value}
 use Rattle.rp_meaning.specs.declared.body.Body.{Body}
 use Rattle.rp_meaning.specs.declared.body.Body.TheVariants as b
@@ -51,7 +51,7 @@ one_more_serves w found k all here number x is =
     subst (λ o. IfSome o (P number)) is (kept_more P found k (λ n. known (P n) (slice_get found n) (all n)) here number)
 
 -- what is kept of a row
-IsKept : World → KeptDerived → Type 0
+abbrev IsKept : World → KeptDerived → Type 0
 IsKept w row = Serves w (derived_body row.of) row.kept
 
 pub one_more_derived : (w : World) (found : List KeptDerived) (row : KeptDerived) → AllDerivedServe w found → Serves w (derived_body row.of) row.kept → AllDerivedServe w (found ++ row ∷ [])

@@ -1,5 +1,5 @@
 -- Values that are kept.
-use Rattle.std.specs.Prelude.{◌≡◌, ℕ, List, Option, Some, slice_get}
+use Rattle.std.specs.Prelude.{◌≡◌, ℕ, List, Some, slice_get}
 use Rattle.rp_eval.specs.declared.kept.Derived.{Derived}
 use Rattle.rp_eval.specs.declared.kept.Kept.{Kept}
 use Rattle.rp_eval.specs.declared.kept.KeptDerived.{KeptDerived}
