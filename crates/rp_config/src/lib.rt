@@ -2,12 +2,8 @@
 #![tactic(auto)]
 
 mod config;
-mod fault;
-mod files;
 mod loading;
 mod wrong;
 
-pub use fault::LoadFault;
-pub use files::{Folder, FromFiles, file_bytes};
 pub use loading::{Loaded, load_all};
 pub use wrong::wrong_place;

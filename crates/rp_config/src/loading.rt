@@ -5,11 +5,10 @@ ghost use Rattle.ex_check.specs.Check as check;
 ghost use Rattle.rp_config.specs.Loading as spec;
 
 use crate::config::{Config, ConfigFault, config_of};
-use crate::fault::LoadFault;
-use crate::files::{Folder, file_bytes};
 use ex_check::{SchemaFault, compile_schema, words_of_fault};
 use ex_compiled::Compiled;
 use plain_data::{Failure, Rows, Text};
+use rp_files::{Folder, LoadFault, file_bytes};
 use std::alloc::{AllocError, Global};
 
 /// What a configuration names.

@@ -10,5 +10,4 @@ mod positions;
 mod targets;
 
 pub use group::domain_of;
-pub use lines::Lines;
 pub use models::{CountedModel, PlacedInstance, population_of};

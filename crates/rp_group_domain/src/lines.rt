@@ -17,7 +17,7 @@ pub(crate) struct Line {
 }
 
 /// A schema, with the entities above some of its entities. Contracts see it as the schema.
-pub struct Lines<'d, 's> {
+pub(crate) struct Lines<'d, 's> {
     schema: &'d Dictionary<'s>,
     lines: Vec<Line>,
     // Where the line of an entity stands of these. Nothing is proved of it: what stands there is compared.
@@ -60,7 +60,7 @@ impl<'d, 's> Lines<'d, 's> {
     ghost use Rattle.ex_layouts.specs.Entities as layouts;
 
     /// Nothing is found yet.
-    pub fn of(alloc: Global, schema: &'d Dictionary<'s>) -> Result<Lines<'d, 's>, AllocError>
+    pub(crate) fn of(alloc: Global, schema: &'d Dictionary<'s>) -> Result<Lines<'d, 's>, AllocError>
         ensures { IfOk result (λ lines. lines ≡ schema.now) }
     {
         let count = schema.entities().len();
@@ -109,7 +109,7 @@ impl<'d, 's> Lines<'d, 's> {
     }
 
     /// The entities of an instance, in the order in which its values stand.
-    pub fn entities(
+    pub(crate) fn entities(
         &mut self,
         alloc: Global,
         entities: &Entities,

@@ -3,7 +3,7 @@ use Rattle.std.proofs.Common.{◌≡◌, ℕ, List, Option, Some, None, IfSome, 
 use Rattle.std.specs.Prelude.{IsErrAnd, IsErrOf}
 use Rattle.ex_check.specs.declared.report.CheckFault.{CheckFault}
 use Rattle.ex_check.specs.declared.report.CheckFault.TheVariants as checked
-use Rattle.rp_config.specs.Loading.{Held, file_at}
+use Rattle.rp_files.specs.Files.{Held, file_at}
 use Rattle.rp_program.specs.declared.fault.Fault.{Fault}
 use Rattle.rp_program.specs.declared.fault.Fault.TheVariants.{Write}
 use Rattle.rp_program.specs.Starts.{check_fault}

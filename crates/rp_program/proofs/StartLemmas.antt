@@ -2,7 +2,8 @@
 use Rattle.std.proofs.Common.{◌≡◌, ℕ, List, Option, Some, None, IfSome, Result, Ok, ap, subst, sym}
 use Rattle.plain_data.specs.declared.failure.Failure.{Failure}
 use Rattle.plain_data.specs.Gives.{Fails}
-use Rattle.rp_config.specs.Loading.{Held, loaded_at}
+use Rattle.rp_files.specs.Files.{Held}
+use Rattle.rp_config.specs.Loading.{loaded_at}
 use Rattle.rp_config.specs.declared.loading.Loaded.{Loaded}
 use Rattle.rp_program.specs.declared.fault.StartFault.{StartFault}
 use Rattle.rp_program.specs.Starts.{repository_of, repository_if, opened_at}

@@ -1,6 +1,6 @@
 -- What is told of the text in a file.
 use Rattle.std.specs.Prelude.{◌≡◌, ℕ, List, Option, Some, None, Ok, ⊤}
-use Rattle.rp_config.specs.Loading.{Held, file_at}
+use Rattle.rp_files.specs.Files.{Held, file_at}
 
 -- the text is that of the file at a path, where the folder's files are known
 abbrev pub IsFile : Option Held → List ℕ → List ℕ → Type 0

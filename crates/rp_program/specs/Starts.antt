@@ -4,8 +4,9 @@ use Rattle.plain_data.specs.declared.failure.Failure.{Failure}
 use Rattle.plain_data.specs.declared.failure.Failure.TheVariants as failure
 use Rattle.ex_check.specs.declared.report.CheckFault.{CheckFault}
 use Rattle.ex_check.specs.declared.report.CheckFault.TheVariants as checked
-use Rattle.rp_config.specs.Loading.{Held, file_at, loaded_at}
-use Rattle.rp_config.specs.declared.fault.LoadFault.{LoadFault}
+use Rattle.rp_files.specs.Files.{Held, file_at}
+use Rattle.rp_files.specs.declared.fault.LoadFault.{LoadFault}
+use Rattle.rp_config.specs.Loading.{loaded_at}
 use Rattle.rp_config.specs.declared.loading.Loaded.{Loaded}
 use Rattle.rp_plain.specs.declared.messages.NewFault.{NewFault}
 use Rattle.rp_plain.specs.declared.messages.NewFault.TheVariants as new

@@ -13,7 +13,7 @@ ghost use Rattle.rp_program.specs.Checks.{OfFile};
 use crate::ending::Done;
 use crate::fault::Fault;
 use ex_check::{check_compiled, compile_schema, explain_text};
-use rp_config::{Folder, file_bytes};
+use rp_files::{Folder, file_bytes};
 use rp_io::Sink;
 use std::alloc::Global;
 use std::mem;

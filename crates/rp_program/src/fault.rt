@@ -1,7 +1,7 @@
 //! Why a command ends before its work is done.
 use ex_check::CheckFault;
 use plain_data::Failure;
-use rp_config::LoadFault;
+use rp_files::LoadFault;
 use rp_repo::NewFault;
 use std::alloc::AllocError;
 

@@ -10,7 +10,8 @@ ghost use Rattle.rp_program.specs.Runs.{RunsFrom, IsAnswered};
 
 use crate::ending::Done;
 use crate::fault::Fault;
-use rp_config::{Folder, Loaded, load_all};
+use rp_config::{Loaded, load_all};
+use rp_files::Folder;
 use rp_repo::{Compiled, LoadedSchema, Repository, RunFault, Sink, Source, run_lines};
 use std::alloc::{AllocError, Global};
 use std::mem;

@@ -1,7 +1,7 @@
 //! Why the program ends with status 2, and the line that it then writes on standard error.
 use plain_data::{Failure, Text};
 use rp_command::CommandLineFault;
-use rp_config::LoadFault;
+use rp_files::LoadFault;
 use rp_program::{Fault as CommandFault, StartFault};
 use rp_repo::NewFault;
 use std::alloc::{AllocError, AllocFailed};

@@ -1,2 +1,2 @@
-mod Placing
+mod Models
 mod Told

@@ -1,9 +1,8 @@
 -- What comes of the conditions of WHERE clauses over a population.
-use Rattle.std.specs.Prelude.{ℕ, List, [], ◌∷◌, ◌++◌, map, length}
+use Rattle.std.specs.Prelude.{ℕ, List, [], ◌∷◌, ◌++◌, map}
 use Rattle.std.specs.List.{flat_map}
 use Rattle.ex_schemas.specs.Schemas.{Checked}
 use Rattle.plain_data.specs.Numbers.{numbered}
-use Rattle.rp_content.specs.declared.instance.Instance as content
 use Rattle.rp_meaning.specs.declared.rule.Rule.{Rule}
 use Rattle.rp_meaning.specs.declared.rule.Rule.TheVariants as r
 use Rattle.rp_meaning.specs.declared.schema.Entity.{Entity}
@@ -14,11 +13,11 @@ use Rattle.rp_meaning.specs.Compiled.{compiled}
 use Rattle.rp_meaning.specs.Expressions.{World}
 use Rattle.rp_meaning.specs.Outcomes.{outcome}
 use Rattle.rp_meaning.specs.Populations.{Instance, extent}
-use Rattle.rp_meaning.specs.Reading.{instance_of}
+use Rattle.rp_population.specs.Populations as populations
+use Rattle.rp_positions.specs.Seen.{all_seen_by}
 use Rattle.rp_value.specs.declared.value.Value.{Value}
 use Rattle.rp_value.specs.declared.value.Value.TheVariants as v
 use Rattle.rp_trial.specs.declared.answers.Answer.{Answer}
-use Rattle.rp_trial.specs.Places.{all_written}
 
 -- ---- conditions
 
@@ -60,10 +59,7 @@ answers_within world rules limit = flat_map (answers_of world limit) rules
 unfoldable pub answers : World → List ℕ → List Answer
 answers world limits = flat_map (answers_within world (conditions world.schema)) limits
 
--- ---- a checked schema, and instances by it in the order of their names
+-- ---- a checked schema, and the instances of models by it
 
-abbrev pub population : Schema → Checked → List content.Instance → List Instance
-population schema checked instances = map (λ i. instance_of schema (length (all_written checked instances)) i.entities i.values) (all_written checked instances)
-
-unfoldable pub world : Checked → List content.Instance → World
-world checked instances = record { schema = compiled checked; population = population (compiled checked) checked instances }
+unfoldable pub world : Checked → List populations.Counted → World
+world checked models = record { schema = compiled checked; population = all_seen_by (compiled checked) checked (populations.population models) }

@@ -3,7 +3,6 @@
 ghost use Rattle.std.specs.Prelude.{◌≡◌, ◌++◌, map, IfOk, OnOk};
 ghost use Rattle.std.specs.List.{flat_map};
 ghost use Rattle.plain_data.specs.Numbers.{numbered};
-ghost use Rattle.rp_eval.specs.Bodies.{world};
 ghost use Rattle.rp_trial.specs.Answers as spec;
 
 use plain_data::Items;
@@ -162,17 +161,15 @@ fn push_within(
 #[tactic(auto, unfolding(crate::specs::Answers::answers))]
 pub(crate) fn answers(
     alloc: Global,
-    schema: &Schema,
-    domain: &ListDomain,
+    world: &World<'_, ListDomain>,
     limits: &[usize],
 ) -> Result<Items<Answer>, AllocError>
-    ensures { IfOk result (λ found. found ≡ spec.answers (world schema.now domain.now) limits.now) }
+    ensures { IfOk result (λ found. found ≡ spec.answers world.now limits.now) }
 {
-    let world = World::new(alloc, schema, domain)?;
-    let conditions = conditions(alloc, schema)?;
+    let conditions = conditions(alloc, world.schema())?;
     let mut found = Items::new(alloc);
     for limit in limits {
-        push_within(&mut found, alloc, &world, conditions.as_slice(), *limit)?;
+        push_within(&mut found, alloc, world, conditions.as_slice(), *limit)?;
     }
     Ok(found)
 }

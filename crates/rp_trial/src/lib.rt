@@ -6,7 +6,6 @@ mod answers;
 mod limits;
 mod lines;
 mod loading;
-mod places;
 mod trials;
 mod values;
 

@@ -1,7 +1,7 @@
 //! The lines that tell answers.
 
 use crate::answers::Answer;
-use crate::values::{Names, write_text, write_value};
+use crate::values::{Names, write_text, write_texts, write_value};
 use ex_named::NamedDomainRule;
 use ex_types::CheckedSchema;
 use itoa::Buffer;
@@ -51,28 +51,24 @@ fn declared_of(schema: &CheckedSchema, condition: Rule) -> Option<Declared<'_>> 
 
 /// `OWNER.LABEL`; for a condition without a label `#` and its number in the WHERE clause, from 1.
 fn write_declared(out: &mut Vec<u8>, declared: Declared<'_>) -> Result<(), AllocError> {
-    write_text(out, declared.owner)?;
+    let owner = declared.owner;
     match declared.label {
-        Some(label) => {
-            write_text(out, ".")?;
-            write_text(out, label)
-        }
+        Some(label) => write_texts(out, &[owner, ".", label]),
         None => {
-            write_text(out, ".#")?;
-            write_text(out, Buffer::new().format(declared.place.saturating_add(1)))
+            let number = declared.place.saturating_add(1);
+            write_texts(out, &[owner, ".#", Buffer::new().format(number)])
         }
     }
 }
 
-/// `VALUE STEPS`, or `LIMIT`
+/// `VALUE STEPS`, or `LIMIT`, and the end of the line
 fn write_outcome(out: &mut Vec<u8>, names: Names<'_>, outcome: &Outcome) -> Result<(), AllocError> {
     match outcome {
         Outcome::Value(value, steps) => {
             write_value(out, names, value)?;
-            write_text(out, " ")?;
-            write_text(out, Buffer::new().format(*steps))
+            write_texts(out, &[" ", Buffer::new().format(*steps), "\n"])
         }
-        Outcome::Limit => write_text(out, "LIMIT"),
+        Outcome::Limit => write_text(out, "LIMIT\n"),
     }
 }
 
@@ -82,8 +78,7 @@ fn write_front(
     limit: usize,
     declared: Option<Declared<'_>>,
 ) -> Result<(), AllocError> {
-    write_text(out, Buffer::new().format(limit))?;
-    write_text(out, " ")?;
+    write_texts(out, &[Buffer::new().format(limit), " "])?;
     if let Some(declared) = declared {
         write_declared(out, declared)?;
     }
@@ -100,8 +95,7 @@ fn write_line(
     write_front(out, answer.limit, declared_of(schema, answer.condition))?;
     write_value(out, names, &answer.itself)?;
     write_text(out, " ")?;
-    write_outcome(out, names, &answer.outcome)?;
-    write_text(out, "\n")
+    write_outcome(out, names, &answer.outcome)
 }
 
 /// A line for each answer.

@@ -1,7 +1,7 @@
 //! A schema, and what a file holds by it; else what is wrong, in words.
 
 ghost use Rattle.std.specs.Prelude.{IfOk};
-ghost use Rattle.p21_bind.specs.Files.{AreAscending};
+ghost use Rattle.rp_positions.specs.Positions.{IsSearchable};
 
 use ex_check::{compile_schema, words_of_fault};
 use ex_compiled::Compiled;
@@ -41,7 +41,7 @@ pub(crate) fn content_of<'s>(
     schema: &'s Dictionary<'s>,
     text: &[u8],
 ) -> Result<Content, Failure<String>>
-    ensures { IfOk result (λ content. AreAscending content.instances) }
+    ensures { IfOk result (λ content. IsSearchable content) }
 {
     let raw = raw_of(alloc, text)?;
     if !is_of_schema(alloc, &raw, schema.name().as_bytes())? {

@@ -1,41 +1,45 @@
 //! A trial of a schema with a file.
 
 ghost use Rattle.std.specs.Prelude.{◌≡◌, IfOk};
-ghost use Rattle.p21_bind.specs.Files.{AreAscending};
 ghost use Rattle.rp_meaning.specs.Compiled.{compiled};
+ghost use Rattle.rp_positions.specs.Positions.{AreInOrder, IsSearchable};
 ghost use Rattle.rp_trial.specs.Answers as spec;
 
 use crate::answers::{Answer, answers};
 use crate::lines::lines;
 use crate::loading::{content_of, schema_of};
-use crate::places::all_written;
 use crate::values::Names;
 use ex_compiled::Compiled;
 use ex_loaded::LoadedSchema;
-use plain_data::{Failure, Items};
+use plain_data::{Failure, Items, Text};
 use rp_compile::compile;
-use rp_content::Instance;
+use rp_content::Content;
 use rp_domain::ListDomain;
+use rp_eval::World;
+use rp_group_domain::{CountedModel, domain_of, population_of};
 use rp_meaning::Schema;
+use rp_rows::rows::Key;
 use std::alloc::{AllocError, Global};
 
-/// What comes of each condition of a schema, which is compiled, for each SELF among instances in order of name, with each limit.
+/// What comes of each condition of a schema, which is compiled, for each SELF in the population of models, with each limit.
 #[tactic(auto, unfolding(crate::specs::Answers::world))]
 fn answers_over(
     alloc: Global,
     loaded: &LoadedSchema<'_>,
     schema: &Schema,
-    instances: &[Instance],
+    models: &[CountedModel<'_>],
     limits: &[usize],
 ) -> Result<Items<Answer>, AllocError>
-    requires order { AreAscending instances.now }
+    requires order { AreInOrder models.now }
     requires schema { schema.now ≡ compiled loaded.now }
-    ensures { IfOk result (λ found. found ≡ spec.answers (spec.world loaded.now instances.now) limits.now) }
+    ensures { IfOk result (λ found. found ≡ spec.answers (spec.world loaded.now models.now) limits.now) }
 {
-    let written = all_written(alloc, loaded.dictionary(), instances)?;
+    let population = population_of(alloc, models)?;
+    let domain = domain_of(alloc, schema, loaded.dictionary(), models, &population)?;
     // This isn't let go of either.
-    let domain = Box::leak(Box::new(alloc, ListDomain::new(alloc, schema, written)?)?);
-    answers(alloc, schema, domain, limits)
+    let domain: &ListDomain = Box::leak(Box::new(alloc, domain)?);
+    let world = World::new(alloc, schema, domain)?;
+    answers(alloc, &world, limits)
 }
 
 /// The same of a schema that isn't compiled yet. Without a limit no population is made.
@@ -43,32 +47,39 @@ fn answers_over(
 fn answers_by(
     alloc: Global,
     loaded: &LoadedSchema<'_>,
-    instances: &[Instance],
+    models: &[CountedModel<'_>],
     limits: &[usize],
 ) -> Result<Items<Answer>, AllocError>
-    requires { AreAscending instances.now }
-    ensures { IfOk result (λ found. found ≡ spec.answers (spec.world loaded.now instances.now) limits.now) }
+    requires { AreInOrder models.now }
+    ensures { IfOk result (λ found. found ≡ spec.answers (spec.world loaded.now models.now) limits.now) }
 {
     let schema = compile(alloc, loaded.checked())?;
     if limits.is_empty() {
         return Ok(Items::new(alloc));
     }
-    answers_over(alloc, loaded, &schema, instances, limits)
+    answers_over(alloc, loaded, &schema, models, limits)
 }
 
 /// The lines of all answers for what a file holds.
+#[tactic(auto, using(crate::proofs::Models::alone))]
 fn lines_by(
     alloc: Global,
     loaded: &LoadedSchema<'_>,
-    instances: &[Instance],
+    content: &Content,
     limits: &[usize],
 ) -> Result<Vec<u8>, AllocError>
-    requires { AreAscending instances.now }
+    requires { IsSearchable content.now }
 {
-    let answers = answers_by(alloc, loaded, instances, limits)?;
+    // A file stands alone: no link leads to it, so what it goes by doesn't matter.
+    let key = Key {
+        owner: Text::new(String::new(alloc)),
+        name: Text::new(String::new(alloc)),
+    };
+    let models = [CountedModel { key: &key, content }];
+    let answers = answers_by(alloc, loaded, &models, limits)?;
     let names = Names {
         types: loaded.checked().types(),
-        instances,
+        instances: content.instances.as_slice(),
     };
     lines(alloc, names, loaded.checked(), &answers)
 }
@@ -80,7 +91,7 @@ fn trial_by<'s>(
     limits: &[usize],
 ) -> Result<Vec<u8>, Failure<String>> {
     let content = content_of(alloc, loaded.dictionary(), file)?;
-    Ok(lines_by(alloc, loaded, content.instances.as_slice(), limits)?)
+    Ok(lines_by(alloc, loaded, &content, limits)?)
 }
 
 /// A schema with what is found in it once. This isn't let go of, since the process is to end with what it is lent to.

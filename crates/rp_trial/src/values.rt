@@ -56,6 +56,13 @@ pub(crate) fn write_text(out: &mut Vec<u8>, text: &str) -> Result<(), AllocError
     out.extend_from_slice(text.as_bytes())
 }
 
+pub(crate) fn write_texts(out: &mut Vec<u8>, texts: &[&str]) -> Result<(), AllocError> {
+    for text in texts {
+        write_text(out, text)?;
+    }
+    Ok(())
+}
+
 /// A string between apostrophes; each one in it stands twice.
 fn write_string(out: &mut Vec<u8>, text: &[u8]) -> Result<(), AllocError> {
     out.push(b'\'')?;
@@ -78,11 +85,20 @@ fn write_bits(out: &mut Vec<u8>, bits: &[bool]) -> Result<(), AllocError> {
 
 /// The name of the instance at a place.
 fn write_name(out: &mut Vec<u8>, instances: &[Instance], place: u64) -> Result<(), AllocError> {
-    write_text(out, "#")?;
     match instances.get(place as usize) {
-        Some(instance) => write_text(out, Buffer::new().format(instance.name)),
-        None => Ok(()),
+        Some(instance) => write_texts(out, &["#", Buffer::new().format(instance.name)]),
+        None => write_text(out, "#"),
     }
+}
+
+fn write_item(
+    out: &mut Vec<u8>,
+    types: &[NamedType],
+    enumeration: usize,
+    place: usize,
+) -> Result<(), AllocError> {
+    let owner = type_name(types, enumeration);
+    write_texts(out, &[owner, ".", item_name(types, enumeration, place)])
 }
 
 /// A value, as EXPRESS writes literals: `SET[1: LABEL('a'), COLOUR.RED, %10, #7]`.
@@ -99,19 +115,14 @@ pub(crate) fn write_value(
         Value::Str(text) => write_string(out, text.as_bytes()),
         Value::Bin(bits) => write_bits(out, bits.as_slice()),
         Value::Log(value) => write_text(out, logical_name(*value)),
-        Value::Item { enumeration, place } => {
-            write_text(out, type_name(names.types, *enumeration))?;
-            write_text(out, ".")?;
-            write_text(out, item_name(names.types, *enumeration, *place))
-        }
+        Value::Item { enumeration, place } => write_item(out, names.types, *enumeration, *place),
         Value::Inst(place) => write_name(out, names.instances, *place),
         Value::Agg { kind, elements } => write_aggregate(out, names, *kind, elements),
         Value::Named {
             defined_type,
             value,
         } => {
-            write_text(out, type_name(names.types, *defined_type))?;
-            write_text(out, "(")?;
+            write_texts(out, &[type_name(names.types, *defined_type), "("])?;
             write_value(out, names, value.get())?;
             write_text(out, ")")
         }
@@ -125,10 +136,11 @@ fn write_aggregate(
     kind: AggregateKind,
     elements: &Elements<Value>,
 ) -> Result<(), AllocError> {
-    write_text(out, kind_name(kind))?;
-    write_text(out, "[")?;
-    write_text(out, Buffer::new().format(elements.low()))?;
-    write_text(out, ": ")?;
+    let low = elements.low();
+    write_texts(
+        out,
+        &[kind_name(kind), "[", Buffer::new().format(low), ": "],
+    )?;
     let values = elements.as_slice();
     'values: for place in 0..values.len() {
         if place > 0 {

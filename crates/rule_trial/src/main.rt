@@ -4,7 +4,7 @@
 #![tactic(auto)]
 
 use plain_data::Failure;
-use rp_config::{FromFiles, file_bytes};
+use rp_files::{FromFiles, file_bytes};
 use rp_io::{ToWriter, write_all};
 use rp_trial::{limits_of, trial};
 use std::alloc::Global;

@@ -1,5 +1,5 @@
-use Rattle.rp_config.proofs.LoadLemmas.{fronted}
-use Rattle.rp_config.proofs.files.front.Goals as goal
+use Rattle.rp_files.proofs.FileLemmas.{fronted}
+use Rattle.rp_files.proofs.files.front.Goals as goal
 
 pub returns-clause-bytes : goal.returns-clause-bytes
 returns-clause-bytes g c =

@@ -1,7 +1,7 @@
 use Rattle.std.proofs.Common.{rules, ◌<◌, ◌≤◌, length}
 use Rattle.rp_io.specs.Limits.{file_limit}
-use Rattle.rp_config.proofs.LoadLemmas.{on_known, all_came, more_came}
-use Rattle.rp_config.proofs.files.file_bytes.Goals as goal
+use Rattle.rp_files.proofs.FileLemmas.{on_known, all_came, more_came}
+use Rattle.rp_files.proofs.files.file_bytes.Goals as goal
 
 pub returns-then-len-gt-FILE_LIMIT-clause-bytes : goal.returns-then-len-gt-FILE_LIMIT-clause-bytes
 returns-then-len-gt-FILE_LIMIT-clause-bytes g c =

@@ -1,8 +1,8 @@
 //! Files that are read whole, up to a size.
 ghost use Rattle.std.specs.Prelude.{◌≡◌, ◌≢◌, ◌≤◌, List, ℕ, length, take, Option, None, IfErr, IfOk, IfSome, OnOk};
 ghost use Rattle.plain_data.specs.Gives.{Gives};
-ghost use Rattle.rp_config.specs.Loading.{NeverFails};
-ghost use Rattle.rp_config.specs.Loading as spec;
+ghost use Rattle.rp_files.specs.Files.{NeverFails};
+ghost use Rattle.rp_files.specs.Files as spec;
 
 use crate::fault::LoadFault;
 use plain_data::{Failure, Text};

@@ -1,6 +1,0 @@
-use Rattle.std.proofs.Common.{◌≡◌, ◌++◌, map, drop}
-use Rattle.rp_trial.specs.Places.{placed}
-use Rattle.rp_trial.proofs.places.+placed.Given as goal
-
-abbrev pub invariant-all_placed-loop-value : goal.invariant-all_placed-loop-value
-invariant-all_placed-loop-value l = l.found ++ map (placed l.instances) (drop l.value-index l.values) ≡ map (placed l.instances) l.values
