@@ -277,6 +277,23 @@ SECTIONS = [
     ("a word at the end", ";ENDSEC;⟦Syntax⟧END;", None),
     ("two marks at the end", ";ENDSEC;END-ISO-10303-21;⟦Syntax⟧END-ISO-10303-21;", None),
     ("the mark at the end in lower case", ";ENDSEC;end-iso-10303-21;⟦Syntax⟧;", None),
+    ("an entity of the user's own", ";#1=⟦Token⟧!MINE(1.);", None),
+    ("one among the types of an external mapping", ";#1=(P()⟦Token⟧!MINE(1.));", None),
+    ("a typed value of the user's own", ";#1=A(⟦Token⟧!MINE(1.));", None),
+    ("a scope", ";#1=⟦Token⟧&SCOPE #2=P();ENDSCOPE/#2/ Q(#2);", None),
+    ("the name of a constant", ";#1=A(⟦Token⟧@1);", None),
+    ("a reference to a resource", ";#1=A(⟦Token⟧<part.step#1>);", None),
+    ("anchors behind the data", ";ENDSEC;⟦Syntax⟧ANCHOR;", None),
+    ("a signature behind the data", ";ENDSEC;⟦Syntax⟧SIGNATURE abcd", None),
+    ("a signature behind the file", ";ENDSEC;END-ISO-10303-21;⟦Syntax⟧SIGNATURE;abcd", None),
+]
+
+# what stands between the header's ENDSEC and DATA
+BETWEEN = [
+    ("anchors", "⟦Syntax⟧ANCHOR;<part>=#1;ENDSEC;", None),
+    ("no anchors", "⟦Syntax⟧ANCHOR;ENDSEC;", None),
+    ("references", "⟦Syntax⟧REFERENCE;#9=<part.step#1>;ENDSEC;", None),
+    ("a signature", "⟦Syntax⟧SIGNATURE;abcd;ENDSEC;", None),
 ]
 
 # what stands between FILE_NAME and ENDSEC
@@ -297,6 +314,7 @@ HEADERS = [
 def grammar(it):
     looks(it, [(name, whole(text), told) for name, text, told in SECTIONS])
     looks(it, [(name, whole(";", header), told) for name, header, told in HEADERS])
+    looks(it, [(name, whole(";", SCHEMA).replace("ENDSEC;DATA", f"ENDSEC;{section}DATA", 1), told) for name, section, told in BETWEEN])
 
 
 # ---- schemas

@@ -2,8 +2,16 @@
 #![tactic(auto)]
 
 mod config;
+mod front;
 mod loading;
+mod shown;
+mod twice;
+mod unreadable;
 mod wrong;
 
+pub use front::what_begins;
 pub use loading::{Loaded, load_all};
+pub use shown::Shown;
+pub use twice::{partner_twice, schema_twice};
+pub use unreadable::{Unreadable, why_unreadable};
 pub use wrong::wrong_place;
