@@ -26,6 +26,15 @@ ENTITY e; k : INTEGER; WHERE w : f(k) = 0; END_ENTITY; END_SCHEMA;
 """
 N = """SCHEMA N; ENTITY e; DERIVE a : INTEGER := b; b : INTEGER := a; WHERE w : a = 1; END_ENTITY; END_SCHEMA;
 """
+# derived attributes that take few steps and many, and that nest, asked by their own rule and by others
+D = """SCHEMA D; FUNCTION f(n : INTEGER) : INTEGER; LOCAL k : INTEGER := 0; END_LOCAL; REPEAT i := 1 TO n; k := k + 1; END_REPEAT; RETURN (k);
+END_FUNCTION; ENTITY e; n : INTEGER; DERIVE d : INTEGER := f(n); WHERE w : d = n; END_ENTITY;
+ENTITY p; asked : e; WHERE v : asked.d + asked.d = 2 * asked.n; END_ENTITY; END_SCHEMA;
+"""
+K = """SCHEMA K; FUNCTION f(n : INTEGER) : INTEGER; IF n <= 0 THEN RETURN (0); END_IF; RETURN (f(n - 1)); END_FUNCTION;
+FUNCTION g(x : e) : INTEGER; RETURN (x.d); END_FUNCTION;
+ENTITY e; k : INTEGER; DERIVE d : INTEGER := f(k); WHERE w : d = 0; END_ENTITY; ENTITY p; asked : e; WHERE v : g(asked) = 0; END_ENTITY; END_SCHEMA;
+"""
 B = "SCHEMA B; ENTITY p; INVERSE us : BAG [0:2] OF u FOR l; END_ENTITY; ENTITY u; l : BAG OF p; END_ENTITY; END_SCHEMA;"
 # rules without labels, of a type and of each clause of an entity, names in another order than they are declared, and a supertype's attribute
 R = """SCHEMA R;
@@ -116,6 +125,27 @@ def test_evaluations_that_are_not_begun():
     expect_report(N, filled("N", "".join(f"#{name}=E();" for name in range(1, 103))), report_is(
         20_000_000, *ATTRIBUTES_HOLD, check_is("where", "E", "W", limit=[["ann", "m", it] for it in range(1, 101)],
                                                not_run=[["ann", "m", 101], ["ann", "m", 102]])))
+
+
+def test_derived_attributes_of_few_and_of_many():
+    """What a derived attribute gives costs its steps wherever it is asked, be there few instances of its entity or many."""
+    for others in (0, 252, 253, 300):
+        counts = (0, 400, 600, 49_995, 49_998)
+        held = "".join(f"#{name}=E({count});" for name, count in enumerate(counts, 1)) + "".join(f"#{name}=E(1);" for name in range(6, 6 + others))
+        # f(n) takes 4 steps for each turn, 2 with its argument and 6 more
+        steps = sum(min(4 * count + 11, 200_000) for count in counts) + others * (4 + 11) + 2 * (4 * 400 + 10) + 6
+        expect_report(D, filled("D", held + "#1000=P(#2);"), report_is(
+            steps, *ATTRIBUTES_HOLD, check_is("where", "E", "W", limit=[["ann", "m", 5]]), check_is("where", "P", "V")))
+
+
+def test_derived_attributes_that_nest():
+    """They nest as deep as they do wherever they are asked."""
+    for others in (0, 300):
+        held = "#1=E(197);#2=E(198);#3=E(199);#4=P(#1);#5=P(#2);" + "".join(f"#{name}=E(0);" for name in range(6, 6 + others))
+        # f(n) takes 9 steps for each that nests and 8 more
+        steps = (9 * 197 + 11) + (9 * 198 + 11) + 200_000 + others * 11 + (9 * 197 + 15) + 200_000
+        expect_report(K, filled("K", held), report_is(
+            steps, *ATTRIBUTES_HOLD, check_is("where", "E", "W", limit=[["ann", "m", 3]]), check_is("where", "P", "V", limit=[["ann", "m", 5]])))
 
 
 def test_rules_by_their_names_and_places():
