@@ -21,9 +21,9 @@ from lib.harness import TOP, Folder, LeftOut, Wrong, run_tests, shortened
 from lib.messages import (
     BAD_NAME, BAD_REQUEST, CONFIG, E, EXISTS, FILE_LIMIT, FIRST, FIRST_EXPORT, FIRST_LINES, FIRST_NAMES, FIRST_REPLIES, HAS_LINKS, HEAD,
     IN_USE, LINE_LIMIT, NO_RIGHT, NO_SUCH_INSTANCE, NO_SUCH_ITEM, OK, T, TOO_LARGE, TOO_MANY, UNKNOWN_PARTNER, UNKNOWN_SCHEMA, WRONG_SCHEMA,
-    Repository, add, added, canonical, check, create, delete, drop, expect, expect_config_fault, expect_fault, expect_replies, export, exported,
-    fault, file_fault, file_of, get, got, grant, instance_fault, instances, line, link, link_fault, linked, list_of, listed, loaded, named, names,
-    put, refused, revoke, schemas, set_instance,
+    Repository, add, added, canonical, check, create, create_group, delete, drop, expect, expect_config_fault, expect_fault, expect_replies, export,
+    exported, fault, file_fault, file_of, get, got, grant, include, instance_fault, instances, line, link, link_fault, linked, list_of, listed, loaded,
+    named, names, put, refused, revoke, schemas, set_instance, users_are,
 )
 
 sys.path.insert(0, os.path.join(TOP, "bench"))
@@ -941,7 +941,7 @@ def test_the_requests_that_help_shows():
         shown = [json.loads(it) for it in re.findall(r"^  (\{.*\})$", output.decode(), re.MULTILINE)]
         if len(shown) != 6 or shown[0] != {"partners": [{"name": "ann", "token": "ta"}], "schemas": ["t.exp"]}:
             raise Wrong(f"{shown!r} are shown")
-        (links,) = re.findall(r"\[\{\"name.*\}\]", output.decode())
+        (links,) = re.findall(r"links are (\[.*\])\.$", output.decode(), re.MULTILINE)
         asked = [create("ann", "m"), create("bob", "n"), create_group("ann", "g"), include("ann", "g", "ann", "m"),
                  put("bob", "bob", "n", file_of("#1=P(1.,$);")), put("ann", "ann", "m", file_of("#1=P(1.,$);#2=Q(#1);")),
                  grant("bob", "n", "ann", "read"), put("ann", "ann", "m", file_of("#1=P(1.,$);#2=Q(#9);#3=Q(#1);"), *json.loads(links)),
