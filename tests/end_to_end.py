@@ -11,18 +11,19 @@ import json
 import os
 import re
 import select
+import shutil
 import socket
 import subprocess
 import sys
 import time
 
-from lib.harness import TOP, Folder, Wrong, run_tests, shortened
+from lib.harness import TOP, Folder, LeftOut, Wrong, run_tests, shortened
 from lib.messages import (
     BAD_NAME, BAD_REQUEST, CONFIG, E, EXISTS, FILE_LIMIT, FIRST, FIRST_EXPORT, FIRST_LINES, FIRST_NAMES, FIRST_REPLIES, HAS_LINKS, HEAD,
     IN_USE, LINE_LIMIT, NO_RIGHT, NO_SUCH_INSTANCE, NO_SUCH_ITEM, OK, T, TOO_LARGE, TOO_MANY, UNKNOWN_PARTNER, UNKNOWN_SCHEMA, WRONG_SCHEMA,
-    Repository, add, added, canonical, check, create, delete, drop, expect, expect_config_fault, expect_fault, expect_replies, export, exported,
-    fault, file_fault, file_of, get, got, grant, instance_fault, instances, line, link, link_fault, linked, list_of, listed, loaded, named, names,
-    put, refused, revoke, schemas, set_instance,
+    Repository, add, added, canonical, check, create, create_group, delete, drop, expect, expect_config_fault, expect_fault, expect_replies, export,
+    exported, fault, file_fault, file_of, get, got, grant, include, instance_fault, instances, line, link, link_fault, linked, list_of, listed, loaded,
+    named, names, put, refused, revoke, schemas, set_instance, users_are,
 )
 
 sys.path.insert(0, os.path.join(TOP, "bench"))
@@ -903,6 +904,55 @@ def test_help():
                 raise Wrong(f"{words}: status {status}, {output!r}, {errors!r}")
 
 
+# Each request with its keys beside `as` and `do`, as the help shows it.
+SHOWN_REQUESTS = """
+  create_model   name, schema
+  delete_model   name
+  schemas
+  check_schema   text
+  put            owner, model, file, and links if there are any
+  export         owner, model, and links (true or false) if wanted
+  names          owner, model
+  get            owner, model, instance
+  add            owner, model, text
+  set            owner, model, instance, text
+  drop           owner, model, instance
+  list
+  grant          kind (model or group), name, to, level (read, group or write; of a group read)
+  revoke         kind (model or group), name, to
+  create_group   name, schema
+  delete_group   name
+  include        group, owner, model
+  exclude        group, owner, model
+  members        owner, group
+  extent         owner, group, type
+  users          owner, group, of, role
+  validate       owner, group
+
+"""
+
+
+def test_the_requests_that_help_shows():
+    """All of them stand there with their keys. The objects shown below are requests, and the list is one of links."""
+    with Repository() as folder:
+        status, output, errors = folder.run("batch", "--help")
+        if (status, errors) != (0, b"") or SHOWN_REQUESTS.encode() not in output:
+            raise Wrong(f"status {status}, {output!r}, {errors!r}")
+        shown = [json.loads(it) for it in re.findall(r"^  (\{.*\})$", output.decode(), re.MULTILINE)]
+        if len(shown) != 6 or shown[0] != {"partners": [{"name": "ann", "token": "ta"}], "schemas": ["t.exp"]}:
+            raise Wrong(f"{shown!r} are shown")
+        (links,) = re.findall(r"links are (\[.*\])\.$", output.decode(), re.MULTILINE)
+        asked = [create("ann", "m"), create("bob", "n"), create_group("ann", "g"), include("ann", "g", "ann", "m"),
+                 put("bob", "bob", "n", file_of("#1=P(1.,$);")), put("ann", "ann", "m", file_of("#1=P(1.,$);#2=Q(#1);")),
+                 grant("bob", "n", "ann", "read"), put("ann", "ann", "m", file_of("#1=P(1.,$);#2=Q(#9);#3=Q(#1);"), *json.loads(links)),
+                 *(json.dumps(it).encode() for it in shown[1:])]
+        wanted = [OK, OK, OK, OK, instances(1), instances(2), OK, instances(3), EXISTS, file_fault("Token", 14), OK, OK,
+                  users_are(("ann", "m", 3))]
+        seen = folder.batch(b"".join(it + b"\n" for it in asked))
+        if seen != (0, b"".join(it + b"\n" for it in wanted), b""):
+            raise Wrong(f"{seen!r}")
+
+
 def test_wrong_configurations():
     """A configuration has exactly its keys, each of its kind."""
     ann = {"name": "ann", "token": "ta"}
@@ -956,6 +1006,10 @@ def test_what_is_told_of_a_configuration():
         ('{"partners":[],"schemas":["t.exp"]} x', 'line 1 column 37: no JSON'),
         (b'{"partners":[],"schemas":["\xff.exp"]}', 'line 1 column 28: no UTF-8'),
         ("{'partners':[]}", 'line 1 column 2: no JSON'),
+        ('\ufeff{"partners":[],"schemas":[]}', 'line 1 column 1: a byte order mark'),
+        ('{"partners":[],"schemas":[]}'.encode("utf-16"), 'line 1 column 1: a byte order mark'),
+        ('\ufeff', 'line 1 column 1: a byte order mark'),
+        ('{"partners":[],"%s":[]}' % ("k" * 301), f'line 1 column 16: "{"k" * 200}".."{"k" * 60}" is no key here'),
     ]
     with Repository() as folder:
         for text, words in rows:
@@ -1038,16 +1092,87 @@ def test_files_at_their_limit():
                 raise Wrong(f"check of {schema_size} bytes: {seen!r}")
 
 
+def test_files_that_cant_be_read():
+    """It is told why: there is none, it is a folder, a part of its path is none, its path is too long, its links lead in a circle."""
+    rows = [("absent", "there is no such file"), ("", "there is no such file"), ("sub/absent", "there is no such file"), (".", "it is a folder"),
+            ("sub", "it is a folder"), ("t.exp/", "a part of its path is no folder"), ("t.exp/x", "a part of its path is no folder"),
+            ("x" * 256, "its path is too long"), ("x/" * 149 + "xx", "there is no such file"), ("circle", "its links lead in a circle")]
+    with Repository() as folder:
+        folder.write("sub/t.exp", T)
+        os.symlink("circle", folder.path("circle"))
+        for path, why in rows:
+            line = f'"{path}" can\'t be read: {why}'
+            folder.write("other.json", json.dumps({"partners": [], "schemas": [path]}))
+            for words in (["batch", "--config", "other.json"], ["batch", "--config", path], ["check", path], ["check", "--explain", path]):
+                expect_told(folder.run(*words), line)
+
+
+def test_a_file_that_may_not_be_read():
+    """Permission is denied: it may be written alone. Who may read all files has another run the program."""
+    if Folder.stand_in:
+        raise LeftOut
+    other = {"user": 65_534, "group": 65_534, "extra_groups": []} if os.geteuid() == 0 else {}
+    with Repository() as folder:
+        program = shutil.copy(Folder.program, folder.path("program"))
+        for name, mode in ((".", 0o755), ("program", 0o755), ("config.json", 0o644), ("t.exp", 0o644), ("l.exp", 0o200)):
+            os.chmod(folder.path(name), mode)
+        for words in (["batch", "--config", "config.json"], ["check", "l.exp"]):
+            done = subprocess.run([program, *words], cwd=folder.folder.name, stdin=subprocess.DEVNULL, capture_output=True, check=False, **other)
+            expect_told((done.returncode, done.stdout, done.stderr), '"l.exp" can\'t be read: permission is denied')
+
+
+def test_long_paths():
+    """Of a text of over 300 bytes the two ends are shown, each up to a whole character."""
+    rows = [("x" * 300, "x" * 300), ("x" * 301, "x" * 200 + '".."' + "x" * 60), ("a" * 200 + "é" * 51, "a" * 200 + '".."' + "é" * 30),
+            ("é" * 151, "é" * 100 + '".."' + "é" * 30), ("a" + "é" * 150, "a" + "é" * 99 + '".."' + "é" * 30),
+            ("f" + "o" * 8_388_000, "f" + "o" * 199 + '".."' + "o" * 60), ("/" * 8_388_000 + "end", "/" * 200 + '".."' + "/" * 57 + "end")]
+    for path, shown in rows:
+        with Repository({"partners": [], "schemas": [path]}) as folder:
+            expect_told(folder.batch(b""), f'"{shown}" can\'t be read: its path is too long')
+
+
+def test_texts_that_are_no_schemas():
+    """Beside the first fault of a text it is told whether it is an exchange file, or begins with a byte order mark."""
+    file, mark = "it is an exchange file (ISO 10303-21)", "it begins with a byte order mark"
+    rows = [
+        (file_of(""), "Syntax line 1 column 1", file), ("\n \t" + file_of("").lower(), "Syntax line 2 column 3", file),
+        ("\ufeff" + file_of(""), "Token line 1 column 1", file), ("ISO-10303-21", "Syntax line 1 column 1", file),
+        ("\ufeff" + T, "Token line 1 column 1", mark), (T.encode("utf-16"), "Token line 1 column 1", mark), ("\ufeff", "Token line 1 column 1", mark),
+        ("ISO-10303-2", "Syntax line 1 column 1", None), ("ISO-10303-28;", "Syntax line 1 column 1", None), (b"\xef\xbb" + T.encode(), "Token line 1 column 1", None),
+        ("", "Syntax line 1 column 1", None), ("--\ufeff\n" + file_of(""), "Syntax line 2 column 1", None),
+    ]
+    with Repository({**CONFIG, "schemas": ["t.exp", "other.exp"]}) as folder:
+        for text, fault_of_text, what in rows:
+            folder.write("other.exp", text)
+            beside = "" if what is None else f'rp_server: "other.exp" is no schema: {what}\n'
+            seen = folder.run("check", "other.exp")
+            if seen != (1, fault_of_text.encode() + b"\n", beside.encode()):
+                raise Wrong(f"{text[:60]!r}: {seen!r}")
+            status, output, errors = folder.run("check", "--explain", "other.exp")
+            if (status, output.split(b"\n")[0], errors) != (1, fault_of_text.encode(), beside.encode()):
+                raise Wrong(f"{text[:60]!r} explained: {status}, {output!r}, {errors!r}")
+            expect_told(folder.batch(b""), f'"other.exp" is no schema: {fault_of_text}' + ("" if what is None else f": {what}"))
+
+
 def test_as_many_schemas_as_there_may_be():
-    """Each of 100 configured schemas is loaded; 101 are too many."""
+    """Each of 100 configured schemas is loaded. A configuration of 101 is none, and so is one of 1,001 partners: no schema is read."""
     files = {f"s{k}": f"SCHEMA s{k}; END_SCHEMA;" for k in range(101)}
     turns = [(schemas("ann"), loaded(*sorted(f"S{k}" for k in range(100)))),
              *((create("ann", f"m{k}", f"S{k}"), OK) for k in range(100)), (create("bob", "m", "S100"), UNKNOWN_SCHEMA)]
     expect(turns, {**CONFIG, "schemas": [f"s{k}.exp" for k in reversed(range(100))]}, **files)
     with Repository({**CONFIG, "schemas": [f"s{k}.exp" for k in range(101)]}, **files) as folder:
-        expect_told(folder.batch(schemas("ann")), "more than 100 schemas or more than 1,000 partners")
-        folder.write("s100.exp", "SCHEMA")
-        expect_told(folder.batch(schemas("ann")), '"s100.exp" is no schema: Syntax line 1 column 7')
+        with open(folder.path("config.json"), encoding="ascii") as it:
+            column = it.read().index('"s100.exp"') + 1
+        none = '"config.json" is no configuration: line 1 column %d: more than %s (rp_server batch --help shows one)'
+        expect_told(folder.batch(schemas("ann")), none % (column, "100 schemas"))
+        folder.write("s0.exp", "SCHEMA")
+        expect_told(folder.batch(schemas("ann")), none % (column, "100 schemas"))
+        text = json.dumps({"schemas": ["s0.exp"], "partners": partners(*(f"p{k}" for k in range(1001)))})
+        folder.write("config.json", text)
+        expect_told(folder.batch(schemas("ann")), none % (text.index('{"name": "p1000"') + 1, "1000 partners"))
+        folder.write("config.json", '{"schemas":[%s],"partners":[],"schemas":["s1.exp"]}' % ",".join(['"s0.exp"'] * 101))
+        if folder.batch(b"") != (0, b"", b""):
+            raise Wrong("of equal keys the last doesn't stand")
 
 
 def partners(*given):
@@ -1056,14 +1181,18 @@ def partners(*given):
 
 def test_what_no_repository_can_have():
     """Two schemas or partners of one name, a partner's name that is none, and too many of either."""
-    expect_config_fault({**CONFIG, "partners": partners("ann", "ann")}, "two partners have one name")
-    expect_config_fault({**CONFIG, "partners": partners("ann", "bob", "ann")}, "two partners have one name")
+    long = "n" * 301
+    for given, twice in ((["ann", "ann"], '"ann"'), (["ann", "bob", "bob", "ann"], '"bob"'), (["ann", "bob", "cyd", "ann", "bob"], '"ann"'),
+                         (["a b", "", ""], '""'), ([long, long], f'"{"n" * 200}".."{"n" * 60}"')):
+        with Repository({**CONFIG, "partners": partners(*given)}) as folder:
+            expect_told(folder.batch(b""), f"two partners have one name: {twice}")
     expect_config_fault({**CONFIG, "partners": partners("a b")}, "a partner's name isn't")
     expect_config_fault({**CONFIG, "partners": partners("")}, "a partner's name isn't")
     expect_config_fault({**CONFIG, "partners": partners("n" * 65)}, "a partner's name isn't")
-    expect_config_fault({**CONFIG, "partners": partners(*(f"p{k}" for k in range(1001)))}, "more than 1,000 partners")
-    expect_config_fault({**CONFIG, "schemas": ["t.exp", "t.exp"]}, "two schemas have one name")
-    expect_config_fault({**CONFIG, "schemas": ["t.exp", "other.exp"]}, "two schemas have one name", other="SCHEMA t; END_SCHEMA;")
+    for given, both in ((["t.exp", "t.exp"], '"t.exp" and "t.exp"'), (["l.exp", "t.exp", "other.exp"], '"t.exp" and "other.exp"'),
+                        (["l.exp", "other.exp", "t.exp", "l.exp"], '"other.exp" and "t.exp"')):
+        with Repository({"partners": partners("ann", "ann"), "schemas": given}, other="SCHEMA t; END_SCHEMA;") as folder:
+            expect_told(folder.batch(b""), f'two schemas have one name: "T", of {both}')
     expect([(names("p999", "p0", "m"), NO_SUCH_ITEM), (names("p1000", "p0", "m"), BAD_REQUEST)],
            {**CONFIG, "partners": partners(*(f"p{k}" for k in range(1000)))})
     expect([(names("ann", "ann", "m"), BAD_REQUEST)], {"partners": [], "schemas": []})
@@ -1078,7 +1207,7 @@ def test_faults_in_their_order():
     expect_config_fault({"partners": [], "schemas": ["absent.exp", "other.exp"]}, "absent.exp", other="")
     expect_config_fault({"partners": [], "schemas": ["."]})
     with Repository({"partners": twice, "schemas": ["t.exp"]}, big=padded(T.encode(), FILE_LIMIT + 1), bad="x") as folder:
-        lines = {"absent": '"absent.exp" can\'t be read', "big": '"big.exp" is over 8 MiB',
+        lines = {"absent": '"absent.exp" can\'t be read: there is no such file', "big": '"big.exp" is over 8 MiB',
                  "bad": '"bad.exp" is no schema: Syntax line 1 column 1'}
         for order in itertools.permutations(lines):
             paths = ["t.exp", "t.exp", *(f"{name}.exp" for name in order)]

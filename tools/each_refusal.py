@@ -81,6 +81,13 @@ RUNS = [
     (("check", "--explain", "unexplained.exp"), ENTITY + "END;\n", 1, b"Syntax line 2 column 1\nEND;\n^\n", b""),
     (("batch", "--config", "wrong.json"), '{"partners":[],"schema":[]}', 2, b"",
      b'rp_server: "wrong.json" is no configuration: line 1 column 16: "schema" is no key here (rp_server batch --help shows one)\n'),
+    (("batch", "--config", "absent.json"), '{"partners":[],"schemas":["l.exp","absent.exp"]}', 2, b"",
+     b'rp_server: "absent.exp" can\'t be read: there is no such file\n'),
+    (("batch", "--config", "partners.json"), '{"partners":[{"name":"ann","token":"a"},{"name":"ann","token":"b"}],"schemas":[]}', 2, b"",
+     b'rp_server: two partners have one name: "ann"\n'),
+    (("batch", "--config", "schemas.json"), '{"partners":[],"schemas":["l.exp","l.exp"]}', 2, b"",
+     b'rp_server: two schemas have one name: "L", of "l.exp" and "l.exp"\n'),
+    (("check", "part.step"), "ISO-10303-21;\n", 1, b"Syntax line 1 column 1\n", b'rp_server: "part.step" is no schema: it is an exchange file (ISO 10303-21)\n'),
 ]
 
 # Texts that the lines ask to check, with what is told of them.
