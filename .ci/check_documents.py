@@ -9,7 +9,8 @@ It reads all .md files of the repository, and compares them with its files and w
     paths           each path in backticks, or in a command of a block, is a file or a folder; one with a word in upper case,
                     as NAME, stands for others
     commands        each `rp_server ..` has a command and options of the program, and each script an option that its text has
-    requests        docs/REQUESTS.md has each request once in its table and once as a section, with the keys that the program takes
+    requests        docs/REQUESTS.md has each request once in its table and once as a section, with the keys that the program takes, and
+                    so has the help of `rp_server batch` in its table
     codes           docs/REFUSALS.md has each code with its name, and wherever a document shows one, they belong together
     kinds           docs/EXCHANGE-FILES.md, EXPRESS-PROFILE.md and REQUESTS.md have the kinds of faults that the program tells
     limits          each limit that a document gives in one of the forms below is that of the sources
@@ -157,6 +158,18 @@ def request_faults(text):
                 yield f"{word.strip()!r} is no refusal"
 
 
+def help_faults():
+    """Where the help shows other requests or keys than the program takes."""
+    table = re.search(r"exactly these keys:\n\n(.*?)\n\n", read("crates/rp_command/src/texts.rt"), re.DOTALL)
+    shown = {}
+    for do, keys in re.findall(r"^ {2}(\w+) *(.*)$", table[1] if table else "", re.MULTILINE):
+        shown[do] = set(re.findall(r"\w+", re.sub(r"\([^()]*\)| if .*|\band\b", "", keys)))
+    program = requests_of_program()
+    for do in sorted(shown.keys() | program.keys()):
+        if shown.get(do) != program.get(do):
+            yield f"`{do}` has the keys {program.get(do)} in the program, and {shown.get(do)} in the help"
+
+
 def codes_of_program():
     source = read("crates/rp_replies/src/refusals.rt")
     codes = {int(code): name for code, name in re.findall(r'write_coded\(out, (\d+), "(\w+)"\)', source)}
@@ -237,6 +250,7 @@ def main():
     pages = documents()
     faults = [f"{path}: {fault}" for path, text in sorted(pages.items()) for fault in page_faults(path, text, pages)]
     faults += limit_faults(pages)
+    faults += [f"crates/rp_command/src/texts.rt: {it}" for it in help_faults()]
     for fault in faults:
         print(fault)
     print(f"check_documents: {len(pages)} documents, {len(faults)} faults")

@@ -14,21 +14,41 @@ at the working directory:
 
   {\"partners\":[{\"name\":\"ann\",\"token\":\"ta\"}],\"schemas\":[\"t.exp\"]}
 
-A request names its partner in \"as\" and what to do in \"do\":
+A request names its partner in \"as\" and what to do in \"do\". Beside these it has exactly these keys:
 
-  {\"as\":\"ann\",\"do\":\"schemas\"}
-  {\"as\":\"ann\",\"do\":\"check_schema\",\"text\":\"SCHEMA T; .. END_SCHEMA;\"}
+  create_model   name, schema
+  delete_model   name
+  schemas
+  check_schema   text
+  put            owner, model, file, and links if there are any
+  export         owner, model, and links (true or false) if wanted
+  names          owner, model
+  get            owner, model, instance
+  add            owner, model, text
+  set            owner, model, instance, text
+  drop           owner, model, instance
+  list
+  grant          kind (model or group), name, to, level (read, group or write; of a group read)
+  revoke         kind (model or group), name, to
+  create_group   name, schema
+  delete_group   name
+  include        group, owner, model
+  exclude        group, owner, model
+  members        owner, group
+  extent         owner, group, type
+  users          owner, group, of, role
+  validate       owner, group
+
+As in
+
   {\"as\":\"ann\",\"do\":\"create_model\",\"name\":\"m\",\"schema\":\"T\"}
   {\"as\":\"ann\",\"do\":\"put\",\"owner\":\"ann\",\"model\":\"m\",\"file\":\"ISO-10303-21; ..\"}
-  {\"as\":\"ann\",\"do\":\"names\",\"owner\":\"ann\",\"model\":\"m\"}
-  {\"as\":\"ann\",\"do\":\"get\",\"owner\":\"ann\",\"model\":\"m\",\"instance\":1}
-  {\"as\":\"ann\",\"do\":\"add\",\"owner\":\"ann\",\"model\":\"m\",\"text\":\"P(2.,$)\"}
   {\"as\":\"ann\",\"do\":\"set\",\"owner\":\"ann\",\"model\":\"m\",\"instance\":1,\"text\":\"P(5.,$)\"}
-  {\"as\":\"ann\",\"do\":\"drop\",\"owner\":\"ann\",\"model\":\"m\",\"instance\":1}
   {\"as\":\"ann\",\"do\":\"grant\",\"kind\":\"model\",\"name\":\"m\",\"to\":\"bob\",\"level\":\"read\"}
-  {\"as\":\"ann\",\"do\":\"revoke\",\"kind\":\"model\",\"name\":\"m\",\"to\":\"bob\"}
-  {\"as\":\"bob\",\"do\":\"list\"}
-  {\"as\":\"ann\",\"do\":\"delete_model\",\"name\":\"m\"}
+  {\"as\":\"ann\",\"do\":\"users\",\"owner\":\"ann\",\"group\":\"g\",\"of\":[\"ann\",\"m\",1],\"role\":\"T.Q.A\"}
+
+Of a put that refers to instances of other models, links are [{\"name\":9,\"owner\":\"bob\",\"model\":\"n\",\"instance\":1}].
+An empty role stands for all.
 
 A line has at most 16 MiB, a file or a text in it, the configuration and each schema 8 MiB. A model has at most
 200,000 instances and 10,000 links, an owner 100 models. A put of 8 MiB takes some 60 MB and half a second, a
@@ -61,4 +81,5 @@ The kinds are
   NamedTwice, NotDirectSubtype                        of a supertype expression
 
 A schema of 1 MiB takes some 22 MB and a fifth of a second, one of 8 MiB some 160 MB and two seconds.
-The status is 2, with one line on standard error, where the file can't be read or is over 8 MiB.";
+The status is 2, with one line on standard error, where the file can't be read or is over 8 MiB. Of a file that begins with
+a byte order mark, or is an exchange file (ISO 10303-21), a line on standard error says so.";

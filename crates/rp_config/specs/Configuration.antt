@@ -1,5 +1,5 @@
 -- Which bytes are which configurations.
-use Rattle.std.specs.Prelude.{ℕ, List, [], ◌∷◌, codes, if◌then◌else◌, Option, Some, None, option_map, option_and_then}
+use Rattle.std.specs.Prelude.{ℕ, List, [], ◌∷◌, ◌||◌, length, nat_lt, codes, if◌then◌else◌, Option, Some, None, option_map, option_and_then}
 use Rattle.std.specs.Str.{is_utf8}
 use Rattle.serde_json.specs.Data.{Data, Items, no_items, item, Members}
 use Rattle.serde_json.specs.Find.{get_member, as_str, as_array, as_object}
@@ -27,15 +27,25 @@ name_in ms = if has_only (codes "name" ∷ codes "token" ∷ []) ms then option_
 abbrev pub name_of : Data → Option (List ℕ)
 name_of partner = option_and_then name_in (as_object partner)
 
+-- how many partners and schemas there are at most
+abbrev pub max_partners : ℕ
+max_partners = 1000
+
+abbrev pub max_schemas : ℕ
+max_schemas = 100
+
+abbrev pub unless_many : List (List ℕ) → List (List ℕ) → Option Config
+unless_many names paths = if nat_lt max_partners (length names) || nat_lt max_schemas (length paths) then None else Some (record { partners = names; schemas = paths })
+
 -- the names of the partners and the paths of the schemas' files, each list in its order
 abbrev pub config_in : Members → Option Config
 config_in ms =
     if has_only (codes "partners" ∷ codes "schemas" ∷ []) ms then
     option_and_then (λ partners. option_and_then (λ schemas.
-    option_and_then (λ names. option_map (λ paths. record { partners = names; schemas = paths }) (each as_str schemas)) (each name_of partners))
+    option_and_then (λ names. option_and_then (λ paths. unless_many names paths) (each as_str schemas)) (each name_of partners))
     (list_in (codes "schemas") ms)) (list_in (codes "partners") ms)
     else None
 
--- The configuration of a file: an object in UTF-8. Of equal keys the last one stands.
+-- The configuration of a file: an object in UTF-8, of no more partners and schemas than may be. Of equal keys the last one stands.
 abbrev pub config_of : List ℕ → Option Config
 config_of bytes = if is_utf8 bytes then option_and_then config_in (option_and_then as_object (read bytes)) else None

@@ -9,6 +9,11 @@ use serde_json::Value;
 use shallow_json::has_only_keys;
 use std::alloc::{AllocError, AllocFailed, Global};
 
+/// The most partners and schemas of a configuration.
+pub(crate) const MAX_PARTNERS: usize = 1_000;
+
+pub(crate) const MAX_SCHEMAS: usize = 100;
+
 /// What a configuration says.
 #[derive(Drop)]
 pub struct Config {
@@ -49,8 +54,8 @@ impl<T: Drop> From<AllocFailed<T>> for ConfigFault {
     }
 }
 
-/// The configuration of a file's bytes. An object has exactly the keys shown above, and the strings
-/// may be any.
+/// The configuration of a file's bytes. An object has exactly the keys shown above, the strings may be
+/// any, and there are at most 1,000 partners and 100 schemas.
 pub fn config_of(alloc: Global, bytes: &[u8]) -> Result<Config, ConfigFault>
     ensures ok { IfOk result (λ config. spec.config_of bytes.now ≡ Some config) }
     ensures wrong { IsErrOf result ConfigFault.Wrong → spec.config_of bytes.now ≡ None }
@@ -78,10 +83,12 @@ fn config_in(alloc: Global, value: &Value) -> Result<Config, ConfigFault>
     let Some(schemas) = value.get("schemas").and_then(Value::as_array) else {
         return Err(ConfigFault::Wrong);
     };
-    Ok(Config {
-        partners: names_in(alloc, partners)?,
-        schemas: paths_in(alloc, schemas)?,
-    })
+    let partners = names_in(alloc, partners)?;
+    let schemas = paths_in(alloc, schemas)?;
+    if partners.len() > MAX_PARTNERS || schemas.len() > MAX_SCHEMAS {
+        return Err(ConfigFault::Wrong);
+    }
+    Ok(Config { partners, schemas })
 }
 
 fn names_in(alloc: Global, partners: &[Value]) -> Result<Rows<Text>, ConfigFault>

@@ -4,10 +4,18 @@
 mod config;
 mod fault;
 mod files;
+mod front;
 mod loading;
+mod shown;
+mod twice;
+mod unreadable;
 mod wrong;
 
 pub use fault::LoadFault;
 pub use files::{Folder, FromFiles, file_bytes};
+pub use front::what_begins;
 pub use loading::{Loaded, load_all};
+pub use shown::Shown;
+pub use twice::{partner_twice, schema_twice};
+pub use unreadable::{Unreadable, why_unreadable};
 pub use wrong::wrong_place;

@@ -36,7 +36,11 @@ pub fn load_all<D: Folder>(
 }
 
 /// The configuration in the file of this path.
-fn config_at<D: Folder>(alloc: Global, folder: &D, path: &str) -> Result<Config, Failure<LoadFault>>
+pub(crate) fn config_at<D: Folder>(
+    alloc: Global,
+    folder: &D,
+    path: &str,
+) -> Result<Config, Failure<LoadFault>>
     ensures { IfSome (D.files folder.now) (λ held. Gives (λ config. config) result (spec.config_at held path.now)) }
 {
     let bytes = file_bytes(alloc, folder, path)?;
@@ -66,7 +70,7 @@ fn schemas_at<D: Folder>(
 }
 
 /// The schema in the file of this path.
-fn schema_at<D: Folder>(
+pub(crate) fn schema_at<D: Folder>(
     alloc: Global,
     folder: &D,
     path: &str,

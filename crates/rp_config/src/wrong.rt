@@ -1,5 +1,8 @@
 //! Where bytes that are no configuration are wrong, for the line that the program ends with. Nothing rests on it: whether
 //! bytes are a configuration is what [`load_all`](crate::load_all) says.
+use crate::config::{MAX_PARTNERS, MAX_SCHEMAS};
+use crate::front::has_mark;
+use crate::shown::Shown;
 use json::{Reader, Scratch, Token};
 use std::alloc::{AllocError, Global};
 
@@ -27,6 +30,7 @@ enum Next {
 /// What is wrong, with the key or the words that tell of what.
 #[derive(Clone, Copy, Drop)]
 enum Wrong<'a> {
+    Mark,
     NoUtf8,
     NoJson,
     Unknown(&'a str),
@@ -34,12 +38,16 @@ enum Wrong<'a> {
     NoObject(&'static str),
     NoList(&'static str),
     NoText(&'static str),
+    /// A list has more items than this, which are of this sort.
+    TooMany(usize, &'static str),
 }
 
 /// What was seen of a configuration so far.
 #[derive(Clone, Copy, Drop)]
 struct Seen {
     next: Next,
+    /// How many items of the list that is read came so far.
+    items: usize,
     /// Whether the configuration has this key.
     partners: bool,
     schemas: bool,
@@ -52,6 +60,7 @@ impl Seen {
     fn nothing() -> Seen {
         Seen {
             next: Next::Configuration,
+            items: 0,
             partners: false,
             schemas: false,
             name: false,
@@ -99,7 +108,10 @@ impl Seen {
         next: Next,
     ) -> Result<Seen, Wrong<'a>> {
         match token {
-            Token::BeginArray => Ok(self.then(next)),
+            Token::BeginArray => Ok(Seen {
+                items: 0,
+                ..self.then(next)
+            }),
             Token::Bad => Err(Wrong::NoJson),
             _ => Err(Wrong::NoList(key)),
         }
@@ -116,6 +128,17 @@ impl Seen {
             Token::Bad => Err(Wrong::NoJson),
             _ => Err(Wrong::NoText(key)),
         }
+    }
+
+    /// One item of a list more, which has at most this many of this sort.
+    fn with_item<'a>(self, most: usize, what: &'static str) -> Result<Seen, Wrong<'a>> {
+        if self.items >= most {
+            return Err(Wrong::TooMany(most, what));
+        }
+        Ok(Seen {
+            items: self.items.saturating_add(1),
+            ..self
+        })
     }
 
     fn with_key<'a>(self, token: &Token<'a>) -> Result<Seen, Wrong<'a>> {
@@ -140,7 +163,9 @@ impl Seen {
         if let Token::EndArray = token {
             return Ok(self.then(Next::Key));
         }
-        let found = self.with_object(token, "a partner", Next::PartnerKey)?;
+        let found = self
+            .with_object(token, "a partner", Next::PartnerKey)?
+            .with_item(MAX_PARTNERS, "partners")?;
         Ok(Seen {
             name: false,
             token: false,
@@ -170,13 +195,17 @@ impl Seen {
         if let Token::EndArray = token {
             return Ok(self.then(Next::Key));
         }
-        self.with_text(token, "schemas", Next::Path)
+        self.with_text(token, "schemas", Next::Path)?
+            .with_item(MAX_SCHEMAS, "schemas")
     }
 }
 
 /// The place and the key of what is wrong first in bytes that are no configuration, as
 /// `line 1 column 14: "tokn" is no key here`; nothing where nothing is.
 pub fn wrong_place(alloc: Global, bytes: &[u8]) -> Result<Option<String>, AllocError> {
+    if has_mark(bytes) {
+        return words_at(alloc, bytes, 0, Wrong::Mark);
+    }
     let text = match std::str::from_utf8(bytes) {
         Ok(text) => text,
         Err(error) => return words_at(alloc, bytes, error.valid_up_to(), Wrong::NoUtf8),
@@ -236,12 +265,14 @@ fn words_at(
 
 fn words_of(alloc: Global, place: &str, wrong: Wrong<'_>) -> Result<String, AllocError> {
     match wrong {
+        Wrong::Mark => format!(in alloc; "{place}a byte order mark"),
         Wrong::NoUtf8 => format!(in alloc; "{place}no UTF-8"),
         Wrong::NoJson => format!(in alloc; "{place}no JSON"),
-        Wrong::Unknown(key) => format!(in alloc; "{place}{key:?} is no key here"),
+        Wrong::Unknown(key) => format!(in alloc; "{place}{} is no key here", Shown(key)),
         Wrong::Missing(key) => format!(in alloc; "{place}the key {key:?} is missing before"),
         Wrong::NoObject(what) => format!(in alloc; "{place}{what} has to be an object"),
         Wrong::NoList(key) => format!(in alloc; "{place}{key:?} has to be a list"),
         Wrong::NoText(key) => format!(in alloc; "{place}a text is wanted for {key:?}"),
+        Wrong::TooMany(most, what) => format!(in alloc; "{place}more than {most} {what}"),
     }
 }

@@ -8,5 +8,6 @@ mod running;
 
 pub use checking::{check, explain};
 pub use ending::{Done, status_of};
+pub use ex_check::Verdict;
 pub use fault::{Fault, StartFault};
 pub use running::batch;

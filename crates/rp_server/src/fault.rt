@@ -1,7 +1,7 @@
 //! Why the program ends with status 2, and the line that it then writes on standard error.
 use plain_data::{Failure, Text};
 use rp_command::CommandLineFault;
-use rp_config::LoadFault;
+use rp_config::{LoadFault, Shown};
 use rp_program::{Fault as CommandFault, StartFault};
 use rp_repo::NewFault;
 use std::alloc::{AllocError, AllocFailed};
@@ -16,10 +16,8 @@ pub enum Fault {
     Words,
     /// Memory is wanting, of which nothing else tells.
     NoMemory,
-    /// The file of this path is no configuration: the place and the key of what is wrong in it.
-    Config(Text, String),
-    /// The command ended so.
-    Command(CommandFault),
+    /// The command ended so, and what is told beside it.
+    Command(CommandFault, Option<String>),
 }
 
 impl fmt::Display for Fault {
@@ -28,19 +26,37 @@ impl fmt::Display for Fault {
             Fault::CommandLine(fault) => fault.fmt(f),
             Fault::Words => f.write_str("the command line isn't UTF-8"),
             Fault::NoMemory => f.write_str("out of memory"),
-            Fault::Config(path, words) => write_of_config(f, path, words.as_str()),
-            Fault::Command(fault) => write_of_command(f, fault),
+            Fault::Command(fault, beside) => write_of_command(f, fault, &Beside(beside)),
+        }
+    }
+}
+
+/// What is told beside a fault, if anything is.
+#[derive(Clone, Copy, Drop)]
+struct Beside<'a>(&'a Option<String>);
+
+impl fmt::Display for Beside<'_> {
+    fn fmt<W: fmt::Write>(&self, f: &mut fmt::Formatter<W>) -> fmt::Result {
+        match self.0 {
+            Some(words) => write!(f, ": {words}"),
+            None => Ok(()),
         }
     }
 }
 
 /// Writes why a command ended.
-fn write_of_command<W: fmt::Write>(f: &mut fmt::Formatter<W>, fault: &CommandFault) -> fmt::Result {
+fn write_of_command<W: fmt::Write>(
+    f: &mut fmt::Formatter<W>,
+    fault: &CommandFault,
+    beside: &Beside<'_>,
+) -> fmt::Result {
     match fault {
-        CommandFault::Start(Failure::Fault(StartFault::Load(fault))) => write_of_file(f, fault),
-        CommandFault::Start(Failure::Fault(StartFault::New(fault))) => f.write_str(why_none(
-            *fault,
-        )),
+        CommandFault::Start(Failure::Fault(StartFault::Load(fault))) => {
+            write_of_file(f, fault, beside)
+        }
+        CommandFault::Start(Failure::Fault(StartFault::New(fault))) => {
+            write!(f, "{}{beside}", why_none(*fault))
+        }
         CommandFault::Start(Failure::NoMemory) => f.write_str("out of memory"),
         CommandFault::Read => f.write_str("standard input can't be read"),
         CommandFault::Write => f.write_str("standard output can't be written"),
@@ -48,37 +64,32 @@ fn write_of_command<W: fmt::Write>(f: &mut fmt::Formatter<W>, fault: &CommandFau
 }
 
 /// Writes what is wrong with a file.
-fn write_of_file<W: fmt::Write>(f: &mut fmt::Formatter<W>, fault: &LoadFault) -> fmt::Result {
+fn write_of_file<W: fmt::Write>(
+    f: &mut fmt::Formatter<W>,
+    fault: &LoadFault,
+    beside: &Beside<'_>,
+) -> fmt::Result {
     match fault {
-        LoadFault::Unreadable(path) => write_after(f, path, "can't be read"),
-        LoadFault::TooLarge(path) => write_after(f, path, "is over 8 MiB"),
-        LoadFault::Config(path) => write_after(
+        LoadFault::Unreadable(path) => write!(f, "{} can't be read{beside}", shown(path)),
+        LoadFault::TooLarge(path) => write!(f, "{} is over 8 MiB", shown(path)),
+        LoadFault::Config(path) => write!(
             f,
-            path,
-            "is no configuration (rp_server batch --help shows one)",
+            "{} is no configuration{beside} (rp_server batch --help shows one)",
+            shown(path)
         ),
         LoadFault::Schema(path, words) => {
-            write!(f, "{:?} is no schema: {}", path.as_str(), words.as_str())
+            write!(
+                f,
+                "{} is no schema: {}{beside}",
+                shown(path),
+                words.as_str()
+            )
         }
     }
 }
 
-/// Writes what is wrong with a configuration, and where.
-fn write_of_config<W: fmt::Write>(
-    f: &mut fmt::Formatter<W>,
-    path: &Text,
-    words: &str,
-) -> fmt::Result {
-    write!(
-        f,
-        "{:?} is no configuration: {words} (rp_server batch --help shows one)",
-        path.as_str()
-    )
-}
-
-/// Writes the path of a file, and then what is wrong with it.
-fn write_after<W: fmt::Write>(f: &mut fmt::Formatter<W>, path: &Text, why: &str) -> fmt::Result {
-    write!(f, "{:?} {why}", path.as_str())
+fn shown(path: &Text) -> Shown<'_> {
+    Shown(path.as_str())
 }
 
 /// Why there is no repository.
@@ -100,13 +111,13 @@ impl From<CommandLineFault> for Fault {
 
 impl From<CommandFault> for Fault {
     fn from(fault: CommandFault) -> Fault {
-        Fault::Command(fault)
+        Fault::Command(fault, None)
     }
 }
 
 impl From<Failure<LoadFault>> for Fault {
     fn from(failure: Failure<LoadFault>) -> Fault {
-        Fault::Command(CommandFault::from(failure))
+        Fault::from(CommandFault::from(failure))
     }
 }
 

@@ -4,11 +4,16 @@
 mod fault;
 
 use fault::Fault;
-use plain_data::{Failure, Text};
+use plain_data::Failure;
 use rp_command::{Command, command_of};
-use rp_config::{FromFiles, LoadFault, file_bytes, wrong_place};
-use rp_program::{Done, Fault as CommandFault, StartFault, batch, check, explain, status_of};
-use rp_repo::{FromReader, ToWriter};
+use rp_config::{
+    FromFiles, LoadFault, Shown, file_bytes, partner_twice, schema_twice, what_begins,
+    why_unreadable, wrong_place,
+};
+use rp_program::{
+    Done, Fault as CommandFault, StartFault, Verdict, batch, check, explain, status_of,
+};
+use rp_repo::{FromReader, NewFault, ToWriter};
 use std::process::ExitCode;
 use std::rt::{Env, Files};
 use std::{env, io};
@@ -31,24 +36,19 @@ fn run<R: AllocGlobal + Files + Env + Print + Eprint + Input>(rt: &R) -> Result<
     match command_of(alloc, words.as_slice())? {
         Command::Help(text) => match text.print(rt) {
             Ok(()) => Ok(Done::Helped),
-            Err(_) => Err(Fault::Command(CommandFault::Write)),
+            Err(_) => Err(Fault::from(CommandFault::Write)),
         },
-        Command::Batch(path) => match batch_of(rt, path) {
-            Ok(done) => Ok(done),
-            Err(fault) => Err(with_place(rt, fault)?),
-        },
-        Command::Check(path) => Ok(check(
-            alloc,
-            &FromFiles::new(rt),
-            path,
-            &mut ToWriter::new(io::writer(rt)),
-        )?),
-        Command::Explain(path) => Ok(explain(
-            alloc,
-            &FromFiles::new(rt),
-            path,
-            &mut ToWriter::new(io::writer(rt)),
-        )?),
+        Command::Batch(path) => told(rt, Some(path), batch_of(rt, path)),
+        Command::Check(path) => {
+            let mut writer = ToWriter::new(io::writer(rt));
+            let ended = check(alloc, &FromFiles::new(rt), path, &mut writer);
+            told_of_schema(rt, path, ended)
+        }
+        Command::Explain(path) => {
+            let mut writer = ToWriter::new(io::writer(rt));
+            let ended = explain(alloc, &FromFiles::new(rt), path, &mut writer);
+            told_of_schema(rt, path, ended)
+        }
     }
 }
 
@@ -68,23 +68,80 @@ fn batch_of<R: AllocGlobal + Files + Print + Input>(
     )
 }
 
-/// The same fault, but of a file that is no configuration what is wrong in it.
-fn with_place<R: AllocGlobal + Files>(rt: &R, fault: CommandFault) -> Result<Fault, Fault> {
-    match fault {
-        CommandFault::Start(Failure::Fault(StartFault::Load(LoadFault::Config(path)))) => {
-            config_fault(rt, path)
+/// How a check of the file of this path ended, and where it refused the text what the text is.
+fn told_of_schema<R: AllocGlobal + Files + Eprint>(
+    rt: &R,
+    path: &str,
+    ended: Result<Done, CommandFault>,
+) -> Result<Done, Fault> {
+    if let Ok(Done::Checked(Verdict::Refused)) = &ended {
+        if let Some(words) = what_begins(rt, path) {
+            let _ = eprintln!(rt; "rp_server: {} is no schema: {words}", Shown(path));
         }
-        fault => Ok(Fault::Command(fault)),
+    }
+    told(rt, None, ended)
+}
+
+/// How a command ended, which had this path of a configuration, if any; and beside a fault what more can be told of it.
+fn told<R: AllocGlobal + Files>(
+    rt: &R,
+    config: Option<&str>,
+    ended: Result<Done, CommandFault>,
+) -> Result<Done, Fault> {
+    match ended {
+        Ok(done) => Ok(done),
+        Err(fault) => {
+            let words = beside(rt, config, &fault)?;
+            Err(Fault::Command(fault, words))
+        }
     }
 }
 
-/// What is wrong with the file of this path, which is no configuration. It is read once more, so that what is loaded is
-/// decided without it.
-fn config_fault<R: AllocGlobal + Files>(rt: &R, path: Text) -> Result<Fault, Fault> {
+/// What is told beside a fault of a command. Files are read once more for it, so that what is loaded is decided without it.
+fn beside<R: AllocGlobal + Files>(
+    rt: &R,
+    config: Option<&str>,
+    fault: &CommandFault,
+) -> Result<Option<String>, Fault> {
+    match (fault, config) {
+        (CommandFault::Start(Failure::Fault(StartFault::Load(fault))), _) => beside_file(rt, fault),
+        (CommandFault::Start(Failure::Fault(StartFault::New(fault))), Some(path)) => {
+            beside_config(rt, path, *fault)
+        }
+        _ => Ok(None),
+    }
+}
+
+/// What is told beside a fault of all that the configuration at this path names.
+fn beside_config<R: AllocGlobal + Files>(
+    rt: &R,
+    path: &str,
+    fault: NewFault,
+) -> Result<Option<String>, Fault> {
+    let (alloc, folder) = (rt.alloc(), FromFiles::new(rt));
+    match fault {
+        NewFault::TwoPartners => Ok(partner_twice(alloc, &folder, path)?),
+        NewFault::TwoSchemas => Ok(schema_twice(alloc, &folder, path)?),
+        _ => Ok(None),
+    }
+}
+
+/// What is told beside a fault of a file.
+fn beside_file<R: AllocGlobal + Files>(rt: &R, fault: &LoadFault) -> Result<Option<String>, Fault> {
     let alloc = rt.alloc();
-    let bytes = file_bytes(alloc, &FromFiles::new(rt), path.as_str())?;
-    match wrong_place(alloc, &bytes)? {
-        Some(words) => Ok(Fault::Config(path, words)),
-        None => Ok(Fault::from(Failure::Fault(LoadFault::Config(path)))),
+    match fault {
+        LoadFault::Unreadable(path) => match why_unreadable(rt, path.as_str()) {
+            Some(why) => Ok(Some(format!(in alloc; "{why}")?)),
+            None => Ok(None),
+        },
+        LoadFault::TooLarge(_) => Ok(None),
+        LoadFault::Config(path) => {
+            let bytes = file_bytes(alloc, &FromFiles::new(rt), path.as_str())?;
+            Ok(wrong_place(alloc, &bytes)?)
+        }
+        LoadFault::Schema(path, _) => match what_begins(rt, path.as_str()) {
+            Some(words) => Ok(Some(format!(in alloc; "{words}")?)),
+            None => Ok(None),
+        },
     }
 }
