@@ -1,8 +1,9 @@
 //! All conditions of the WHERE clauses of entities and of rules, evaluated.
 
-ghost use Rattle.std.specs.Prelude.{◌≡◌, ◌++◌, map, IfOk, OnOk};
+ghost use Rattle.std.specs.Prelude.{◌≡◌, [], ◌∷◌, ◌++◌, map, IfOk, OnOk};
 ghost use Rattle.std.specs.List.{flat_map};
 ghost use Rattle.plain_data.specs.Numbers.{numbered};
+ghost use Rattle.rp_eval.specs.Bodies.{world};
 ghost use Rattle.rp_trial.specs.Answers as spec;
 
 use plain_data::Items;
@@ -106,17 +107,19 @@ fn selves(alloc: Global, domain: &ListDomain, condition: Rule) -> Result<Items<V
     }
 }
 
-fn answer_for(
+/// Adds the answer of a condition for SELF.
+fn push_answer(
+    found: &mut Items<Answer>,
     alloc: Global,
     world: &World<'_, ListDomain>,
     rule: Rule,
     limit: usize,
     itself: &Value,
-) -> Result<Answer, AllocError>
-    ensures { IfOk result (λ found. found ≡ spec.answer world.now limit rule itself.now) }
+) -> Result<(), AllocError>
+    ensures { OnOk result (found.new ≡ found.old ++ spec.answer world.now limit rule itself.now ∷ []) }
 {
     let outcome = eval(alloc, world, rule, itself.copy()?, limit)?;
-    Ok(Answer {
+    found.push(Answer {
         limit,
         condition: rule,
         itself: itself.copy()?,
@@ -136,7 +139,7 @@ fn push_answers(
 {
     let selves = selves(alloc, world.domain(), rule)?;
     for itself in selves.as_slice() {
-        found.push(answer_for(alloc, world, rule, limit, itself)?)?;
+        push_answer(found, alloc, world, rule, limit, itself)?;
     }
     Ok(())
 }
@@ -161,15 +164,17 @@ fn push_within(
 #[tactic(auto, unfolding(crate::specs::Answers::answers))]
 pub(crate) fn answers(
     alloc: Global,
-    world: &World<'_, ListDomain>,
+    schema: &Schema,
+    domain: &ListDomain,
     limits: &[usize],
 ) -> Result<Items<Answer>, AllocError>
-    ensures { IfOk result (λ found. found ≡ spec.answers world.now limits.now) }
+    ensures { IfOk result (λ found. found ≡ spec.answers (world schema.now domain.now) limits.now) }
 {
-    let conditions = conditions(alloc, world.schema())?;
+    let world = World::new(alloc, schema, domain)?;
+    let conditions = conditions(alloc, schema)?;
     let mut found = Items::new(alloc);
     for limit in limits {
-        push_within(&mut found, alloc, world, conditions.as_slice(), *limit)?;
+        push_within(&mut found, alloc, &world, conditions.as_slice(), *limit)?;
     }
     Ok(found)
 }

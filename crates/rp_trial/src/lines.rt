@@ -9,55 +9,53 @@ use plain_data::Items;
 use rp_meaning::{Outcome, Rule};
 use std::alloc::{AllocError, Global};
 
-/// What declares a condition: its owner's name, and its label, if it has one.
-#[derive(Clone, Copy)]
-struct Declared<'c> {
-    owner: &'c str,
-    label: Option<&'c str>,
+/// `LIMIT OWNER.LABEL ` for the condition at a place of the WHERE clause of an owner of this name; for one without a label `#` and its
+/// number there, from 1.
+fn write_clause(
+    out: &mut Vec<u8>,
+    limit: usize,
+    owner: &str,
+    conditions: &[NamedDomainRule],
     place: usize,
-}
-
-/// A condition of the WHERE clause of an owner of this name.
-fn labelled<'c>(owner: &'c str, conditions: &'c [NamedDomainRule], place: usize) -> Declared<'c> {
-    let label = match conditions.get(place) {
-        Some(condition) => match &condition.label {
-            Some(label) => Some(label.text.as_str()),
-            None => None,
-        },
-        None => None,
-    };
-    Declared {
-        owner,
-        label,
-        place,
+) -> Result<(), AllocError> {
+    write_texts(out, &[Buffer::new().format(limit), " ", owner])?;
+    match conditions.get(place) {
+        Some(
+            NamedDomainRule {
+                label: Some(label),
+                condition: _,
+            },
+        ) => write_texts(out, &[".", label.text.as_str(), " "]),
+        _ => {
+            let number = place.saturating_add(1);
+            write_texts(out, &[".#", Buffer::new().format(number), " "])
+        }
     }
 }
 
-fn declared_of(schema: &CheckedSchema, condition: Rule) -> Option<Declared<'_>> {
+/// `LIMIT OWNER.LABEL `
+fn write_front(
+    out: &mut Vec<u8>,
+    limit: usize,
+    schema: &CheckedSchema,
+    condition: Rule,
+) -> Result<(), AllocError> {
     match condition {
-        Rule::Entity(number, place) => {
-            let entity = schema.entities().get(number)?;
-            let conditions = entity.domain_rules.as_slice();
-            Some(labelled(entity.name.text.as_str(), conditions, place))
-        }
-        Rule::Global(number, place) => {
-            let rule = schema.rules().get(number)?;
-            let conditions = rule.domain_rules.as_slice();
-            Some(labelled(rule.name.text.as_str(), conditions, place))
-        }
-        _ => None,
-    }
-}
-
-/// `OWNER.LABEL`; for a condition without a label `#` and its number in the WHERE clause, from 1.
-fn write_declared(out: &mut Vec<u8>, declared: Declared<'_>) -> Result<(), AllocError> {
-    let owner = declared.owner;
-    match declared.label {
-        Some(label) => write_texts(out, &[owner, ".", label]),
-        None => {
-            let number = declared.place.saturating_add(1);
-            write_texts(out, &[owner, ".#", Buffer::new().format(number)])
-        }
+        Rule::Entity(number, place) => match schema.entities().get(number) {
+            Some(it) => {
+                let conditions = it.domain_rules.as_slice();
+                write_clause(out, limit, it.name.text.as_str(), conditions, place)
+            }
+            None => Ok(()),
+        },
+        Rule::Global(number, place) => match schema.rules().get(number) {
+            Some(it) => {
+                let conditions = it.domain_rules.as_slice();
+                write_clause(out, limit, it.name.text.as_str(), conditions, place)
+            }
+            None => Ok(()),
+        },
+        _ => Ok(()),
     }
 }
 
@@ -72,19 +70,6 @@ fn write_outcome(out: &mut Vec<u8>, names: Names<'_>, outcome: &Outcome) -> Resu
     }
 }
 
-/// `LIMIT OWNER.LABEL `
-fn write_front(
-    out: &mut Vec<u8>,
-    limit: usize,
-    declared: Option<Declared<'_>>,
-) -> Result<(), AllocError> {
-    write_texts(out, &[Buffer::new().format(limit), " "])?;
-    if let Some(declared) = declared {
-        write_declared(out, declared)?;
-    }
-    write_text(out, " ")
-}
-
 /// `LIMIT OWNER.LABEL SELF VALUE STEPS`, or `LIMIT OWNER.LABEL SELF LIMIT`
 fn write_line(
     out: &mut Vec<u8>,
@@ -92,7 +77,7 @@ fn write_line(
     schema: &CheckedSchema,
     answer: &Answer,
 ) -> Result<(), AllocError> {
-    write_front(out, answer.limit, declared_of(schema, answer.condition))?;
+    write_front(out, answer.limit, schema, answer.condition)?;
     write_value(out, names, &answer.itself)?;
     write_text(out, " ")?;
     write_outcome(out, names, &answer.outcome)

@@ -12,13 +12,21 @@ use p21_read::read_raw;
 use p21_tree::Raw;
 use plain_data::Failure;
 use rp_content::Content;
-use std::alloc::Global;
+use std::alloc::{AllocError, Global};
+
+/// What is wrong, in these words, where there was memory for them.
+fn wrong(words: Result<String, AllocError>) -> Failure<String> {
+    match words {
+        Ok(words) => Failure::Fault(words),
+        Err(AllocError) => Failure::NoMemory,
+    }
+}
 
 /// The schema of a text.
 pub(crate) fn schema_of(alloc: Global, text: &[u8]) -> Result<Compiled, Failure<String>> {
     match compile_schema(alloc, text) {
         Ok(compiled) => Ok(compiled),
-        Err(Failure::Fault(fault)) => Err(Failure::Fault(words_of_fault(alloc, text, fault)?)),
+        Err(Failure::Fault(fault)) => Err(wrong(words_of_fault(alloc, text, fault))),
         Err(Failure::NoMemory) => Err(Failure::NoMemory),
     }
 }
@@ -27,12 +35,20 @@ pub(crate) fn schema_of(alloc: Global, text: &[u8]) -> Result<Compiled, Failure<
 fn raw_of(alloc: Global, text: &[u8]) -> Result<Raw<'_>, Failure<String>> {
     match read_raw(alloc, text) {
         Ok(raw) => Ok(raw),
-        Err(Failure::Fault(fault)) => Err(Failure::Fault(format!(in alloc;
-            "no exchange file: byte {}",
-            fault.at
-        )?)),
+        Err(Failure::Fault(fault)) => {
+            let words = format!(in alloc; "no exchange file: byte {}", fault.at);
+            Err(wrong(words))
+        }
         Err(Failure::NoMemory) => Err(Failure::NoMemory),
     }
+}
+
+/// Refuses a file of another schema than that of this name.
+fn refuse_others(alloc: Global, raw: &Raw<'_>, schema: &str) -> Result<(), Failure<String>> {
+    if is_of_schema(alloc, raw, schema.as_bytes())? {
+        return Ok(());
+    }
+    Err(wrong(String::from_str(alloc, "a file of another schema")))
 }
 
 /// What an exchange file of a schema holds.
@@ -44,15 +60,13 @@ pub(crate) fn content_of<'s>(
     ensures { IfOk result (λ content. IsSearchable content) }
 {
     let raw = raw_of(alloc, text)?;
-    if !is_of_schema(alloc, &raw, schema.name().as_bytes())? {
-        return Err(Failure::Fault(String::from_str(alloc, "a file of another schema")?));
-    }
+    refuse_others(alloc, &raw, schema.name())?;
     match bind(alloc, schema, &[], raw) {
         Ok(content) => Ok(content),
-        Err(Failure::Fault(fault)) => Err(Failure::Fault(format!(in alloc;
-            "a faulty instance: #{}",
-            fault.instance
-        )?)),
+        Err(Failure::Fault(fault)) => {
+            let words = format!(in alloc; "a faulty instance: #{}", fault.instance);
+            Err(wrong(words))
+        }
         Err(Failure::NoMemory) => Err(Failure::NoMemory),
     }
 }

@@ -14,12 +14,11 @@ use ex_loaded::LoadedSchema;
 use plain_data::{Failure, Items, Text};
 use rp_compile::compile;
 use rp_content::Content;
-use rp_domain::ListDomain;
-use rp_eval::World;
 use rp_group_domain::{CountedModel, domain_of, population_of};
 use rp_meaning::Schema;
 use rp_rows::rows::Key;
 use std::alloc::{AllocError, Global};
+use std::mem;
 
 /// What comes of each condition of a schema, which is compiled, for each SELF in the population of models, with each limit.
 #[tactic(auto, unfolding(crate::specs::Answers::world))]
@@ -36,10 +35,10 @@ fn answers_over(
 {
     let population = population_of(alloc, models)?;
     let domain = domain_of(alloc, schema, loaded.dictionary(), models, &population)?;
-    // This isn't let go of either.
-    let domain: &ListDomain = Box::leak(Box::new(alloc, domain)?);
-    let world = World::new(alloc, schema, domain)?;
-    answers(alloc, &world, limits)
+    let answers = answers(alloc, schema, &domain, limits);
+    // The process is to end, and all of its memory goes with it. To give that back value by value would take long.
+    mem::forget(domain);
+    answers
 }
 
 /// The same of a schema that isn't compiled yet. Without a limit no population is made.
@@ -84,27 +83,31 @@ fn lines_by(
     lines(alloc, names, loaded.checked(), &answers)
 }
 
-fn trial_by<'s>(
+fn lines_of_file<'s>(
     alloc: Global,
     loaded: &'s LoadedSchema<'s>,
     file: &[u8],
     limits: &[usize],
 ) -> Result<Vec<u8>, Failure<String>> {
     let content = content_of(alloc, loaded.dictionary(), file)?;
-    Ok(lines_by(alloc, loaded, &content, limits)?)
+    let lines = lines_by(alloc, loaded, &content, limits);
+    mem::forget(content);
+    Ok(lines?)
 }
 
-/// A schema with what is found in it once. This isn't let go of, since the process is to end with what it is lent to.
-fn lent<'s>(alloc: Global, schema: &'s Compiled) -> Result<&'s LoadedSchema<'s>, AllocError>
-    ensures { IfOk result (λ lent. lent.now ≡ schema.now) }
-{
-    let loaded = Box::new(alloc, LoadedSchema::of(alloc, schema)?)?;
-    Ok(Box::leak(loaded))
+fn lines_with<'s>(
+    alloc: Global,
+    compiled: &'s Compiled,
+    file: &[u8],
+    limits: &[usize],
+) -> Result<Vec<u8>, Failure<String>> {
+    let loaded = Box::new(alloc, LoadedSchema::of(alloc, compiled)?)?;
+    lines_of_file(alloc, Box::leak(loaded), file, limits)
 }
 
 /// A line for each limit and condition of a schema's WHERE clauses and each SELF, `LIMIT OWNER.LABEL SELF VALUE STEPS` or
 /// `LIMIT OWNER.LABEL SELF LIMIT`: SELF are the entity's instances in an exchange file, and `?` of a rule. Else what is wrong with
-/// the schema or the file, in words.
+/// the schema or the file, in words. The process is to end then: what is made of the schema and the file isn't let go of.
 pub fn trial(
     alloc: Global,
     schema: &[u8],
@@ -112,5 +115,7 @@ pub fn trial(
     limits: &[usize],
 ) -> Result<Vec<u8>, Failure<String>> {
     let compiled = schema_of(alloc, schema)?;
-    trial_by(alloc, lent(alloc, &compiled)?, file, limits)
+    let lines = lines_with(alloc, &compiled, file, limits);
+    mem::forget(compiled);
+    lines
 }

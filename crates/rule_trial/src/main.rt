@@ -13,17 +13,15 @@ use std::rt::{Env, Files};
 use std::{env, io};
 
 fn main(rt: HostRuntime) -> ExitCode {
-    match run(&rt) {
-        Ok(()) => ExitCode::from(0),
-        Err(Failure::Fault(words)) => {
-            let _ = eprintln!(rt; "rule_trial: {}", words.as_str());
-            ExitCode::from(2)
-        }
-        Err(Failure::NoMemory) => {
-            let _ = eprintln!(rt; "rule_trial: out of memory");
-            ExitCode::from(2)
-        }
-    }
+    let Err(failure) = run(&rt) else {
+        return ExitCode::from(0);
+    };
+    let words = match &failure {
+        Failure::Fault(words) => words.as_str(),
+        Failure::NoMemory => "out of memory",
+    };
+    let _ = eprintln!(rt; "rule_trial: {words}");
+    ExitCode::from(2)
 }
 
 /// What is wrong, in words.
@@ -39,6 +37,30 @@ fn bytes_of<R: AllocGlobal + Files>(rt: &R, path: &str) -> Result<Vec<u8>, Failu
     }
 }
 
+/// The lines of a trial of the files at these paths.
+fn lines_of<R: AllocGlobal + Files>(
+    rt: &R,
+    schema: &str,
+    file: &str,
+    limits: &[usize],
+) -> Result<Vec<u8>, Failure<String>> {
+    let schema = bytes_of(rt, schema)?;
+    let file = bytes_of(rt, file)?;
+    trial(rt.alloc(), &schema, &file, limits)
+}
+
+/// The lines that the words of a command line ask for.
+fn lines_by<R: AllocGlobal + Files>(rt: &R, words: &[String]) -> Result<Vec<u8>, Failure<String>> {
+    let alloc = rt.alloc();
+    let [_, schema, file, limits @ ..] = words else {
+        return fault(alloc, "rule_trial SCHEMA FILE LIMIT..");
+    };
+    match limits_of(alloc, limits)? {
+        Some(limits) => lines_of(rt, schema.as_str(), file.as_str(), &limits),
+        None => fault(alloc, "a limit is no number up to 18446744073709551615"),
+    }
+}
+
 /// Does what the command line asks for.
 fn run<R: AllocGlobal + Files + Env + Print>(rt: &R) -> Result<(), Failure<String>> {
     let alloc = rt.alloc();
@@ -46,15 +68,7 @@ fn run<R: AllocGlobal + Files + Env + Print>(rt: &R) -> Result<(), Failure<Strin
         return fault(alloc, "the command line isn't UTF-8");
     };
     let words: Vec<String> = args.collect(alloc)?;
-    let [_, schema, file, limits @ ..] = words.as_slice() else {
-        return fault(alloc, "rule_trial SCHEMA FILE LIMIT..");
-    };
-    let Some(limits) = limits_of(alloc, limits)? else {
-        return fault(alloc, "a limit is no number up to 18446744073709551615");
-    };
-    let schema = bytes_of(rt, schema.as_str())?;
-    let file = bytes_of(rt, file.as_str())?;
-    let lines = trial(alloc, &schema, &file, &limits)?;
+    let lines = lines_by(rt, words.as_slice())?;
     match write_all(&mut ToWriter::new(io::writer(rt)), &lines) {
         Ok(()) => Ok(()),
         Err(_) => fault(alloc, "standard output can't be written"),

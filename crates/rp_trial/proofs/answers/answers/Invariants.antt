@@ -5,5 +5,5 @@ use Rattle.rp_trial.proofs.answers.answers.Given as goal
 
 abbrev pub invariant-loop-limit : goal.invariant-loop-limit
 invariant-loop-limit l =
-    l.found ++ flat_map (spec.answers_within l.world (spec.conditions l.world.schema)) (drop l.limit-index l.limits)
-    ≡ flat_map (spec.answers_within l.world (spec.conditions l.world.schema)) l.limits
+    l.found ++ flat_map (spec.answers_within l.world (spec.conditions l.schema)) (drop l.limit-index l.limits)
+    ≡ flat_map (spec.answers_within l.world (spec.conditions l.schema)) l.limits
