@@ -35,6 +35,7 @@ fn answers_over(
 {
     let population = population_of(alloc, models)?;
     let domain = domain_of(alloc, schema, loaded.dictionary(), models, &population)?;
+    drop(population);
     let answers = answers(alloc, schema, &domain, limits);
     // The process is to end, and all of its memory goes with it. To give that back value by value would take long.
     mem::forget(domain);
