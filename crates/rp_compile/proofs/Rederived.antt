@@ -1,5 +1,5 @@
 -- The entities of a schema, by what redeclares the attributes of each in DERIVE.
-use Rattle.std.proofs.Common.{◌≡◌, ℕ, zero, suc, ◌+◌, ◌<◌, ◌==◌, Bool, true, false, List, [], ◌∷◌, ◌++◌, map, filter, length, drop, get_or, replicate, if◌then◌else◌, refl, sym, ◌∙◌, ap, arith, append_assoc, drop-cons, add-one}
+use Rattle.std.proofs.Common.{◌≡◌, ℕ, zero, suc, ◌+◌, ◌<◌, ◌==◌, Bool, true, false, List, [], ◌∷◌, ◌++◌, map, filter, length, drop, get_or, replicate, if◌then◌else◌, refl, sym, ◌∙◌, ap, arith, append_assoc, drop-cons, add-one, subst, IfOk, Result, Ok}
 use Rattle.std.specs.List.{flat_map}
 use Rattle.ex_attributes.specs.Attributes.{same_place}
 use Rattle.ex_named.specs.declared.declaration.NamedEntity.{NamedEntity}
@@ -89,6 +89,11 @@ pub entities-found : (schema : NamedSchema) (declared : Declared) (name : List �
 entities-found schema declared name list others graph order rederived of-declared of-name of-list of-others of-graph of-order of-rows =
     let same : rederived ≡ rows schema = of-rows ∙ (λ i. put_all (replicate (length (of-others i)) []) (by_entity (flat_map (rederived_by (of-others i)) (deepest_first (of-graph i) (of-order i))))) in
     (λ i. numbered (λ number x. spec.entity (of-declared i) (of-name i) (row (same i) number) number x) (of-list i)) ∙ entities-same schema
+
+-- what was made stands behind the others
+pub put-made : {E : Type 0} (found after : List Entity) (it : Entity) (made : Result Entity E) → IfOk made (λ x. x ≡ it)
+    → ((x : Entity) × (made ≡ Ok x) × (after ≡ found ++ x ∷ [])) → after ≡ found ++ it ∷ []
+put-made {E} found after it made is put = put.2 ∙ ap (λ (x : Entity). found ++ x ∷ []) (subst (λ (r : Result Entity E). IfOk r (λ x. x ≡ it)) put.1 is)
 
 -- one more entity
 pub next-entity : (schema : Declared) (name : List ℕ) (rederived : List (List Rederived)) (list : List NamedEntity) (i : ℕ) (x : NamedEntity) (its : List Rederived) (found after : List Entity)

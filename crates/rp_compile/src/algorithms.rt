@@ -13,7 +13,7 @@ use ex_named::{
 use ex_tree::Name;
 use ex_typing::TypingScope;
 use plain_data::{Items, Rows};
-use rp_compile_trees::{Declared, copied_type, statements};
+use rp_compile_trees::{Declared, both, copied_type, push_made, statements};
 use rp_meaning::{Algorithm, Function, GlobalRule, Initial};
 use std::alloc::{AllocError, Global};
 
@@ -88,7 +88,7 @@ fn copied_types(alloc: Global, types: &[&NamedDataType]) -> Result<Items<NamedDa
 {
     let mut found = Items::new(alloc);
     for data_type in types {
-        found.push(copied_type(alloc, data_type)?)?;
+        push_made(&mut found, copied_type(alloc, data_type))?;
     }
     Ok(found)
 }
@@ -144,8 +144,10 @@ fn algorithm(
 ) -> Result<Algorithm, AllocError>
     ensures { IfOk result (λ found. found ≡ spec.algorithm_by schema.now scope.now (map (λ t. t.now) types.now) (length parameters.now) count locals.now list.now) }
 {
-    let initial = initials(alloc, schema, scope, parameters, locals)?;
-    let statements = statements(alloc, schema, scope, list, types)?;
+    let (initial, statements) = both(
+        initials(alloc, schema, scope, parameters, locals),
+        statements(alloc, schema, scope, list, types),
+    )?;
     Ok(Algorithm {
         locals: count,
         initial,
@@ -188,9 +190,12 @@ fn function(
     ensures { IfOk result (λ found. found ≡ spec.function schema.now function.now) }
 {
     let types = parameter_types(alloc, function.parameters.as_slice())?;
-    let algorithm = function_body(alloc, schema, function, &types)?;
-    let result = copied_type(alloc, &function.result)?;
-    let parameters = copied_types(alloc, &types)?;
+    let copies = both(
+        copied_types(alloc, &types),
+        copied_type(alloc, &function.result),
+    );
+    let body = function_body(alloc, schema, function, &types);
+    let ((parameters, result), algorithm) = both(copies, body)?;
     Ok(Function {
         parameters,
         result,
@@ -207,7 +212,7 @@ pub(crate) fn functions(
 {
     let mut found = Items::new(alloc);
     for declared in list {
-        found.push(function(alloc, schema, declared)?)?;
+        push_made(&mut found, function(alloc, schema, declared))?;
     }
     Ok(found)
 }
@@ -244,7 +249,7 @@ pub(crate) fn rules(
 {
     let mut found = Items::new(alloc);
     for declared in list {
-        found.push(rule(alloc, schema, declared)?)?;
+        push_made(&mut found, rule(alloc, schema, declared))?;
     }
     Ok(found)
 }

@@ -13,7 +13,7 @@ use ex_renamings::Renamings;
 use ex_typing::TypingScope;
 use plain_data::{Items, Rows};
 use rp_compile_names::{choices, joined, selection, selects};
-use rp_compile_trees::{Declared, copied_type};
+use rp_compile_trees::{Declared, both, copied_type, push_made};
 use rp_meaning::{DefinedType, Expression, Underlying};
 use std::alloc::{AllocError, Global};
 
@@ -120,11 +120,17 @@ fn defined_type(
     requires { graph.now ≡ types_spec.selection types.now }
     ensures { IfOk result (λ found. found ≡ spec.defined_type schema.now schema_name.now types.now number declared.now) }
 {
-    let name = joined(alloc, schema_name, declared.name.text.as_str())?;
-    let beneath = beneath(alloc, types.types(), number)?;
-    let underlying = underlying(alloc, types, number)?;
-    let (selects, choices) = selected(alloc, types, graph, number)?;
-    let domain_rules = type_rules(alloc, schema, number, declared.domain_rules.as_slice())?;
+    let name = joined(alloc, schema_name, declared.name.text.as_str());
+    let renamed = both(
+        beneath(alloc, types.types(), number),
+        underlying(alloc, types, number),
+    );
+    let selected = selected(alloc, types, graph, number);
+    let rules = type_rules(alloc, schema, number, declared.domain_rules.as_slice());
+    let ((name, domain_rules), ((beneath, underlying), (selects, choices))) = both(
+        both(name, rules),
+        both(renamed, selected),
+    )?;
     Ok(DefinedType {
         name,
         beneath,
@@ -148,8 +154,8 @@ pub(crate) fn defined_types(
     let graph = selection(alloc, &types)?;
     let mut found = Items::new(alloc);
     for (number, declared) in list.iter().enumerate() {
-        let compiled = defined_type(alloc, schema, schema_name, &types, &graph, number, declared)?;
-        found.push(compiled)?;
+        let compiled = defined_type(alloc, schema, schema_name, &types, &graph, number, declared);
+        push_made(&mut found, compiled)?;
     }
     Ok(found)
 }

@@ -18,7 +18,7 @@ use ex_tree::Name;
 use ex_typing::TypingScope;
 use plain_data::Items;
 use rp_compile_names::{Rederived, derivations, explicit_of, joined, rederived_of};
-use rp_compile_trees::{Declared, copied_type};
+use rp_compile_trees::{Declared, both, copied_type, push_made};
 use rp_meaning::{
     Derivation, Entity, Explicit, ExplicitAttribute, Expression, Given, Inverse, Redeclaration,
     Role,
@@ -63,8 +63,10 @@ fn explicit_attribute(
         sort: AttributeSort::Explicit,
         place,
     };
-    let derivations = derivations(alloc, rederived, attribute)?;
-    let declaration = explicit_declaration(alloc, explicit)?;
+    let (derivations, declaration) = both(
+        derivations(alloc, rederived, attribute),
+        explicit_declaration(alloc, explicit),
+    )?;
     Ok(ExplicitAttribute {
         declaration,
         derivations,
@@ -82,8 +84,8 @@ fn explicit_attributes(
 {
     let mut found = Items::new(alloc);
     for (place, (_, explicit)) in rows.iter().enumerate() {
-        let attribute = explicit_attribute(alloc, rederived, entity, place, explicit)?;
-        found.push(attribute)?;
+        let attribute = explicit_attribute(alloc, rederived, entity, place, explicit);
+        push_made(&mut found, attribute)?;
     }
     Ok(found)
 }
@@ -168,7 +170,8 @@ fn each_derived(
 {
     let mut found = Items::new(alloc);
     for (place, derivation) in own.iter().enumerate() {
-        found.push(derived_attribute(alloc, rederived, entity, place, *derivation)?)?;
+        let attribute = derived_attribute(alloc, rederived, entity, place, *derivation);
+        push_made(&mut found, attribute)?;
     }
     Ok(found)
 }
@@ -197,8 +200,8 @@ fn all_given(
 {
     let mut found = Items::new(alloc);
     for derived in list {
-        let given = given(alloc, schema, scope, &derived.data_type, &derived.value)?;
-        found.push(given)?;
+        let given = given(alloc, schema, scope, &derived.data_type, &derived.value);
+        push_made(&mut found, given)?;
     }
     Ok(found)
 }
@@ -216,17 +219,22 @@ fn entity_rules(
 {
     let itself = kinds_of_one(alloc, Sort::Entity(number))?;
     let scope = TypingScope::new(alloc, Some(number), itself.as_slice(), &[], &[]);
-    let derivations = all_given(alloc, schema, &scope, derived)?;
-    let conditions = conditions(alloc, schema, &scope, rules)?;
+    let (derivations, conditions) = both(
+        all_given(alloc, schema, &scope, derived),
+        conditions(alloc, schema, &scope, rules),
+    )?;
     Ok((derivations, conditions))
 }
 
-/// The role in which an inverse attribute finds its users.
-fn inverse_role(alloc: Global, inverse: &NamedInverse) -> Result<Role, AllocError>
-    ensures { IfOk result (λ found. found ≡ (compiled.inverse inverse.now).role) }
+/// An inverse attribute, with the role in which it finds its users.
+fn inverse_attribute(alloc: Global, inverse: &NamedInverse) -> Result<Inverse, AllocError>
+    ensures { IfOk result (λ found. found ≡ compiled.inverse inverse.now) }
 {
     let attribute = declaration(&inverse.attribute);
-    Ok(Role::Of(inverse.entity, Items::from_slice(alloc, &[attribute])?))
+    Ok(Inverse {
+        aggregate: inverse.aggregate,
+        role: Role::Of(inverse.entity, Items::from_slice(alloc, &[attribute])?),
+    })
 }
 
 fn inverse_attributes(alloc: Global, list: &[NamedInverse]) -> Result<Items<Inverse>, AllocError>
@@ -234,10 +242,7 @@ fn inverse_attributes(alloc: Global, list: &[NamedInverse]) -> Result<Items<Inve
 {
     let mut found = Items::new(alloc);
     for inverse in list {
-        found.push(Inverse {
-            aggregate: inverse.aggregate,
-            role: inverse_role(alloc, inverse)?,
-        })?;
+        push_made(&mut found, inverse_attribute(alloc, inverse))?;
     }
     Ok(found)
 }
@@ -260,7 +265,7 @@ fn unique_rules(
 {
     let mut found = Items::new(alloc);
     for rule in list {
-        found.push(unique_rule(alloc, rule)?)?;
+        push_made(&mut found, unique_rule(alloc, rule))?;
     }
     Ok(found)
 }
@@ -276,9 +281,10 @@ fn all_explicit(
     ensures redeclarations { IfOk result (λ found. found.1 ≡ flat_map compiled.redeclarations_in entity.now.explicit) }
 {
     let rows = explicit_of(alloc, entity)?;
-    let explicit = explicit_attributes(alloc, rederived, number, &rows)?;
-    let redeclarations = redeclarations(alloc, entity.explicit.as_slice())?;
-    Ok((explicit, redeclarations))
+    both(
+        explicit_attributes(alloc, rederived, number, &rows),
+        redeclarations(alloc, entity.explicit.as_slice()),
+    )
 }
 
 /// The inverse attributes of an entity's own, and its UNIQUE rules.
@@ -289,9 +295,10 @@ fn inverse_and_unique(
     ensures inverse { IfOk result (λ found. found.0 ≡ map compiled.inverse entity.now.inverse) }
     ensures unique_rules { IfOk result (λ found. found.1 ≡ map (λ rule. map compiled.declaration rule.attributes) entity.now.unique_rules) }
 {
-    let inverse = inverse_attributes(alloc, entity.inverse.as_slice())?;
-    let unique_rules = unique_rules(alloc, entity.unique_rules.as_slice())?;
-    Ok((inverse, unique_rules))
+    both(
+        inverse_attributes(alloc, entity.inverse.as_slice()),
+        unique_rules(alloc, entity.unique_rules.as_slice()),
+    )
 }
 
 /// An entity, given what redeclares its attributes in DERIVE.
@@ -305,17 +312,22 @@ fn entity(
 ) -> Result<Entity, AllocError>
     ensures { IfOk result (λ found. found ≡ spec.entity schema.now schema_name.now rederived.now number entity.now) }
 {
-    let name = joined(alloc, schema_name, entity.name.text.as_str())?;
-    let (explicit, redeclarations) = all_explicit(alloc, rederived, number, entity)?;
-    let derived = derived_attributes(alloc, rederived, number, entity.derived.as_slice())?;
-    let (derivations, domain_rules) = entity_rules(
+    let name = joined(alloc, schema_name, entity.name.text.as_str());
+    let derived = derived_attributes(alloc, rederived, number, entity.derived.as_slice());
+    let attributes = both(all_explicit(alloc, rederived, number, entity), derived);
+    let rules = entity_rules(
         alloc,
         schema,
         number,
         entity.derived.as_slice(),
         entity.domain_rules.as_slice(),
+    );
+    let ((name, ((explicit, redeclarations), derived)), (rules, others)) = both(
+        both(name, attributes),
+        both(rules, inverse_and_unique(alloc, entity)),
     )?;
-    let (inverse, unique_rules) = inverse_and_unique(alloc, entity)?;
+    let (derivations, domain_rules) = rules;
+    let (inverse, unique_rules) = others;
     Ok(Entity {
         name,
         explicit,
@@ -341,7 +353,8 @@ pub(crate) fn entities(
     let mut found = Items::new(alloc);
     for (number, declared) in list.iter().enumerate() {
         let rederived = rederived_of(rederived, number);
-        found.push(entity(alloc, schema, schema_name, rederived, number, declared)?)?;
+        let compiled = entity(alloc, schema, schema_name, rederived, number, declared);
+        push_made(&mut found, compiled)?;
     }
     Ok(found)
 }

@@ -7,7 +7,7 @@ ghost use Rattle.rp_compile.specs.Declarations as spec;
 use ex_named::{NamedConstant, NamedDataType, NamedDomainRule, NamedExpression};
 use ex_typing::TypingScope;
 use plain_data::Items;
-use rp_compile_trees::{Declared, copied_type, expression};
+use rp_compile_trees::{Declared, both, copied_type, expression, push_made};
 use rp_meaning::{Expression, Given};
 use std::alloc::{AllocError, Global};
 
@@ -21,8 +21,10 @@ pub(crate) fn given(
 ) -> Result<Given, AllocError>
     ensures { IfOk result (λ found. found ≡ spec.given schema.now scope.now data_type.now value.now) }
 {
-    let value = expression(alloc, schema, scope, value)?;
-    let data_type = copied_type(alloc, data_type)?;
+    let (data_type, value) = both(
+        copied_type(alloc, data_type),
+        expression(alloc, schema, scope, value),
+    )?;
     Ok(Given { data_type, value })
 }
 
@@ -37,7 +39,10 @@ pub(crate) fn conditions(
 {
     let mut found = Items::new(alloc);
     for rule in rules {
-        found.push(expression(alloc, schema, scope, &rule.condition)?)?;
+        push_made(
+            &mut found,
+            expression(alloc, schema, scope, &rule.condition),
+        )?;
     }
     Ok(found)
 }
@@ -53,8 +58,8 @@ pub(crate) fn constants(
     let scope = TypingScope::new(alloc, None, &[], &[], &[]);
     let mut found = Items::new(alloc);
     for constant in list {
-        let given = given(alloc, schema, &scope, &constant.data_type, &constant.value)?;
-        found.push(given)?;
+        let given = given(alloc, schema, &scope, &constant.data_type, &constant.value);
+        push_made(&mut found, given)?;
     }
     Ok(found)
 }

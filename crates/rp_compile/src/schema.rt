@@ -12,13 +12,13 @@ use crate::expressions::constants;
 use ex_types::CheckedSchema;
 use plain_data::Items;
 use rp_compile_names::{entity_order, rederived_rows, roles, rule_order, type_order};
-use rp_compile_trees::Declared;
+use rp_compile_trees::{Declared, both};
 use rp_meaning::{DefinedType, Entity, Function, Given, GlobalRule, NamedRole, Schema};
 use std::alloc::{AllocError, Global};
 
 /// What is compiled of declarations: of defined types, entities, constants, functions and rules.
 type Compiled = (
-    (Items<DefinedType>, Items<Entity>, Items<Given>),
+    (Items<DefinedType>, (Items<Entity>, Items<Given>)),
     (Items<Function>, Items<GlobalRule>),
 );
 
@@ -58,17 +58,19 @@ fn data_of(
     schema: &CheckedSchema,
     declared: &Declared<'_>,
     order: &[usize],
-) -> Result<(Items<DefinedType>, Items<Entity>, Items<Given>), AllocError>
+) -> Result<(Items<DefinedType>, (Items<Entity>, Items<Given>)), AllocError>
     requires declared { declared.now ≡ compiled.declared schema.now.named.schema }
     requires order { order.now ≡ compiled.entity_order schema.now.named.schema }
     ensures types { IfOk result (λ found. found.0 ≡ numbered (compiled.defined_type schema.now.named.schema) schema.now.named.schema.types) }
-    ensures entities { IfOk result (λ found. found.1 ≡ numbered (compiled.entity schema.now.named.schema) schema.now.named.schema.entities) }
-    ensures constants { IfOk result (λ found. found.2 ≡ map (compiled.constant schema.now.named.schema) schema.now.named.schema.constants) }
+    ensures entities { IfOk result (λ found. found.1.0 ≡ numbered (compiled.entity schema.now.named.schema) schema.now.named.schema.entities) }
+    ensures constants { IfOk result (λ found. found.1.1 ≡ map (compiled.constant schema.now.named.schema) schema.now.named.schema.constants) }
 {
     let types = defined_types(alloc, declared, schema.name(), schema.types())?;
-    let entities = entities_of(alloc, schema, declared, order)?;
-    let constants = constants(alloc, declared, schema.constants())?;
-    Ok((types, entities, constants))
+    let (entities, constants) = both(
+        entities_of(alloc, schema, declared, order),
+        constants(alloc, declared, schema.constants()),
+    )?;
+    Ok((types, (entities, constants)))
 }
 
 /// Functions and rules.
@@ -96,15 +98,16 @@ fn declarations_of(
     requires roles { roles.now ≡ compiled.roles schema.now.named.schema }
     requires order { order.now ≡ compiled.entity_order schema.now.named.schema }
     ensures types { IfOk result (λ found. found.0.0 ≡ numbered (compiled.defined_type schema.now.named.schema) schema.now.named.schema.types) }
-    ensures entities { IfOk result (λ found. found.0.1 ≡ numbered (compiled.entity schema.now.named.schema) schema.now.named.schema.entities) }
-    ensures constants { IfOk result (λ found. found.0.2 ≡ map (compiled.constant schema.now.named.schema) schema.now.named.schema.constants) }
+    ensures entities { IfOk result (λ found. found.0.1.0 ≡ numbered (compiled.entity schema.now.named.schema) schema.now.named.schema.entities) }
+    ensures constants { IfOk result (λ found. found.0.1.1 ≡ map (compiled.constant schema.now.named.schema) schema.now.named.schema.constants) }
     ensures functions { IfOk result (λ found. found.1.0 ≡ map (compiled.function schema.now.named.schema) schema.now.named.schema.functions) }
     ensures rules { IfOk result (λ found. found.1.1 ≡ map (compiled.rule schema.now.named.schema) schema.now.named.schema.rules) }
 {
     let declared = declared(alloc, schema, roles, order)?;
-    let data = data_of(alloc, schema, &declared, order)?;
-    let algorithms = algorithms_of(alloc, schema, &declared)?;
-    Ok((data, algorithms))
+    both(
+        data_of(alloc, schema, &declared, order),
+        algorithms_of(alloc, schema, &declared),
+    )
 }
 
 /// What evaluation looks at of a schema that was checked.
@@ -112,17 +115,17 @@ fn declarations_of(
 pub fn compile(alloc: Global, checked: &CheckedSchema) -> Result<Schema, AllocError>
     ensures { IfOk result (λ schema. schema ≡ compiled.compiled checked.now) }
 {
-    let type_order = type_order(alloc, checked.types())?;
-    let rule_order = rule_order(alloc, checked.rules())?;
-    let entity_order = entity_order(alloc, checked.entities())?;
-    let roles = roles_of(alloc, checked)?;
-    let (data, algorithms) = declarations_of(
-        alloc,
-        checked,
-        roles.as_slice(),
-        entity_order.as_slice(),
+    let (entity_order, roles) = both(
+        entity_order(alloc, checked.entities()),
+        roles_of(alloc, checked),
     )?;
-    let (types, entities, constants) = data;
+    let declarations = declarations_of(alloc, checked, roles.as_slice(), entity_order.as_slice());
+    let orders = both(
+        type_order(alloc, checked.types()),
+        rule_order(alloc, checked.rules()),
+    );
+    let ((type_order, rule_order), (data, algorithms)) = both(orders, declarations)?;
+    let (types, (entities, constants)) = data;
     let (functions, rules) = algorithms;
     Ok(Schema {
         types,

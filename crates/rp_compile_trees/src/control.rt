@@ -7,9 +7,11 @@ ghost use Rattle.rp_meaning.specs.CompiledExpressions as expressions;
 ghost use Rattle.rp_compile_trees.specs.Parts as spec;
 
 use crate::declared::Declared;
+use crate::made::both;
 use crate::trees::expression;
 use ex_named::{NamedExpression, NamedIncrement, NamedRepeatControl};
 use ex_typing::TypingScope;
+use plain_data::Boxed;
 use rp_meaning::{Control, Expression, Increment};
 use std::alloc::{AllocError, Global};
 
@@ -36,9 +38,11 @@ fn increment(
 ) -> Result<Increment, AllocError>
     ensures { IfOk result (λ found. found ≡ spec.increment schema.now scope.now tree.now) }
 {
-    let first = expression(alloc, schema, scope, &tree.first)?;
-    let last = expression(alloc, schema, scope, &tree.last)?;
-    let step = optional(alloc, schema, scope, &tree.step)?;
+    let ends = both(
+        expression(alloc, schema, scope, &tree.first),
+        expression(alloc, schema, scope, &tree.last),
+    );
+    let ((first, last), step) = both(ends, optional(alloc, schema, scope, &tree.step))?;
     Ok(Increment { first, last, step })
 }
 
@@ -63,16 +67,20 @@ pub(crate) fn control(
     scope: &TypingScope<'_>,
     turn: &TypingScope<'_>,
     tree: &NamedRepeatControl,
-) -> Result<Control, AllocError>
+) -> Result<Boxed<Control>, AllocError>
     requires { turn.now ≡ in_turn scope.now tree.now.increment }
     ensures { IfOk result (λ found. found ≡ spec.control schema.now scope.now tree.now) }
 {
-    let while_condition = optional(alloc, schema, turn, &tree.while_condition)?;
-    let until_condition = optional(alloc, schema, turn, &tree.until_condition)?;
-    let increment = optional_increment(alloc, schema, scope, &tree.increment)?;
-    Ok(Control {
+    let conditions = both(
+        optional(alloc, schema, turn, &tree.while_condition),
+        optional(alloc, schema, turn, &tree.until_condition),
+    );
+    let increment = optional_increment(alloc, schema, scope, &tree.increment);
+    let (increment, (while_condition, until_condition)) = both(increment, conditions)?;
+    let control = Control {
         increment,
         while_condition,
         until_condition,
-    })
+    };
+    Boxed::new(alloc, control)
 }

@@ -4,11 +4,13 @@
 mod control;
 mod declared;
 mod leaves;
+mod made;
 mod statement;
 mod trees;
 mod types;
 
 pub use declared::Declared;
+pub use made::{both, push_made};
 pub use statement::statements;
 pub use trees::expression;
 pub use types::copied_type;

@@ -10,6 +10,7 @@ ghost use Rattle.rp_meaning.specs.declared.tree.Statement.TheVariants as stateme
 
 use crate::control::control;
 use crate::declared::Declared;
+use crate::made::{both, push_made};
 use crate::trees::{expression, expressions};
 use crate::types::copied_type;
 use ex_kinds::{Sort, ValueKind};
@@ -51,8 +52,10 @@ fn assignment(
 ) -> Result<Statement, AllocError>
     ensures { IfOk result (λ found. found ≡ statement_of.Assignment slot (slice_index_or (map (λ t. t.now) types.now) slot types_of.Generic) (expressions_spec.expression schema.now scope.now value.now)) }
 {
-    let data_type = type_at(alloc, types, slot)?;
-    let value = expression(alloc, schema, scope, value)?;
+    let (data_type, value) = both(
+        type_at(alloc, types, slot),
+        expression(alloc, schema, scope, value),
+    )?;
     Ok(Statement::Assignment(slot, data_type, value))
 }
 
@@ -93,7 +96,7 @@ fn block(
 {
     let mut found = Items::new(alloc);
     for tree in list {
-        found.push(statement(alloc, schema, scope, tree, types)?)?;
+        push_made(&mut found, statement(alloc, schema, scope, tree, types))?;
     }
     Ok(found)
 }
@@ -121,9 +124,12 @@ fn statement(
         }
         NamedStatement::Escape => Ok(Statement::Escape),
         NamedStatement::If(condition, then_part, else_part) => {
-            let condition = expression(alloc, schema, scope, condition)?;
-            let then_part = block(alloc, schema, scope, then_part.as_slice(), types)?;
-            let else_part = block(alloc, schema, scope, else_part.as_slice(), types)?;
+            let branches = both(
+                block(alloc, schema, scope, then_part.as_slice(), types),
+                block(alloc, schema, scope, else_part.as_slice(), types),
+            );
+            let condition = expression(alloc, schema, scope, condition);
+            let (condition, (then_part, else_part)) = both(condition, branches)?;
             Ok(Statement::If(condition, then_part, else_part))
         }
         NamedStatement::Repeat(control, body) => {
@@ -148,8 +154,11 @@ fn case_statement(
 ) -> Result<Statement, AllocError>
     ensures { IfOk result (λ found. found ≡ parts.case_statement schema.now (map (λ t. t.now) types.now) scope.now tree.now) }
 {
-    let mut actions = case_actions(alloc, schema, scope, tree.actions.as_slice(), types)?;
-    actions.append(otherwise(alloc, schema, scope, &tree.otherwise, types)?)?;
+    let (mut actions, others) = both(
+        case_actions(alloc, schema, scope, tree.actions.as_slice(), types),
+        otherwise(alloc, schema, scope, &tree.otherwise, types),
+    )?;
+    actions.append(others)?;
     let selector = expression(alloc, schema, scope, &tree.selector)?;
     Ok(Statement::Case(selector, actions))
 }
@@ -167,7 +176,7 @@ fn case_actions(
 {
     let mut found = Items::new(alloc);
     for tree in list {
-        found.push(case_action(alloc, schema, scope, tree, types)?)?;
+        push_made(&mut found, case_action(alloc, schema, scope, tree, types))?;
     }
     Ok(found)
 }
@@ -183,8 +192,10 @@ fn case_action(
 ) -> Result<CaseAction, AllocError>
     ensures { IfOk result (λ found. found ≡ parts.case_action schema.now (map (λ t. t.now) types.now) scope.now tree.now) }
 {
-    let labels = labels(alloc, schema, scope, tree.labels.as_slice())?;
-    let statement = statement(alloc, schema, scope, &tree.statement, types)?;
+    let (labels, statement) = both(
+        labels(alloc, schema, scope, tree.labels.as_slice()),
+        statement(alloc, schema, scope, &tree.statement, types),
+    )?;
     Ok(CaseAction {
         labels: Some(labels),
         statement,
@@ -247,8 +258,9 @@ fn repeat_in<'a>(
     requires { turn.now ≡ in_turn scope.now tree.now.increment }
     ensures { IfOk result (λ found. found ≡ parts.repeat schema.now (map (λ t. t.now) types.now) scope.now tree.now body.now) }
 {
-    let control = control(alloc, schema, scope, turn, tree)?;
-    let control = Boxed::new(alloc, control)?;
-    let body = block(alloc, schema, turn, body.as_slice(), types)?;
+    let (control, body) = both(
+        control(alloc, schema, scope, turn, tree),
+        block(alloc, schema, turn, body.as_slice(), types),
+    )?;
     Ok(Statement::Repeat(control, body))
 }

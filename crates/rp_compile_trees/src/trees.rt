@@ -1,6 +1,6 @@
 //! Expressions.
 
-ghost use Rattle.std.specs.Prelude.{◌≡◌, IfOk};
+ghost use Rattle.std.specs.Prelude.{◌≡◌, [], ◌∷◌, ◌++◌, IfOk, OnOk};
 ghost use Rattle.ex_typing.specs.Expressions.{within};
 ghost use Rattle.rp_meaning.specs.declared.tree.Expression.TheVariants as tree_of;
 ghost use Rattle.rp_meaning.specs.CompiledExpressions as spec;
@@ -8,6 +8,7 @@ ghost use Rattle.rp_compile_trees.specs.Parts as parts;
 
 use crate::declared::Declared;
 use crate::leaves::{built_in, indeterminate, item, literal, meant, own_attribute};
+use crate::made::{both, push_made};
 use ex_kinds::{Kinds, Typed};
 use ex_named::{NamedExpression, NamedInterval, NamedOperation, NamedQualifier, NamedQuery};
 use ex_operators::elements_of;
@@ -119,7 +120,7 @@ pub(crate) fn expressions(
 {
     let mut found = Items::new(alloc);
     for tree in list {
-        found.push(expression(alloc, schema, scope, tree)?)?;
+        push_made(&mut found, expression(alloc, schema, scope, tree))?;
     }
     Ok(found)
 }
@@ -177,8 +178,11 @@ fn qualified(
     ensures { IfOk result (λ found. found ≡ tree_of.Qualified (spec.expression schema.now scope.now base.now) (parts.qualifiers schema.now scope.now (parts.typed schema.now scope.now base.now) list.now)) }
 {
     let typed = typed(alloc, schema, scope, base.get())?;
-    let list = qualifiers(alloc, schema, scope, typed, list.as_slice())?;
-    Ok(Expression::Qualified(boxed(alloc, schema, scope, base)?, list))
+    let (base, list) = both(
+        boxed(alloc, schema, scope, base),
+        qualifiers(alloc, schema, scope, typed, list.as_slice()),
+    )?;
+    Ok(Expression::Qualified(base, list))
 }
 
 #[cycle(trees)]
@@ -191,8 +195,11 @@ fn chain(
 ) -> Result<Expression, AllocError>
     ensures { IfOk result (λ found. found ≡ tree_of.Chain (spec.expression schema.now scope.now left.now) (parts.operations schema.now scope.now list.now)) }
 {
-    let list = operations(alloc, schema, scope, list.as_slice())?;
-    Ok(Expression::Chain(boxed(alloc, schema, scope, left)?, list))
+    let (left, list) = both(
+        boxed(alloc, schema, scope, left),
+        operations(alloc, schema, scope, list.as_slice()),
+    )?;
+    Ok(Expression::Chain(left, list))
 }
 
 /// What is taken one after the other of a value of which this is said.
@@ -209,10 +216,26 @@ fn qualifiers(
     let mut found = Items::new(alloc);
     let mut typed = base;
     for tree in list {
-        found.push(qualifier(alloc, schema, scope, &typed, tree)?)?;
-        typed = behind(alloc, schema, scope, typed, tree)?;
+        typed = push_qualifier(alloc, schema, scope, &mut found, typed, tree)?;
     }
     Ok(found)
+}
+
+/// Puts a qualifier behind the others, and gives what is said of what it takes.
+#[cycle(trees)]
+fn push_qualifier(
+    alloc: Global,
+    schema: &Declared<'_>,
+    scope: &TypingScope<'_>,
+    found: &mut Items<Qualifier>,
+    base: Typed,
+    tree: &NamedQualifier,
+) -> Result<Typed, AllocError>
+    ensures pushed { OnOk result (found.new ≡ found.old ++ parts.qualifier schema.now scope.now base tree.now ∷ []) }
+    ensures taken { IfOk result (λ typed. typed ≡ parts.behind schema.now scope.now base tree.now) }
+{
+    push_made(found, qualifier(alloc, schema, scope, &base, tree))?;
+    behind(alloc, schema, scope, base, tree)
 }
 
 #[tactic(auto, unfolding(rp_meaning::specs::CompiledExpressions::compiled_expression, rp_meaning::specs::CompiledTrees::compiled_qualifier))]
@@ -237,8 +260,11 @@ fn qualifier(
             Ok(Qualifier::Index(index))
         }
         NamedQualifier::Range(_, low, high) => {
-            let low = boxed(alloc, schema, scope, low)?;
-            Ok(Qualifier::Range(low, boxed(alloc, schema, scope, high)?))
+            let (low, high) = both(
+                boxed(alloc, schema, scope, low),
+                boxed(alloc, schema, scope, high),
+            )?;
+            Ok(Qualifier::Range(low, high))
         }
     }
 }
@@ -274,9 +300,11 @@ fn interval(
 ) -> Result<Expression, AllocError>
     ensures { IfOk result (λ found. found ≡ tree_of.Interval (parts.interval schema.now scope.now tree.now)) }
 {
-    let low = expression(alloc, schema, scope, &tree.low)?;
-    let item = expression(alloc, schema, scope, &tree.item)?;
-    let high = expression(alloc, schema, scope, &tree.high)?;
+    let ends = both(
+        expression(alloc, schema, scope, &tree.low),
+        expression(alloc, schema, scope, &tree.high),
+    );
+    let ((low, high), item) = both(ends, expression(alloc, schema, scope, &tree.item))?;
     let interval = Interval {
         low,
         low_operator: tree.low_operator,
@@ -299,8 +327,10 @@ fn query(
     ensures { IfOk result (λ found. found ≡ tree_of.Query (parts.query schema.now scope.now tree.now)) }
 {
     let elements = elements(alloc, schema, scope, &tree.source)?;
-    let condition = condition(alloc, schema, scope, elements, &tree.condition)?;
-    let source = expression(alloc, schema, scope, &tree.source)?;
+    let (source, condition) = both(
+        expression(alloc, schema, scope, &tree.source),
+        condition(alloc, schema, scope, elements, &tree.condition),
+    )?;
     let query = Query { source, condition };
     Ok(Expression::Query(Boxed::new(alloc, query)?))
 }
