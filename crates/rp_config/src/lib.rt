@@ -13,7 +13,7 @@ mod wrong;
 
 pub use fault::LoadFault;
 pub use files::{Folder, FromFiles, file_bytes};
-pub use front::what_begins;
+pub use front::{is_read_again, what_begins};
 pub use loading::{Loaded, load_all};
 pub use shown::Shown;
 pub use twice::{partner_twice, schema_twice};
