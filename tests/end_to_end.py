@@ -1154,6 +1154,27 @@ def test_texts_that_are_no_schemas():
             expect_told(folder.batch(b""), f'"other.exp" is no schema: {fault_of_text}' + ("" if what is None else f": {what}"))
 
 
+def test_what_is_read_once():
+    """Of a pipe the fault alone is told: its bytes are gone, and no other writer is waited for."""
+    twice = json.dumps({"partners": partners("ann", "ann"), "schemas": []})
+    with Repository() as folder:
+        for text, line in (('{"partners":[]}', '"/dev/stdin" is no configuration (rp_server batch --help shows one)'), (twice, "two partners have one name")):
+            expect_told(folder.run("batch", "--config", "/dev/stdin", text=text.encode()), line)
+        for text in (file_of("").encode(), b"\xef\xbb\xbf" + T.encode()):
+            fault_of_text = b"Syntax line 1 column 1\n" if text.startswith(b"ISO") else b"Token line 1 column 1\n"
+            seen = folder.run("check", "/dev/stdin", text=text)
+            if seen != (1, fault_of_text, b""):
+                raise Wrong(f"{seen!r}")
+            os.mkfifo(folder.path("pipe"))
+            with subprocess.Popen(["sh", "-c", "cat >pipe"], cwd=folder.folder.name, stdin=subprocess.PIPE) as writer:
+                writer.stdin.write(text)
+                writer.stdin.close()
+                seen = folder.run("check", "pipe", seconds=20)
+            os.remove(folder.path("pipe"))
+            if seen != (1, fault_of_text, b""):
+                raise Wrong(f"{seen!r}")
+
+
 def test_as_many_schemas_as_there_may_be():
     """Each of 100 configured schemas is loaded. A configuration of 101 is none, and so is one of 1,001 partners: no schema is read."""
     files = {f"s{k}": f"SCHEMA s{k}; END_SCHEMA;" for k in range(101)}

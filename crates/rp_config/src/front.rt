@@ -1,4 +1,5 @@
 //! What a text that is no schema may be instead, by its first bytes, for words beside its first fault. Nothing rests on it.
+use std::fs;
 use std::fs::{File, Files};
 use std::io::Read;
 
@@ -22,8 +23,16 @@ fn is_exchange_file(bytes: &[u8]) -> bool {
     word.is_some_and(|word| word.eq_ignore_ascii_case(EXCHANGE_FILE))
 }
 
+/// Whether the file of this path gives its bytes as often as it is read. A pipe doesn't, and may wait for ever for others.
+pub fn is_read_again<R: Files>(files: &R, path: &str) -> bool {
+    fs::metadata(files, path).is_ok_and(|found| found.is_file())
+}
+
 /// What the text in the file of this path is, where its first bytes tell why it is no schema. The file is opened once more.
 pub fn what_begins<R: Files>(files: &R, path: &str) -> Option<&'static str> {
+    if !is_read_again(files, path) {
+        return None;
+    }
     let mut file = File::open(files, path).ok()?;
     let mut bytes = [0; 1_024];
     let count = file.read(&mut bytes).ok()?;

@@ -9,7 +9,7 @@ mod twice;
 mod unreadable;
 mod wrong;
 
-pub use front::what_begins;
+pub use front::{is_read_again, what_begins};
 pub use loading::{Loaded, load_all};
 pub use shown::Shown;
 pub use twice::{partner_twice, schema_twice};

@@ -6,15 +6,18 @@ mod fault;
 use fault::Fault;
 use plain_data::Failure;
 use rp_command::{Command, command_of};
-use rp_config::{Shown, partner_twice, schema_twice, what_begins, why_unreadable, wrong_place};
+use rp_config::{
+    Shown, is_read_again, partner_twice, schema_twice, what_begins, why_unreadable, wrong_place,
+};
 use rp_files::{FromFiles, LoadFault, file_bytes};
 use rp_program::{
     Done, Fault as CommandFault, StartFault, Verdict, batch, check, explain, status_of,
 };
 use rp_repo::{FromReader, NewFault, ToWriter};
+use std::alloc::Global;
 use std::process::ExitCode;
 use std::rt::{Env, Files};
-use std::{env, io};
+use std::{env, fmt, io};
 
 fn main(rt: HostRuntime) -> ExitCode {
     let ended = run(&rt);
@@ -117,29 +120,51 @@ fn beside_config<R: AllocGlobal + Files>(
     fault: NewFault,
 ) -> Result<Option<String>, Fault> {
     let (alloc, folder) = (rt.alloc(), FromFiles::new(rt));
+    if !is_read_again(rt, path) {
+        return Ok(None);
+    }
     match fault {
-        NewFault::TwoPartners => Ok(partner_twice(alloc, &folder, path)?),
-        NewFault::TwoSchemas => Ok(schema_twice(alloc, &folder, path)?),
+        NewFault::TwoPartners => found(partner_twice(alloc, &folder, path)),
+        NewFault::TwoSchemas => found(schema_twice(alloc, &folder, path)),
         _ => Ok(None),
+    }
+}
+
+/// What was found by another look. Where that came to a fault, the files are others by now, and nothing is told.
+fn found(looked: Result<Option<String>, Failure<LoadFault>>) -> Result<Option<String>, Fault> {
+    match looked {
+        Ok(words) => Ok(words),
+        Err(Failure::Fault(_)) => Ok(None),
+        Err(Failure::NoMemory) => Err(Fault::NoMemory),
     }
 }
 
 /// What is told beside a fault of a file.
 fn beside_file<R: AllocGlobal + Files>(rt: &R, fault: &LoadFault) -> Result<Option<String>, Fault> {
-    let alloc = rt.alloc();
     match fault {
-        LoadFault::Unreadable(path) => match why_unreadable(rt, path.as_str()) {
-            Some(why) => Ok(Some(format!(in alloc; "{why}")?)),
-            None => Ok(None),
-        },
+        LoadFault::Unreadable(path) => text_of(rt.alloc(), why_unreadable(rt, path.as_str())),
         LoadFault::TooLarge(_) => Ok(None),
-        LoadFault::Config(path) => {
-            let bytes = file_bytes(alloc, &FromFiles::new(rt), path.as_str())?;
-            Ok(wrong_place(alloc, &bytes)?)
-        }
-        LoadFault::Schema(path, _) => match what_begins(rt, path.as_str()) {
-            Some(words) => Ok(Some(format!(in alloc; "{words}")?)),
-            None => Ok(None),
-        },
+        LoadFault::Config(path) => place_in(rt, path.as_str()),
+        LoadFault::Schema(path, _) => text_of(rt.alloc(), what_begins(rt, path.as_str())),
     }
+}
+
+fn text_of<T: fmt::Display + Drop>(
+    alloc: Global,
+    words: Option<T>,
+) -> Result<Option<String>, Fault> {
+    match words {
+        Some(words) => Ok(Some(format!(in alloc; "{words}")?)),
+        None => Ok(None),
+    }
+}
+
+/// Where the file of this path is wrong, which is no configuration.
+fn place_in<R: AllocGlobal + Files>(rt: &R, path: &str) -> Result<Option<String>, Fault> {
+    if !is_read_again(rt, path) {
+        return Ok(None);
+    }
+    let alloc = rt.alloc();
+    let bytes = file_bytes(alloc, &FromFiles::new(rt), path)?;
+    Ok(wrong_place(alloc, &bytes)?)
 }
