@@ -331,7 +331,7 @@ def test_unknown_alone():
     expect((out[out.index(b"UNKNOWN"):out.index(b"TRUE     where MEASURE_REPRESENTATION")],), (b"""UNKNOWN  where MATERIAL WR1
          wr1 : {0.0 < density < 23.0}
          can't be told: 1
-           u.step line 8: #10=MATERIAL
+           u.step line 9: #10=MATERIAL
 """,))
 
 
@@ -348,8 +348,8 @@ def test_limit_alone():
     expect((out[out.index(b"LIMIT"):out.index(b"TRUE     where PRODUCT_DEFINITION ")],), (b"""LIMIT    where PRODUCT_CATEGORY WR1
          wr1 : depth <= deepest_category
          not decided within the limit of steps: 2
-           l.step line 8: #10=PRODUCT_CATEGORY
-           l.step line 9: #20=PRODUCT_CATEGORY
+           l.step line 9: #10=PRODUCT_CATEGORY
+           l.step line 10: #20=PRODUCT_CATEGORY
 """,))
 
 
