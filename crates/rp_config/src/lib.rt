@@ -9,5 +9,5 @@ mod wrong;
 
 pub use fault::LoadFault;
 pub use files::{Folder, FromFiles, file_bytes};
-pub use loading::{Loaded, load_all};
+pub use loading::{Loaded, load_all, schema_of};
 pub use wrong::wrong_place;

@@ -2,11 +2,13 @@
 #![tactic(auto)]
 
 mod checking;
+mod delivering;
 mod ending;
 mod fault;
 mod running;
 
 pub use checking::{check, explain};
+pub use delivering::validate;
 pub use ending::{Done, status_of};
 pub use fault::{Fault, StartFault};
 pub use running::batch;

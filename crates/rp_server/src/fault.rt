@@ -44,6 +44,9 @@ fn write_of_command<W: fmt::Write>(f: &mut fmt::Formatter<W>, fault: &CommandFau
         CommandFault::Start(Failure::NoMemory) => f.write_str("out of memory"),
         CommandFault::Read => f.write_str("standard input can't be read"),
         CommandFault::Write => f.write_str("standard output can't be written"),
+        CommandFault::Refused(path, words) => {
+            write!(f, "{:?} is refused: {}", path.as_str(), words.as_str())
+        }
     }
 }
 

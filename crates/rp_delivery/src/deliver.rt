@@ -1,0 +1,206 @@
+//! The requests of a delivery, one after another.
+use crate::asked::{Asked, Form};
+use crate::choice::place_named;
+use crate::named::{group, group_key, model, model_key, partner};
+use crate::notes::Notes;
+use ex_compiled::Compiled;
+use plain_data::{Failure, Rows, Text};
+use rp_config::{Folder, LoadFault, file_bytes};
+use rp_delivery_words::PutFile;
+use rp_repo::{Caller, Refusal, Reply, Repository, Request};
+use std::alloc::{AllocError, Global};
+
+/// What came of a delivery.
+pub struct Delivered<'a> {
+    /// The place of the schema that was taken.
+    pub schema: usize,
+    /// The files that were put.
+    pub files: Vec<PutFile<'a>>,
+    /// The bytes of the file behind these, where it was refused.
+    pub refused: Text,
+    /// The reply to the validation, or to the put that was refused.
+    pub reply: Reply,
+}
+
+impl Drop for Delivered<'_> {
+    fn drop(self) {
+        let Delivered {
+            schema: _,
+            files,
+            refused,
+            reply,
+        } = self;
+        drop(files);
+        drop(refused);
+        drop(reply);
+    }
+}
+
+/// The text of the file of a path, or why none is put: it is too large, or in no request.
+enum Read {
+    Text(Text),
+    Refused(Refusal),
+}
+
+fn read<D: Folder>(alloc: Global, folder: &D, path: &str) -> Result<Read, Failure<LoadFault>> {
+    match file_bytes(alloc, folder, path) {
+        Ok(bytes) => match String::from_utf8(bytes) {
+            Ok(text) => Ok(Read::Text(Text::new(text))),
+            Err(_) => Ok(Read::Refused(Refusal::BadRequest)),
+        },
+        Err(Failure::Fault(LoadFault::TooLarge(_))) => Ok(Read::Refused(Refusal::TooLarge)),
+        Err(failure) => Err(failure),
+    }
+}
+
+/// The replies to the creation of the model of this number and to the put of a file into it: that of the put, or the first
+/// refusal.
+fn put(
+    alloc: Global,
+    repository: &mut Repository<'_>,
+    me: Caller,
+    schema: &str,
+    number: usize,
+    file: Text,
+) -> Result<Reply, AllocError> {
+    let name = model(alloc, number)?;
+    let schema = Text::from_str(alloc, schema)?;
+    let created = repository.handle(alloc, me, Request::CreateModel { name, schema });
+    if let Reply::Refused(_) = created {
+        return Ok(created);
+    }
+    drop(created);
+    let model = model_key(alloc, number)?;
+    let links = Rows::new(alloc);
+    Ok(repository.handle(alloc, me, Request::Put { model, file, links }))
+}
+
+/// The reply to the validation of a group of so many models, or the first refusal before it.
+fn validate(
+    alloc: Global,
+    repository: &mut Repository<'_>,
+    me: Caller,
+    schema: &str,
+    count: usize,
+) -> Result<Reply, AllocError> {
+    let name = group(alloc)?;
+    let schema = Text::from_str(alloc, schema)?;
+    let created = repository.handle(alloc, me, Request::CreateGroup { name, schema });
+    if let Reply::Refused(_) = created {
+        return Ok(created);
+    }
+    drop(created);
+    for place in 0..count {
+        let model = model_key(alloc, place.saturating_add(1))?;
+        let group = group(alloc)?;
+        let included = repository.handle(alloc, me, Request::Include { group, model });
+        if let Reply::Refused(_) = included {
+            return Ok(included);
+        }
+    }
+    let group = group_key(alloc)?;
+    Ok(repository.handle(alloc, me, Request::Validate { group }))
+}
+
+/// The bytes of a file that are kept once it is put: none where no lines are told.
+fn kept(alloc: Global, form: Form, text: Text) -> Text {
+    match form {
+        Form::Text(_) => text,
+        Form::Quiet | Form::Json => Text::new(String::new(alloc)),
+    }
+}
+
+/// The name of the schema at a place.
+fn name_at(schemas: &[Compiled], place: usize) -> &str {
+    match schemas.get(place) {
+        Some(schema) => schema.checked().name(),
+        None => "",
+    }
+}
+
+/// What a delivery is put into.
+struct Ground<'g, D> {
+    folder: &'g D,
+    schemas: &'g [Compiled],
+    me: Caller,
+    form: Form,
+}
+
+/// Puts the file of a path behind the others. Answers whether it was put; else the reply says why not.
+fn deliver_file<'a, D: Folder>(
+    alloc: Global,
+    ground: &Ground<'_, D>,
+    repository: &mut Repository<'_>,
+    delivered: &mut Delivered<'a>,
+    path: &'a str,
+) -> Result<bool, Failure<LoadFault>> {
+    let text = match read(alloc, ground.folder, path)? {
+        Read::Text(text) => text,
+        Read::Refused(refusal) => {
+            delivered.reply = Reply::Refused(refusal);
+            return Ok(false);
+        }
+    };
+    if delivered.files.is_empty() {
+        delivered.schema = place_named(alloc, ground.schemas, text.as_bytes())?;
+    }
+    let copy = text.copy(alloc)?;
+    let schema = name_at(ground.schemas, delivered.schema);
+    let number = delivered.files.len().saturating_add(1);
+    match put(alloc, repository, ground.me, schema, number, text)? {
+        Reply::Stored(instances) => {
+            let text = kept(alloc, ground.form, copy);
+            delivered.files.push(PutFile {
+                path,
+                text,
+                instances,
+            })?;
+            Ok(true)
+        }
+        refused => {
+            delivered.refused = copy;
+            delivered.reply = refused;
+            Ok(false)
+        }
+    }
+}
+
+/// Puts the files of a delivery, one after another, and validates them; a put that is refused ends it.
+///
+/// # Errors
+///
+/// The first file that can't be read, or want of memory.
+pub fn deliver<'a, D: Folder, N: Notes>(
+    alloc: Global,
+    folder: &D,
+    repository: &mut Repository<'_>,
+    schemas: &[Compiled],
+    asked: &Asked<'a>,
+    notes: &mut N,
+) -> Result<Delivered<'a>, Failure<LoadFault>> {
+    let mut delivered = Delivered {
+        schema: 0,
+        files: Vec::new(alloc),
+        refused: Text::new(String::new(alloc)),
+        reply: Reply::Refused(Refusal::BadRequest),
+    };
+    let Some(me) = repository.caller(&partner(alloc)?) else {
+        return Ok(delivered);
+    };
+    let ground = Ground {
+        folder,
+        schemas,
+        me,
+        form: asked.form,
+    };
+    for (place, path) in asked.files.iter().enumerate() {
+        notes.file(place.saturating_add(1), asked.files.len());
+        if !deliver_file(alloc, &ground, repository, &mut delivered, path)? {
+            return Ok(delivered);
+        }
+    }
+    notes.rules();
+    let schema = name_at(schemas, delivered.schema);
+    delivered.reply = validate(alloc, repository, me, schema, asked.files.len())?;
+    Ok(delivered)
+}

@@ -1,0 +1,89 @@
+//! What is told of a file that is refused.
+use crate::put::{PutFile, push_files};
+use rp_plain::messages::Refusal;
+use source_texts::push_path;
+use std::alloc::{AllocError, Global};
+
+/// What stands behind this key in the bytes of a refusal, without quotes: no member of one has a quote or a comma in it.
+fn member<'l>(reply: &'l str, key: &str) -> Option<&'l str> {
+    let (_, behind) = reply.split_once(key)?;
+    let end = behind.find(|sign: char| sign == ',' || sign == '}')?;
+    Some(behind.get(..end)?.trim_matches('"'))
+}
+
+/// Puts a member of a refusal behind a text, if it has one at this key.
+fn push_member(
+    out: &mut String,
+    before: &str,
+    reply: &str,
+    key: &str,
+) -> Result<(), AllocError> {
+    if let Some(value) = member(reply, key) {
+        out.push_str(before)?;
+        out.push_str(value)?;
+    }
+    Ok(())
+}
+
+/// The line and the column of a byte, from 1.
+fn place_of(text: &[u8], at: usize) -> (usize, usize) {
+    let before = text.get(..at).unwrap_or(text);
+    let feeds = before.iter().filter(|byte| **byte == b'\n').count();
+    let column = before
+        .iter()
+        .rev()
+        .position(|byte| *byte == b'\n')
+        .unwrap_or(before.len());
+    (feeds.saturating_add(1), column.saturating_add(1))
+}
+
+/// A refusal as its reply has it, in words; a byte of the file is told by its line and column. A file that isn't UTF-8 is in no
+/// request, so that one of its bytes is a bad one.
+pub fn words_of_refusal(
+    alloc: Global,
+    text: &[u8],
+    refusal: Refusal,
+    reply: &[u8],
+) -> Result<String, AllocError> {
+    let reply = std::str::from_utf8(reply).unwrap_or("");
+    let mut words = String::new(alloc);
+    push_member(&mut words, "code ", reply, "\"code\":")?;
+    push_member(&mut words, " ", reply, "\"name\":")?;
+    push_member(&mut words, ", kind ", reply, "\"kind\":")?;
+    push_member(&mut words, ", instance #", reply, "\"instance\":")?;
+    match refusal {
+        Refusal::FileFault(fault) => {
+            let (line, column) = place_of(text, fault.at);
+            let place = format!(in alloc; ", line {line} column {column}")?;
+            words.push_str(place.as_str())?;
+        }
+        Refusal::BadRequest => words.push_str(", it isn't UTF-8")?,
+        _ => {}
+    }
+    Ok(words)
+}
+
+/// The line that says that a file is refused.
+pub fn refused_line(alloc: Global, path: &str) -> Result<String, AllocError> {
+    let mut line = String::from_str(alloc, "Not taken: ")?;
+    push_path(alloc, &mut line, path)?;
+    line.push_str(" is refused, so nothing is validated.\n")?;
+    Ok(line)
+}
+
+/// What is told of files that were put and of the one behind them, which is refused so.
+pub fn refused_text(
+    alloc: Global,
+    schema: &str,
+    files: &[PutFile<'_>],
+    path: &str,
+    words: &str,
+) -> Result<String, AllocError> {
+    let mut out = String::new(alloc);
+    push_files(alloc, &mut out, files, schema)?;
+    push_path(alloc, &mut out, path)?;
+    let rest = format!(in alloc; ": {words}\n\n")?;
+    out.push_str(rest.as_str())?;
+    out.push_str(refused_line(alloc, path)?.as_str())?;
+    Ok(out)
+}

@@ -1,0 +1,140 @@
+//! Files that are validated as one delivers them.
+use crate::ending::Done;
+use crate::fault::Fault;
+use crate::running::lent;
+use ex_compiled::Compiled;
+use plain_data::{Failure, Text};
+use rp_config::Folder;
+use rp_delivery::{
+    Asked, Delivered, Form, Notes, SchemaSources, deliver, judgement_of, partners, sources_at,
+};
+use rp_delivery_words::{
+    SchemaText, refused_line, refused_text, report_text, verdict_line, words_of_refusal,
+};
+use rp_io::{Sink, write_all};
+use rp_plain::messages::{Refusal, Reply};
+use rp_replies::reply_line;
+use rp_repo::Repository;
+use std::alloc::{AllocError, Global};
+use std::mem;
+
+/// Validates the files of these paths by the schemas of these paths, as the one partner of a repository would, and tells what came
+/// of it. The process is to end then: what the repository holds isn't let go of.
+pub fn validate<D: Folder, W: Sink, N: Notes>(
+    alloc: Global,
+    folder: &D,
+    asked: &Asked<'_>,
+    writer: &mut W,
+    notes: &mut N,
+) -> Result<Done, Fault> {
+    let SchemaSources { texts, schemas } = sources_at(alloc, folder, asked.schemas)?;
+    let schemas_lent = lent(alloc, schemas.as_slice())?;
+    let mut repository = Repository::new(alloc, schemas_lent, partners(alloc)?)?;
+    let delivered = deliver(
+        alloc,
+        folder,
+        &mut repository,
+        schemas.as_slice(),
+        asked,
+        notes,
+    );
+    // The process ends, and all of its memory goes with it. To give that back value by value would take long.
+    mem::forget(repository);
+    let ended = tell(alloc, schemas.as_slice(), &texts, asked, &delivered?, writer);
+    mem::forget(schemas);
+    ended
+}
+
+/// Writes what is told of a delivery, and answers what its reply says.
+fn tell<W: Sink>(
+    alloc: Global,
+    schemas: &[Compiled],
+    texts: &[Vec<u8>],
+    asked: &Asked<'_>,
+    delivered: &Delivered<'_>,
+    writer: &mut W,
+) -> Result<Done, Fault> {
+    let schema = source_of(schemas, texts, delivered.schema);
+    match &delivered.reply {
+        Reply::Refused(refusal) => tell_refused(alloc, schema, asked, delivered, *refusal, writer),
+        reply => {
+            let told = told_of(alloc, schema, asked, delivered)?;
+            write(writer, &told)?;
+            match judgement_of(reply) {
+                Some(judgement) => Ok(Done::Validated(judgement)),
+                None => Err(Fault::Write),
+            }
+        }
+    }
+}
+
+/// The schema at a place, with its text.
+fn source_of<'t>(schemas: &'t [Compiled], texts: &'t [Vec<u8>], place: usize) -> SchemaText<'t> {
+    let name = match schemas.get(place) {
+        Some(schema) => schema.checked().name(),
+        None => "",
+    };
+    let text = match texts.get(place) {
+        Some(text) => text.as_slice(),
+        None => &[],
+    };
+    SchemaText { name, text }
+}
+
+fn write<W: Sink>(writer: &mut W, bytes: &[u8]) -> Result<(), Fault> {
+    match write_all(writer, bytes) {
+        Ok(()) => Ok(()),
+        Err(_) => Err(Fault::Write),
+    }
+}
+
+/// What is told of files that were validated.
+fn told_of(
+    alloc: Global,
+    schema: SchemaText<'_>,
+    asked: &Asked<'_>,
+    delivered: &Delivered<'_>,
+) -> Result<Vec<u8>, AllocError> {
+    let Reply::Validated(report) = &delivered.reply else {
+        return reply_line(alloc, &delivered.reply);
+    };
+    match asked.form {
+        Form::Json => reply_line(alloc, &delivered.reply),
+        Form::Quiet => Ok(verdict_line(alloc, report)?.into_bytes()),
+        Form::Text(most) => {
+            Ok(report_text(alloc, schema, &delivered.files, report, most)?.into_bytes())
+        }
+    }
+}
+
+/// Writes what is told where a file is refused, and answers why.
+fn tell_refused<W: Sink>(
+    alloc: Global,
+    schema: SchemaText<'_>,
+    asked: &Asked<'_>,
+    delivered: &Delivered<'_>,
+    refusal: Refusal,
+    writer: &mut W,
+) -> Result<Done, Fault> {
+    let reply = reply_line(alloc, &delivered.reply)?;
+    if let Refusal::NoMemory = refusal {
+        if asked.form == Form::Json {
+            write(writer, &reply)?;
+        }
+        return Err(Fault::Start(Failure::NoMemory));
+    }
+    let words = words_of_refusal(alloc, delivered.refused.as_bytes(), refusal, &reply)?;
+    let path = match asked.files.get(delivered.files.len()) {
+        Some(path) => path,
+        None => "",
+    };
+    match asked.form {
+        Form::Json => write(writer, &reply)?,
+        Form::Quiet => write(writer, refused_line(alloc, path)?.as_bytes())?,
+        Form::Text(_) => {
+            let told = refused_text(alloc, schema.name, &delivered.files, path, words.as_str())?;
+            write(writer, told.as_bytes())?;
+        }
+    }
+    Err(Fault::Refused(Text::from_str(alloc, path)?, Text::new(words)))
+}
