@@ -79,14 +79,6 @@ fn check_command<'a>(alloc: Global) -> Result<clap::Command<'a>, AllocError> {
         .arg(file)
 }
 
-/// A flag of `validate`.
-fn flag<'a>(alloc: Global, name: &'a str, help: &'a str) -> Arg<'a> {
-    Arg::new(alloc, name)
-        .long(name)
-        .help(help)
-        .action(ArgAction::SetTrue)
-}
-
 /// The paths of `validate`.
 fn with_paths<'a>(alloc: Global) -> Result<clap::Command<'a>, AllocError> {
     let schema = Arg::new(alloc, "schema")
@@ -110,9 +102,19 @@ fn with_paths<'a>(alloc: Global) -> Result<clap::Command<'a>, AllocError> {
 
 /// `validate`, with its arguments.
 fn validate_command<'a>(alloc: Global) -> Result<clap::Command<'a>, AllocError> {
-    let json = flag(alloc, "json", "Prints the reply alone, a line of JSON");
-    let quiet = flag(alloc, "quiet", "Prints the verdict alone").conflicts_with("json")?;
-    let all = flag(alloc, "all", "Shows all culprits of a rule, and not 50 alone")
+    let json = Arg::new(alloc, "json")
+        .long("json")
+        .help("Prints the reply alone, a line of JSON")
+        .action(ArgAction::SetTrue);
+    let quiet = Arg::new(alloc, "quiet")
+        .long("quiet")
+        .help("Prints the verdict alone")
+        .action(ArgAction::SetTrue)
+        .conflicts_with("json")?;
+    let all = Arg::new(alloc, "all")
+        .long("all")
+        .help("Shows all culprits of a rule, and not 50 alone")
+        .action(ArgAction::SetTrue)
         .conflicts_with_all(&["json", "quiet"])?;
     with_paths(alloc)?.arg(json)?.arg(quiet)?.arg(all)
 }

@@ -1,4 +1,7 @@
 //! What a reply says of a delivery.
+ghost use Rattle.std.specs.Prelude.{◌≡◌};
+ghost use Rattle.rp_delivery.specs.Judged as spec;
+
 use rp_meaning::Verdict;
 use rp_plain::messages::Reply;
 use rp_plain::reports::ToldCheck;
@@ -13,14 +16,18 @@ pub enum Judgement {
 }
 
 /// What a reply to a validation says; nothing where it is another one.
-pub fn judgement_of(reply: &Reply) -> Option<Judgement> {
+pub fn judgement_of(reply: &Reply) -> Option<Judgement>
+    ensures { result ≡ spec.judgement_of reply.now }
+{
     match reply {
         Reply::Validated(report) => Some(judged(report.checks.as_slice())),
         _ => None,
     }
 }
 
-fn judged(checks: &[ToldCheck]) -> Judgement {
+fn judged(checks: &[ToldCheck]) -> Judgement
+    ensures { result ≡ spec.judged checks.now }
+{
     if checks.iter().all(|check| is_kept(check.verdict)) {
         Judgement::Kept
     } else {
@@ -28,6 +35,8 @@ fn judged(checks: &[ToldCheck]) -> Judgement {
     }
 }
 
-fn is_kept(verdict: Verdict) -> bool {
+fn is_kept(verdict: Verdict) -> bool
+    ensures { result ≡ spec.is_kept verdict }
+{
     matches!(verdict, Verdict::True | Verdict::Unknown)
 }

@@ -4,14 +4,14 @@
 
 mod asked;
 mod choice;
-mod deliver;
+mod delivering;
 mod judged;
 mod named;
 mod notes;
 mod sources;
 
 pub use asked::{Asked, Form};
-pub use deliver::{Delivered, deliver};
+pub use delivering::{Delivered, deliver};
 pub use judged::{Judgement, judgement_of};
 pub use named::partners;
 pub use notes::Notes;

@@ -11,6 +11,7 @@ use std::alloc::{AllocError, Global};
 const MARGIN: &str = "         ";
 
 /// What a check is told by.
+#[derive(Clone, Copy)]
 pub(crate) struct Sources<'t> {
     /// The schema's text, and its tokens.
     pub schema: &'t [u8],

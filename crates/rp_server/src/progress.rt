@@ -1,9 +1,9 @@
 //! How far a long command is, on a terminal.
 use rp_delivery::Notes;
-use std::time::{Clock, Duration, Instant};
+use std::time::{Clock, Instant};
 
-/// How long nothing is told.
-const QUIET: Duration = Duration::from_secs(1);
+/// How many seconds nothing is told.
+const QUIET: u64 = 1;
 
 /// A line on standard error that is written over and over, once a command takes long.
 #[derive(Drop)]
@@ -33,7 +33,7 @@ impl<'r, R: Clock + Eprint> Progress<'r, R> {
     fn is_due(&self) -> bool {
         match self.begun {
             Some(begun) => match begun.elapsed(self.rt) {
-                Ok(elapsed) => elapsed >= QUIET,
+                Ok(elapsed) => elapsed.as_secs() >= QUIET,
                 Err(_) => false,
             },
             None => false,

@@ -1,4 +1,10 @@
 //! The requests of a delivery, one after another.
+ghost use Rattle.std.specs.Prelude.{◌≡◌, [], ◌∷◌, map, IfOk};
+ghost use Rattle.rp_plain.specs.Opening.{opened};
+ghost use Rattle.rp_delivery.specs.Names.{me as deliverer};
+ghost use Rattle.rp_delivery.specs.Requests.{create, put as put_turn, validation, is_refused as spec_is_refused, IsMe, Makes, IsAnswer};
+ghost use Rattle.rp_delivery.specs.Deliveries.{IsDelivered, name_of};
+
 use crate::asked::{Asked, Form};
 use crate::choice::place_named;
 use crate::named::{group, group_key, model, model_key, partner};
@@ -37,20 +43,26 @@ impl Drop for Delivered<'_> {
 }
 
 /// The text of the file of a path, or why none is put: it is too large, or in no request.
-enum Read {
+enum FileText {
     Text(Text),
     Refused(Refusal),
 }
 
-fn read<D: Folder>(alloc: Global, folder: &D, path: &str) -> Result<Read, Failure<LoadFault>> {
+fn text_at<D: Folder>(alloc: Global, folder: &D, path: &str) -> Result<FileText, Failure<LoadFault>> {
     match file_bytes(alloc, folder, path) {
         Ok(bytes) => match String::from_utf8(bytes) {
-            Ok(text) => Ok(Read::Text(Text::new(text))),
-            Err(_) => Ok(Read::Refused(Refusal::BadRequest)),
+            Ok(text) => Ok(FileText::Text(Text::new(text))),
+            Err(_) => Ok(FileText::Refused(Refusal::BadRequest)),
         },
-        Err(Failure::Fault(LoadFault::TooLarge(_))) => Ok(Read::Refused(Refusal::TooLarge)),
+        Err(Failure::Fault(LoadFault::TooLarge(_))) => Ok(FileText::Refused(Refusal::TooLarge)),
         Err(failure) => Err(failure),
     }
+}
+
+fn is_refused(reply: &Reply) -> bool
+    ensures { result ≡ spec_is_refused reply.now }
+{
+    matches!(reply, Reply::Refused(_))
 }
 
 /// The replies to the creation of the model of this number and to the put of a file into it: that of the put, or the first
@@ -62,11 +74,15 @@ fn put(
     schema: &str,
     number: usize,
     file: Text,
-) -> Result<Reply, AllocError> {
+) -> Result<Reply, AllocError>
+    requires { IsMe repository.old.content me }
+    ensures partners { repository.new.content.partners ≡ repository.old.content.partners }
+    ensures makes { IfOk result (Makes repository.old.content repository.new.content (create schema.now number ∷ put_turn number file ∷ [])) }
+{
     let name = model(alloc, number)?;
     let schema = Text::from_str(alloc, schema)?;
     let created = repository.handle(alloc, me, Request::CreateModel { name, schema });
-    if let Reply::Refused(_) = created {
+    if is_refused(&created) {
         return Ok(created);
     }
     drop(created);
@@ -82,11 +98,14 @@ fn validate(
     me: Caller,
     schema: &str,
     count: usize,
-) -> Result<Reply, AllocError> {
+) -> Result<Reply, AllocError>
+    requires { IsMe repository.old.content me }
+    ensures { IfOk result (IsAnswer repository.old.content (validation schema.now count)) }
+{
     let name = group(alloc)?;
     let schema = Text::from_str(alloc, schema)?;
     let created = repository.handle(alloc, me, Request::CreateGroup { name, schema });
-    if let Reply::Refused(_) = created {
+    if is_refused(&created) {
         return Ok(created);
     }
     drop(created);
@@ -94,7 +113,7 @@ fn validate(
         let model = model_key(alloc, place.saturating_add(1))?;
         let group = group(alloc)?;
         let included = repository.handle(alloc, me, Request::Include { group, model });
-        if let Reply::Refused(_) = included {
+        if is_refused(&included) {
             return Ok(included);
         }
     }
@@ -111,14 +130,17 @@ fn kept(alloc: Global, form: Form, text: Text) -> Text {
 }
 
 /// The name of the schema at a place.
-fn name_at(schemas: &[Compiled], place: usize) -> &str {
+fn name_at(schemas: &[Compiled], place: usize) -> &str
+    ensures { result.now ≡ name_of schemas.now place }
+{
     match schemas.get(place) {
         Some(schema) => schema.checked().name(),
         None => "",
     }
 }
 
-/// What a delivery is put into.
+/// What a delivery is read from, and who puts it.
+#[derive(Drop)]
 struct Ground<'g, D> {
     folder: &'g D,
     schemas: &'g [Compiled],
@@ -134,9 +156,9 @@ fn deliver_file<'a, D: Folder>(
     delivered: &mut Delivered<'a>,
     path: &'a str,
 ) -> Result<bool, Failure<LoadFault>> {
-    let text = match read(alloc, ground.folder, path)? {
-        Read::Text(text) => text,
-        Read::Refused(refusal) => {
+    let text = match text_at(alloc, ground.folder, path)? {
+        FileText::Text(text) => text,
+        FileText::Refused(refusal) => {
             delivered.reply = Reply::Refused(refusal);
             return Ok(false);
         }
@@ -147,22 +169,20 @@ fn deliver_file<'a, D: Folder>(
     let copy = text.copy(alloc)?;
     let schema = name_at(ground.schemas, delivered.schema);
     let number = delivered.files.len().saturating_add(1);
-    match put(alloc, repository, ground.me, schema, number, text)? {
-        Reply::Stored(instances) => {
-            let text = kept(alloc, ground.form, copy);
-            delivered.files.push(PutFile {
-                path,
-                text,
-                instances,
-            })?;
-            Ok(true)
-        }
-        refused => {
-            delivered.refused = copy;
-            delivered.reply = refused;
-            Ok(false)
-        }
+    let reply = put(alloc, repository, ground.me, schema, number, text)?;
+    if let Reply::Stored(instances) = &reply {
+        let instances = *instances;
+        let text = kept(alloc, ground.form, copy);
+        delivered.files.push(PutFile {
+            path,
+            text,
+            instances,
+        })?;
+        return Ok(true);
     }
+    delivered.refused = copy;
+    delivered.reply = reply;
+    Ok(false)
 }
 
 /// Puts the files of a delivery, one after another, and validates them; a put that is refused ends it.
@@ -177,7 +197,11 @@ pub fn deliver<'a, D: Folder, N: Notes>(
     schemas: &[Compiled],
     asked: &Asked<'a>,
     notes: &mut N,
-) -> Result<Delivered<'a>, Failure<LoadFault>> {
+) -> Result<Delivered<'a>, Failure<LoadFault>>
+    requires { repository.old.content ≡ opened schemas.now (deliverer ∷ []) }
+    ensures { IfOk result (λ delivered.
+        IsDelivered (D.files folder.now) repository.old.content schemas.now (map (λ path. path.now) asked.now.files.now) delivered.reply) }
+{
     let mut delivered = Delivered {
         schema: 0,
         files: Vec::new(alloc),
