@@ -1,5 +1,5 @@
 -- What a reply says of a delivery.
-use Rattle.std.specs.Prelude.{Bool, true, false, List, if◌then◌else◌, Option, Some, None}
+use Rattle.std.specs.Prelude.{Bool, true, false, List, if◌then◌else◌}
 use Rattle.std.specs.List.{list_all}
 use Rattle.rp_meaning.specs.declared.report.Verdict.{Verdict}
 use Rattle.rp_meaning.specs.declared.report.Verdict.TheVariants.{True, Unknown}
@@ -18,7 +18,7 @@ is_kept _ = false
 abbrev pub judged : List ToldCheck → Judgement
 judged checks = if list_all (λ check. is_kept check.verdict) checks then Kept else NotKept
 
--- what the reply to a validation says
-abbrev pub judgement_of : Reply → Option Judgement
-judgement_of (Validated report) = Some (judged report.checks)
-judgement_of _ = None
+-- what a reply says: the rules are kept by a validation alone
+abbrev pub judgement_of : Reply → Judgement
+judgement_of (Validated report) = judged report.checks
+judgement_of _ = NotKept

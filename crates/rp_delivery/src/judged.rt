@@ -15,13 +15,13 @@ pub enum Judgement {
     NotKept,
 }
 
-/// What a reply to a validation says; nothing where it is another one.
-pub fn judgement_of(reply: &Reply) -> Option<Judgement>
+/// What a reply says: the rules are kept by a validation alone.
+pub fn judgement_of(reply: &Reply) -> Judgement
     ensures { result ≡ spec.judgement_of reply.now }
 {
     match reply {
-        Reply::Validated(report) => Some(judged(report.checks.as_slice())),
-        _ => None,
+        Reply::Validated(report) => judged(report.checks.as_slice()),
+        _ => Judgement::NotKept,
     }
 }
 

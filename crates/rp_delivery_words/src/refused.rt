@@ -4,11 +4,14 @@ use rp_plain::messages::Refusal;
 use source_texts::push_path;
 use std::alloc::{AllocError, Global};
 
-/// What stands behind this key in the bytes of a refusal, without quotes: no member of one has a quote or a comma in it.
+/// What stands behind this key in the line of a refusal, without quotes: no member of one has a quote, a comma or a brace in it.
 fn member<'l>(reply: &'l str, key: &str) -> Option<&'l str> {
     let (_, behind) = reply.split_once(key)?;
-    let end = behind.find(|sign: char| sign == ',' || sign == '}')?;
-    Some(behind.get(..end)?.trim_matches('"'))
+    let value = match behind.split_once(',') {
+        Some((value, _)) => value,
+        None => behind,
+    };
+    Some(value.trim_end().trim_end_matches('}').trim_matches('"'))
 }
 
 /// Puts a member of a refusal behind a text, if it has one at this key.

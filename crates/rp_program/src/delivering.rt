@@ -60,10 +60,7 @@ fn tell<W: Sink>(
         reply => {
             let told = told_of(alloc, schema, asked, delivered)?;
             write(writer, &told)?;
-            match judgement_of(reply) {
-                Some(judgement) => Ok(Done::Validated(judgement)),
-                None => Err(Fault::Write),
-            }
+            Ok(Done::Validated(judgement_of(reply)))
         }
     }
 }
