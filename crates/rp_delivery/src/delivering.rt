@@ -48,7 +48,11 @@ enum FileText {
     Refused(Refusal),
 }
 
-fn text_at<D: Folder>(alloc: Global, folder: &D, path: &str) -> Result<FileText, Failure<LoadFault>> {
+fn text_at<D: Folder>(
+    alloc: Global,
+    folder: &D,
+    path: &str,
+) -> Result<FileText, Failure<LoadFault>> {
     match file_bytes(alloc, folder, path) {
         Ok(bytes) => match String::from_utf8(bytes) {
             Ok(text) => Ok(FileText::Text(Text::new(text))),

@@ -90,11 +90,7 @@ fn clause_of(kind: CheckKind) -> Option<Clause> {
 }
 
 /// The text of the check's rule.
-fn push_text(
-    out: &mut String,
-    sources: &Sources<'_>,
-    check: &ToldCheck,
-) -> Result<(), AllocError> {
+fn push_text(out: &mut String, sources: &Sources<'_>, check: &ToldCheck) -> Result<(), AllocError> {
     match (clause_of(check.kind), &check.rule) {
         (Some(clause), Some(rule)) => push_rule_text(out, sources, clause, rule),
         _ => Ok(()),
@@ -143,10 +139,38 @@ fn push_lists(
     check: &ToldCheck,
 ) -> Result<(), AllocError> {
     let most = sources.most;
-    let left = push_list(alloc, out, sources, Verdict::False, check.violating.as_slice(), most)?;
-    let left = push_list(alloc, out, sources, Verdict::Limit, check.limited.as_slice(), left)?;
-    let left = push_list(alloc, out, sources, Verdict::NotRun, check.not_run.as_slice(), left)?;
-    push_list(alloc, out, sources, Verdict::Unknown, check.unknown.as_slice(), left)?;
+    let left = push_list(
+        alloc,
+        out,
+        sources,
+        Verdict::False,
+        check.violating.as_slice(),
+        most,
+    )?;
+    let left = push_list(
+        alloc,
+        out,
+        sources,
+        Verdict::Limit,
+        check.limited.as_slice(),
+        left,
+    )?;
+    let left = push_list(
+        alloc,
+        out,
+        sources,
+        Verdict::NotRun,
+        check.not_run.as_slice(),
+        left,
+    )?;
+    push_list(
+        alloc,
+        out,
+        sources,
+        Verdict::Unknown,
+        check.unknown.as_slice(),
+        left,
+    )?;
     Ok(())
 }
 

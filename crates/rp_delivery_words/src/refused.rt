@@ -15,12 +15,7 @@ fn member<'l>(reply: &'l str, key: &str) -> Option<&'l str> {
 }
 
 /// Puts a member of a refusal behind a text, if it has one at this key.
-fn push_member(
-    out: &mut String,
-    before: &str,
-    reply: &str,
-    key: &str,
-) -> Result<(), AllocError> {
+fn push_member(out: &mut String, before: &str, reply: &str, key: &str) -> Result<(), AllocError> {
     if let Some(value) = member(reply, key) {
         out.push_str(before)?;
         out.push_str(value)?;

@@ -88,12 +88,7 @@ pub fn verdict_line(alloc: Global, report: &ToldReport) -> Result<String, AllocE
 }
 
 /// Puts a number with a word behind a text, unless it is 0.
-fn push_count(
-    alloc: Global,
-    out: &mut String,
-    count: usize,
-    word: &str,
-) -> Result<(), AllocError> {
+fn push_count(alloc: Global, out: &mut String, count: usize, word: &str) -> Result<(), AllocError> {
     if count == 0 {
         return Ok(());
     }

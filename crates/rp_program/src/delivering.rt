@@ -40,7 +40,14 @@ pub fn validate<D: Folder, W: Sink, N: Notes>(
     );
     // The process ends, and all of its memory goes with it. To give that back value by value would take long.
     mem::forget(repository);
-    let ended = tell(alloc, schemas.as_slice(), &texts, asked, &delivered?, writer);
+    let ended = tell(
+        alloc,
+        schemas.as_slice(),
+        &texts,
+        asked,
+        &delivered?,
+        writer,
+    );
     mem::forget(schemas);
     ended
 }

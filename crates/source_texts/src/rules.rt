@@ -59,7 +59,10 @@ pub fn rule_of<'t, 's>(
     of: &str,
     rule: &str,
 ) -> Option<&'t [Token<'s>]> {
-    statement_of(rules_of(declared(tokens, clause.head(), of)?, clause.word())?, rule)
+    statement_of(
+        rules_of(declared(tokens, clause.head(), of)?, clause.word())?,
+        rule,
+    )
 }
 
 /// The tokens from the name on of what is declared by this word and name.
