@@ -1,4 +1,8 @@
 //! The schemas of a delivery, with their texts.
+ghost use Rattle.std.specs.Prelude.{◌≡◌, map, IfSome};
+ghost use Rattle.plain_data.specs.Gives.{Gives};
+ghost use Rattle.rp_config.specs.Loading.{schemas_at};
+
 use ex_compiled::Compiled;
 use plain_data::{Failure, Rows};
 use rp_config::{Folder, LoadFault, file_bytes, schema_of};
@@ -16,7 +20,9 @@ pub fn sources_at<D: Folder>(
     alloc: Global,
     folder: &D,
     paths: &[&str],
-) -> Result<SchemaSources, Failure<LoadFault>> {
+) -> Result<SchemaSources, Failure<LoadFault>>
+    ensures { IfSome (D.files folder.now) (λ held. Gives (λ sources. sources.schemas) result (schemas_at held (map (λ path. path.now) paths.now))) }
+{
     let mut texts = Vec::new(alloc);
     let mut schemas = Rows::new(alloc);
     for path in paths {

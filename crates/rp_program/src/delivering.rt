@@ -1,4 +1,11 @@
 //! Files that are validated as one delivers them.
+ghost use Rattle.std.specs.Prelude.{◌≡◌, true, map, IfOk, IsErrOf};
+ghost use Rattle.std.specs.Io.KnownBytes.{Appends};
+ghost use Rattle.rp_replies.specs.Replies.{line_of_reply};
+ghost use Rattle.rp_delivery.specs.Judged.{judgement_of as spec_judgement_of};
+ghost use Rattle.rp_delivery.specs.Requests.{is_refused};
+ghost use Rattle.rp_program.specs.Validations.{IsValidated};
+
 use crate::ending::Done;
 use crate::fault::Fault;
 use crate::running::lent;
@@ -26,7 +33,22 @@ pub fn validate<D: Folder, W: Sink, N: Notes>(
     asked: &Asked<'_>,
     writer: &mut W,
     notes: &mut N,
-) -> Result<Done, Fault> {
+) -> Result<Done, Fault>
+    // The verdict is that of the reply, whatever is told of it.
+    ensures verdict { IfOk result (λ done.
+        IsValidated (D.files folder.now) (map (λ path. path.now) asked.now.schemas.now) (map (λ path. path.now) asked.now.files.now)
+        (λ reply. done ≡ Done.Validated (spec_judgement_of reply))) }
+
+    // As JSON the line of the reply is written, and nothing else.
+    ensures json { asked.now.form ≡ Form.Json → IfOk result (λ done.
+        IsValidated (D.files folder.now) (map (λ path. path.now) asked.now.schemas.now) (map (λ path. path.now) asked.now.files.now)
+        (λ reply. (done ≡ Done.Validated (spec_judgement_of reply)) × Appends (W.contents writer.old) (W.contents writer.new) (line_of_reply reply))) }
+
+    // So it is where a file is refused.
+    ensures refused { asked.now.form ≡ Form.Json → (path words : _) → IsErrOf result (Fault.Refused path words) →
+        IsValidated (D.files folder.now) (map (λ path. path.now) asked.now.schemas.now) (map (λ path. path.now) asked.now.files.now)
+        (λ reply. (is_refused reply ≡ true) × Appends (W.contents writer.old) (W.contents writer.new) (line_of_reply reply)) }
+{
     let SchemaSources { texts, schemas } = sources_at(alloc, folder, asked.schemas)?;
     let schemas_lent = lent(alloc, schemas.as_slice())?;
     let mut repository = Repository::new(alloc, schemas_lent, partners(alloc)?)?;
