@@ -465,15 +465,17 @@ def test_a_byte_order_mark():
 
 def test_refused_files():
     """The fault is told as the reply has it, a byte by its line and column; what comes behind isn't read."""
-    for file, words in (
-            (file_of("#1=P(1.,$);\n#2=Q(#9);"), "code 12 InstanceFault, kind Undefined, instance #2"),
-            (file_of("#1=P(1.,$);\n  #2=Q(.5);"), "code 11 FileFault, kind Token, line 2 column 8"),
-            ("", "code 11 FileFault, kind Syntax, line 1 column 1"),
-            (file_of("", "X"), "code 9 WrongSchema"),
-            (b" " * (FILE_LIMIT + 1), "code 2 TooLarge"),
-            (file_of("").encode() + b"/*\xff*/", "code 1 BadRequest, it isn't UTF-8")):
+    for file, words, lines in (
+            (file_of("#1=P(1.,$);\n#2=Q(#9);\n"), "code 12 InstanceFault, kind Undefined, instance #2, line 2 column 6",
+             "  #2=Q(#9);\n       ^\n  attribute 1, a: P\n  #9 is no instance of this file\n"),
+            (file_of("#1=P(1.,$);\n  #2=Q(.5);\n"), "code 11 FileFault, kind Token, line 2 column 8",
+             "    #2=Q(.5);\n         ^\n  no token begins here\n"),
+            ("", "code 11 FileFault, kind Syntax, line 1 column 1", "\n  ^\n  the file ends here\n"),
+            (file_of("", "X"), "code 9 WrongSchema", ""),
+            (b" " * (FILE_LIMIT + 1), "code 2 TooLarge", ""),
+            (file_of("").encode() + b"/*\xff*/", "code 1 BadRequest, it isn't UTF-8", "")):
         refuses({"t.exp": T, "a.step": file_of(""), "b.step": file}, "--schema", "t.exp", "a.step", "b.step", "z.step",
-                out=f"a.step: 0 instances of T\nb.step: {words}\n\nNot taken: b.step is refused, so nothing is validated.\n",
+                out=f"a.step: 0 instances of T\nb.step: {words}\n{lines}\nNot taken: b.step is refused, so nothing is validated.\n",
                 error=f'"b.step" is refused: {words}')
         refuses({"t.exp": T, "b.step": file}, "--schema", "t.exp", "--quiet", "b.step",
                 out="Not taken: b.step is refused, so nothing is validated.\n", error=f'"b.step" is refused: {words}')

@@ -10,6 +10,7 @@ mod told;
 mod verdict;
 
 pub use put::PutFile;
-pub use refused::{refused_line, refused_text, words_of_refusal};
+pub use fault_places::FaultPlace;
+pub use refused::{place_of_refusal, refused_line, refused_text, words_of_refusal};
 pub use told::{SchemaText, report_text};
 pub use verdict::verdict_line;

@@ -1,5 +1,7 @@
 //! What is told of a file that is refused.
 use crate::put::{PutFile, push_files};
+use ex_compiled::Compiled;
+use fault_places::{FaultPlace, place_of_file_fault, place_of_instance_fault};
 use rp_plain::messages::Refusal;
 use source_texts::push_path;
 use std::alloc::{AllocError, Global};
@@ -23,23 +25,27 @@ fn push_member(out: &mut String, before: &str, reply: &str, key: &str) -> Result
     Ok(())
 }
 
-/// The line and the column of a byte, from 1.
-fn place_of(text: &[u8], at: usize) -> (usize, usize) {
-    let before = text.get(..at).unwrap_or(text);
-    let feeds = before.iter().filter(|byte| **byte == b'\n').count();
-    let column = before
-        .iter()
-        .rev()
-        .position(|byte| *byte == b'\n')
-        .unwrap_or(before.len());
-    (feeds.saturating_add(1), column.saturating_add(1))
+/// Where the fault of a refused file lies, which is bound by this schema; nothing where a refusal has no place in the file.
+pub fn place_of_refusal(
+    alloc: Global,
+    schema: Option<&Compiled>,
+    text: &str,
+    refusal: Refusal,
+) -> Result<Option<FaultPlace>, AllocError> {
+    match (refusal, schema) {
+        (Refusal::FileFault(fault), _) => place_of_file_fault(alloc, text, fault),
+        (Refusal::InstanceFault(fault), Some(schema)) => {
+            place_of_instance_fault(alloc, schema, text, fault)
+        }
+        _ => Ok(None),
+    }
 }
 
-/// A refusal as its reply has it, in words; a byte of the file is told by its line and column. A file that isn't UTF-8 is in no
-/// request, so that one of its bytes is a bad one.
+/// A refusal as its reply has it, in words, with its place. A file that isn't UTF-8 is in no request, so that one of its bytes is a
+/// bad one.
 pub fn words_of_refusal(
     alloc: Global,
-    text: &[u8],
+    place: Option<&FaultPlace>,
     refusal: Refusal,
     reply: &[u8],
 ) -> Result<String, AllocError> {
@@ -49,14 +55,12 @@ pub fn words_of_refusal(
     push_member(&mut words, " ", reply, "\"name\":")?;
     push_member(&mut words, ", kind ", reply, "\"kind\":")?;
     push_member(&mut words, ", instance #", reply, "\"instance\":")?;
-    match refusal {
-        Refusal::FileFault(fault) => {
-            let (line, column) = place_of(text, fault.at);
-            let place = format!(in alloc; ", line {line} column {column}")?;
-            words.push_str(place.as_str())?;
-        }
-        Refusal::BadRequest => words.push_str(", it isn't UTF-8")?,
-        _ => {}
+    if let Some(place) = place {
+        let place = format!(in alloc; ", line {} column {}", place.line, place.column)?;
+        words.push_str(place.as_str())?;
+    }
+    if let Refusal::BadRequest = refusal {
+        words.push_str(", it isn't UTF-8")?;
     }
     Ok(words)
 }
@@ -69,18 +73,19 @@ pub fn refused_line(alloc: Global, path: &str) -> Result<String, AllocError> {
     Ok(line)
 }
 
-/// What is told of files that were put and of the one behind them, which is refused so.
+/// What is told of files that were put and of the one behind them, which is refused so, with the lines of its fault.
 pub fn refused_text(
     alloc: Global,
     schema: &str,
     files: &[PutFile<'_>],
     path: &str,
     words: &str,
+    lines: &str,
 ) -> Result<String, AllocError> {
     let mut out = String::new(alloc);
     push_files(alloc, &mut out, files, schema)?;
     push_path(alloc, &mut out, path)?;
-    let rest = format!(in alloc; ": {words}\n\n")?;
+    let rest = format!(in alloc; ": {words}\n{lines}\n")?;
     out.push_str(rest.as_str())?;
     out.push_str(refused_line(alloc, path)?.as_str())?;
     Ok(out)

@@ -16,7 +16,8 @@ use rp_delivery::{
     Asked, Delivered, Form, Notes, SchemaSources, deliver, judgement_of, partners, sources_at,
 };
 use rp_delivery_words::{
-    SchemaText, refused_line, refused_text, report_text, verdict_line, words_of_refusal,
+    FaultPlace, SchemaText, place_of_refusal, refused_line, refused_text, report_text, verdict_line,
+    words_of_refusal,
 };
 use rp_io::{Sink, write_all};
 use rp_plain::messages::{Refusal, Reply};
@@ -85,7 +86,15 @@ fn tell<W: Sink>(
 ) -> Result<Done, Fault> {
     let schema = source_of(schemas, texts, delivered.schema);
     match &delivered.reply {
-        Reply::Refused(refusal) => tell_refused(alloc, schema, asked, delivered, *refusal, writer),
+        Reply::Refused(refusal) => {
+            let place = place_of_refusal(
+                alloc,
+                schemas.get(delivered.schema),
+                delivered.refused.as_str(),
+                *refusal,
+            )?;
+            tell_refused(alloc, schema, asked, delivered, *refusal, &place, writer)
+        },
         reply => {
             let told = told_of(alloc, schema, asked, delivered)?;
             write(writer, &told)?;
@@ -140,6 +149,7 @@ fn tell_refused<W: Sink>(
     asked: &Asked<'_>,
     delivered: &Delivered<'_>,
     refusal: Refusal,
+    place: &Option<FaultPlace>,
     writer: &mut W,
 ) -> Result<Done, Fault> {
     let reply = reply_line(alloc, &delivered.reply)?;
@@ -149,7 +159,7 @@ fn tell_refused<W: Sink>(
         }
         return Err(Fault::Start(Failure::NoMemory));
     }
-    let words = words_of_refusal(alloc, delivered.refused.as_bytes(), refusal, &reply)?;
+    let words = words_of_refusal(alloc, place.as_ref(), refusal, &reply)?;
     let path = match asked.files.get(delivered.files.len()) {
         Some(path) => path,
         None => "",
@@ -158,7 +168,18 @@ fn tell_refused<W: Sink>(
         Form::Json => write(writer, &reply)?,
         Form::Quiet => write(writer, refused_line(alloc, path)?.as_bytes())?,
         Form::Text(_) => {
-            let told = refused_text(alloc, schema.name, &delivered.files, path, words.as_str())?;
+            let lines = match place {
+                Some(place) => place.lines.as_str(),
+                None => "",
+            };
+            let told = refused_text(
+                alloc,
+                schema.name,
+                &delivered.files,
+                path,
+                words.as_str(),
+                lines,
+            )?;
             write(writer, told.as_bytes())?;
         }
     }
