@@ -8,4 +8,4 @@ pub mod Parameters
 pub mod Trees
 pub mod Whole
 pub mod Operands
-pub mod Constants
+pub mod Serving

@@ -7,6 +7,7 @@ mod calls;
 mod copies;
 mod expressions;
 mod frame;
+mod kept;
 mod laws;
 mod rules;
 mod setting;

@@ -1,6 +1,7 @@
 //! What evaluations see, with what is found once for all of them.
 
 use crate::bodies::run_body;
+use crate::kept::{Derived, DerivedValues, Kept, KeptDerived, kept_ones};
 use plain_data::Items;
 use rp_meaning::{Body, Counter, Domain, Role, Schema, Seen, Stop};
 use rp_operators::TypeNames;
@@ -11,16 +12,11 @@ use std::marker::Model;
 /// How many bodies may nest.
 pub(crate) const MOST_BODIES: u8 = 200;
 
-/// How many steps constants may take in all that are evaluated before they are asked for.
+/// How many steps constants may take in all that are evaluated before they are asked for, and as many may derived attributes.
 const KEPT_STEPS: usize = 100_000;
 
-/// A value that is kept, with the steps that it took and how many bodies nested.
-#[derive(Drop)]
-pub(crate) struct Kept {
-    pub(crate) value: Value,
-    pub(crate) steps: usize,
-    pub(crate) bodies: usize,
-}
+/// How many steps one derived attribute may take.
+const KEPT_STEPS_EACH: usize = 2_000;
 
 /// What a walk sees.
 pub(crate) trait Setting {
@@ -30,7 +26,8 @@ pub(crate) trait Setting {
     ghost use Rattle.rp_meaning.specs.Populations.{extent};
     ghost use Rattle.rp_meaning.specs.TypeNames.{texts, type_names};
     ghost use Rattle.rp_meaning.specs.Uses.{users};
-    ghost use Rattle.rp_eval.specs.Serving.{Serves};
+    ghost use Rattle.rp_eval.specs.Serving.{Serves, derived_body};
+    ghost use Rattle.rp_meaning.specs.declared.body.Body.TheVariants as b;
     ghost use Rattle.rp_value.specs.declared.value.AggregateKind.TheVariants as k;
 
     ghost world: { Self → spec.World };
@@ -55,16 +52,21 @@ pub(crate) trait Setting {
 
     /// What is kept of a constant.
     fn constant(&self, number: usize) -> Option<&Kept>
-        ensures { IfSome result (λ kept. Serves (world self.now) number kept.now) };
+        ensures { IfSome result (λ kept. Serves (world self.now) (b.Constant number) kept.now) };
+
+    /// What is kept of a derived attribute of an instance.
+    fn derived(&self, of: Derived) -> Option<&Kept>
+        ensures { IfSome result (λ kept. Serves (world self.now) (derived_body of) kept.now) };
 }
 
-/// A schema and the instances of a domain, with what is found once for all evaluations over them: names of types, and the values
-/// of the first constants.
+/// A schema and the instances of a domain, with what is found once for all evaluations over them: names of types, the values of the
+/// first constants, and those of the derived attributes of which there are few.
 pub struct World<'a, D: Domain> {
     schema: &'a Schema,
     domain: &'a D,
     names: TypeNames<'a>,
     constants: Items<Kept>,
+    derived: DerivedValues,
 }
 
 impl<'a, D: Domain> Drop for World<'a, D> {
@@ -74,9 +76,11 @@ impl<'a, D: Domain> Drop for World<'a, D> {
             domain: _,
             names,
             constants,
+            derived,
         } = self;
         drop(names);
         drop(constants);
+        drop(derived);
     }
 }
 
@@ -84,7 +88,7 @@ impl<'a, D: Domain> Model for World<'a, D> {
     ghost use Rattle.std.specs.Prelude.{◌≡◌};
     ghost use Rattle.rp_meaning.specs.Expressions as spec;
     ghost use Rattle.rp_eval.specs.Bodies.{world};
-    ghost use Rattle.rp_eval.specs.Serving.{AllServe};
+    ghost use Rattle.rp_eval.specs.Serving.{AllDerivedServe, AllServe};
     ghost use Rattle.std.specs.Coded.{codes};
     ghost use Rattle.rp_meaning.specs.contracts.schema.Schema as declared;
     ghost use Rattle.rp_value.specs.contracts.value.Value as value;
@@ -98,13 +102,14 @@ impl<'a, D: Domain> Model for World<'a, D> {
     ghost invariant = { λ w. record {
       names : w.names ≡ w.schema.now;
       constants : AllServe (world w.schema.now (D.population w.domain.now)) w.constants;
+      derived : AllDerivedServe (world w.schema.now (D.population w.domain.now)) w.derived.rows;
     } };
 }
 
 impl<'a, D: Domain> World<'a, D> {
-    ghost use Rattle.std.specs.Prelude.{◌≡◌, IfOk, IfSome};
+    ghost use Rattle.std.specs.Prelude.{◌≡◌, IfOk, IfSome, OnOk};
     ghost use Rattle.rp_eval.specs.Bodies.{world};
-    ghost use Rattle.rp_eval.specs.Serving.{AllServe, Serves};
+    ghost use Rattle.rp_eval.specs.Serving.{AllDerivedServe, AllServe, Serves};
 
     /// What evaluations see of a schema and a domain.
     pub fn new(alloc: Global, schema: &'a Schema, domain: &'a D) -> Result<World<'a, D>, AllocError>
@@ -116,17 +121,11 @@ impl<'a, D: Domain> World<'a, D> {
             domain,
             names,
             constants: Items::new(alloc),
+            derived: DerivedValues::none(alloc),
         };
         world.constants = world.kept_constants(alloc)?;
+        world.derived = world.kept_derived(alloc)?;
         Ok(world)
-    }
-
-    /// The schema.
-    #[inline(always)]
-    pub fn schema(&self) -> &'a Schema
-        ensures { result.now ≡ self.now.schema }
-    {
-        self.schema
     }
 
     /// The domain.
@@ -137,27 +136,16 @@ impl<'a, D: Domain> World<'a, D> {
         self.domain
     }
 
-    /// What is kept of a constant, if it takes no more steps than these.
-    #[tactic(auto, using(crate::proofs::Constants::kept_serves))]
-    fn kept_constant(
-        &self,
-        alloc: Global,
-        number: usize,
-        steps: usize,
-    ) -> Result<Option<Kept>, AllocError>
-        ensures { IfOk result (λ found. IfSome found (λ kept. Serves self.now number kept)) }
+    /// What is kept of a body, if it takes no more steps than these.
+    #[tactic(auto, using(crate::proofs::Serving::kept_serves))]
+    fn kept(&self, alloc: Global, body: Body, steps: usize) -> Result<Option<Kept>, AllocError>
+        ensures { IfOk result (λ found. IfSome found (λ kept. Serves self.now body kept)) }
     {
         let mut counter = Counter {
             left: steps,
             nesting: 0,
         };
-        match run_body(
-            alloc,
-            self,
-            MOST_BODIES,
-            &mut counter,
-            Body::Constant(number),
-        ) {
+        match run_body(alloc, self, MOST_BODIES, &mut counter, body) {
             Ok(value) => Ok(Some(Kept {
                 value,
                 steps: steps - counter.left,
@@ -175,11 +163,45 @@ impl<'a, D: Domain> World<'a, D> {
         let mut found = Items::new(alloc);
         let mut left = KEPT_STEPS;
         for number in 0..self.schema.constants.len() {
-            let Some(kept) = self.kept_constant(alloc, number, left)? else {
+            let Some(kept) = self.kept(alloc, Body::Constant(number), left)? else {
                 return Ok(found);
             };
             left = left.saturating_sub(kept.steps);
             found.push(kept)?;
+        }
+        Ok(found)
+    }
+
+    /// Keeps what a derived attribute of an instance comes to, if it takes few of the steps that are left.
+    #[tactic(auto, using(crate::proofs::Serving::one_more_derived))]
+    fn keep_derived(
+        &self,
+        alloc: Global,
+        of: Derived,
+        left: &mut usize,
+        found: &mut DerivedValues,
+    ) -> Result<(), AllocError>
+        requires { AllDerivedServe self.now found.old.rows }
+        ensures { OnOk result (AllDerivedServe self.now found.new.rows) }
+    {
+        let most = (*left).min(KEPT_STEPS_EACH);
+        let Some(kept) = self.kept(alloc, of.body(), most)? else {
+            *left = left.saturating_sub(most);
+            return Ok(());
+        };
+        *left = left.saturating_sub(kept.steps);
+        found.push(alloc, KeptDerived { of, kept })
+    }
+
+    /// What is kept of derived attributes.
+    fn kept_derived(&self, alloc: Global) -> Result<DerivedValues, AllocError>
+        ensures { IfOk result (λ found. AllDerivedServe self.now found.rows) }
+    {
+        let ones = kept_ones(alloc, self.schema, self.domain)?;
+        let mut found = DerivedValues::none(alloc);
+        let mut left = KEPT_STEPS;
+        for of in ones.as_slice() {
+            self.keep_derived(alloc, *of, &mut left, &mut found)?;
         }
         Ok(found)
     }
@@ -210,5 +232,10 @@ impl<'a, D: Domain> Setting for World<'a, D> {
 
     fn constant(&self, number: usize) -> Option<&Kept> {
         self.constants.get(number)
+    }
+
+    #[inline(always)]
+    fn derived(&self, of: Derived) -> Option<&Kept> {
+        self.derived.get(of)
     }
 }

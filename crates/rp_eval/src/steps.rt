@@ -12,7 +12,7 @@ ghost use Rattle.rp_value.specs.declared.value.Value.TheVariants as v;
 
 use crate::copies::copied;
 use crate::frame::Frame;
-use crate::setting::Kept;
+use crate::kept::Kept;
 use ex_tree::BinaryOperator;
 use rp_meaning::{Counter, Stop};
 use rp_operators::{cost, interval_cost, size};

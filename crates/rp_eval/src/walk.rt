@@ -18,6 +18,7 @@ use crate::attributes::{
     stored_value,
 };
 use crate::frame::Frame;
+use crate::kept::Derived;
 use crate::setting::Setting;
 use crate::steps::{charge, serve};
 use crate::users::{inverse_users, of_users};
@@ -63,9 +64,17 @@ impl<'a, W: Setting, B: Fn(Global, &W, u8, &mut Counter, Body) -> Result<Value, 
         requires { RunsBodies W.world self.now.alloc self.now.world self.now.levels (B.pre self.now.below) (B.post self.now.below) }
         ensures { RunsInto (bodies_at (W.world self.now.world.now) self.now.levels (b.Derived derivation.entity derivation.place place) counter.old) result into.new counter.new }
     {
-        let body = Body::Derived(derivation.entity, derivation.place, place);
-        *into = self.body_below(body, counter)?;
-        Ok(())
+        let of = Derived {
+            derivation,
+            instance: place,
+        };
+        match self.world.derived(of) {
+            Some(kept) => serve(kept, self.levels, counter, into),
+            None => {
+                *into = self.body_below(of.body(), counter)?;
+                Ok(())
+            }
+        }
     }
 
     /// The users of what stands at a place.

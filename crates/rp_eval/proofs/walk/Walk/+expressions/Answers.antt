@@ -1,7 +1,7 @@
 use Rattle.std.proofs.Common.{rules, sym, ◌∙◌, arith}
 use Rattle.rp_meaning.specs.Expressions.{expression, built_in}
 use Rattle.rp_meaning.specs.Levels.{bodies}
-use Rattle.rp_eval.specs.Bodies.{world, value_at, operation_at, qualifier_at}
+use Rattle.rp_eval.specs.Bodies.{value_at, operation_at, qualifier_at}
 use Rattle.rp_eval.specs.Callings.{function, initialized}
 use Rattle.rp_eval.proofs.Loops.{each_step, kept_step, turn_step}
 use Rattle.rp_eval.proofs.Operands.{operand-stands, operand-gives}

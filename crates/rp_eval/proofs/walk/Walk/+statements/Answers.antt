@@ -2,7 +2,6 @@ use Rattle.std.proofs.Common.{rules, refl, sym, ◌∙◌, arith}
 use Rattle.rp_meaning.specs.Expressions.{expression}
 use Rattle.rp_meaning.specs.Statements as spec
 use Rattle.rp_meaning.specs.Levels.{bodies, most_turns}
-use Rattle.rp_eval.specs.Bodies.{world}
 use Rattle.rp_eval.proofs.Loops.{statements_step, statement-assignment, statement-repeat, statement-case, case_step, repeats_begins, turn_off, turn_on, starts_off, starts_on, off, on, repeated_end, below_most, past_most, going_on_over}
 use Rattle.rp_eval.proofs.walk.Walk.+statements.Goals as goal
 

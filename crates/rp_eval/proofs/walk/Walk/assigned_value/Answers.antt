@@ -1,5 +1,4 @@
 use Rattle.rp_meaning.specs.Levels.{bodies}
-use Rattle.rp_eval.specs.Bodies.{world}
 use Rattle.rp_eval.proofs.Assigned.{assigned-again}
 use Rattle.rp_eval.proofs.Trees.{expression-grown}
 use Rattle.rp_eval.proofs.walk.Walk.assigned_value.Goals as goal

@@ -1,6 +1,5 @@
 use Rattle.std.proofs.Common.{rules}
 use Rattle.rp_meaning.specs.Levels.{bodies}
-use Rattle.rp_eval.specs.Bodies.{world}
 use Rattle.rp_eval.proofs.Operands.{operation-is}
 use Rattle.rp_eval.proofs.walk.Walk.grown.Goals as goal
 

@@ -1,6 +1,6 @@
 use Rattle.std.proofs.Common.{rules, sym, ◌∙◌, arith}
 use Rattle.rp_meaning.specs.Levels.{most_turns}
-use Rattle.rp_eval.specs.Bodies.{world, bodies_at}
+use Rattle.rp_eval.specs.Bodies.{bodies_at}
 use Rattle.rp_eval.proofs.Loops.{initial_step}
 use Rattle.rp_eval.proofs.walk.Walk.initials.Goals as goal
 

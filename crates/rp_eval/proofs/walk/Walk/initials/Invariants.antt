@@ -1,7 +1,7 @@
 use Rattle.std.proofs.Common.{◌≡◌, drop}
 use Rattle.rp_meaning.specs.Levels.{most_turns}
 use Rattle.rp_meaning.specs.Statements as spec
-use Rattle.rp_eval.specs.Bodies.{world, bodies_at}
+use Rattle.rp_eval.specs.Bodies.{bodies_at}
 use Rattle.rp_eval.proofs.walk.Walk.initials.Given as goal
 
 abbrev pub invariant-loop-initial : goal.invariant-loop-initial
