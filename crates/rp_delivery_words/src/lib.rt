@@ -9,8 +9,8 @@ mod refused;
 mod told;
 mod verdict;
 
-pub use put::PutFile;
 pub use fault_places::FaultPlace;
+pub use put::PutFile;
 pub use refused::{place_of_refusal, refused_line, refused_text, words_of_refusal};
 pub use told::{SchemaText, report_text};
 pub use verdict::verdict_line;

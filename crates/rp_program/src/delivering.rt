@@ -16,8 +16,8 @@ use rp_delivery::{
     Asked, Delivered, Form, Notes, SchemaSources, deliver, judgement_of, partners, sources_at,
 };
 use rp_delivery_words::{
-    FaultPlace, SchemaText, place_of_refusal, refused_line, refused_text, report_text, verdict_line,
-    words_of_refusal,
+    FaultPlace, SchemaText, place_of_refusal, refused_line, refused_text, report_text,
+    verdict_line, words_of_refusal,
 };
 use rp_io::{Sink, write_all};
 use rp_plain::messages::{Refusal, Reply};
