@@ -89,7 +89,7 @@ def test_wrong_kind_optional():
 
 def test_wrong_kind_of_an_element():
     """The caret stands below the first element that its type doesn't take, however deep it lies."""
-    of_instance("WrongKind", 1, 2, 19, """\
+    of_instance("WrongKind", 1, 2, 21, """\
   #1=KIT((),((1,2),(3,4.)));
                       ^
   attribute 2, grid[2][2]: INTEGER
@@ -104,7 +104,7 @@ def test_wrong_kind_of_an_element():
          ^
   attribute 1, parts: SET OF PART
 """, "#1=KIT(#1,());")
-    of_instance("WrongKind", 1, 2, 21, """\
+    of_instance("WrongKind", 1, 2, 27, """\
   #1=NOTE($,($,.F., /* ( */ 0));
                             ^
   attribute 2, row[2]: LOGICAL
@@ -125,6 +125,7 @@ def test_wrong_kind_of_a_select():
           ^
   attribute 1, what: MEASURE
   MEASURE is SELECT (WIDTH, MASS, PART)
+  what several of these take stands under the keyword of one
 """, "#1=NOTE(LENGTH(5.),$);")
 
 
@@ -154,7 +155,7 @@ def test_not_derived():
   attribute 1, id: STRING
   * stands for what is derived, and this isn't
 """, "#1=PART(*,2.,$);")
-    of_instance("NotDerived", 2, 3, 15, """\
+    of_instance("NotDerived", 2, 3, 16, """\
   #2=BOLT('A-1',(*),$);
                  ^
   attribute 2, size: * (it is derived)
@@ -199,7 +200,7 @@ def test_wrong_count():
            ^
   1 value for the 0 attributes of EMPTY
 """, "#1=EMPTY($);")
-    of_instance("WrongCount", 1, 2, 15, """\
+    of_instance("WrongCount", 1, 2, 16, """\
   #1=(BOX()SHAPE());
                  ^
   0 values for the 1 attribute of SHAPE: k
@@ -232,7 +233,7 @@ def test_abstract():
 
 def test_violated_expression():
     """The supertype expression is told that forbids the instance, and which of its entities are there."""
-    of_instance("IllegalCombination", 1, 2, 18, """\
+    of_instance("IllegalCombination", 1, 2, 16, """\
   #1=(BALL()BOX()SHAPE(1));
                  ^
   SHAPE is SUPERTYPE OF (ONEOF (BOX, BALL AND ROUND) ANDOR MARKED)
@@ -329,7 +330,7 @@ def test_long_words():
     schema = f"SCHEMA parts; TYPE t = ENUMERATION OF ({', '.join(items)}); END_TYPE; ENTITY e; a : t; END_ENTITY; END_SCHEMA;"
     rows = ["T is ENUMERATION OF (" + ", ".join(items[:5]) + ","] + ["  " + ", ".join(items[k:k + 7]) + "," for k in range(5, 89, 7)]
     words = ["attribute 1, a: T", *rows, "  " + ", ".join(items[89:92]) + ",", "  .."]
-    told(file_of("\n#1=E(7);", "PARTS"), INSTANCE.format(kind="WrongKind", name=1, line=2, column=6),
+    told(file_of("\n#1=E(7);\n", "PARTS"), INSTANCE.format(kind="WrongKind", name=1, line=2, column=6),
          "  #1=E(7);\n       ^\n" + "".join(f"  {it}\n" for it in words), schema)
 
 

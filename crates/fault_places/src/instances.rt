@@ -3,7 +3,7 @@ use crate::combinations::illegal;
 use crate::definitions::Definitions;
 use crate::faulty::{Faulty, Told};
 use crate::place::{FaultPlace, line_of, place_at};
-use crate::spelled::Spelled;
+use crate::spelled::{Spelled, Spot};
 use ex_compiled::Compiled;
 use ex_layouts::{Dictionary, Layout, legal_leaf, legal_several};
 use ex_loaded::LoadedSchema;
@@ -65,24 +65,41 @@ fn in_upper_case(alloc: Global, keyword: &[u8]) -> Result<Text, AllocError> {
     Ok(upper)
 }
 
-/// The first keyword of a part that stood before.
-fn keyword_twice(alloc: Global, spelled: &Spelled<'_>) -> Result<Option<Told>, AllocError> {
-    let spots = spelled.keywords(alloc)?;
+/// The keywords of parts in upper case.
+fn all_in_upper_case(alloc: Global, spots: &[Spot<'_>]) -> Result<Vec<Text>, AllocError> {
     let mut keywords = Vec::with_capacity(alloc, spots.len())?;
-    for spot in &spots {
+    for spot in spots {
         keywords.push(in_upper_case(alloc, spot.text)?)?;
     }
+    Ok(keywords)
+}
+
+/// The place of the first keyword that stood before.
+fn first_repeated(alloc: Global, keywords: &[Text]) -> Result<Option<usize>, AllocError> {
     let mut before = NameTable::new(alloc);
-    for (spot, keyword) in spots.iter().zip(&keywords) {
+    for (place, keyword) in keywords.iter().enumerate() {
         if before.place(keyword.as_bytes()).is_some() {
-            return Ok(Some(Told {
-                at: spelled.at(spot.place),
-                words: format!(in alloc; "{} is in this instance already", keyword.as_str())?,
-            }));
+            return Ok(Some(place));
         }
         before.push(keyword.as_bytes())?;
     }
     Ok(None)
+}
+
+/// The first keyword of a part that stood before.
+fn keyword_twice(alloc: Global, spelled: &Spelled<'_>) -> Result<Option<Told>, AllocError> {
+    let spots = spelled.keywords(alloc)?;
+    let keywords = all_in_upper_case(alloc, &spots)?;
+    let Some(place) = first_repeated(alloc, &keywords)? else {
+        return Ok(None);
+    };
+    let (Some(spot), Some(keyword)) = (spots.get(place), keywords.get(place)) else {
+        return Ok(None);
+    };
+    Ok(Some(Told {
+        at: spelled.at(spot.place),
+        words: format!(in alloc; "{} is in this instance already", keyword.as_str())?,
+    }))
 }
 
 /// The parts of an instance, and whether there is one alone, of an entity with all above it.
@@ -109,6 +126,15 @@ fn entities_of(
     Ok(entities)
 }
 
+/// The instance as it is read by itself; nothing where it isn't.
+fn mapping_of<'t>(alloc: Global, spelled: &Spelled<'t>) -> Result<Option<Mapping<'t>>, AllocError> {
+    match read_instance(alloc, spelled.text) {
+        Ok(mapping) => Ok(Some(mapping)),
+        Err(Failure::Fault(_)) => Ok(None),
+        Err(Failure::NoMemory) => Err(AllocError),
+    }
+}
+
 /// What the schema says of the instance.
 fn by_schema(
     alloc: Global,
@@ -117,10 +143,8 @@ fn by_schema(
     spelled: &Spelled<'_>,
     kind: InstanceFaultKind,
 ) -> Result<Option<Told>, AllocError> {
-    let mapping = match read_instance(alloc, spelled.text) {
-        Ok(mapping) => mapping,
-        Err(Failure::Fault(_)) => return Ok(None),
-        Err(Failure::NoMemory) => return Err(AllocError),
+    let Some(mapping) = mapping_of(alloc, spelled)? else {
+        return Ok(None);
     };
     let loaded = LoadedSchema::of(alloc, schema)?;
     let dictionary = loaded.dictionary();
@@ -133,11 +157,22 @@ fn by_schema(
         entities: &entities,
         is_internal,
     };
+    by_kind(alloc, schema, &faulty, definitions, kind)
+}
+
+/// The fault of this kind.
+fn by_kind(
+    alloc: Global,
+    schema: &Compiled,
+    faulty: &Faulty<'_, '_, '_>,
+    definitions: &Definitions,
+    kind: InstanceFaultKind,
+) -> Result<Option<Told>, AllocError> {
     match kind {
-        InstanceFaultKind::UnknownEntity => unknown(alloc, &faulty),
-        _ if entities.len() < parts.len() => Ok(None),
-        InstanceFaultKind::IllegalCombination => illegal(alloc, schema, &faulty),
-        kind => by_layout(alloc, &faulty, definitions, kind),
+        InstanceFaultKind::UnknownEntity => unknown(alloc, faulty),
+        _ if faulty.entities.len() < faulty.parts.len() => Ok(None),
+        InstanceFaultKind::IllegalCombination => illegal(alloc, schema, faulty),
+        kind => by_layout(alloc, faulty, definitions, kind),
     }
 }
 
