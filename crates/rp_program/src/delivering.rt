@@ -93,7 +93,15 @@ fn tell<W: Sink>(
                 delivered.refused.as_str(),
                 *refusal,
             )?;
-            tell_refused(alloc, schema, asked, delivered, *refusal, &place, writer)
+            tell_refused(
+                alloc,
+                schema,
+                asked,
+                delivered,
+                *refusal,
+                place.as_ref(),
+                writer,
+            )
         },
         reply => {
             let told = told_of(alloc, schema, asked, delivered)?;
@@ -149,7 +157,7 @@ fn tell_refused<W: Sink>(
     asked: &Asked<'_>,
     delivered: &Delivered<'_>,
     refusal: Refusal,
-    place: &Option<FaultPlace>,
+    place: Option<&FaultPlace>,
     writer: &mut W,
 ) -> Result<Done, Fault> {
     let reply = reply_line(alloc, &delivered.reply)?;
@@ -159,7 +167,7 @@ fn tell_refused<W: Sink>(
         }
         return Err(Fault::Start(Failure::NoMemory));
     }
-    let words = words_of_refusal(alloc, place.as_ref(), refusal, &reply)?;
+    let words = words_of_refusal(alloc, place, refusal, &reply)?;
     let path = match asked.files.get(delivered.files.len()) {
         Some(path) => path,
         None => "",
