@@ -470,7 +470,7 @@ def test_refused_files():
             (file_of("#1=P(1.,$);\n  #2=Q(.5);"), "code 11 FileFault, kind Token, line 2 column 8"),
             ("", "code 11 FileFault, kind Syntax, line 1 column 1"),
             (file_of("", "X"), "code 9 WrongSchema"),
-            (b" " * (FILE_LIMIT + 1), "code 2 TooLarge"),
+            (b" " * (FILE_LIMIT + 1), "code 2 TooLarge, it is over 8 MiB"),
             (file_of("").encode() + b"/*\xff*/", "code 1 BadRequest, it isn't UTF-8")):
         refuses({"t.exp": T, "a.step": file_of(""), "b.step": file}, "--schema", "t.exp", "a.step", "b.step", "z.step",
                 out=f"a.step: 0 instances of T\nb.step: {words}\n\nNot taken: b.step is refused, so nothing is validated.\n",

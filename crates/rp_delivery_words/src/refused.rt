@@ -56,6 +56,7 @@ pub fn words_of_refusal(
             words.push_str(place.as_str())?;
         }
         Refusal::BadRequest => words.push_str(", it isn't UTF-8")?,
+        Refusal::TooLarge => words.push_str(", it is over 8 MiB")?,
         _ => {}
     }
     Ok(words)
