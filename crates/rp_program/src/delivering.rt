@@ -154,13 +154,18 @@ fn tell_refused<W: Sink>(
         Some(path) => path,
         None => "",
     };
-    match asked.form {
-        Form::Json => write(writer, &reply)?,
-        Form::Quiet => write(writer, refused_line(alloc, path)?.as_bytes())?,
-        Form::Text(_) => {
-            let told = refused_text(alloc, schema.name, &delivered.files, path, words.as_str())?;
-            write(writer, told.as_bytes())?;
-        }
-    }
-    Err(Fault::Refused(Text::from_str(alloc, path)?, Text::new(words)))
+    let told = match asked.form {
+        Form::Json => reply,
+        Form::Quiet => refused_line(alloc, path)?.into_bytes(),
+        Form::Text(_) => refused_text(
+            alloc,
+            schema.name,
+            &delivered.files,
+            path,
+            words.as_str(),
+        )?.into_bytes(),
+    };
+    let fault = Fault::Refused(Text::from_str(alloc, path)?, Text::new(words));
+    write(writer, &told)?;
+    Err(fault)
 }
