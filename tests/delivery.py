@@ -472,7 +472,7 @@ def test_refused_files():
              "    #2=Q(.5);\n         ^\n  no token begins here\n"),
             ("", "code 11 FileFault, kind Syntax, line 1 column 1", "\n  ^\n  the file ends here\n"),
             (file_of("", "X"), "code 9 WrongSchema", ""),
-            (b" " * (FILE_LIMIT + 1), "code 2 TooLarge", ""),
+            (b" " * (FILE_LIMIT + 1), "code 2 TooLarge, it is over 8 MiB", ""),
             (file_of("").encode() + b"/*\xff*/", "code 1 BadRequest, it isn't UTF-8", "")):
         refuses({"t.exp": T, "a.step": file_of(""), "b.step": file}, "--schema", "t.exp", "a.step", "b.step", "z.step",
                 out=f"a.step: 0 instances of T\nb.step: {words}\n{lines}\nNot taken: b.step is refused, so nothing is validated.\n",

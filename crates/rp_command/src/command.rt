@@ -125,9 +125,7 @@ fn with_batch<'a>(alloc: Global) -> Result<clap::Command<'a>, AllocError> {
     clap::Command::new(alloc, "rp_server")
         .about(ABOUT)
         .version(VERSION)
-        .after_help(
-            "Type rp_server batch --help for the configuration and the requests, and validate --help for files.",
-        )
+        .after_help("Type rp_server batch --help for the configuration and the requests.")
         .subcommand_required(true)
         .subcommand(batch)
 }

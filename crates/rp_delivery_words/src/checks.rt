@@ -1,7 +1,7 @@
 //! What is told of a check.
 use crate::marks::{Marks, front, place_of};
 use crate::put::PutFile;
-use ex_tree::Token;
+use ex_lex::TokenList;
 use rp_meaning::Verdict;
 use rp_plain::reports::{CheckKind, RuleName, ToldCheck, ToldCulprit};
 use source_texts::{Clause, push_keywords, push_path, push_rule, rule_of};
@@ -11,13 +11,13 @@ use std::alloc::{AllocError, Global};
 const MARGIN: &str = "         ";
 
 /// What a check is told by.
-#[derive(Clone, Copy)]
-pub(crate) struct Sources<'t> {
-    /// The schema's text, and its tokens.
-    pub schema: &'t [u8],
-    pub tokens: &'t [Token<'t>],
-    pub files: &'t [PutFile<'t>],
-    pub marks: &'t [Marks],
+#[derive(Drop)]
+pub(crate) struct Sources<'s, 'f, 'p> {
+    /// The schema's text, and its tokens, if it has any.
+    pub schema: &'s [u8],
+    pub tokens: Option<TokenList<'s>>,
+    pub files: &'f [PutFile<'p>],
+    pub marks: Vec<Marks>,
     /// How many culprits are told of a check.
     pub most: usize,
 }
@@ -26,7 +26,7 @@ pub(crate) struct Sources<'t> {
 pub(crate) fn push_check(
     alloc: Global,
     out: &mut String,
-    sources: &Sources<'_>,
+    sources: &Sources<'_, '_, '_>,
     check: &ToldCheck,
 ) -> Result<(), AllocError> {
     push_head(out, check)?;
@@ -90,7 +90,11 @@ fn clause_of(kind: CheckKind) -> Option<Clause> {
 }
 
 /// The text of the check's rule.
-fn push_text(out: &mut String, sources: &Sources<'_>, check: &ToldCheck) -> Result<(), AllocError> {
+fn push_text(
+    out: &mut String,
+    sources: &Sources<'_, '_, '_>,
+    check: &ToldCheck,
+) -> Result<(), AllocError> {
     match (clause_of(check.kind), &check.rule) {
         (Some(clause), Some(rule)) => push_rule_text(out, sources, clause, rule),
         _ => Ok(()),
@@ -99,11 +103,19 @@ fn push_text(out: &mut String, sources: &Sources<'_>, check: &ToldCheck) -> Resu
 
 fn push_rule_text(
     out: &mut String,
-    sources: &Sources<'_>,
+    sources: &Sources<'_, '_, '_>,
     clause: Clause,
     rule: &RuleName,
 ) -> Result<(), AllocError> {
-    match rule_of(sources.tokens, clause, rule.of.as_str(), rule.rule.as_str()) {
+    let Some(tokens) = &sources.tokens else {
+        return Ok(());
+    };
+    match rule_of(
+        tokens.as_slice(),
+        clause,
+        rule.of.as_str(),
+        rule.rule.as_str(),
+    ) {
         Some(tokens) => push_rule(out, MARGIN, sources.schema, tokens),
         None => Ok(()),
     }
@@ -135,7 +147,7 @@ fn push_together(out: &mut String, verdict: Verdict) -> Result<(), AllocError> {
 fn push_lists(
     alloc: Global,
     out: &mut String,
-    sources: &Sources<'_>,
+    sources: &Sources<'_, '_, '_>,
     check: &ToldCheck,
 ) -> Result<(), AllocError> {
     let most = sources.most;
@@ -178,7 +190,7 @@ fn push_lists(
 fn push_list(
     alloc: Global,
     out: &mut String,
-    sources: &Sources<'_>,
+    sources: &Sources<'_, '_, '_>,
     verdict: Verdict,
     culprits: &[ToldCulprit],
     left: usize,
@@ -205,7 +217,7 @@ fn push_list(
 fn push_culprit(
     alloc: Global,
     out: &mut String,
-    sources: &Sources<'_>,
+    sources: &Sources<'_, '_, '_>,
     culprit: &ToldCulprit,
 ) -> Result<(), AllocError> {
     let place = place_of(culprit.model.get());

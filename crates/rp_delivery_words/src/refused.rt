@@ -59,8 +59,10 @@ pub fn words_of_refusal(
         let place = format!(in alloc; ", line {} column {}", place.line, place.column)?;
         words.push_str(place.as_str())?;
     }
-    if let Refusal::BadRequest = refusal {
-        words.push_str(", it isn't UTF-8")?;
+    match refusal {
+        Refusal::BadRequest => words.push_str(", it isn't UTF-8")?,
+        Refusal::TooLarge => words.push_str(", it is over 8 MiB")?,
+        _ => {}
     }
     Ok(words)
 }

@@ -35,12 +35,9 @@ pub fn report_text(
     let tokens = tokens_of(alloc, schema.text)?;
     let sources = Sources {
         schema: schema.text,
-        tokens: match &tokens {
-            Some(tokens) => tokens.as_slice(),
-            None => &[],
-        },
+        tokens,
         files,
-        marks: &marks,
+        marks,
         most,
     };
     let mut out = String::new(alloc);

@@ -172,24 +172,24 @@ fn tell_refused<W: Sink>(
         Some(path) => path,
         None => "",
     };
-    match asked.form {
-        Form::Json => write(writer, &reply)?,
-        Form::Quiet => write(writer, refused_line(alloc, path)?.as_bytes())?,
-        Form::Text(_) => {
-            let lines = match place {
-                Some(place) => place.lines.as_str(),
-                None => "",
-            };
-            let told = refused_text(
-                alloc,
-                schema.name,
-                &delivered.files,
-                path,
-                words.as_str(),
-                lines,
-            )?;
-            write(writer, told.as_bytes())?;
-        }
-    }
-    Err(Fault::Refused(Text::from_str(alloc, path)?, Text::new(words)))
+    let lines = match place {
+        Some(place) => place.lines.as_str(),
+        None => "",
+    };
+    let told = match asked.form {
+        Form::Json => reply,
+        Form::Quiet => refused_line(alloc, path)?.into_bytes(),
+        Form::Text(_) => refused_text(
+            alloc,
+            schema.name,
+            &delivered.files,
+            path,
+            words.as_str(),
+            lines,
+        )?
+        .into_bytes(),
+    };
+    let fault = Fault::Refused(Text::from_str(alloc, path)?, Text::new(words));
+    write(writer, &told)?;
+    Err(fault)
 }
