@@ -13,8 +13,8 @@ from lib.harness import Folder, Wrong, run_tests
 from lib.messages import file_of
 
 PARTS = """SCHEMA parts;
-TYPE length = REAL; END_TYPE;
-TYPE width = length; END_TYPE;
+TYPE distance = REAL; END_TYPE;
+TYPE width = distance; END_TYPE;
 TYPE mass = REAL; END_TYPE;
 TYPE measure = SELECT (width, mass, part); END_TYPE;
 TYPE colour = ENUMERATION OF (red, green, blue); END_TYPE;
@@ -67,8 +67,8 @@ def test_wrong_kind():
   #2=PART('A-2','wide',.RED.);
                 ^
   attribute 2, size: WIDTH
-  WIDTH is LENGTH
-  LENGTH is REAL
+  WIDTH is DISTANCE
+  DISTANCE is REAL
 """, "#1=PART('A-1',1.,$);", "#2=PART('A-2','wide',.RED.);")
     of_instance("WrongKind", 1, 2, 9, """\
   #1=PART(7,1.,$);
@@ -121,12 +121,12 @@ def test_wrong_kind_of_a_select():
   what several of these take stands under the keyword of one
 """, "#1=NOTE(5.,$);")
     of_instance("WrongKind", 1, 2, 9, """\
-  #1=NOTE(LENGTH(5.),$);
+  #1=NOTE(DISTANCE(5.),$);
           ^
   attribute 1, what: MEASURE
   MEASURE is SELECT (WIDTH, MASS, PART)
   what several of these take stands under the keyword of one
-""", "#1=NOTE(LENGTH(5.),$);")
+""", "#1=NOTE(DISTANCE(5.),$);")
 
 
 def test_wrong_kind_derived():
@@ -308,8 +308,8 @@ def test_signs():
    #1=PART('é\U0001f600??','wide',$);
                   ^
   attribute 2, size: WIDTH
-  WIDTH is LENGTH
-  LENGTH is REAL
+  WIDTH is DISTANCE
+  DISTANCE is REAL
 """, "\t#1=PART('é\U0001f600\x1b\x7f','wide',$);\r")
 
 
@@ -319,8 +319,8 @@ def test_lines_of_an_instance():
     'wide', /* 'wide' */
     ^
   attribute 2, size: WIDTH
-  WIDTH is LENGTH
-  LENGTH is REAL
+  WIDTH is DISTANCE
+  DISTANCE is REAL
 """, "#1 /* a", "remark */ = PART('A-1 (1,2)',", "  'wide', /* 'wide' */", "$);")
 
 
