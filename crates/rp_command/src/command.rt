@@ -100,23 +100,34 @@ fn with_paths<'a>(alloc: Global) -> Result<clap::Command<'a>, AllocError> {
         .arg(files)
 }
 
+/// `--quiet`, which goes without `--json`.
+fn quiet_flag<'a>(alloc: Global) -> Result<Arg<'a>, AllocError> {
+    Arg::new(alloc, "quiet")
+        .long("quiet")
+        .help("Prints the verdict alone")
+        .action(ArgAction::SetTrue)
+        .conflicts_with("json")
+}
+
+/// `--all`, which goes without the other two.
+fn all_flag<'a>(alloc: Global) -> Result<Arg<'a>, AllocError> {
+    Arg::new(alloc, "all")
+        .long("all")
+        .help("Shows all culprits of a rule, and not 50 alone")
+        .action(ArgAction::SetTrue)
+        .conflicts_with("json")?
+        .conflicts_with("quiet")
+}
+
 /// `validate`, with its arguments.
 fn validate_command<'a>(alloc: Global) -> Result<clap::Command<'a>, AllocError> {
     let json = Arg::new(alloc, "json")
         .long("json")
         .help("Prints the reply alone, a line of JSON")
         .action(ArgAction::SetTrue);
-    let quiet = Arg::new(alloc, "quiet")
-        .long("quiet")
-        .help("Prints the verdict alone")
-        .action(ArgAction::SetTrue)
-        .conflicts_with("json")?;
-    let all = Arg::new(alloc, "all")
-        .long("all")
-        .help("Shows all culprits of a rule, and not 50 alone")
-        .action(ArgAction::SetTrue)
-        .conflicts_with_all(&["json", "quiet"])?;
-    with_paths(alloc)?.arg(json)?.arg(quiet)?.arg(all)
+    let command = with_paths(alloc)?.arg(json)?;
+    let command = command.arg(quiet_flag(alloc)?)?;
+    command.arg(all_flag(alloc)?)
 }
 
 /// The program, with `batch` alone. It is apart so that few commands are in hand where memory may be wanting.
