@@ -5,7 +5,7 @@ mod fault;
 mod progress;
 
 use fault::Fault;
-use plain_data::{Failure, Text};
+use plain_data::Failure;
 use progress::Progress;
 use rp_command::{Command, Delivery, Telling, command_of};
 use rp_config::{
