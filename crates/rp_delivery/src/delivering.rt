@@ -1,19 +1,23 @@
-//! The requests of a delivery, one after another.
-ghost use Rattle.std.specs.Prelude.{◌≡◌, [], ◌∷◌, map, IfOk};
+//! The files of a delivery, one after another.
+ghost use Rattle.std.specs.Prelude.{◌≡◌, true, false, [], ◌∷◌, map, Option, IfOk};
+ghost use Rattle.rp_files.specs.Files.{Held};
 ghost use Rattle.rp_plain.specs.Opening.{opened};
 ghost use Rattle.rp_delivery.specs.Names.{me as deliverer};
-ghost use Rattle.rp_delivery.specs.Requests.{create, put as put_turn, validation, is_refused as spec_is_refused, IsMe, Makes, IsAnswer};
-ghost use Rattle.rp_delivery.specs.Deliveries.{IsDelivered, name_of};
+ghost use Rattle.rp_delivery.specs.Requests.{IsMe};
+ghost use Rattle.rp_delivery.specs.Deliveries as spec;
+ghost use Rattle.rp_delivery.specs.Deliveries.{IsDelivered, IsText, PutsOneMore, EndsWith, name_of};
 
 use crate::asked::{Asked, Form};
 use crate::choice::place_named;
-use crate::named::{group, group_key, model, model_key, partner};
+use crate::named::partner;
 use crate::notes::Notes;
+use crate::requests::{is_refused, put, validate};
+use crate::texts::{FileText, text_at};
 use ex_compiled::Compiled;
-use plain_data::{Failure, Rows, Text};
+use plain_data::{Failure, Text};
 use rp_delivery_words::PutFile;
-use rp_files::{Folder, LoadFault, file_bytes};
-use rp_repo::{Caller, Refusal, Reply, Repository, Request};
+use rp_files::{Folder, LoadFault};
+use rp_repo::{Caller, Refusal, Reply, Repository};
 use std::alloc::{AllocError, Global};
 
 /// What came of a delivery.
@@ -42,89 +46,6 @@ impl Drop for Delivered<'_> {
     }
 }
 
-/// The text of the file of a path, or why none is put: it is too large, or in no request.
-enum FileText {
-    Text(Text),
-    Refused(Refusal),
-}
-
-fn text_at<D: Folder>(
-    alloc: Global,
-    folder: &D,
-    path: &str,
-) -> Result<FileText, Failure<LoadFault>> {
-    match file_bytes(alloc, folder, path) {
-        Ok(bytes) => match String::from_utf8(bytes) {
-            Ok(text) => Ok(FileText::Text(Text::new(text))),
-            Err(_) => Ok(FileText::Refused(Refusal::BadRequest)),
-        },
-        Err(Failure::Fault(LoadFault::TooLarge(_))) => Ok(FileText::Refused(Refusal::TooLarge)),
-        Err(failure) => Err(failure),
-    }
-}
-
-fn is_refused(reply: &Reply) -> bool
-    ensures { result ≡ spec_is_refused reply.now }
-{
-    matches!(reply, Reply::Refused(_))
-}
-
-/// The replies to the creation of the model of this number and to the put of a file into it: that of the put, or the first
-/// refusal.
-fn put(
-    alloc: Global,
-    repository: &mut Repository<'_>,
-    me: Caller,
-    schema: &str,
-    number: usize,
-    file: Text,
-) -> Result<Reply, AllocError>
-    requires { IsMe repository.old.content me }
-    ensures partners { repository.new.content.partners ≡ repository.old.content.partners }
-    ensures makes { IfOk result (Makes repository.old.content repository.new.content (create schema.now number ∷ put_turn number file ∷ [])) }
-{
-    let name = model(alloc, number)?;
-    let schema = Text::from_str(alloc, schema)?;
-    let created = repository.handle(alloc, me, Request::CreateModel { name, schema });
-    if is_refused(&created) {
-        return Ok(created);
-    }
-    drop(created);
-    let model = model_key(alloc, number)?;
-    let links = Rows::new(alloc);
-    Ok(repository.handle(alloc, me, Request::Put { model, file, links }))
-}
-
-/// The reply to the validation of a group of so many models, or the first refusal before it.
-fn validate(
-    alloc: Global,
-    repository: &mut Repository<'_>,
-    me: Caller,
-    schema: &str,
-    count: usize,
-) -> Result<Reply, AllocError>
-    requires { IsMe repository.old.content me }
-    ensures { IfOk result (IsAnswer repository.old.content (validation schema.now count)) }
-{
-    let name = group(alloc)?;
-    let schema = Text::from_str(alloc, schema)?;
-    let created = repository.handle(alloc, me, Request::CreateGroup { name, schema });
-    if is_refused(&created) {
-        return Ok(created);
-    }
-    drop(created);
-    for place in 0..count {
-        let model = model_key(alloc, place.saturating_add(1))?;
-        let group = group(alloc)?;
-        let included = repository.handle(alloc, me, Request::Include { group, model });
-        if is_refused(&included) {
-            return Ok(included);
-        }
-    }
-    let group = group_key(alloc)?;
-    Ok(repository.handle(alloc, me, Request::Validate { group }))
-}
-
 /// The bytes of a file that are kept once it is put: none where no lines are told.
 fn kept(alloc: Global, form: Form, text: Text) -> Text {
     match form {
@@ -143,50 +64,107 @@ fn name_at(schemas: &[Compiled], place: usize) -> &str
     }
 }
 
-/// What a delivery is read from, and who puts it.
-#[derive(Drop)]
-struct Ground<'g, D> {
-    folder: &'g D,
+/// Who puts the files of a delivery, by which schemas, and for what that is told of it.
+#[derive(Clone, Copy)]
+struct Ground<'g> {
     schemas: &'g [Compiled],
     me: Caller,
     form: Form,
 }
 
-/// Puts the file of a path behind the others. Answers whether it was put; else the reply says why not.
-fn deliver_file<'a, D: Folder>(
+/// The place of the schema that the file of this number is put by, where that of the file before it is known.
+fn place_for(
     alloc: Global,
-    ground: &Ground<'_, D>,
+    schemas: &[Compiled],
+    number: usize,
+    before: usize,
+    file: &[u8],
+) -> Result<usize, AllocError>
+    ensures { IfOk result (λ place. place ≡ spec.place_for schemas.now number before file.now) }
+{
+    if number > 1 {
+        return Ok(before);
+    }
+    place_named(alloc, schemas, file)
+}
+
+/// How many instances a put tells.
+fn instances_of(reply: &Reply) -> usize {
+    match reply {
+        Reply::Stored(instances) => *instances,
+        _ => 0,
+    }
+}
+
+/// Puts the text of the file of a path, which has this number. Answers whether it was put; else the reply says why not.
+fn put_text<'a>(
+    alloc: Global,
+    ground: Ground<'_>,
     repository: &mut Repository<'_>,
     delivered: &mut Delivered<'a>,
+    number: usize,
     path: &'a str,
-) -> Result<bool, Failure<LoadFault>> {
-    let text = match text_at(alloc, ground.folder, path)? {
-        FileText::Text(text) => text,
-        FileText::Refused(refusal) => {
-            delivered.reply = Reply::Refused(refusal);
-            return Ok(false);
-        }
-    };
-    if delivered.files.is_empty() {
-        delivered.schema = place_named(alloc, ground.schemas, text.as_bytes())?;
-    }
+    text: Text,
+) -> Result<bool, AllocError>
+    requires { IsMe repository.old.content ground.me }
+    ensures same { IsMe repository.new.content ground.me }
+    ensures put { (files : Option Held) → IsText files path.now text → IfOk result (λ put. put ≡ true →
+        PutsOneMore files ground.schemas.now repository.old.content repository.new.content delivered.old.schema delivered.new.schema number path.now) }
+    ensures refused { (files : Option Held) → IsText files path.now text → IfOk result (λ put. put ≡ false →
+        EndsWith files ground.schemas.now repository.old.content delivered.old.schema number path.now delivered.new.reply) }
+{
+    delivered.schema = place_for(
+        alloc,
+        ground.schemas,
+        number,
+        delivered.schema,
+        text.as_bytes(),
+    )?;
     let copy = text.copy(alloc)?;
     let schema = name_at(ground.schemas, delivered.schema);
-    let number = delivered.files.len().saturating_add(1);
     let reply = put(alloc, repository, ground.me, schema, number, text)?;
-    if let Reply::Stored(instances) = &reply {
-        let instances = *instances;
-        let text = kept(alloc, ground.form, copy);
-        delivered.files.push(PutFile {
-            path,
-            text,
-            instances,
-        })?;
-        return Ok(true);
+    if is_refused(&reply) {
+        delivered.refused = copy;
+        delivered.reply = reply;
+        return Ok(false);
     }
-    delivered.refused = copy;
-    delivered.reply = reply;
-    Ok(false)
+    let instances = instances_of(&reply);
+    drop(reply);
+    let text = kept(alloc, ground.form, copy);
+    delivered.files.push(PutFile {
+        path,
+        text,
+        instances,
+    })?;
+    Ok(true)
+}
+
+/// Puts the file of a path, which has this number. Answers whether it was put; else the reply says why not.
+fn deliver_file<'a, D: Folder>(
+    alloc: Global,
+    folder: &D,
+    ground: Ground<'_>,
+    repository: &mut Repository<'_>,
+    delivered: &mut Delivered<'a>,
+    number: usize,
+    path: &'a str,
+) -> Result<bool, Failure<LoadFault>>
+    requires { IsMe repository.old.content ground.me }
+    ensures same { IsMe repository.new.content ground.me }
+    ensures put { IfOk result (λ put. put ≡ true →
+        PutsOneMore (D.files folder.now) ground.schemas.now repository.old.content repository.new.content delivered.old.schema delivered.new.schema number path.now) }
+    ensures refused { IfOk result (λ put. put ≡ false →
+        EndsWith (D.files folder.now) ground.schemas.now repository.old.content delivered.old.schema number path.now delivered.new.reply) }
+{
+    match text_at(alloc, folder, path)? {
+        FileText::Text(text) => {
+            Ok(put_text(alloc, ground, repository, delivered, number, path, text)?)
+        }
+        FileText::Refused(refusal) => {
+            delivered.reply = Reply::Refused(refusal);
+            Ok(false)
+        }
+    }
 }
 
 /// Puts the files of a delivery, one after another, and validates them; a put that is refused ends it.
@@ -216,14 +194,21 @@ pub fn deliver<'a, D: Folder, N: Notes>(
         return Ok(delivered);
     };
     let ground = Ground {
-        folder,
         schemas,
         me,
         form: asked.form,
     };
     for (place, path) in asked.files.iter().enumerate() {
-        notes.file(place.saturating_add(1), asked.files.len());
-        if !deliver_file(alloc, &ground, repository, &mut delivered, path)? {
+        notes.file(place + 1, asked.files.len());
+        if !deliver_file(
+            alloc,
+            folder,
+            ground,
+            repository,
+            &mut delivered,
+            place + 1,
+            path,
+        )? {
             return Ok(delivered);
         }
     }

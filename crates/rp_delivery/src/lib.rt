@@ -8,7 +8,9 @@ mod delivering;
 mod judged;
 mod named;
 mod notes;
+mod requests;
 mod sources;
+mod texts;
 
 pub use asked::{Asked, Form};
 pub use delivering::{Delivered, deliver};

@@ -1,5 +1,5 @@
 //! Files that are validated as one delivers them.
-ghost use Rattle.std.specs.Prelude.{◌≡◌, true, map, IfOk, IsErrOf};
+ghost use Rattle.std.specs.Prelude.{◌≡◌, ℕ, List, true, map, IfOk, IfErr, OnOk, IsErrOf};
 ghost use Rattle.std.specs.Io.KnownBytes.{Appends};
 ghost use Rattle.rp_replies.specs.Replies.{line_of_reply};
 ghost use Rattle.rp_delivery.specs.Judged.{judgement_of as spec_judgement_of};
@@ -46,7 +46,7 @@ pub fn validate<D: Folder, W: Sink, N: Notes>(
         (λ reply. (done ≡ Done.Validated (spec_judgement_of reply)) × Appends (W.contents writer.old) (W.contents writer.new) (line_of_reply reply))) }
 
     // So it is where a file is refused.
-    ensures refused { asked.now.form ≡ Form.Json → (path words : _) → IsErrOf result (Fault.Refused path words) →
+    ensures refused { asked.now.form ≡ Form.Json → (path words : List ℕ) → IsErrOf result (Fault.Refused path words) →
         IsValidated (D.files folder.now) (map (λ path. path.now) asked.now.schemas.now) (map (λ path. path.now) asked.now.files.now)
         (λ reply. (is_refused reply ≡ true) × Appends (W.contents writer.old) (W.contents writer.new) (line_of_reply reply)) }
 {
@@ -83,7 +83,12 @@ fn tell<W: Sink>(
     asked: &Asked<'_>,
     delivered: &Delivered<'_>,
     writer: &mut W,
-) -> Result<Done, Fault> {
+) -> Result<Done, Fault>
+    ensures verdict { IfOk result (λ done. done ≡ Done.Validated (spec_judgement_of delivered.now.reply)) }
+    ensures json { asked.now.form ≡ Form.Json → OnOk result (Appends (W.contents writer.old) (W.contents writer.new) (line_of_reply delivered.now.reply)) }
+    ensures refused { asked.now.form ≡ Form.Json → (path words : List ℕ) → IsErrOf result (Fault.Refused path words) →
+        (is_refused delivered.now.reply ≡ true) × Appends (W.contents writer.old) (W.contents writer.new) (line_of_reply delivered.now.reply) }
+{
     let schema = source_of(schemas, texts, delivered.schema);
     match &delivered.reply {
         Reply::Refused(refusal) => {
@@ -124,7 +129,10 @@ fn source_of<'t>(schemas: &'t [Compiled], texts: &'t [Vec<u8>], place: usize) ->
     SchemaText { name, text }
 }
 
-fn write<W: Sink>(writer: &mut W, bytes: &[u8]) -> Result<(), Fault> {
+fn write<W: Sink>(writer: &mut W, bytes: &[u8]) -> Result<(), Fault>
+    ensures ok { OnOk result (Appends (W.contents writer.old) (W.contents writer.new) bytes.now) }
+    ensures err { IfErr result (λ fault. fault ≡ Fault.Write) }
+{
     match write_all(writer, bytes) {
         Ok(()) => Ok(()),
         Err(_) => Err(Fault::Write),
@@ -137,7 +145,9 @@ fn told_of(
     schema: SchemaText<'_>,
     asked: &Asked<'_>,
     delivered: &Delivered<'_>,
-) -> Result<Vec<u8>, AllocError> {
+) -> Result<Vec<u8>, AllocError>
+    ensures { asked.now.form ≡ Form.Json → IfOk result (λ told. told.items ≡ line_of_reply delivered.now.reply) }
+{
     let Reply::Validated(report) = &delivered.reply else {
         return reply_line(alloc, &delivered.reply);
     };
@@ -159,7 +169,11 @@ fn tell_refused<W: Sink>(
     refusal: Refusal,
     place: Option<&FaultPlace>,
     writer: &mut W,
-) -> Result<Done, Fault> {
+) -> Result<Done, Fault>
+    ensures refused { OnOk result ⊥ }
+    ensures json { asked.now.form ≡ Form.Json → (path words : List ℕ) → IsErrOf result (Fault.Refused path words) →
+        Appends (W.contents writer.old) (W.contents writer.new) (line_of_reply delivered.now.reply) }
+{
     let reply = reply_line(alloc, &delivered.reply)?;
     if let Refusal::NoMemory = refusal {
         if asked.form == Form::Json {
