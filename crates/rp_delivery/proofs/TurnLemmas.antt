@@ -5,8 +5,10 @@ use Rattle.rp_plain.specs.declared.messages.Reply.{Reply}
 use Rattle.rp_plain.specs.Plain.{Plain}
 use Rattle.rp_plain.specs.Runs.{MayReply}
 use Rattle.rp_plain.specs.Turns.{Turn, effect, after}
-use Rattle.rp_core.specs.Held.{turn}
-use Rattle.rp_repo.proofs.Partners.{next_partners, left_partners}
+use Rattle.rp_plain.specs.Opening.{opened}
+use Rattle.rp_plain.specs.Meaning.{has_text}
+use Rattle.ex_types.specs.Checked.{Checked}
+use Rattle.rp_core.specs.Held.{turn, partner_at}
 use Rattle.rp_delivery.specs.Names.{me}
 use Rattle.rp_delivery.specs.Requests.{mine, include, includes, listing, create_group, validation, is_refused, Taken, IsAnswered, IsAnswer, Makes, IsMe}
 
@@ -29,6 +31,13 @@ answered old new place q reply is may content = record {
 -- the partners stay, and he stands where he stood
 pub still_me : (old new : Plain) (place : ℕ) → new.partners ≡ old.partners → IsMe old place → IsMe new place
 still_me old new place same is = record { within = rw same is.within; is = rw same is.is }
+
+-- where he is the one partner, he is found
+pub known : (r : Plain) (schemas : List Checked) (name : List ℕ) → r ≡ opened schemas (me ∷ []) → name ≡ me → has_text r.partners name ≡ false → ⊥
+known r schemas name is named not = true≢false (ap (λ x. has_text (me ∷ []) x) (sym named) ∙ ap (λ x. has_text x.partners name) (sym is) ∙ not)
+
+pub is_me : (r : Plain) (place : ℕ) (name : List ℕ) → name ≡ me → (place < length r.partners) × (partner_at r place ≡ name) → IsMe r place
+is_me r place name named found = record { within = found.0; is = found.1 ∙ named }
 
 -- ---- turns that were taken
 

@@ -11,4 +11,4 @@ group_name = codes "all"
 
 -- the model of the file of this number, in two digits
 abbrev pub model_name : ℕ → List ℕ
-model_name n = 48 + n / 10 % 10 ∷ 48 + n % 10 ∷ []
+model_name n = (48 + n / 10 % 10) ∷ (48 + n % 10) ∷ []

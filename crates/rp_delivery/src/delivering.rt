@@ -1,5 +1,5 @@
 //! The files of a delivery, one after another.
-ghost use Rattle.std.specs.Prelude.{◌≡◌, true, false, [], ◌∷◌, map, Option, IfOk};
+ghost use Rattle.std.specs.Prelude.{◌≡◌, true, false, [], ◌∷◌, map, Option, IfOk, OnOk};
 ghost use Rattle.rp_files.specs.Files.{Held};
 ghost use Rattle.rp_plain.specs.Opening.{opened};
 ghost use Rattle.rp_delivery.specs.Names.{me as deliverer};
@@ -167,6 +167,40 @@ fn deliver_file<'a, D: Folder>(
     }
 }
 
+/// Puts the files of these paths, one after another, and validates them; a put that is refused ends it.
+fn put_and_validate<'a, D: Folder, N: Notes>(
+    alloc: Global,
+    folder: &D,
+    ground: Ground<'_>,
+    repository: &mut Repository<'_>,
+    paths: &[&'a str],
+    delivered: &mut Delivered<'a>,
+    notes: &mut N,
+) -> Result<(), Failure<LoadFault>>
+    requires me { IsMe repository.old.content ground.me }
+    requires first { delivered.old.schema ≡ 0 }
+    ensures { OnOk result (IsDelivered (D.files folder.now) repository.old.content ground.schemas.now (map (λ path. path.now) paths.now) delivered.new.reply) }
+{
+    for (place, path) in paths.iter().enumerate() {
+        notes.file(place + 1, paths.len());
+        if !deliver_file(
+            alloc,
+            folder,
+            ground,
+            repository,
+            delivered,
+            place + 1,
+            path,
+        )? {
+            return Ok(());
+        }
+    }
+    notes.rules();
+    let schema = name_at(ground.schemas, delivered.schema);
+    delivered.reply = validate(alloc, repository, ground.me, schema, paths.len())?;
+    Ok(())
+}
+
 /// Puts the files of a delivery, one after another, and validates them; a put that is refused ends it.
 ///
 /// # Errors
@@ -193,27 +227,18 @@ pub fn deliver<'a, D: Folder, N: Notes>(
     let Some(me) = repository.caller(&partner(alloc)?) else {
         return Ok(delivered);
     };
-    let ground = Ground {
-        schemas,
-        me,
-        form: asked.form,
-    };
-    for (place, path) in asked.files.iter().enumerate() {
-        notes.file(place + 1, asked.files.len());
-        if !deliver_file(
-            alloc,
-            folder,
-            ground,
-            repository,
-            &mut delivered,
-            place + 1,
-            path,
-        )? {
-            return Ok(delivered);
-        }
-    }
-    notes.rules();
-    let schema = name_at(schemas, delivered.schema);
-    delivered.reply = validate(alloc, repository, me, schema, asked.files.len())?;
+    put_and_validate(
+        alloc,
+        folder,
+        Ground {
+            schemas,
+            me,
+            form: asked.form,
+        },
+        repository,
+        asked.files,
+        &mut delivered,
+        notes,
+    )?;
     Ok(delivered)
 }

@@ -1,5 +1,6 @@
 //! What a reply says of a delivery.
 ghost use Rattle.std.specs.Prelude.{◌≡◌};
+ghost use Rattle.std.specs.List.{list_all};
 ghost use Rattle.rp_delivery.specs.Judged as spec;
 
 use rp_meaning::Verdict;
@@ -28,15 +29,21 @@ pub fn judgement_of(reply: &Reply) -> Judgement
 fn judged(checks: &[ToldCheck]) -> Judgement
     ensures { result ≡ spec.judged checks.now }
 {
-    if checks.iter().all(|check| is_kept(check.verdict)) {
+    if are_kept(checks) {
         Judgement::Kept
     } else {
         Judgement::NotKept
     }
 }
 
-fn is_kept(verdict: Verdict) -> bool
-    ensures { result ≡ spec.is_kept verdict }
+fn are_kept(checks: &[ToldCheck]) -> bool
+    ensures { result ≡ list_all (λ check. spec.is_kept check.verdict) checks.now }
 {
-    matches!(verdict, Verdict::True | Verdict::Unknown)
+    checks.iter().all(|check| is_kept(check))
+}
+
+fn is_kept(check: &ToldCheck) -> bool
+    ensures { result ≡ spec.is_kept check.now.verdict }
+{
+    matches!(check.verdict, Verdict::True | Verdict::Unknown)
 }

@@ -1,7 +1,7 @@
 //! The schemas of a delivery, with their texts.
 ghost use Rattle.std.specs.Prelude.{◌≡◌, map, IfSome};
 ghost use Rattle.plain_data.specs.Gives.{Gives};
-ghost use Rattle.rp_config.specs.Loading.{schemas_at};
+ghost use Rattle.rp_config.specs.Loading.{schema_at, schemas_at};
 
 use ex_compiled::Compiled;
 use plain_data::{Failure, Rows};
@@ -16,6 +16,22 @@ pub struct SchemaSources {
     pub schemas: Rows<Compiled>,
 }
 
+/// A schema with its text.
+#[derive(Drop)]
+struct Source {
+    text: Vec<u8>,
+    schema: Compiled,
+}
+
+/// The schema in the file of this path.
+fn source_at<D: Folder>(alloc: Global, folder: &D, path: &str) -> Result<Source, Failure<LoadFault>>
+    ensures { IfSome (D.files folder.now) (λ held. Gives (λ source. source.schema) result (schema_at held path.now)) }
+{
+    let text = file_bytes(alloc, folder, path)?;
+    let schema = schema_of(alloc, path, &text)?;
+    Ok(Source { text, schema })
+}
+
 /// The schemas in the files of these paths; else the first fault.
 pub fn sources_at<D: Folder>(
     alloc: Global,
@@ -27,8 +43,8 @@ pub fn sources_at<D: Folder>(
     let mut texts = Vec::new(alloc);
     let mut schemas = Rows::new(alloc);
     for path in paths {
-        let text = file_bytes(alloc, folder, path)?;
-        schemas.push(schema_of(alloc, path, &text)?)?;
+        let Source { text, schema } = source_at(alloc, folder, path)?;
+        schemas.push(schema)?;
         texts.push(text)?;
     }
     Ok(SchemaSources { texts, schemas })
