@@ -3,7 +3,18 @@ use crate::loading::{config_at, schema_at};
 use crate::shown::Shown;
 use plain_data::{Failure, Rows, Text};
 use rp_files::{Folder, LoadFault};
-use std::alloc::Global;
+use std::alloc::{AllocError, Global};
+
+/// The place of the first name that another one has before it, behind the place of that.
+fn first_again(names: &[Text]) -> Option<(usize, usize)> {
+    for (place, name) in names.iter().enumerate() {
+        match names.iter().position(|other| other.is(name)) {
+            Some(first) if first < place => return Some((first, place)),
+            _ => {}
+        }
+    }
+    None
+}
 
 /// The first partner in the configuration at this path whose name another one has before him. It is read once more.
 pub fn partner_twice<D: Folder>(
@@ -13,12 +24,48 @@ pub fn partner_twice<D: Folder>(
 ) -> Result<Option<String>, Failure<LoadFault>> {
     let config = config_at(alloc, folder, path)?;
     let names = config.partners.as_slice();
-    for (place, name) in names.iter().enumerate() {
-        if names.iter().take(place).any(|before| before.is(name)) {
-            return Ok(Some(format!(in alloc; "{}", Shown(name.as_str()))?));
-        }
+    match first_again(names).and_then(|(_, again)| names.get(again)) {
+        Some(name) => Ok(Some(format!(in alloc; "{}", Shown(name.as_str()))?)),
+        None => Ok(None),
     }
-    Ok(None)
+}
+
+/// The name of the schema in the file of this path.
+fn name_at<D: Folder>(alloc: Global, folder: &D, path: &str) -> Result<Text, Failure<LoadFault>> {
+    let schema = schema_at(alloc, folder, path)?;
+    Ok(Text::from_str(alloc, schema.checked().name())?)
+}
+
+/// The names of the schemas in the files of these paths.
+fn names_at<D: Folder>(
+    alloc: Global,
+    folder: &D,
+    paths: &[Text],
+) -> Result<Rows<Text>, Failure<LoadFault>> {
+    let mut names = Rows::new(alloc);
+    for path in paths {
+        names.push(name_at(alloc, folder, path.as_str())?)?;
+    }
+    Ok(names)
+}
+
+/// The first name that another one has before it, and the files of both.
+fn files_of_one(
+    alloc: Global,
+    names: &[Text],
+    paths: &[Text],
+) -> Result<Option<String>, AllocError> {
+    let Some((first, again)) = first_again(names) else {
+        return Ok(None);
+    };
+    match (names.get(again), paths.get(first), paths.get(again)) {
+        (Some(name), Some(first), Some(again)) => {
+            let (name, first) = (Shown(name.as_str()), Shown(first.as_str()));
+            let again = Shown(again.as_str());
+            Ok(Some(format!(in alloc; "{name}, of {first} and {again}")?))
+        }
+        _ => Ok(None),
+    }
 }
 
 /// The first schema of the configuration at this path whose name another one has before it, and the files of both. They are
@@ -30,23 +77,6 @@ pub fn schema_twice<D: Folder>(
 ) -> Result<Option<String>, Failure<LoadFault>> {
     let config = config_at(alloc, folder, path)?;
     let paths = config.schemas.as_slice();
-    let mut names = Rows::new(alloc);
-    for path in paths {
-        let schema = schema_at(alloc, folder, path.as_str())?;
-        let name = Text::from_str(alloc, schema.checked().name())?;
-        let before = names
-            .as_slice()
-            .iter()
-            .position(|before: &Text| before.is(&name));
-        if let Some(first) = before.and_then(|place| paths.get(place)) {
-            let (name, first, path) = (
-                Shown(name.as_str()),
-                Shown(first.as_str()),
-                Shown(path.as_str()),
-            );
-            return Ok(Some(format!(in alloc; "{name}, of {first} and {path}")?));
-        }
-        names.push(name)?;
-    }
-    Ok(None)
+    let names = names_at(alloc, folder, paths)?;
+    Ok(files_of_one(alloc, names.as_slice(), paths)?)
 }
