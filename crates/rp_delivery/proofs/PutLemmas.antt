@@ -13,7 +13,7 @@ use Rattle.rp_plain.specs.Plain.{Plain}
 use Rattle.rp_plain.specs.Meaning.{schema_name}
 use Rattle.rp_delivery.specs.Choice.{place_named}
 use Rattle.rp_delivery.specs.Requests.{create, put, puts, validation, is_refused, Taken, IsAnswer, Makes}
-use Rattle.rp_delivery.specs.Deliveries.{IsText, AreTexts, IsUnasked, name_of, schema_of, place_for, ArePut, PutsOneMore, EndsWith, turns, IsDelivered}
+use Rattle.rp_delivery.specs.Deliveries.{IsText, AreTexts, IsUnasked, name_of, schema_of, place_for, ArePut, EndsWith, turns, IsDelivered}
 use Rattle.rp_delivery.proofs.TurnLemmas.{taken_append, answer_behind, answer_before}
 
 -- ---- texts
@@ -136,13 +136,10 @@ validated files r now schemas paths place n count reply were number a =
 -- ---- paths
 
 -- those in front of one, that one, and those behind it
-path_there : {A : Type 0} (f : A → List ℕ) (xs : List A) (i : ℕ) (x : A) → i < length xs → x ≡ get_or xs i x → map f xs ≡ map f (take i xs) ++ f x ∷ map f (drop (suc i) xs)
-path_there f [] i x within is = absurd (omega (arith, within))
-path_there f (y ∷ ys) zero x within is = ap (λ z. f z ∷ map f ys) (sym is)
-path_there f (y ∷ ys) (suc i) x within is = ap (λ zs. f y ∷ zs) (path_there f ys i x (omega (arith, within)) is)
-
-pub path_more : {A : Type 0} (f : A → List ℕ) (xs : List A) (i : ℕ) (x : A) → i < length xs → x ≡ get_or xs i x → map f (take (i + 1) xs) ≡ map f (take i xs) ++ f x ∷ []
-path_more f xs i x within is = map_more f xs i x within ∙ ap (λ y. map f (take i xs) ++ f y ∷ []) (sym is)
+path_there : {A : Type 0} (f : A → List ℕ) (xs : List A) (i : ℕ) (d : A) → i < length xs → map f xs ≡ map f (take i xs) ++ f (get_or xs i d) ∷ map f (drop (suc i) xs)
+path_there f [] i d within = absurd (omega (arith, within))
+path_there f (y ∷ ys) zero d within = refl
+path_there f (y ∷ ys) (suc i) d within = ap (λ zs. f y ∷ zs) (path_there f ys i d (omega (arith, within)))
 
 -- ---- schemas
 
@@ -158,13 +155,10 @@ name_past (x ∷ xs) (suc n) past = name_past xs n (omega (arith, past))
 
 -- ---- all files, by their paths
 
-module _ {A : Type 0} (path : A → List ℕ) (files : Option Held) (schemas : List Checked) (r old : Plain) (before : ℕ) (xs : List A) (i : ℕ) (x : A) (within : i < length xs) (is : x ≡ get_or xs i x)
+module _ {A : Type 0} (path : A → List ℕ) (files : Option Held) (schemas : List Checked) (r old : Plain) (before : ℕ) (xs : List A) (i : ℕ) (d : A) (within : i < length xs)
     (were : ArePut files r old schemas (map path (take i xs)) before (i + 1)) where
-  pub more_put : (new : Plain) (place : ℕ) → PutsOneMore files schemas old new before place (i + 1) (path x) → ArePut files r new schemas (map path (take (i + 1) xs)) place (i + 1 + 1)
-  more_put new place more = subst (λ ps. ArePut files r new schemas ps place (i + 1 + 1)) (sym (path_more path xs i x within is)) (more r (map path (take i xs)) were)
-
-  pub ended : (reply : Reply) → EndsWith files schemas old before (i + 1) (path x) reply → IsDelivered files r schemas (map path xs) reply
-  ended reply ends = subst (λ ps. IsDelivered files r schemas ps reply) (sym (path_there path xs i x within is)) (ends r (map path (take i xs)) (map path (drop (suc i) xs)) were)
+  pub ended : (reply : Reply) → EndsWith files schemas old before (i + 1) (path (get_or xs i d)) reply → IsDelivered files r schemas (map path xs) reply
+  ended reply ends = subst (λ ps. IsDelivered files r schemas ps reply) (sym (path_there path xs i d within)) (ends r (map path (take i xs)) (map path (drop (suc i) xs)) were)
 
 pub all_put : {A : Type 0} (path : A → List ℕ) (files : Option Held) (schemas : List Checked) (r now : Plain) (place : ℕ) (xs : List A) (i : ℕ) (reply : Reply) → length xs ≤ i → i ≤ length xs
     → ArePut files r now schemas (map path (take i xs)) place (i + 1) → IsAnswer now (validation (name_of schemas place) (length xs)) reply → IsDelivered files r schemas (map path xs) reply

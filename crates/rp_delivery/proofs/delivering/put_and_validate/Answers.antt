@@ -1,5 +1,4 @@
-use Rattle.std.proofs.Common.{◌≡◌, ◌<◌, ◌≤◌, ◌+◌, ◌∙◌, List, ℕ, get_or, length, map, true, false, rules, sym, arith}
-use Rattle.rp_delivery.specs.Deliveries.{EndsWith}
+use Rattle.std.proofs.Common.{◌≤◌, [], length, rules, arith}
 use Rattle.rp_delivery.proofs.PutLemmas.{ended, all_put}
 use Rattle.rp_delivery.proofs.delivering.put_and_validate.Goals as goal
 
@@ -7,7 +6,7 @@ pub returns-then-not-branch : goal.returns-then-not-branch
 returns-then-not-branch g c =
     let xs = c.args.paths.now in
     let i = c.loop-place.place in
-    ended (λ path. path.now) (g.D.Folder.files c.args.folder.now) c.args.ground.now.schemas.now c.args.repository.now.content c.loop-place.repository.content c.loop-place.delivered.schema xs i _ c.loop-place-test.true (search rules)
+    ended (λ path. path.now) (g.D.Folder.files c.args.folder.now) c.args.ground.now.schemas.now c.args.repository.now.content c.loop-place.repository.content c.loop-place.delivered.schema xs i record { ref_ptr = (0, 0); now = [] } c.loop-place-test.true
     c.loop-place.invariant.1 c.deliver_file.new.delivered.reply (c.in_ok-deliver_file.ensures.refused (search rules))
 
 pub returns : goal.returns
