@@ -484,16 +484,16 @@ def test_refused_files():
 def test_files_that_are_none():
     """One that is absent, and a folder."""
     files = {"t.exp": T, "a.step": file_of(""), "sub/b.step": ""}
-    refuses(files, "--schema", "t.exp", "a.step", "b.step", error='"b.step" can\'t be read')
-    refuses(files, "--schema", "t.exp", "sub", error='"sub" can\'t be read')
-    refuses(files, "--schema", "t.exp", "--json", "a.step", "sub", error='"sub" can\'t be read')
+    refuses(files, "--schema", "t.exp", "a.step", "b.step", error='"b.step" can\'t be read: there is no such file')
+    refuses(files, "--schema", "t.exp", "sub", error='"sub" can\'t be read: it is a folder')
+    refuses(files, "--schema", "t.exp", "--json", "a.step", "sub", error='"sub" can\'t be read: it is a folder')
 
 
 def test_schemas_that_are_none():
     """They are looked at in their order, and before any file."""
     files = {"t.exp": T, "n.exp": "SCHEMA n; x", "u.exp": "schema t; END_SCHEMA;"}
     refuses(files, "--schema", "t.exp", "--schema", "n.exp", "--schema", "z.exp", "z.step", error='"n.exp" is no schema: Syntax line 1 column 11')
-    refuses(files, "--schema", "z.exp", "--schema", "n.exp", "z.step", error='"z.exp" can\'t be read')
+    refuses(files, "--schema", "z.exp", "--schema", "n.exp", "z.step", error='"z.exp" can\'t be read: there is no such file')
     refuses(files, "--schema", "t.exp", "--schema", "u.exp", "z.step", error="two schemas have one name")
 
 

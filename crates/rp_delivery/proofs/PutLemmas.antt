@@ -1,16 +1,19 @@
 -- The files of a delivery, one after another.
-use Rattle.std.proofs.Common.{◌≡◌, ◌⊎◌, ◌<◌, ◌≤◌, ◌+◌, ◌-◌, ℕ, zero, suc, Bool, true, false, List, [], ◌∷◌, ◌++◌, length, get_or, take, drop, map, Option, Some, None, IfSome, Result, Ok, Err, refl, sym, ap, subst, ◌∙◌, append_assoc, append-nil, add-one, arith}
-use Rattle.std.specs.Prelude.{nat_le}
-use Rattle.std.proofs.Math.Seq.{drop-cons}
-use Rattle.std.proofs.lemmas.List.{take-append-drop, map_more}
+use Rattle.std.proofs.Common.{◌≡◌, ◌⊎◌, ◌<◌, ◌≤◌, ◌+◌, ℕ, zero, suc, Bool, true, false, List, [], ◌∷◌, ◌++◌, length, get_or, take, drop, map, Option, Some, None, IfSome, Ok, refl, sym, ap, subst, ◌∙◌, append_assoc, append-nil, inl, inr, arith}
+use Rattle.std.specs.Prelude.{nat_le, if◌then◌else◌}
+use Rattle.std.proofs.lemmas.Bool.Decides.{nat_tests}
+use Rattle.std.proofs.lemmas.List.{take_all, map_more}
 use Rattle.ex_types.specs.Checked.{Checked}
+use Rattle.std.specs.Str.{is_utf8}
 use Rattle.rp_files.specs.Files.{Held, file_at}
+use Rattle.rp_plain.specs.declared.messages.Reply.TheVariants.{Refused}
+use Rattle.rp_plain.specs.declared.messages.Refusal.TheVariants.{BadRequest}
 use Rattle.rp_plain.specs.declared.messages.Reply.{Reply}
 use Rattle.rp_plain.specs.Plain.{Plain}
-use Rattle.rp_plain.specs.Turns.{Turn}
+use Rattle.rp_plain.specs.Meaning.{schema_name}
 use Rattle.rp_delivery.specs.Choice.{place_named}
 use Rattle.rp_delivery.specs.Requests.{create, put, puts, validation, is_refused, Taken, IsAnswer, Makes}
-use Rattle.rp_delivery.specs.Deliveries.{IsText, AreTexts, IsUnasked, name_of, schema_of, place_for, ArePut, turns, IsDelivered}
+use Rattle.rp_delivery.specs.Deliveries.{IsText, AreTexts, IsUnasked, name_of, schema_of, place_for, ArePut, EndsWith, turns, IsDelivered}
 use Rattle.rp_delivery.proofs.TurnLemmas.{taken_append, answer_behind, answer_before}
 
 -- ---- texts
@@ -34,8 +37,8 @@ name_more : (schemas : List Checked) (texts : List (List ℕ)) (text : List ℕ)
     → place ≡ place_for schemas n before text → name_of schemas place ≡ schema_of schemas (texts ++ text ∷ [])
 name_more schemas [] text before place n number name is = ap (name_of schemas) (is ∙ ap (λ k. place_for schemas k before text) number)
 name_more schemas (t ∷ ts) text before place n number name is =
-    let later : length (t ∷ ts) + 1 ≡ suc (suc (length ts)) = omega arith in
-    ap (name_of schemas) (is ∙ ap (λ k. place_for schemas k before text) (number ∙ later)) ∙ name
+    let later : nat_le n 1 ≡ false = grind (arith, nat_tests, number) in
+    ap (name_of schemas) (is ∙ ap (λ first. if first then place_named schemas text else before) later) ∙ name
 
 -- ---- turns
 
@@ -92,7 +95,7 @@ module _ (files : Option Held) (schemas : List Checked) (old new : Plain) (befor
         are = sym (append_assoc paths (path ∷ []) left);
         texts = were.texts ++ text ∷ [];
         held = texts_more files paths were.texts path text were.held is;
-        reply = inl (turns_of r reply (were.texts ++ text ∷ []) left (schema_of schemas (were.texts ++ text ∷ [])) refused
+        answer = inl (turns_of r reply (were.texts ++ text ∷ []) left (schema_of schemas (were.texts ++ text ∷ [])) refused
             (subst (λ ts. IsAnswer r ts reply) (sym (puts_of schemas were.texts text place n were.number name))
             (answer_behind r old (puts (schema_of schemas were.texts) 1 were.texts) (create (name_of schemas place) n ∷ put n text ∷ []) reply were.taken makes.answer)));
       }
@@ -106,7 +109,7 @@ unasked files schemas old before n path reply is r paths left were = record {
   are = refl;
   texts = were.texts;
   held = were.held;
-  reply = inr (old, were.taken, path, left, refl, is);
+  answer = inr (old, were.taken, path, left, refl, is);
 }
 
 -- ---- all files
@@ -126,17 +129,50 @@ validated files r now schemas paths place n count reply were number a =
       are = sym (append-nil paths);
       texts = were.texts;
       held = were.held;
-      reply = inl (answer_behind r now (puts (schema_of schemas were.texts) 1 were.texts) (validation (schema_of schemas were.texts) (length were.texts)) reply were.taken
+      answer = inl (answer_behind r now (puts (schema_of schemas were.texts) 1 were.texts) (validation (schema_of schemas were.texts) (length were.texts)) reply were.taken
           (subst (λ k. IsAnswer now (validation (schema_of schemas were.texts) k) reply) so_many (subst (λ x. IsAnswer now (validation x count) reply) were.name a)));
     }
 
 -- ---- paths
 
 -- those in front of one, that one, and those behind it
-pub one_path : {A : Type 0} (f : A → List ℕ) (xs : List A) (i : ℕ) (x : A) → i < length xs → x ≡ get_or xs i x → map f xs ≡ map f (take i xs) ++ f x ∷ map f (drop (i + 1) xs)
-one_path f [] i x within is = absurd (omega (arith, within))
-one_path f (y ∷ ys) zero x within is = ap (λ z. f z ∷ map f ys) (sym is)
-one_path f (y ∷ ys) (suc i) x within is = ap (λ zs. f y ∷ zs) (one_path f ys i x (omega (arith, within)) is)
+path_there : {A : Type 0} (f : A → List ℕ) (xs : List A) (i : ℕ) (d : A) → i < length xs → map f xs ≡ map f (take i xs) ++ f (get_or xs i d) ∷ map f (drop (suc i) xs)
+path_there f [] i d within = absurd (omega (arith, within))
+path_there f (y ∷ ys) zero d within = refl
+path_there f (y ∷ ys) (suc i) d within = ap (λ zs. f y ∷ zs) (path_there f ys i d (omega (arith, within)))
 
-pub path_more : {A : Type 0} (f : A → List ℕ) (xs : List A) (i : ℕ) (x : A) → i < length xs → x ≡ get_or xs i x → map f (take (i + 1) xs) ≡ map f (take i xs) ++ f x ∷ []
-path_more f xs i x within is = map_more f xs i x within ∙ ap (λ y. map f (take i xs) ++ f y ∷ []) (sym is)
+-- ---- schemas
+
+pub name_there : (schemas : List Checked) (n : ℕ) (s : Checked) → n < length schemas → s ≡ get_or schemas n s → name_of schemas n ≡ schema_name s
+name_there [] n s within is = absurd (omega (arith, within))
+name_there (x ∷ xs) zero s within is = ap schema_name (sym is)
+name_there (x ∷ xs) (suc n) s within is = name_there xs n s (omega (arith, within)) is
+
+pub name_past : (schemas : List Checked) (n : ℕ) → length schemas ≤ n → name_of schemas n ≡ []
+name_past [] n past = refl
+name_past (x ∷ xs) zero past = absurd (omega (arith, past))
+name_past (x ∷ xs) (suc n) past = name_past xs n (omega (arith, past))
+
+-- ---- all files, by their paths
+
+module _ {A : Type 0} (path : A → List ℕ) (files : Option Held) (schemas : List Checked) (r old : Plain) (before : ℕ) (xs : List A) (i : ℕ) (d : A) (within : i < length xs)
+    (were : ArePut files r old schemas (map path (take i xs)) before (i + 1)) where
+  pub ended : (reply : Reply) → EndsWith files schemas old before (i + 1) (path (get_or xs i d)) reply → IsDelivered files r schemas (map path xs) reply
+  ended reply ends = subst (λ ps. IsDelivered files r schemas ps reply) (sym (path_there path xs i d within)) (ends r (map path (take i xs)) (map path (drop (suc i) xs)) were)
+
+pub all_put : {A : Type 0} (path : A → List ℕ) (files : Option Held) (schemas : List Checked) (r now : Plain) (place : ℕ) (xs : List A) (i : ℕ) (reply : Reply) → length xs ≤ i → i ≤ length xs
+    → ArePut files r now schemas (map path (take i xs)) place (i + 1) → IsAnswer now (validation (name_of schemas place) (length xs)) reply → IsDelivered files r schemas (map path xs) reply
+all_put path files schemas r now place xs i reply past within were a =
+    let number : i + 1 ≡ length xs + 1 = omega (arith, past, within) in
+    validated files r now schemas (map path xs) place (i + 1) (length xs) reply (subst (λ ys. ArePut files r now schemas (map path ys) place (i + 1)) (take_all i xs past) were) number a
+
+-- ---- a file that is in no request
+
+-- since it isn't UTF-8
+pub no_text : (files : Option Held) (path bytes : List ℕ) → IfSome files (λ held. file_at held path ≡ Ok bytes) → (is_utf8 bytes ≡ true → ⊥) → IsUnasked files path (Refused BadRequest)
+no_text None path bytes known not = inr refl
+no_text (Some held) path bytes known not = inr (bytes, known, by_cases (is_utf8 bytes) not, refl)
+  where
+    by_cases : (b : Bool) → (b ≡ true → ⊥) → b ≡ false
+    by_cases true not = absurd (not refl)
+    by_cases false not = refl

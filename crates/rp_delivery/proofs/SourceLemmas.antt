@@ -4,9 +4,6 @@ use Rattle.std.proofs.Math.Seq.{drop-cons}
 use Rattle.ex_types.specs.Checked.{Checked}
 use Rattle.rp_files.specs.declared.fault.LoadFault.{LoadFault}
 use Rattle.rp_files.specs.Files.{Held}
-use Rattle.plain_data.specs.declared.failure.Failure.{Failure}
-use Rattle.plain_data.specs.declared.failure.Failure.TheVariants.{NoMemory, Fault}
-use Rattle.plain_data.specs.Gives.{Fails}
 use Rattle.rp_config.specs.Loading.{and_then, schema_at, schemas_at}
 
 one_before : (found : List Checked) (x : Checked) (o : Result (List Checked) LoadFault) → and_then (and_then o (λ more. Ok (x ∷ more))) (λ more. Ok (found ++ more)) ≡ and_then o (λ more. Ok ((found ++ x ∷ []) ++ more))
@@ -18,19 +15,10 @@ module _ {A : Type 0} (path : A → List ℕ) where
   abbrev pub Found : Held → List A → ℕ → List Checked → Type 0
   Found held paths i found = schemas_at held (map path paths) ≡ and_then (schemas_at held (map path (drop i paths))) (λ more. Ok (found ++ more))
 
-  next : (paths : List A) (i : ℕ) (x : A) → i < length paths → x ≡ get_or paths i x → drop i paths ≡ x ∷ drop (i + 1) paths
-  next paths i x within is = drop-cons paths i x within ∙ rw (add-one, ← is) refl
-
   -- the schema of the path at i behind them
-  pub one_more : (known : Option Held) (paths : List A) (i : ℕ) (x : A) (found : List Checked) (s : Checked) → i < length paths → x ≡ get_or paths i x
-      → IfSome known (λ held. Found held paths i found) → IfSome known (λ held. schema_at held (path x) ≡ Ok s) → IfSome known (λ held. Found held paths (i + 1) (found ++ s ∷ []))
-  one_more None paths i x found s within is before e = tt
-  one_more (Some held) paths i x found s within is before e =
-      before ∙ rw (next paths i x within is, e) (one_before found s (schemas_at held (map path (drop (i + 1) paths))))
-
-  -- or its fault, which is the first
-  pub one_fault : (known : Option Held) (paths : List A) (i : ℕ) (x : A) (found : List Checked) (why : Failure LoadFault) → i < length paths → x ≡ get_or paths i x
-      → IfSome known (λ held. Found held paths i found) → IfSome known (λ held. Fails why (schema_at held (path x))) → IfSome known (λ held. Fails why (schemas_at held (map path paths)))
-  one_fault None paths i x found why within is before e = tt
-  one_fault (Some held) paths i x found NoMemory within is before e = tt
-  one_fault (Some held) paths i x found (Fault fault) within is before e = before ∙ rw (next paths i x within is, e) refl
+  pub one_more : (known : Option Held) (paths : List A) (i : ℕ) (d : A) (found : List Checked) (s : Checked) → i < length paths
+      → IfSome known (λ held. Found held paths i found) → IfSome known (λ held. schema_at held (path (get_or paths i d)) ≡ Ok s) → IfSome known (λ held. Found held paths (i + 1) (found ++ s ∷ []))
+  one_more None paths i d found s within before e = tt
+  one_more (Some held) paths i d found s within before e =
+      let next : drop i paths ≡ get_or paths i d ∷ drop (i + 1) paths = drop-cons paths i d within ∙ rw add-one refl in
+      before ∙ rw (next, e) (one_before found s (schemas_at held (map path (drop (i + 1) paths))))

@@ -1,5 +1,6 @@
 -- Turns that were taken, one after another, and the reply that ends them.
-use Rattle.std.proofs.Common.{◌≡◌, ◌⊎◌, ◌<◌, ◌+◌, ◌-◌, ℕ, zero, suc, Bool, true, false, List, [], ◌∷◌, ◌++◌, length, refl, sym, ap, subst, ◌∙◌, append_assoc, true≢false, arith}
+use Rattle.std.specs.Prelude.{Result, Ok, Err, IfOk}
+use Rattle.std.proofs.Common.{◌≡◌, ◌⊎◌, ◌<◌, ◌+◌, ◌-◌, ℕ, zero, suc, Bool, true, false, List, [], ◌∷◌, ◌++◌, length, refl, sym, ap, subst, ◌∙◌, append_assoc, inl, inr, true≢false, arith}
 use Rattle.rp_plain.specs.declared.messages.Request.{Request}
 use Rattle.rp_plain.specs.declared.messages.Reply.{Reply}
 use Rattle.rp_plain.specs.Plain.{Plain}
@@ -83,6 +84,11 @@ answer_before r ts us reply is a = record {
   may = a.may;
   ends = inr is;
 }
+
+-- one that was taken in front of others
+pub if_behind : {E : Type 0} (r m : Plain) (t : Turn) (us : List Turn) (first : Reply) (o : Result Reply E) → IsAnswered r m t first → is_refused first ≡ false → IfOk o (IsAnswer m us) → IfOk o (IsAnswer r (t ∷ us))
+if_behind r m t us first (Err e) a is said = tt
+if_behind r m t us first (Ok reply) a is said = answer_behind r m (t ∷ []) us reply (taken_one r m t first a is) said
 
 -- ---- two turns
 

@@ -1,5 +1,5 @@
 -- What a delivery of files answers.
-use Rattle.std.specs.Prelude.{◌≡◌, ◌⊎◌, ℕ, false, List, [], ◌∷◌, ◌++◌, ◌+◌, length, nat_le, if◌then◌else◌, Option, Some, None, Ok, Err, ⊤}
+use Rattle.std.specs.Prelude.{◌≡◌, ◌⊎◌, ℕ, zero, suc, false, List, [], ◌∷◌, ◌++◌, ◌+◌, length, nat_le, if◌then◌else◌, Option, Some, None, Ok, Err, ⊤}
 use Rattle.std.specs.Str.{is_utf8}
 use Rattle.ex_types.specs.Checked.{Checked}
 use Rattle.rp_files.specs.declared.fault.LoadFault.TheVariants.{TooLarge as FileTooLarge}
@@ -45,7 +45,7 @@ IsFileText files path (file.Refused refusal) = IsUnasked files path (Refused ref
 
 abbrev pub name_of : List Checked → ℕ → List ℕ
 name_of [] n = []
-name_of (schema ∷ schemas) 0 = schema_name schema
+name_of (schema ∷ schemas) zero = schema_name schema
 name_of (schema ∷ schemas) (suc n) = name_of schemas n
 
 -- the name of the schema of these texts: the one that the first of them names
@@ -87,7 +87,7 @@ pub record IsDelivered (files : Option Held) (r : Plain) (schemas : List Checked
   pub are : paths ≡ read ++ left
   pub texts : List (List ℕ)
   pub held : AreTexts files read texts
-  pub reply : IsAnswer r (turns (schema_of schemas texts) texts left) reply
+  pub answer : IsAnswer r (turns (schema_of schemas texts) texts left) reply
       ⊎ ((end : Plain) × Taken r (puts (schema_of schemas texts) 1 texts) end × (path : List ℕ) × (others : List (List ℕ)) × (left ≡ path ∷ others) × IsUnasked files path reply)
 
 -- the reply to the file of this path ends the delivery

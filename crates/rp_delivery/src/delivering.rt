@@ -65,7 +65,7 @@ fn name_at(schemas: &[Compiled], place: usize) -> &str
 }
 
 /// Who puts the files of a delivery, by which schemas, and for what that is told of it.
-#[derive(Clone, Copy)]
+#[derive(Drop)]
 struct Ground<'g> {
     schemas: &'g [Compiled],
     me: Caller,
@@ -99,19 +99,19 @@ fn instances_of(reply: &Reply) -> usize {
 /// Puts the text of the file of a path, which has this number. Answers whether it was put; else the reply says why not.
 fn put_text<'a>(
     alloc: Global,
-    ground: Ground<'_>,
+    ground: &Ground<'_>,
     repository: &mut Repository<'_>,
     delivered: &mut Delivered<'a>,
     number: usize,
     path: &'a str,
     text: Text,
 ) -> Result<bool, AllocError>
-    requires { IsMe repository.old.content ground.me }
-    ensures same { IsMe repository.new.content ground.me }
+    requires { IsMe repository.old.content ground.now.me }
+    ensures same { IsMe repository.new.content ground.now.me }
     ensures put { (files : Option Held) → IsText files path.now text → IfOk result (λ put. put ≡ true →
-        PutsOneMore files ground.schemas.now repository.old.content repository.new.content delivered.old.schema delivered.new.schema number path.now) }
+        PutsOneMore files ground.now.schemas.now repository.old.content repository.new.content delivered.old.schema delivered.new.schema number path.now) }
     ensures refused { (files : Option Held) → IsText files path.now text → IfOk result (λ put. put ≡ false →
-        EndsWith files ground.schemas.now repository.old.content delivered.old.schema number path.now delivered.new.reply) }
+        EndsWith files ground.now.schemas.now repository.old.content delivered.old.schema number path.now delivered.new.reply) }
 {
     delivered.schema = place_for(
         alloc,
@@ -143,18 +143,18 @@ fn put_text<'a>(
 fn deliver_file<'a, D: Folder>(
     alloc: Global,
     folder: &D,
-    ground: Ground<'_>,
+    ground: &Ground<'_>,
     repository: &mut Repository<'_>,
     delivered: &mut Delivered<'a>,
     number: usize,
     path: &'a str,
 ) -> Result<bool, Failure<LoadFault>>
-    requires { IsMe repository.old.content ground.me }
-    ensures same { IsMe repository.new.content ground.me }
+    requires { IsMe repository.old.content ground.now.me }
+    ensures same { IsMe repository.new.content ground.now.me }
     ensures put { IfOk result (λ put. put ≡ true →
-        PutsOneMore (D.files folder.now) ground.schemas.now repository.old.content repository.new.content delivered.old.schema delivered.new.schema number path.now) }
+        PutsOneMore (D.files folder.now) ground.now.schemas.now repository.old.content repository.new.content delivered.old.schema delivered.new.schema number path.now) }
     ensures refused { IfOk result (λ put. put ≡ false →
-        EndsWith (D.files folder.now) ground.schemas.now repository.old.content delivered.old.schema number path.now delivered.new.reply) }
+        EndsWith (D.files folder.now) ground.now.schemas.now repository.old.content delivered.old.schema number path.now delivered.new.reply) }
 {
     match text_at(alloc, folder, path)? {
         FileText::Text(text) => {
@@ -171,15 +171,15 @@ fn deliver_file<'a, D: Folder>(
 fn put_and_validate<'a, D: Folder, N: Notes>(
     alloc: Global,
     folder: &D,
-    ground: Ground<'_>,
+    ground: &Ground<'_>,
     repository: &mut Repository<'_>,
     paths: &[&'a str],
     delivered: &mut Delivered<'a>,
     notes: &mut N,
 ) -> Result<(), Failure<LoadFault>>
-    requires me { IsMe repository.old.content ground.me }
+    requires me { IsMe repository.old.content ground.now.me }
     requires first { delivered.old.schema ≡ 0 }
-    ensures { OnOk result (IsDelivered (D.files folder.now) repository.old.content ground.schemas.now (map (λ path. path.now) paths.now) delivered.new.reply) }
+    ensures { OnOk result (IsDelivered (D.files folder.now) repository.old.content ground.now.schemas.now (map (λ path. path.now) paths.now) delivered.new.reply) }
 {
     for (place, path) in paths.iter().enumerate() {
         notes.file(place + 1, paths.len());
@@ -230,7 +230,7 @@ pub fn deliver<'a, D: Folder, N: Notes>(
     put_and_validate(
         alloc,
         folder,
-        Ground {
+        &Ground {
             schemas,
             me,
             form: asked.form,
