@@ -14,6 +14,15 @@ fn push_small(out: &mut String, word: &str) -> Result<(), AllocError> {
     Ok(())
 }
 
+/// Puts the indexes of these steps behind words.
+fn push_steps(alloc: Global, out: &mut String, steps: &[Step]) -> Result<(), AllocError> {
+    for step in steps {
+        let index = format!(in alloc; "[{}]", step.index)?;
+        out.push_str(index.as_str())?;
+    }
+    Ok(())
+}
+
 /// The words that tell an attribute of this place with what it takes; or an element of it behind these steps, which is of this
 /// type.
 pub(crate) fn words_of_attribute<'s>(
@@ -30,10 +39,7 @@ pub(crate) fn words_of_attribute<'s>(
         words.push_str(": * (it is derived)")?;
         return Ok(words);
     }
-    for step in steps {
-        let index = format!(in alloc; "[{}]", step.index)?;
-        words.push_str(index.as_str())?;
-    }
+    push_steps(alloc, &mut words, steps)?;
     words.push_str(": ")?;
     push_type(&mut words, data_type, schema)?;
     if slot.is_optional() && steps.is_empty() {

@@ -41,6 +41,21 @@ pub fn place_of_refusal(
     }
 }
 
+/// Puts a place behind words.
+fn push_place(alloc: Global, out: &mut String, place: &FaultPlace) -> Result<(), AllocError> {
+    let place = format!(in alloc; ", line {} column {}", place.line, place.column)?;
+    out.push_str(place.as_str())
+}
+
+/// What a refusal says of the bytes of a file, of which no place is told.
+fn of_bytes(refusal: Refusal) -> &'static str {
+    match refusal {
+        Refusal::BadRequest => ", it isn't UTF-8",
+        Refusal::TooLarge => ", it is over 8 MiB",
+        _ => "",
+    }
+}
+
 /// A refusal as its reply has it, in words, with its place. A file that isn't UTF-8 is in no request, so that one of its bytes is a
 /// bad one.
 pub fn words_of_refusal(
@@ -56,14 +71,9 @@ pub fn words_of_refusal(
     push_member(&mut words, ", kind ", reply, "\"kind\":")?;
     push_member(&mut words, ", instance #", reply, "\"instance\":")?;
     if let Some(place) = place {
-        let place = format!(in alloc; ", line {} column {}", place.line, place.column)?;
-        words.push_str(place.as_str())?;
+        push_place(alloc, &mut words, place)?;
     }
-    match refusal {
-        Refusal::BadRequest => words.push_str(", it isn't UTF-8")?,
-        Refusal::TooLarge => words.push_str(", it is over 8 MiB")?,
-        _ => {}
-    }
+    words.push_str(of_bytes(refusal))?;
     Ok(words)
 }
 

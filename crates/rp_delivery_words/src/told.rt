@@ -23,6 +23,23 @@ fn tokens_of(alloc: Global, text: &[u8]) -> Result<Option<TokenList<'_>>, AllocE
     }
 }
 
+/// Puts the files, what came of each check and the verdict behind a text.
+fn push_report(
+    alloc: Global,
+    out: &mut String,
+    sources: &Sources<'_>,
+    schema: &str,
+    report: &ToldReport,
+) -> Result<(), AllocError> {
+    push_files(alloc, out, sources.files, schema)?;
+    out.push('\n')?;
+    for check in report.checks.as_slice() {
+        push_check(alloc, out, sources, check)?;
+    }
+    out.push('\n')?;
+    out.push_str(verdict_line(alloc, report)?.as_str())
+}
+
 /// What is told of files that were put and validated: of each check so many culprits.
 pub fn report_text(
     alloc: Global,
@@ -41,12 +58,6 @@ pub fn report_text(
         most,
     };
     let mut out = String::new(alloc);
-    push_files(alloc, &mut out, files, schema.name)?;
-    out.push('\n')?;
-    for check in report.checks.as_slice() {
-        push_check(alloc, &mut out, &sources, check)?;
-    }
-    out.push('\n')?;
-    out.push_str(verdict_line(alloc, report)?.as_str())?;
+    push_report(alloc, &mut out, &sources, schema.name, report)?;
     Ok(out)
 }
