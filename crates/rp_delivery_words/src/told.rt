@@ -27,7 +27,7 @@ fn tokens_of(alloc: Global, text: &[u8]) -> Result<Option<TokenList<'_>>, AllocE
 fn push_report(
     alloc: Global,
     out: &mut String,
-    sources: &Sources<'_>,
+    sources: &Sources<'_, '_, '_>,
     schema: &str,
     report: &ToldReport,
 ) -> Result<(), AllocError> {
