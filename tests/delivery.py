@@ -12,11 +12,11 @@ import os
 import pty
 import re
 import sys
+import threading
+import time
 
 from lib.harness import TOP, Folder, Wrong, run_tests, shortened
 from lib.messages import FILE_LIMIT, T, file_of, line
-
-
 
 ASSEMBLY = os.path.join(TOP, "example/assembly")
 WORKSHOP = """SCHEMA workshop;
@@ -522,11 +522,11 @@ def test_output_that_cannot_be_written():
 
 # ---- a terminal
 
-def on_terminal(files, *words):
+def on_terminal(folder, *words):
     """The status, what stands on standard output, and what a terminal as standard error was sent."""
     near, far = pty.openpty()
     try:
-        status, out, _ = run(files, *words, stderr=far)
+        status, out, _ = folder.run("validate", *words, stderr=far)
         os.close(far)
         sent = b""
         while True:
@@ -541,19 +541,26 @@ def on_terminal(files, *words):
         os.close(near)
 
 
+def write_late(path, text):
+    """Gives a pipe its bytes after a second and a half."""
+    time.sleep(1.5)
+    with open(path, "wb") as it:
+        it.write(text.encode())
+
+
 def test_progress():
-    """Within a second a terminal is sent nothing; in a longer run one line, which is taken away at the end."""
-    quick = on_terminal({"t.exp": T, "a.step": file_of("")}, "--schema", "t.exp", "--quiet", "a.step")
-    expect(quick, (0, b"Kept: all 5 checks are TRUE.\n", b""))
-    text = file_of("\n".join(f"#{k}=P({k}.5,'a name of some length');" for k in range(1, 40001)))
-    files = {f"{k}.step": text for k in range(24)}
-    status, out, sent = on_terminal({"t.exp": T, **files}, "--schema", "t.exp", "--quiet", *files)
-    shown = [it for it in sent.decode().split("\r") if it.strip()]
-    if any(not re.fullmatch(r"file \d+ of 24|the rules are tried", it.strip()) for it in shown) or shown[-1:] != ["the rules are tried"]:
-        raise Wrong(f"a terminal was sent {sent}")
-    if not re.fullmatch(rb".*\r +\r", sent, re.DOTALL) or b"\n" in sent:
-        raise Wrong(f"a line is left of {sent}")
-    expect((status, out[:5]), (0, b"Kept:"))
+    """Within a second a terminal is sent nothing; later one line, which is taken away at the end."""
+    with Folder() as folder:
+        folder.write("t.exp", T)
+        folder.write("b.step", file_of(""))
+        words = ("--schema", "t.exp", "--quiet")
+        expect(on_terminal(folder, *words, "b.step"), (0, b"Kept: all 5 checks are TRUE.\n", b""))
+        os.mkfifo(folder.path("a.step"))
+        late = threading.Thread(target=write_late, args=(folder.path("a.step"), file_of("")), daemon=True)
+        late.start()
+        told_late = on_terminal(folder, *words, "a.step", "b.step", "b.step")
+        late.join(10)
+        expect(told_late, (0, b"Kept: all 5 checks are TRUE.\n", b"\rfile 2 of 3\rfile 3 of 3\rthe rules are tried\r" + b" " * 22 + b"\r"))
 
 
 if __name__ == "__main__":
