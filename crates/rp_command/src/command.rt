@@ -119,13 +119,18 @@ fn all_flag<'a>(alloc: Global) -> Result<Arg<'a>, AllocError> {
         .conflicts_with("quiet")
 }
 
-/// `validate`, with its arguments.
-fn validate_command<'a>(alloc: Global) -> Result<clap::Command<'a>, AllocError> {
+/// `validate` with its paths and `--json`.
+fn with_json<'a>(alloc: Global) -> Result<clap::Command<'a>, AllocError> {
     let json = Arg::new(alloc, "json")
         .long("json")
         .help("Prints the reply alone, a line of JSON")
         .action(ArgAction::SetTrue);
-    let command = with_paths(alloc)?.arg(json)?;
+    with_paths(alloc)?.arg(json)
+}
+
+/// `validate`, with its arguments.
+fn validate_command<'a>(alloc: Global) -> Result<clap::Command<'a>, AllocError> {
+    let command = with_json(alloc)?;
     let command = command.arg(quiet_flag(alloc)?)?;
     command.arg(all_flag(alloc)?)
 }
