@@ -103,7 +103,7 @@ Violated: 1 FALSE, 2 TRUE of 3 checks.
 """, b""),
     (("validate", "--schema", "t.exp", "--json", "torn.step"), DELIVERED % "#2=Q(#1);", 2,
      b'{"refused":{"code":12,"instance":2,"kind":"Undefined","name":"InstanceFault"}}\n',
-     b'rp_server: "torn.step" is refused: code 12 InstanceFault, kind Undefined, instance #2\n'),
+     b'rp_server: "torn.step" is refused: code 12 InstanceFault, kind Undefined, instance #2, line 1 column 122\n'),
 ]
 
 # Texts that the lines ask to check, with what is told of them.
