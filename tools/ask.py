@@ -2,7 +2,8 @@
 """Asks the program what a file of requests in plain words says, and shows what each partner is told.
 
     tools/ask.py FOLDER                       FOLDER/requests.txt, by the configuration FOLDER/config.json
-    tools/ask.py SCHEMA.exp FILE.step         a schema and a file of your own: it is put, validated and exported
+    tools/ask.py SCHEMA.exp FILE.step         a schema and a file of your own: it is put, validated and exported; where
+                                              it is refused, its fault is shown with its place
     tools/ask.py --trial ..                   by a trial run of the program's code, which isn't proved
     tools/ask.py --program PROGRAM ..         by this program, where it isn't the one that was built here
     tools/ask.py --columns ..                 a column for each partner, and a row for each request
@@ -114,23 +115,29 @@ def fill(folder, schema, file):
 
 # ---- replies
 
-def command_of(folder, asked):
-    """The command that answers lines, and the folder in which it runs."""
-    words = ["batch", "--config", "config.json"]
+def schemas_in(folder):
+    """The paths of the configuration's schemas, and where they lie."""
+    names = json.loads(of_file(os.path.join(folder, "config.json")))["schemas"]
+    return {it: os.path.abspath(os.path.join(folder, it)) for it in names}
+
+
+def command_of(folder, asked, words, files):
+    """The command that runs the program with these words, and the folder in which it runs. These are the files that it reads, and
+    where they lie."""
     if not asked.trial:
         program = os.path.abspath(asked.program or PROGRAM)
         if not os.access(program, os.X_OK):
             sys.exit(f"ask: there is no program {program}: build it, or take --trial")
         return [program, *words], folder
-    files = ["config.json", *json.loads(of_file(os.path.join(folder, "config.json")))["schemas"]]
-    given = [word for it in files for word in ("--data", f"{it}={os.path.abspath(os.path.join(folder, it))}")]
+    given = [word for name, path in files.items() for word in ("--data", f"{name}={path}")]
     print("A trial run of the program's code before its proof. It takes some two minutes on four cores.", file=sys.stderr, flush=True)
     return ["rt", "try", *given, "--", *words], os.path.join(TOP, "crates/rp_server")
 
 
 def replies_to(folder, requests, asked):
     """A reply for each request."""
-    command, where = command_of(folder, asked)
+    command, where = command_of(folder, asked, ["batch", "--config", "config.json"],
+                                {"config.json": os.path.abspath(os.path.join(folder, "config.json")), **schemas_in(folder)})
     lines = "".join(json.dumps(it.keys, ensure_ascii=False) + "\n" for it in requests).encode()
     try:
         done = subprocess.run(command, cwd=where, input=lines, capture_output=True, check=False)
@@ -150,6 +157,27 @@ def is_text(reply):
     return "file" in json.loads(reply).get("ok", {})
 
 
+def told_of_file(folder, request, reply, asked):
+    """The lines in which `validate` tells of a file whose put is refused, where it finds the same fault: the model's links, which it
+    doesn't know, and its schema may make another."""
+    refused = json.loads(reply).get("refused", {})
+    if request.keys["do"] != "put" or refused.get("code") not in (11, 12):
+        return []
+    with tempfile.TemporaryDirectory() as place:
+        path = os.path.join(place, "refused.step")
+        with open(path, "w", encoding="utf-8", newline="") as it:
+            it.write(request.keys["file"])
+        name = "refused.step" if asked.trial else path
+        words = [word for it in schemas_in(folder) for word in ("--schema", it)]
+        command, where = command_of(folder, asked, ["validate", *words, name], {**schemas_in(folder), name: path})
+        done = subprocess.run(command, cwd=where, capture_output=True, check=False)
+    first, *others = done.stdout.decode(errors="replace").partition("\n\nNot taken: ")[0].split("\n")
+    found = re.fullmatch(rf"{re.escape(name)}: code (\d+) \w+, kind (\w+)(?:, instance #(\d+))?(, line \d+ column \d+)", first)
+    same = found and (int(found[1]), found[2], found[3]) == (
+        refused["code"], refused["kind"], str(refused["instance"]) if "instance" in refused else None)
+    return [found[4].removeprefix(", "), *others] if same else []
+
+
 def show_place(request, reply):
     """The line of the text in which the byte of a refusal lies, with a caret below it."""
     refused = json.loads(reply).get("refused", {})
@@ -158,6 +186,16 @@ def show_place(request, reply):
         before, behind = text.encode()[:refused["at"]].decode(errors="ignore"), text.encode()[refused["at"]:].decode(errors="ignore")
         line = before.rpartition("\n")[2]
         print(f"    line {before.count(chr(10)) + 1} of it:\n    | {line}{behind.partition(chr(10))[0]}\n    | {' ' * len(line)}^")
+
+
+def show_refusal(folder, request, reply, asked):
+    """A reply that is neither a text nor a report; below a refusal the place of the fault."""
+    print("    " + reply)
+    lines = told_of_file(folder, request, reply, asked)
+    for it in lines:
+        print(f"    | {it}".rstrip())
+    if not lines:
+        show_place(request, reply)
 
 
 def show_report(report):
@@ -169,7 +207,7 @@ def show_report(report):
         print(f"    | {compact(it)}")
 
 
-def show(requests, replies):
+def show(folder, requests, replies, asked):
     """Each request with its reply below it. The file of an export is shown as its lines, and of a report what isn't TRUE."""
     for request, reply in zip(requests, replies):
         print(request.words)
@@ -181,8 +219,7 @@ def show(requests, replies):
         elif "checks" in json.loads(reply).get("ok", {}):
             show_report(json.loads(reply)["ok"])
         else:
-            print("    " + reply)
-            show_place(request, reply)
+            show_refusal(folder, request, reply, asked)
 
 
 # ---- columns
@@ -223,6 +260,14 @@ def show_columns(partners, requests, replies):
             print(line(it[place] if place < len(it) else "" for it in cells))
 
 
+def up_to_refusal(requests, replies):
+    """These, and none behind a put that is refused: there is nothing to validate or to export then."""
+    for place, (request, reply) in enumerate(zip(requests, replies), 1):
+        if request.keys["do"] == "put" and "refused" in json.loads(reply):
+            return requests[:place], replies[:place]
+    return requests, replies
+
+
 def run(folder, asked):
     requests = requests_in(folder)
     if asked.lines:
@@ -230,11 +275,13 @@ def run(folder, asked):
             print(json.dumps(it.keys, ensure_ascii=False))
         return
     replies = replies_to(folder, requests, asked)
+    if len(asked.paths) == 2:
+        requests, replies = up_to_refusal(requests, replies)
     if asked.columns:
         config = json.loads(of_file(os.path.join(folder, "config.json")))
         show_columns([it["name"] for it in config["partners"]], requests, replies)
     else:
-        show(requests, replies)
+        show(folder, requests, replies, asked)
 
 
 def main():

@@ -11,8 +11,8 @@ status 2 and no output only where the allocation was one of those that it makes 
 input. It is a failure too if a run that refuses nothing has a NoMemory, if a run has more of them than
 refusals, or if nothing was refused.
 
-Of a check of a schema's file the program writes what it writes with ample memory, or ends with status 2, one line on
-standard error and no output.
+Of a check of a schema's file, and of files that are validated, the program writes what it writes with ample memory, or ends with
+status 2, one line on standard error and no output; or it writes with `--json` that memory is wanting.
 """
 import collections
 import concurrent.futures
@@ -72,6 +72,9 @@ CHECKS = {
     "token.exp": (SCHEMA + "!\n", 1, b"Token line 13 column 1\n"),
 }
 
+# A file of the schema T with these instances.
+DELIVERED = "ISO-10303-21;HEADER;FILE_DESCRIPTION((''),'2;1');FILE_NAME('','',(''),(''),'','','');FILE_SCHEMA(('T'));ENDSEC;DATA;%sENDSEC;END-ISO-10303-21;"
+
 # Other runs over a file that is written: the words, which end with its name, its text, and the status, the output and the errors.
 ENTITY = "SCHEMA c; ENTITY e; END_ENTITY; TYPE s = SELECT (e); END_TYPE;\n"
 RUNS = [
@@ -88,6 +91,19 @@ RUNS = [
     (("batch", "--config", "schemas.json"), '{"partners":[],"schemas":["l.exp","l.exp"]}', 2, b"",
      b'rp_server: two schemas have one name: "L", of "l.exp" and "l.exp"\n'),
     (("check", "part.step"), "ISO-10303-21;\n", 1, b"Syntax line 1 column 1\n", b'rp_server: "part.step" is no schema: it is an exchange file (ISO 10303-21)\n'),
+    (("validate", "--schema", "t.exp", "unset.step"), DELIVERED % "#1=P($,'a');#2=Q(#1);", 1, b"""unset.step: 2 instances of T
+
+FALSE    unset
+         violated: 1
+           unset.step line 1: #1=P, P.X
+TRUE     bounds
+TRUE     reference
+
+Violated: 1 FALSE, 2 TRUE of 3 checks.
+""", b""),
+    (("validate", "--schema", "t.exp", "--json", "torn.step"), DELIVERED % "#2=Q(#1);", 2,
+     b'{"refused":{"code":12,"instance":2,"kind":"Undefined","name":"InstanceFault"}}\n',
+     b'rp_server: "torn.step" is refused: code 12 InstanceFault, kind Undefined, instance #2, line 1 column 122\n'),
 ]
 
 # Texts that the lines ask to check, with what is told of them.
@@ -231,6 +247,7 @@ def refuse_check(program, folder, command, *wanted):
     whole = run(program, folder, [], command)
     if (whole.status, whole.output, whole.errors) != wanted:
         raise Failure(f"with no refusal: status {whole.status}, {whole.output!r} and {whole.errors!r}")
+    told = [b"", NO_MEMORY + b"\n"] if "--json" in command else [b""]
 
     def one(key, place):
         result = run(program, folder, [], command, **{key: str(place)})
@@ -238,7 +255,7 @@ def refuse_check(program, folder, command, *wanted):
             raise Failure(f"{key}={place} of {whole.allocations}: nothing was refused")
         if (result.status, result.output, result.errors) == wanted:
             return "the same line"
-        if result.status == 2 and not result.output and result.errors.count(b"\n") == 1:
+        if result.status == 2 and result.output in told and result.errors.count(b"\n") == 1:
             return "status 2"
         raise Failure(f"{key}={place} of {whole.allocations}: status {result.status}, {result.output!r}, {result.errors!r}")
 

@@ -1,9 +1,15 @@
 //! What the command line asks for.
 use crate::fault::CommandLineFault;
-use crate::texts::{ABOUT, BATCH_ABOUT, BATCH_AFTER, CHECK_ABOUT, CHECK_AFTER, VERSION};
+use crate::texts::{
+    ABOUT, BATCH_ABOUT, BATCH_AFTER, CHECK_ABOUT, CHECK_AFTER, VALIDATE_ABOUT, VALIDATE_AFTER,
+    VERSION,
+};
 use clap::error::ErrorKind;
 use clap::{Arg, ArgAction, ArgMatches, Error};
 use std::alloc::{AllocError, Global};
+
+/// How many files are validated at most.
+const MOST_FILES: usize = 50;
 
 /// What the command line asks for.
 #[derive(Drop)]
@@ -16,6 +22,29 @@ pub enum Command<'a> {
     Check(&'a str),
     /// The same, with the lines of the text.
     Explain(&'a str),
+    /// To validate files.
+    Validate(Delivery<'a>),
+}
+
+/// What is told of files that are validated.
+#[derive(Clone, Copy, PartialEq, Eq)]
+pub enum Telling {
+    /// What came of each check, with the first culprits of each rule.
+    Text,
+    /// The same with all culprits.
+    All,
+    /// The verdict alone.
+    Quiet,
+    /// The reply as JSON.
+    Json,
+}
+
+/// Files that are to be validated by schemas: the paths of both.
+#[derive(Drop)]
+pub struct Delivery<'a> {
+    pub schemas: Vec<&'a str>,
+    pub files: Vec<&'a str>,
+    pub telling: Telling,
 }
 
 /// `batch`, with its arguments.
@@ -50,6 +79,62 @@ fn check_command<'a>(alloc: Global) -> Result<clap::Command<'a>, AllocError> {
         .arg(file)
 }
 
+/// The paths of `validate`.
+fn with_paths<'a>(alloc: Global) -> Result<clap::Command<'a>, AllocError> {
+    let schema = Arg::new(alloc, "schema")
+        .long("schema")
+        .value_name("FILE")
+        .help("A schema's file; several by as many --schema")
+        .required(true)
+        .action(ArgAction::Append);
+    let files = Arg::new(alloc, "file")
+        .value_name("FILE")
+        .help("Files to validate, at most 50")
+        .required(true)
+        .num_args(1..=MOST_FILES)
+        .action(ArgAction::Append);
+    clap::Command::new(alloc, "validate")
+        .about(VALIDATE_ABOUT)
+        .after_help(VALIDATE_AFTER)
+        .arg(schema)?
+        .arg(files)
+}
+
+/// `--quiet`, which goes without `--json`.
+fn quiet_flag<'a>(alloc: Global) -> Result<Arg<'a>, AllocError> {
+    Arg::new(alloc, "quiet")
+        .long("quiet")
+        .help("Prints the verdict alone")
+        .action(ArgAction::SetTrue)
+        .conflicts_with("json")
+}
+
+/// `--all`, which goes without the other two.
+fn all_flag<'a>(alloc: Global) -> Result<Arg<'a>, AllocError> {
+    Arg::new(alloc, "all")
+        .long("all")
+        .help("Shows all culprits of a rule, and not 50 alone")
+        .action(ArgAction::SetTrue)
+        .conflicts_with("json")?
+        .conflicts_with("quiet")
+}
+
+/// `validate` with its paths and `--json`.
+fn with_json<'a>(alloc: Global) -> Result<clap::Command<'a>, AllocError> {
+    let json = Arg::new(alloc, "json")
+        .long("json")
+        .help("Prints the reply alone, a line of JSON")
+        .action(ArgAction::SetTrue);
+    with_paths(alloc)?.arg(json)
+}
+
+/// `validate`, with its arguments.
+fn validate_command<'a>(alloc: Global) -> Result<clap::Command<'a>, AllocError> {
+    let command = with_json(alloc)?;
+    let command = command.arg(quiet_flag(alloc)?)?;
+    command.arg(all_flag(alloc)?)
+}
+
 /// The program, with `batch` alone. It is apart so that few commands are in hand where memory may be wanting.
 fn with_batch<'a>(alloc: Global) -> Result<clap::Command<'a>, AllocError> {
     let batch = batch_command(alloc)?;
@@ -61,31 +146,92 @@ fn with_batch<'a>(alloc: Global) -> Result<clap::Command<'a>, AllocError> {
         .subcommand(batch)
 }
 
-/// The program, with all commands.
-fn whole<'a>(alloc: Global) -> Result<clap::Command<'a>, AllocError> {
+/// The program, with `check` too.
+fn with_check<'a>(alloc: Global) -> Result<clap::Command<'a>, AllocError> {
     let check = check_command(alloc)?;
     with_batch(alloc)?.subcommand(check)
+}
+
+/// The program, with all commands.
+fn whole<'a>(alloc: Global) -> Result<clap::Command<'a>, AllocError> {
+    let validate = validate_command(alloc)?;
+    with_check(alloc)?.subcommand(validate)
 }
 
 /// What these words ask for, the program's own name first.
 pub fn command_of<'a>(alloc: Global, words: &'a [String]) -> Result<Command<'a>, CommandLineFault> {
     match whole(alloc)?.try_get_matches_from(words) {
-        Ok(matches) => asked_in(&matches).ok_or(CommandLineFault::Incomplete),
+        Ok(matches) => asked_in(alloc, &matches)?.ok_or(CommandLineFault::Incomplete),
         Err(error) if error.use_stderr() => Err(fault_of(alloc, &error)),
         Err(error) => Ok(Command::Help(error)),
     }
 }
 
 /// What words that parse ask for.
-fn asked_in<'a>(matches: &ArgMatches<'a>) -> Option<Command<'a>> {
-    match matches.subcommand()? {
-        ("batch", found) => found.get_str("config").map(Command::Batch),
-        ("check", found) if found.get_flag("explain") => {
-            found.get_str("file").map(Command::Explain)
-        }
-        ("check", found) => found.get_str("file").map(Command::Check),
+fn asked_in<'a>(
+    alloc: Global,
+    matches: &ArgMatches<'a>,
+) -> Result<Option<Command<'a>>, AllocError> {
+    match matches.subcommand() {
+        Some(("validate", found)) => delivery_in(alloc, found),
+        Some((name, found)) => Ok(one_file_in(name, found)),
+        None => Ok(None),
+    }
+}
+
+/// What a command of this name asks for, which takes one file.
+fn one_file_in<'a>(name: &str, found: &ArgMatches<'a>) -> Option<Command<'a>> {
+    match name {
+        "batch" => found.get_str("config").map(Command::Batch),
+        "check" if found.get_flag("explain") => found.get_str("file").map(Command::Explain),
+        "check" => found.get_str("file").map(Command::Check),
         _ => None,
     }
+}
+
+/// The paths that these words have at a name.
+fn paths_in<'a>(
+    alloc: Global,
+    found: &ArgMatches<'a>,
+    name: &str,
+) -> Result<Vec<&'a str>, AllocError> {
+    let mut paths = Vec::new(alloc);
+    if let Some(given) = found.get_strs(name) {
+        for path in given {
+            paths.push(*path)?;
+        }
+    }
+    Ok(paths)
+}
+
+/// What is to be told of files that are validated.
+fn telling_in(found: &ArgMatches<'_>) -> Telling {
+    if found.get_flag("json") {
+        Telling::Json
+    } else if found.get_flag("quiet") {
+        Telling::Quiet
+    } else if found.get_flag("all") {
+        Telling::All
+    } else {
+        Telling::Text
+    }
+}
+
+/// The files that `validate` is asked for; nothing where there are none, or too many.
+fn delivery_in<'a>(
+    alloc: Global,
+    found: &ArgMatches<'a>,
+) -> Result<Option<Command<'a>>, AllocError> {
+    let schemas = paths_in(alloc, found, "schema")?;
+    let files = paths_in(alloc, found, "file")?;
+    if schemas.is_empty() || files.is_empty() || files.len() > MOST_FILES {
+        return Ok(None);
+    }
+    Ok(Some(Command::Validate(Delivery {
+        schemas,
+        files,
+        telling: telling_in(found),
+    })))
 }
 
 /// What is wrong with words that don't parse.

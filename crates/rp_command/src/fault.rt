@@ -18,7 +18,10 @@ impl fmt::Display for CommandLineFault {
         match self {
             CommandLineFault::Wrong(why) => write_usage(f, why.as_str()),
             CommandLineFault::Incomplete => {
-                write_usage(f, "batch wants --config FILE, and check wants FILE")
+                write_usage(
+                    f,
+                    "batch wants --config FILE, check wants FILE, validate --schema FILE and 1 to 50 files",
+                )
             }
             CommandLineFault::NoMemory => f.write_str("out of memory"),
         }

@@ -83,3 +83,31 @@ The kinds are
 A schema of 1 MiB takes some 22 MB and a fifth of a second, one of 8 MiB some 160 MB and two seconds.
 The status is 2, with one line on standard error, where the file can't be read or is over 8 MiB. Of a file that begins with
 a byte order mark, or is an exchange file (ISO 10303-21), a line on standard error says so.";
+
+pub const VALIDATE_ABOUT: &str =
+    "Validates STEP files by the rules of their schema, as a repository would.";
+
+pub const VALIDATE_AFTER: &str = "\
+The files are put one after another into models of their own, without links,
+and validated as one group. All are of the schema that the first one names in
+FILE_SCHEMA, or of the first --schema where it names none of them.
+
+  rp_server validate --schema plate.exp cover.step frame.step
+
+It writes on standard output what was read of each file, each check with its
+verdict, and of those that aren't TRUE the rule and its culprits: file, line,
+instance and attribute. The last line is the verdict in words:
+
+  Kept                                  all are TRUE                   status 0
+  Not violated, as far as can be told   some UNKNOWN, all others TRUE  status 0
+  Violated                              some FALSE                     status 1
+  Not decided                           some LIMIT or NOT_RUN          status 1
+  Not taken                             a file is refused              status 2
+
+With --json it is one line, the reply of batch to the request validate, or to
+the put that was refused, where the partner is me and the models are 01, 02, ..
+in the order of the files.
+
+The status is 2, with one line on standard error, where the command line, a
+schema or a file isn't taken. Each of them has at most 8 MiB. A file of 8 MiB
+takes some 70 MB and half a second before its rules are tried.";

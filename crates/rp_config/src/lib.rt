@@ -10,7 +10,7 @@ mod unreadable;
 mod wrong;
 
 pub use front::{is_read_again, what_begins};
-pub use loading::{Loaded, load_all};
+pub use loading::{Loaded, load_all, schema_of};
 pub use shown::Shown;
 pub use twice::{partner_twice, schema_twice};
 pub use unreadable::{Unreadable, why_unreadable};

@@ -77,9 +77,16 @@ pub(crate) fn schema_at<D: Folder>(
     ensures { IfSome (D.files folder.now) (λ held. Gives (λ schema. schema) result (spec.schema_at held path.now)) }
 {
     let text = file_bytes(alloc, folder, path)?;
-    match compile_schema(alloc, &text) {
+    schema_of(alloc, path, &text)
+}
+
+/// The schema of a text, which the file of this path has.
+pub fn schema_of(alloc: Global, path: &str, text: &[u8]) -> Result<Compiled, Failure<LoadFault>>
+    ensures { Gives (λ schema. schema) result (spec.schema_in path.now text.now (check.schema text.now)) }
+{
+    match compile_schema(alloc, text) {
         Ok(schema) => Ok(schema),
-        Err(Failure::Fault(fault)) => Err(Failure::Fault(no_schema(alloc, path, &text, fault)?)),
+        Err(Failure::Fault(fault)) => Err(Failure::Fault(no_schema(alloc, path, text, fault)?)),
         Err(Failure::NoMemory) => Err(Failure::NoMemory),
     }
 }

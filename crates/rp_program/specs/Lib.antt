@@ -2,3 +2,4 @@ pub mod Starts
 pub mod Runs
 pub mod Checks
 pub mod Statuses
+pub mod Validations

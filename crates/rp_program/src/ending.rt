@@ -3,6 +3,7 @@ ghost use Rattle.std.specs.Prelude.{◌≡◌};
 ghost use Rattle.rp_program.specs.Statuses as spec;
 
 use ex_check::Verdict;
+use rp_delivery::Judgement;
 
 /// What a command did.
 #[derive(Clone, Copy, PartialEq, Eq)]
@@ -13,6 +14,8 @@ pub enum Done {
     Answered(u64),
     /// It told whether a text is a schema.
     Checked(Verdict),
+    /// It validated files, of which this is said.
+    Validated(Judgement),
 }
 
 /// The exit status of a process whose command ended so.
@@ -21,7 +24,8 @@ pub fn status_of<F>(ended: &Result<Done, F>) -> u8
 {
     match ended {
         Ok(Done::Helped | Done::Answered(_) | Done::Checked(Verdict::Accepted)) => 0,
-        Ok(Done::Checked(Verdict::Refused)) => 1,
+        Ok(Done::Validated(Judgement::Kept)) => 0,
+        Ok(Done::Checked(Verdict::Refused) | Done::Validated(Judgement::NotKept)) => 1,
         Err(_) => 2,
     }
 }

@@ -1,6 +1,6 @@
 //! Why a command ends before its work is done.
 use ex_check::CheckFault;
-use plain_data::Failure;
+use plain_data::{Failure, Text};
 use rp_files::LoadFault;
 use rp_repo::NewFault;
 use std::alloc::AllocError;
@@ -23,6 +23,8 @@ pub enum Fault {
     Read,
     /// A write to the output failed.
     Write,
+    /// The file of this path isn't taken; why, in words.
+    Refused(Text, Text),
 }
 
 impl From<Failure<LoadFault>> for Fault {

@@ -2,11 +2,13 @@
 #![tactic(auto)]
 
 mod checking;
+mod delivering;
 mod ending;
 mod fault;
 mod running;
 
 pub use checking::{check, explain};
+pub use delivering::validate;
 pub use ending::{Done, status_of};
 pub use ex_check::Verdict;
 pub use fault::{Fault, StartFault};

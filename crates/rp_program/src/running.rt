@@ -50,7 +50,10 @@ pub fn batch<D: Folder, R: Source, W: Sink>(
 }
 
 /// The schemas, with what is found in them once. This isn't let go of, since the process is to end with what it is lent to.
-fn lent<'s>(alloc: Global, schemas: &'s [Compiled]) -> Result<&'s [LoadedSchema<'s>], AllocError>
+pub(crate) fn lent<'s>(
+    alloc: Global,
+    schemas: &'s [Compiled],
+) -> Result<&'s [LoadedSchema<'s>], AllocError>
     ensures { IfOk result (λ lent. lent.now ≡ schemas.now) }
 {
     let loaded = LoadedSchema::all(alloc, schemas)?;

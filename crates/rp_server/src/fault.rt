@@ -61,6 +61,9 @@ fn write_of_command<W: fmt::Write>(
         CommandFault::Start(Failure::NoMemory) => f.write_str("out of memory"),
         CommandFault::Read => f.write_str("standard input can't be read"),
         CommandFault::Write => f.write_str("standard output can't be written"),
+        CommandFault::Refused(path, words) => {
+            write!(f, "{} is refused: {}", shown(path), words.as_str())
+        }
     }
 }
 

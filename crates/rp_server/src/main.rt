@@ -2,33 +2,40 @@
 #![tactic(auto)]
 
 mod fault;
+mod progress;
 
 use fault::Fault;
 use plain_data::Failure;
-use rp_command::{Command, command_of};
+use progress::Progress;
+use rp_command::{Command, Delivery, Telling, command_of};
 use rp_config::{
     Shown, is_read_again, partner_twice, schema_twice, what_begins, why_unreadable, wrong_place,
 };
+use rp_delivery::{Asked, Form};
 use rp_files::{FromFiles, LoadFault, file_bytes};
 use rp_program::{
-    Done, Fault as CommandFault, StartFault, Verdict, batch, check, explain, status_of,
+    Done, Fault as CommandFault, StartFault, Verdict, batch, check, explain, status_of, validate,
 };
 use rp_repo::{FromReader, NewFault, ToWriter};
 use std::alloc::Global;
+use std::io::IsTerminal;
 use std::process::ExitCode;
-use std::rt::{Env, Files};
+use std::rt::{Clock, Env, Files};
 use std::{env, fmt, io};
 
 fn main(rt: HostRuntime) -> ExitCode {
-    let ended = run(&rt);
+    let ended = run(&rt, rt.stderr().is_terminal());
     if let Err(fault) = &ended {
         let _ = eprintln!(rt; "rp_server: {fault}");
     }
     ExitCode::from(status_of(&ended))
 }
 
-/// Does what the command line asks for.
-fn run<R: AllocGlobal + Files + Env + Print + Eprint + Input>(rt: &R) -> Result<Done, Fault> {
+/// Does what the command line asks for. Standard error is a terminal or not.
+fn run<R: AllocGlobal + Files + Env + Print + Eprint + Input + Clock>(
+    rt: &R,
+    terminal: bool,
+) -> Result<Done, Fault> {
     let alloc = rt.alloc();
     let Ok(args) = env::args(rt) else {
         return Err(Fault::Words);
@@ -50,7 +57,35 @@ fn run<R: AllocGlobal + Files + Env + Print + Eprint + Input>(rt: &R) -> Result<
             let ended = explain(alloc, &FromFiles::new(rt), path, &mut writer);
             told_of_schema(rt, path, ended)
         }
+        Command::Validate(delivery) => told(rt, None, validate_of(rt, terminal, &delivery)),
     }
+}
+
+/// How many culprits of a check are told.
+const CULPRITS: usize = 50;
+
+/// Validates the files of a delivery. A terminal on standard error is told how far it is.
+fn validate_of<R: AllocGlobal + Files + Print + Eprint + Clock>(
+    rt: &R,
+    terminal: bool,
+    delivery: &Delivery<'_>,
+) -> Result<Done, CommandFault> {
+    let asked = Asked {
+        schemas: &delivery.schemas,
+        files: &delivery.files,
+        form: match delivery.telling {
+            Telling::Text => Form::Text(CULPRITS),
+            Telling::All => Form::Text(usize::MAX),
+            Telling::Quiet => Form::Quiet,
+            Telling::Json => Form::Json,
+        },
+    };
+    let mut progress = Progress::new(rt, terminal);
+    let mut writer = ToWriter::new(io::writer(rt));
+    let files = FromFiles::new(rt);
+    let ended = validate(rt.alloc(), &files, &asked, &mut writer, &mut progress);
+    progress.end();
+    ended
 }
 
 /// Answers the lines of standard input, by the repository that the configuration in the file of this path tells.

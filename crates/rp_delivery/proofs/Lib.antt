@@ -1,0 +1,4 @@
+pub mod TurnLemmas
+pub mod PutLemmas
+pub mod SourceLemmas
+pub mod ChoiceLemmas

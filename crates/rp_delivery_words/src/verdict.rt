@@ -1,0 +1,97 @@
+//! The verdict on all files, in words.
+use rp_meaning::Verdict;
+use rp_plain::reports::ToldReport;
+use std::alloc::{AllocError, Global};
+
+/// How many checks have which verdict.
+#[derive(Clone, Copy)]
+struct Counts {
+    kept: usize,
+    violated: usize,
+    limited: usize,
+    not_run: usize,
+    unknown: usize,
+}
+
+impl Counts {
+    fn nothing() -> Counts {
+        Counts {
+            kept: 0,
+            violated: 0,
+            limited: 0,
+            not_run: 0,
+            unknown: 0,
+        }
+    }
+
+    /// With one check more.
+    fn with(self, verdict: Verdict) -> Counts {
+        match verdict {
+            Verdict::True => Counts {
+                kept: self.kept.saturating_add(1),
+                ..self
+            },
+            Verdict::False => Counts {
+                violated: self.violated.saturating_add(1),
+                ..self
+            },
+            Verdict::Limit => Counts {
+                limited: self.limited.saturating_add(1),
+                ..self
+            },
+            Verdict::NotRun => Counts {
+                not_run: self.not_run.saturating_add(1),
+                ..self
+            },
+            Verdict::Unknown => Counts {
+                unknown: self.unknown.saturating_add(1),
+                ..self
+            },
+        }
+    }
+
+    /// What these verdicts come to.
+    fn words(self) -> &'static str {
+        if self.violated > 0 {
+            "Violated: "
+        } else if self.limited > 0 || self.not_run > 0 {
+            "Not decided: "
+        } else {
+            "Not violated, as far as can be told: "
+        }
+    }
+}
+
+fn counts_of(report: &ToldReport) -> Counts {
+    let mut counts = Counts::nothing();
+    for check in report.checks.as_slice() {
+        counts = counts.with(check.verdict);
+    }
+    counts
+}
+
+/// The verdict in one line, with how many checks have which.
+pub fn verdict_line(alloc: Global, report: &ToldReport) -> Result<String, AllocError> {
+    let counts = counts_of(report);
+    let all = report.checks.len();
+    if counts.kept == all {
+        return format!(in alloc; "Kept: all {all} checks are TRUE.\n");
+    }
+    let mut line = String::from_str(alloc, counts.words())?;
+    push_count(alloc, &mut line, counts.violated, "FALSE, ")?;
+    push_count(alloc, &mut line, counts.limited, "LIMIT, ")?;
+    push_count(alloc, &mut line, counts.not_run, "NOT_RUN, ")?;
+    push_count(alloc, &mut line, counts.unknown, "UNKNOWN, ")?;
+    let rest = format!(in alloc; "{} TRUE of {all} checks.\n", counts.kept)?;
+    line.push_str(rest.as_str())?;
+    Ok(line)
+}
+
+/// Puts a number with a word behind a text, unless it is 0.
+fn push_count(alloc: Global, out: &mut String, count: usize, word: &str) -> Result<(), AllocError> {
+    if count == 0 {
+        return Ok(());
+    }
+    let words = format!(in alloc; "{count} {word}")?;
+    out.push_str(words.as_str())
+}

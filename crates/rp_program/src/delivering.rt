@@ -1,0 +1,209 @@
+//! Files that are validated as one delivers them.
+ghost use Rattle.std.specs.Prelude.{◌≡◌, ℕ, List, true, map, IfOk, IfErr, OnOk, IsErrOf};
+ghost use Rattle.std.specs.Io.KnownBytes.{Appends};
+ghost use Rattle.rp_replies.specs.Replies.{line_of_reply};
+ghost use Rattle.rp_delivery.specs.Judged.{judgement_of as spec_judgement_of};
+ghost use Rattle.rp_delivery.specs.Requests.{is_refused};
+ghost use Rattle.rp_program.specs.Validations.{IsValidated};
+
+use crate::ending::Done;
+use crate::fault::Fault;
+use crate::running::lent;
+use ex_compiled::Compiled;
+use plain_data::{Failure, Text};
+use rp_delivery::{
+    Asked, Delivered, Form, Notes, SchemaSources, deliver, judgement_of, partners, sources_at,
+};
+use rp_delivery_words::{
+    FaultPlace, SchemaText, place_of_refusal, refused_line, refused_text, report_text,
+    verdict_line, words_of_refusal,
+};
+use rp_files::Folder;
+use rp_io::{Sink, write_all};
+use rp_plain::messages::{Refusal, Reply};
+use rp_replies::reply_line;
+use rp_repo::Repository;
+use std::alloc::{AllocError, Global};
+use std::mem;
+
+/// Validates the files of these paths by the schemas of these paths, as the one partner of a repository would, and tells what came
+/// of it. The process is to end then: what the repository holds isn't let go of.
+pub fn validate<D: Folder, W: Sink, N: Notes>(
+    alloc: Global,
+    folder: &D,
+    asked: &Asked<'_>,
+    writer: &mut W,
+    notes: &mut N,
+) -> Result<Done, Fault>
+    // The verdict is that of the reply, whatever is told of it.
+    ensures verdict { IfOk result (λ done.
+        IsValidated (D.files folder.now) (map (λ path. path.now) asked.now.schemas.now) (map (λ path. path.now) asked.now.files.now)
+        (λ reply. done ≡ Done.Validated (spec_judgement_of reply))) }
+
+    // As JSON the line of the reply is written, and nothing else.
+    ensures json { asked.now.form ≡ Form.Json → IfOk result (λ done.
+        IsValidated (D.files folder.now) (map (λ path. path.now) asked.now.schemas.now) (map (λ path. path.now) asked.now.files.now)
+        (λ reply. (done ≡ Done.Validated (spec_judgement_of reply)) × Appends (W.contents writer.old) (W.contents writer.new) (line_of_reply reply))) }
+
+    // So it is where a file is refused.
+    ensures refused { asked.now.form ≡ Form.Json → (path words : List ℕ) → IsErrOf result (Fault.Refused path words) →
+        IsValidated (D.files folder.now) (map (λ path. path.now) asked.now.schemas.now) (map (λ path. path.now) asked.now.files.now)
+        (λ reply. (is_refused reply ≡ true) × Appends (W.contents writer.old) (W.contents writer.new) (line_of_reply reply)) }
+{
+    let SchemaSources { texts, schemas } = sources_at(alloc, folder, asked.schemas)?;
+    let schemas_lent = lent(alloc, schemas.as_slice())?;
+    let mut repository = Repository::new(alloc, schemas_lent, partners(alloc)?)?;
+    let delivered = deliver(
+        alloc,
+        folder,
+        &mut repository,
+        schemas.as_slice(),
+        asked,
+        notes,
+    );
+    // The process ends, and all of its memory goes with it. To give that back value by value would take long.
+    mem::forget(repository);
+    let ended = tell(
+        alloc,
+        schemas.as_slice(),
+        &texts,
+        asked,
+        &delivered?,
+        writer,
+    );
+    mem::forget(schemas);
+    ended
+}
+
+/// Writes what is told of a delivery, and answers what its reply says.
+fn tell<W: Sink>(
+    alloc: Global,
+    schemas: &[Compiled],
+    texts: &[Vec<u8>],
+    asked: &Asked<'_>,
+    delivered: &Delivered<'_>,
+    writer: &mut W,
+) -> Result<Done, Fault>
+    ensures verdict { IfOk result (λ done. done ≡ Done.Validated (spec_judgement_of delivered.now.reply)) }
+    ensures json { asked.now.form ≡ Form.Json → OnOk result (Appends (W.contents writer.old) (W.contents writer.new) (line_of_reply delivered.now.reply)) }
+    ensures refused { asked.now.form ≡ Form.Json → (path words : List ℕ) → IsErrOf result (Fault.Refused path words) →
+        (is_refused delivered.now.reply ≡ true) × Appends (W.contents writer.old) (W.contents writer.new) (line_of_reply delivered.now.reply) }
+{
+    let schema = source_of(schemas, texts, delivered.schema);
+    match &delivered.reply {
+        Reply::Refused(refusal) => {
+            let place = place_of_refusal(
+                alloc,
+                schemas.get(delivered.schema),
+                delivered.refused.as_str(),
+                *refusal,
+            )?;
+            tell_refused(
+                alloc,
+                schema,
+                asked,
+                delivered,
+                *refusal,
+                place.as_ref(),
+                writer,
+            )
+        },
+        reply => {
+            let told = told_of(alloc, schema, asked, delivered)?;
+            write(writer, &told)?;
+            Ok(Done::Validated(judgement_of(reply)))
+        }
+    }
+}
+
+/// The schema at a place, with its text.
+fn source_of<'t>(schemas: &'t [Compiled], texts: &'t [Vec<u8>], place: usize) -> SchemaText<'t> {
+    let name = match schemas.get(place) {
+        Some(schema) => schema.checked().name(),
+        None => "",
+    };
+    let text = match texts.get(place) {
+        Some(text) => text.as_slice(),
+        None => &[],
+    };
+    SchemaText { name, text }
+}
+
+fn write<W: Sink>(writer: &mut W, bytes: &[u8]) -> Result<(), Fault>
+    ensures ok { OnOk result (Appends (W.contents writer.old) (W.contents writer.new) bytes.now) }
+    ensures err { IfErr result (λ fault. fault ≡ Fault.Write) }
+{
+    match write_all(writer, bytes) {
+        Ok(()) => Ok(()),
+        Err(_) => Err(Fault::Write),
+    }
+}
+
+/// What is told of files that were validated.
+fn told_of(
+    alloc: Global,
+    schema: SchemaText<'_>,
+    asked: &Asked<'_>,
+    delivered: &Delivered<'_>,
+) -> Result<Vec<u8>, AllocError>
+    ensures { asked.now.form ≡ Form.Json → IfOk result (λ told. told.items ≡ line_of_reply delivered.now.reply) }
+{
+    let Reply::Validated(report) = &delivered.reply else {
+        return reply_line(alloc, &delivered.reply);
+    };
+    match asked.form {
+        Form::Json => reply_line(alloc, &delivered.reply),
+        Form::Quiet => Ok(verdict_line(alloc, report)?.into_bytes()),
+        Form::Text(most) => {
+            Ok(report_text(alloc, schema, &delivered.files, report, most)?.into_bytes())
+        }
+    }
+}
+
+/// Writes what is told where a file is refused, and answers why.
+fn tell_refused<W: Sink>(
+    alloc: Global,
+    schema: SchemaText<'_>,
+    asked: &Asked<'_>,
+    delivered: &Delivered<'_>,
+    refusal: Refusal,
+    place: Option<&FaultPlace>,
+    writer: &mut W,
+) -> Result<Done, Fault>
+    ensures refused { OnOk result ⊥ }
+    ensures json { asked.now.form ≡ Form.Json → (path words : List ℕ) → IsErrOf result (Fault.Refused path words) →
+        Appends (W.contents writer.old) (W.contents writer.new) (line_of_reply delivered.now.reply) }
+{
+    let reply = reply_line(alloc, &delivered.reply)?;
+    if let Refusal::NoMemory = refusal {
+        if asked.form == Form::Json {
+            write(writer, &reply)?;
+        }
+        return Err(Fault::Start(Failure::NoMemory));
+    }
+    let words = words_of_refusal(alloc, place, refusal, &reply)?;
+    let path = match asked.files.get(delivered.files.len()) {
+        Some(path) => path,
+        None => "",
+    };
+    let lines = match place {
+        Some(place) => place.lines.as_str(),
+        None => "",
+    };
+    let told = match asked.form {
+        Form::Json => reply,
+        Form::Quiet => refused_line(alloc, path)?.into_bytes(),
+        Form::Text(_) => refused_text(
+            alloc,
+            schema.name,
+            &delivered.files,
+            path,
+            words.as_str(),
+            lines,
+        )?
+        .into_bytes(),
+    };
+    let fault = Fault::Refused(Text::from_str(alloc, path)?, Text::new(words));
+    write(writer, &told)?;
+    Err(fault)
+}
