@@ -45,6 +45,8 @@ pub struct Delivery<'a> {
     pub schemas: Vec<&'a str>,
     pub files: Vec<&'a str>,
     pub telling: Telling,
+    /// The file into which a page of it is written, if one is wanted.
+    pub page: Option<&'a str>,
 }
 
 /// `batch`, with its arguments.
@@ -128,9 +130,19 @@ fn with_json<'a>(alloc: Global) -> Result<clap::Command<'a>, AllocError> {
     with_paths(alloc)?.arg(json)
 }
 
+/// The same with `--html`.
+fn with_html<'a>(alloc: Global) -> Result<clap::Command<'a>, AllocError> {
+    let html = Arg::new(alloc, "html")
+        .long("html")
+        .value_name("FILE")
+        .help("Writes a page with all culprits into FILE too")
+        .action(ArgAction::Set);
+    with_json(alloc)?.arg(html)
+}
+
 /// `validate`, with its arguments.
 fn validate_command<'a>(alloc: Global) -> Result<clap::Command<'a>, AllocError> {
-    let command = with_json(alloc)?;
+    let command = with_html(alloc)?;
     let command = command.arg(quiet_flag(alloc)?)?;
     command.arg(all_flag(alloc)?)
 }
@@ -171,7 +183,7 @@ pub fn command_of<'a>(alloc: Global, words: &'a [String]) -> Result<Command<'a>,
 fn asked_in<'a>(
     alloc: Global,
     matches: &ArgMatches<'a>,
-) -> Result<Option<Command<'a>>, AllocError> {
+) -> Result<Option<Command<'a>>, CommandLineFault> {
     match matches.subcommand() {
         Some(("validate", found)) => delivery_in(alloc, found),
         Some((name, found)) => Ok(one_file_in(name, found)),
@@ -221,17 +233,27 @@ fn telling_in(found: &ArgMatches<'_>) -> Telling {
 fn delivery_in<'a>(
     alloc: Global,
     found: &ArgMatches<'a>,
-) -> Result<Option<Command<'a>>, AllocError> {
+) -> Result<Option<Command<'a>>, CommandLineFault> {
     let schemas = paths_in(alloc, found, "schema")?;
     let files = paths_in(alloc, found, "file")?;
+    let page = found.get_str("html");
     if schemas.is_empty() || files.is_empty() || files.len() > MOST_FILES {
         return Ok(None);
+    }
+    if is_among(page, &schemas) || is_among(page, &files) {
+        return Err(CommandLineFault::PageOverInput);
     }
     Ok(Some(Command::Validate(Delivery {
         schemas,
         files,
         telling: telling_in(found),
+        page,
     })))
+}
+
+/// Whether there is a page, and its path is one of these.
+fn is_among(page: Option<&str>, paths: &[&str]) -> bool {
+    page.is_some_and(|page| paths.iter().any(|path| *path == page))
 }
 
 /// What is wrong with words that don't parse.

@@ -9,6 +9,8 @@ pub enum CommandLineFault {
     Wrong(String),
     /// It names no command with its file.
     Incomplete,
+    /// The page would be written over a file that is to be read.
+    PageOverInput,
     /// Memory is wanting.
     NoMemory,
 }
@@ -22,6 +24,9 @@ impl fmt::Display for CommandLineFault {
                     f,
                     "batch wants --config FILE, check wants FILE, validate --schema FILE and 1 to 50 files",
                 )
+            }
+            CommandLineFault::PageOverInput => {
+                write_usage(f, "--html names a file that is to be read")
             }
             CommandLineFault::NoMemory => f.write_str("out of memory"),
         }

@@ -108,6 +108,9 @@ With --json it is one line, the reply of batch to the request validate, or to
 the put that was refused, where the partner is me and the models are 01, 02, ..
 in the order of the files.
 
+With --html FILE the same is written into FILE as a page for a browser, with
+all culprits and the lines that define them. A file that stood there is lost.
+
 The status is 2, with one line on standard error, where the command line, a
-schema or a file isn't taken. Each of them has at most 8 MiB. A file of 8 MiB
+schema or a file isn't taken, or the page can't be written. Each of them has at most 8 MiB. A file of 8 MiB
 takes some 70 MB and half a second before its rules are tried.";

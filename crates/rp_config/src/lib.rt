@@ -12,6 +12,6 @@ mod wrong;
 pub use front::{is_read_again, what_begins};
 pub use loading::{Loaded, load_all, schema_of};
 pub use shown::Shown;
-pub use twice::{partner_twice, schema_twice};
+pub use twice::{partner_twice_in, schema_twice, schema_twice_in};
 pub use unreadable::{Unreadable, why_unreadable};
 pub use wrong::wrong_place;

@@ -17,7 +17,7 @@ fn first_again(names: &[Text]) -> Option<(usize, usize)> {
 }
 
 /// The first partner in the configuration at this path whose name another one has before him. It is read once more.
-pub fn partner_twice<D: Folder>(
+pub fn partner_twice_in<D: Folder>(
     alloc: Global,
     folder: &D,
     path: &str,
@@ -40,11 +40,11 @@ fn name_at<D: Folder>(alloc: Global, folder: &D, path: &str) -> Result<Text, Fai
 fn names_at<D: Folder>(
     alloc: Global,
     folder: &D,
-    paths: &[Text],
+    paths: &[&str],
 ) -> Result<Rows<Text>, Failure<LoadFault>> {
     let mut names = Rows::new(alloc);
     for path in paths {
-        names.push(name_at(alloc, folder, path.as_str())?)?;
+        names.push(name_at(alloc, folder, path)?)?;
     }
     Ok(names)
 }
@@ -53,30 +53,41 @@ fn names_at<D: Folder>(
 fn files_of_one(
     alloc: Global,
     names: &[Text],
-    paths: &[Text],
+    paths: &[&str],
 ) -> Result<Option<String>, AllocError> {
     let Some((first, again)) = first_again(names) else {
         return Ok(None);
     };
     match (names.get(again), paths.get(first), paths.get(again)) {
         (Some(name), Some(first), Some(again)) => {
-            let (name, first) = (Shown(name.as_str()), Shown(first.as_str()));
-            let again = Shown(again.as_str());
+            let (name, first, again) = (Shown(name.as_str()), Shown(first), Shown(again));
             Ok(Some(format!(in alloc; "{name}, of {first} and {again}")?))
         }
         _ => Ok(None),
     }
 }
 
-/// The first schema of the configuration at this path whose name another one has before it, and the files of both. They are
-/// read once more.
+/// The first schema in the files of these paths whose name another one has before it, and the files of both. They are read once
+/// more.
 pub fn schema_twice<D: Folder>(
+    alloc: Global,
+    folder: &D,
+    paths: &[&str],
+) -> Result<Option<String>, Failure<LoadFault>> {
+    let names = names_at(alloc, folder, paths)?;
+    Ok(files_of_one(alloc, names.as_slice(), paths)?)
+}
+
+/// The same of the schemas of the configuration at this path, which is read once more too.
+pub fn schema_twice_in<D: Folder>(
     alloc: Global,
     folder: &D,
     path: &str,
 ) -> Result<Option<String>, Failure<LoadFault>> {
     let config = config_at(alloc, folder, path)?;
-    let paths = config.schemas.as_slice();
-    let names = names_at(alloc, folder, paths)?;
-    Ok(files_of_one(alloc, names.as_slice(), paths)?)
+    let mut paths = Vec::new(alloc);
+    for path in config.schemas.as_slice() {
+        paths.push(path.as_str())?;
+    }
+    schema_twice(alloc, folder, &paths)
 }

@@ -6,7 +6,7 @@ use std::{fmt, io};
 
 /// Why a file can't be read.
 #[derive(Clone, Copy, Drop)]
-pub struct Unreadable(io::Error);
+pub struct Unreadable(pub io::Error);
 
 impl fmt::Display for Unreadable {
     fn fmt<W: fmt::Write>(&self, f: &mut fmt::Formatter<W>) -> fmt::Result {

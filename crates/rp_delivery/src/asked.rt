@@ -17,4 +17,13 @@ pub struct Asked<'a> {
     pub schemas: &'a [&'a str],
     pub files: &'a [&'a str],
     pub form: Form,
+    /// The file into which a page of it is written, if one is wanted.
+    pub page: Option<&'a str>,
+}
+
+impl Asked<'_> {
+    /// Whether people are told lines of the files.
+    pub(crate) fn tells_lines(&self) -> bool {
+        self.page.is_some() || matches!(self.form, Form::Text(_))
+    }
 }

@@ -7,7 +7,7 @@ ghost use Rattle.rp_delivery.specs.Requests.{IsMe};
 ghost use Rattle.rp_delivery.specs.Deliveries as spec;
 ghost use Rattle.rp_delivery.specs.Deliveries.{IsDelivered, IsText, PutsOneMore, EndsWith, name_of};
 
-use crate::asked::{Asked, Form};
+use crate::asked::Asked;
 use crate::choice::place_named;
 use crate::named::partner;
 use crate::notes::Notes;
@@ -47,10 +47,11 @@ impl Drop for Delivered<'_> {
 }
 
 /// The bytes of a file that are kept once it is put: none where no lines are told.
-fn kept(alloc: Global, form: Form, text: Text) -> Text {
-    match form {
-        Form::Text(_) => text,
-        Form::Quiet | Form::Json => Text::new(String::new(alloc)),
+fn kept(alloc: Global, tells_lines: bool, text: Text) -> Text {
+    if tells_lines {
+        text
+    } else {
+        Text::new(String::new(alloc))
     }
 }
 
@@ -64,12 +65,12 @@ fn name_at(schemas: &[Compiled], place: usize) -> &str
     }
 }
 
-/// Who puts the files of a delivery, by which schemas, and for what that is told of it.
+/// Who puts the files of a delivery, by which schemas, and whether people are told lines of them.
 #[derive(Drop)]
 struct Ground<'g> {
     schemas: &'g [Compiled],
     me: Caller,
-    form: Form,
+    tells_lines: bool,
 }
 
 /// The place of the schema that the file of this number is put by, where that of the file before it is known.
@@ -130,7 +131,7 @@ fn put_text<'a>(
     }
     let instances = instances_of(&reply);
     drop(reply);
-    let text = kept(alloc, ground.form, copy);
+    let text = kept(alloc, ground.tells_lines, copy);
     delivered.files.push(PutFile {
         path,
         text,
@@ -233,7 +234,7 @@ pub fn deliver<'a, D: Folder, N: Notes>(
         &Ground {
             schemas,
             me,
-            form: asked.form,
+            tells_lines: asked.tells_lines(),
         },
         repository,
         asked.files,

@@ -1,10 +1,11 @@
 //! What is told of a check.
 use crate::marks::{Marks, front, place_of};
 use crate::put::PutFile;
-use ex_lex::TokenList;
+use crate::rule_texts::RuleTexts;
+use crate::words::{heading_of, together_of, word_of_kind, word_of_verdict};
 use rp_meaning::Verdict;
-use rp_plain::reports::{CheckKind, RuleName, ToldCheck, ToldCulprit};
-use source_texts::{Clause, push_keywords, push_path, push_rule, rule_of};
+use rp_plain::reports::{CheckKind, ToldCheck, ToldCulprit};
+use source_texts::{push_keywords, push_path};
 use std::alloc::{AllocError, Global};
 
 /// What stands before the lines below a check.
@@ -13,9 +14,7 @@ const MARGIN: &str = "         ";
 /// What a check is told by.
 #[derive(Drop)]
 pub(crate) struct Sources<'s, 'f, 'p> {
-    /// The schema's text, and its tokens, if it has any.
-    pub schema: &'s [u8],
-    pub tokens: Option<TokenList<'s>>,
+    pub rules: RuleTexts<'s>,
     pub files: &'f [PutFile<'p>],
     pub marks: Vec<Marks>,
     /// How many culprits are told of a check.
@@ -29,21 +28,25 @@ pub(crate) fn push_check(
     sources: &Sources<'_, '_, '_>,
     check: &ToldCheck,
 ) -> Result<(), AllocError> {
-    push_head(out, check)?;
+    push_head(alloc, out, check)?;
     if check.verdict == Verdict::True {
         return Ok(());
     }
-    push_text(out, sources, check)?;
+    sources.rules.push(out, MARGIN, check)?;
     if check.kind == CheckKind::Rule {
-        return push_together(out, check.verdict);
+        return push_together(alloc, out, check.verdict);
     }
     push_lists(alloc, out, sources, check)
 }
 
 /// The verdict, the check and the names of its rule.
-fn push_head(out: &mut String, check: &ToldCheck) -> Result<(), AllocError> {
-    out.push_str(column_of(check.verdict))?;
-    out.push_str(word_of(check.kind))?;
+fn push_head(alloc: Global, out: &mut String, check: &ToldCheck) -> Result<(), AllocError> {
+    let head = format!(in alloc;
+        "{:<9}{}",
+        word_of_verdict(check.verdict),
+        word_of_kind(check.kind)
+    )?;
+    out.push_str(head.as_str())?;
     if let Some(rule) = &check.rule {
         out.push(' ')?;
         out.push_str(rule.of.as_str())?;
@@ -53,94 +56,10 @@ fn push_head(out: &mut String, check: &ToldCheck) -> Result<(), AllocError> {
     out.push('\n')
 }
 
-/// A verdict, in a column as wide as [`MARGIN`].
-fn column_of(verdict: Verdict) -> &'static str {
-    match verdict {
-        Verdict::True => "TRUE     ",
-        Verdict::False => "FALSE    ",
-        Verdict::Unknown => "UNKNOWN  ",
-        Verdict::Limit => "LIMIT    ",
-        Verdict::NotRun => "NOT_RUN  ",
-    }
-}
-
-fn word_of(kind: CheckKind) -> &'static str {
-    match kind {
-        CheckKind::Unset => "unset",
-        CheckKind::Bounds => "bounds",
-        CheckKind::Reference => "reference",
-        CheckKind::Type => "type",
-        CheckKind::Where => "where",
-        CheckKind::Unique => "unique",
-        CheckKind::Inverse => "inverse",
-        CheckKind::Rule => "rule",
-    }
-}
-
-/// The clause of a schema that has the rules of a check, if it has any.
-fn clause_of(kind: CheckKind) -> Option<Clause> {
-    match kind {
-        CheckKind::Unset | CheckKind::Bounds | CheckKind::Reference => None,
-        CheckKind::Type => Some(Clause::Type),
-        CheckKind::Where => Some(Clause::Entity),
-        CheckKind::Unique => Some(Clause::Unique),
-        CheckKind::Inverse => Some(Clause::Inverse),
-        CheckKind::Rule => Some(Clause::Rule),
-    }
-}
-
-/// The text of the check's rule.
-fn push_text(
-    out: &mut String,
-    sources: &Sources<'_, '_, '_>,
-    check: &ToldCheck,
-) -> Result<(), AllocError> {
-    match (clause_of(check.kind), &check.rule) {
-        (Some(clause), Some(rule)) => push_rule_text(out, sources, clause, rule),
-        _ => Ok(()),
-    }
-}
-
-fn push_rule_text(
-    out: &mut String,
-    sources: &Sources<'_, '_, '_>,
-    clause: Clause,
-    rule: &RuleName,
-) -> Result<(), AllocError> {
-    let Some(tokens) = &sources.tokens else {
-        return Ok(());
-    };
-    match rule_of(
-        tokens.as_slice(),
-        clause,
-        rule.of.as_str(),
-        rule.rule.as_str(),
-    ) {
-        Some(tokens) => push_rule(out, MARGIN, sources.schema, tokens),
-        None => Ok(()),
-    }
-}
-
-/// What a verdict says of culprits.
-fn heading_of(verdict: Verdict) -> &'static str {
-    match verdict {
-        Verdict::True => "kept",
-        Verdict::False => "violated",
-        Verdict::Unknown => "can't be told",
-        Verdict::Limit => "not decided within the limit of steps",
-        Verdict::NotRun => "not begun for want of steps",
-    }
-}
-
-/// What a verdict says of a rule over all instances.
-fn push_together(out: &mut String, verdict: Verdict) -> Result<(), AllocError> {
-    out.push_str(MARGIN)?;
-    out.push_str(heading_of(verdict))?;
-    out.push_str(match verdict {
-        Verdict::False => " by all files together\n",
-        Verdict::Unknown => " of all files together\n",
-        _ => "\n",
-    })
+/// What the verdict says of a rule over all instances.
+fn push_together(alloc: Global, out: &mut String, verdict: Verdict) -> Result<(), AllocError> {
+    let line = format!(in alloc; "{MARGIN}{}\n", together_of(verdict))?;
+    out.push_str(line.as_str())
 }
 
 /// The culprits by their verdicts, those that violate the rule first.

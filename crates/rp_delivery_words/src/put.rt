@@ -12,6 +12,17 @@ pub struct PutFile<'a> {
     pub instances: usize,
 }
 
+impl PutFile<'_> {
+    /// What its instances are called, as many as there are.
+    pub(crate) fn noun(&self) -> &'static str {
+        if self.instances == 1 {
+            "instance"
+        } else {
+            "instances"
+        }
+    }
+}
+
 impl Drop for PutFile<'_> {
     fn drop(self) {
         let PutFile {
@@ -32,12 +43,8 @@ pub(crate) fn push_files(
 ) -> Result<(), AllocError> {
     for file in files {
         push_path(alloc, out, file.path)?;
-        let noun = if file.instances == 1 {
-            "instance"
-        } else {
-            "instances"
-        };
-        let line = format!(in alloc; ": {} {noun} of {schema}\n", file.instances)?;
+        let (count, noun) = (file.instances, file.noun());
+        let line = format!(in alloc; ": {count} {noun} of {schema}\n")?;
         out.push_str(line.as_str())?;
     }
     Ok(())

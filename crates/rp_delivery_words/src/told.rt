@@ -2,8 +2,8 @@
 use crate::checks::{Sources, push_check};
 use crate::marks::marks_of;
 use crate::put::{PutFile, push_files};
+use crate::rule_texts::RuleTexts;
 use crate::verdict::verdict_line;
-use ex_lex::{Failure, TokenList, tokens};
 use rp_plain::reports::ToldReport;
 use std::alloc::{AllocError, Global};
 
@@ -12,15 +12,6 @@ use std::alloc::{AllocError, Global};
 pub struct SchemaText<'t> {
     pub name: &'t str,
     pub text: &'t [u8],
-}
-
-/// The tokens of a schema's text, if it has any.
-fn tokens_of(alloc: Global, text: &[u8]) -> Result<Option<TokenList<'_>>, AllocError> {
-    match tokens(alloc, text) {
-        Ok(found) => Ok(Some(found)),
-        Err(Failure::Fault(_)) => Ok(None),
-        Err(Failure::NoMemory) => Err(AllocError),
-    }
 }
 
 /// Puts the files, what came of each check and the verdict behind a text.
@@ -49,10 +40,9 @@ pub fn report_text(
     most: usize,
 ) -> Result<String, AllocError> {
     let marks = marks_of(alloc, files, report, most)?;
-    let tokens = tokens_of(alloc, schema.text)?;
+    let rules = RuleTexts::of(alloc, schema.text)?;
     let sources = Sources {
-        schema: schema.text,
-        tokens,
+        rules,
         files,
         marks,
         most,

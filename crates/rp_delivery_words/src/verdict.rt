@@ -50,14 +50,28 @@ impl Counts {
         }
     }
 
-    /// What these verdicts come to.
-    fn words(self) -> &'static str {
+    /// The verdict that these come to.
+    fn worst(self) -> Verdict {
         if self.violated > 0 {
-            "Violated: "
-        } else if self.limited > 0 || self.not_run > 0 {
-            "Not decided: "
+            Verdict::False
+        } else if self.limited > 0 {
+            Verdict::Limit
+        } else if self.not_run > 0 {
+            Verdict::NotRun
+        } else if self.unknown > 0 {
+            Verdict::Unknown
         } else {
-            "Not violated, as far as can be told: "
+            Verdict::True
+        }
+    }
+
+    /// What these verdicts come to, in words.
+    fn words(self) -> &'static str {
+        match self.worst() {
+            Verdict::True => "Kept: ",
+            Verdict::False => "Violated: ",
+            Verdict::Limit | Verdict::NotRun => "Not decided: ",
+            Verdict::Unknown => "Not violated, as far as can be told: ",
         }
     }
 }
@@ -70,14 +84,21 @@ fn counts_of(report: &ToldReport) -> Counts {
     counts
 }
 
+/// The verdict that those of all checks come to.
+pub(crate) fn verdict_of(report: &ToldReport) -> Verdict {
+    counts_of(report).worst()
+}
+
 /// The verdict in one line, with how many checks have which.
 pub fn verdict_line(alloc: Global, report: &ToldReport) -> Result<String, AllocError> {
     let counts = counts_of(report);
     let all = report.checks.len();
-    if counts.kept == all {
-        return format!(in alloc; "Kept: all {all} checks are TRUE.\n");
-    }
     let mut line = String::from_str(alloc, counts.words())?;
+    if counts.kept == all {
+        let rest = format!(in alloc; "all {all} checks are TRUE.\n")?;
+        line.push_str(rest.as_str())?;
+        return Ok(line);
+    }
     push_count(alloc, &mut line, counts.violated, "FALSE, ")?;
     push_count(alloc, &mut line, counts.limited, "LIMIT, ")?;
     push_count(alloc, &mut line, counts.not_run, "NOT_RUN, ")?;

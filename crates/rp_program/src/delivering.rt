@@ -8,6 +8,7 @@ ghost use Rattle.rp_program.specs.Validations.{IsValidated};
 
 use crate::ending::Done;
 use crate::fault::Fault;
+use crate::pages::Pages;
 use crate::running::lent;
 use ex_compiled::Compiled;
 use plain_data::{Failure, Text};
@@ -15,8 +16,8 @@ use rp_delivery::{
     Asked, Delivered, Form, Notes, SchemaSources, deliver, judgement_of, partners, sources_at,
 };
 use rp_delivery_words::{
-    FaultPlace, SchemaText, place_of_refusal, refused_line, refused_text, report_text,
-    verdict_line, words_of_refusal,
+    FaultPlace, SchemaText, place_of_refusal, refused_line, refused_page, refused_text,
+    report_page, report_text, verdict_line, words_of_refusal,
 };
 use rp_files::Folder;
 use rp_io::{Sink, write_all};
@@ -28,12 +29,13 @@ use std::mem;
 
 /// Validates the files of these paths by the schemas of these paths, as the one partner of a repository would, and tells what came
 /// of it. The process is to end then: what the repository holds isn't let go of.
-pub fn validate<D: Folder, W: Sink, N: Notes>(
+pub fn validate<D: Folder, W: Sink, N: Notes, P: Pages>(
     alloc: Global,
     folder: &D,
     asked: &Asked<'_>,
     writer: &mut W,
     notes: &mut N,
+    pages: &mut P,
 ) -> Result<Done, Fault>
     // The verdict is that of the reply, whatever is told of it.
     ensures verdict { IfOk result (λ done.
@@ -70,19 +72,21 @@ pub fn validate<D: Folder, W: Sink, N: Notes>(
         asked,
         &delivered?,
         writer,
+        pages,
     );
     mem::forget(schemas);
     ended
 }
 
 /// Writes what is told of a delivery, and answers what its reply says.
-fn tell<W: Sink>(
+fn tell<W: Sink, P: Pages>(
     alloc: Global,
     schemas: &[Compiled],
     texts: &[Vec<u8>],
     asked: &Asked<'_>,
     delivered: &Delivered<'_>,
     writer: &mut W,
+    pages: &mut P,
 ) -> Result<Done, Fault>
     ensures verdict { IfOk result (λ done. done ≡ Done.Validated (spec_judgement_of delivered.now.reply)) }
     ensures json { asked.now.form ≡ Form.Json → OnOk result (Appends (W.contents writer.old) (W.contents writer.new) (line_of_reply delivered.now.reply)) }
@@ -106,11 +110,13 @@ fn tell<W: Sink>(
                 *refusal,
                 place.as_ref(),
                 writer,
+                pages,
             )
         },
         reply => {
             let told = told_of(alloc, schema, asked, delivered)?;
             write(writer, &told)?;
+            write_report(alloc, schema, asked, delivered, pages)?;
             Ok(Done::Validated(judgement_of(reply)))
         }
     }
@@ -160,8 +166,46 @@ fn told_of(
     }
 }
 
+/// Writes the page of files that were validated, if one is wanted.
+fn write_report<P: Pages>(
+    alloc: Global,
+    schema: SchemaText<'_>,
+    asked: &Asked<'_>,
+    delivered: &Delivered<'_>,
+    pages: &mut P,
+) -> Result<(), Fault>
+    ensures { (path words : List ℕ) → IsErrOf result (Fault.Refused path words) → ⊥ }
+{
+    let (Some(path), Reply::Validated(report)) = (asked.page, &delivered.reply) else {
+        return Ok(());
+    };
+    let page = report_page(alloc, schema, &delivered.files, report)?;
+    match pages.write(path, page) {
+        Ok(()) => Ok(()),
+        Err(error) => Err(Fault::Page(Text::from_str(alloc, path)?, error)),
+    }
+}
+
+/// Writes the page of files of which the last one is refused, if a page is wanted.
+fn write_refused<P: Pages>(
+    alloc: Global,
+    schema: SchemaText<'_>,
+    asked: &Asked<'_>,
+    delivered: &Delivered<'_>,
+    path: &str,
+    words: &str,
+    lines: &str,
+    pages: &mut P,
+) -> Result<(), AllocError> {
+    if let Some(file) = asked.page {
+        let page = refused_page(alloc, schema.name, &delivered.files, path, words, lines)?;
+        let _ = pages.write(file, page);
+    }
+    Ok(())
+}
+
 /// Writes what is told where a file is refused, and answers why.
-fn tell_refused<W: Sink>(
+fn tell_refused<W: Sink, P: Pages>(
     alloc: Global,
     schema: SchemaText<'_>,
     asked: &Asked<'_>,
@@ -169,6 +213,7 @@ fn tell_refused<W: Sink>(
     refusal: Refusal,
     place: Option<&FaultPlace>,
     writer: &mut W,
+    pages: &mut P,
 ) -> Result<Done, Fault>
     ensures refused { OnOk result ⊥ }
     ensures json { asked.now.form ≡ Form.Json → (path words : List ℕ) → IsErrOf result (Fault.Refused path words) →
@@ -203,6 +248,17 @@ fn tell_refused<W: Sink>(
         )?
         .into_bytes(),
     };
+    // What is wrong with the file comes before what is wrong with the page.
+    let _ = write_refused(
+        alloc,
+        schema,
+        asked,
+        delivered,
+        path,
+        words.as_str(),
+        lines,
+        pages,
+    );
     let fault = Fault::Refused(Text::from_str(alloc, path)?, Text::new(words));
     write(writer, &told)?;
     Err(fault)

@@ -4,6 +4,7 @@ use plain_data::{Failure, Text};
 use rp_files::LoadFault;
 use rp_repo::NewFault;
 use std::alloc::AllocError;
+use std::io;
 
 /// Why there is nothing to work on.
 #[derive(Drop)]
@@ -25,6 +26,8 @@ pub enum Fault {
     Write,
     /// The file of this path isn't taken; why, in words.
     Refused(Text, Text),
+    /// The page that is wanted in the file of this path can't be written. All else was.
+    Page(Text, io::Error),
 }
 
 impl From<Failure<LoadFault>> for Fault {

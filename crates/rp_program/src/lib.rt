@@ -5,6 +5,7 @@ mod checking;
 mod delivering;
 mod ending;
 mod fault;
+mod pages;
 mod running;
 
 pub use checking::{check, explain};
@@ -12,4 +13,5 @@ pub use delivering::validate;
 pub use ending::{Done, status_of};
 pub use ex_check::Verdict;
 pub use fault::{Fault, StartFault};
+pub use pages::Pages;
 pub use running::batch;

@@ -1,4 +1,5 @@
 //! Why the program ends with status 2, and the line that it then writes on standard error.
+use crate::page::Unwritten;
 use plain_data::{Failure, Text};
 use rp_command::CommandLineFault;
 use rp_config::Shown;
@@ -63,6 +64,9 @@ fn write_of_command<W: fmt::Write>(
         CommandFault::Write => f.write_str("standard output can't be written"),
         CommandFault::Refused(path, words) => {
             write!(f, "{} is refused: {}", shown(path), words.as_str())
+        }
+        CommandFault::Page(path, error) => {
+            write!(f, "{} can't be written: {}", shown(path), Unwritten(*error))
         }
     }
 }

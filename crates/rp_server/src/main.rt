@@ -2,14 +2,17 @@
 #![tactic(auto)]
 
 mod fault;
+mod page;
 mod progress;
 
 use fault::Fault;
+use page::PageFiles;
 use plain_data::Failure;
 use progress::Progress;
 use rp_command::{Command, Delivery, Telling, command_of};
 use rp_config::{
-    Shown, is_read_again, partner_twice, schema_twice, what_begins, why_unreadable, wrong_place,
+    Shown, is_read_again, partner_twice_in, schema_twice, schema_twice_in, what_begins,
+    why_unreadable, wrong_place,
 };
 use rp_delivery::{Asked, Form};
 use rp_files::{FromFiles, LoadFault, file_bytes};
@@ -46,7 +49,7 @@ fn run<R: AllocGlobal + Files + Env + Print + Eprint + Input + Clock>(
             Ok(()) => Ok(Done::Helped),
             Err(_) => Err(Fault::from(CommandFault::Write)),
         },
-        Command::Batch(path) => told(rt, Some(path), batch_of(rt, path)),
+        Command::Batch(path) => told(rt, Naming::Config(path), batch_of(rt, path)),
         Command::Check(path) => {
             let mut writer = ToWriter::new(io::writer(rt));
             let ended = check(alloc, &FromFiles::new(rt), path, &mut writer);
@@ -57,7 +60,10 @@ fn run<R: AllocGlobal + Files + Env + Print + Eprint + Input + Clock>(
             let ended = explain(alloc, &FromFiles::new(rt), path, &mut writer);
             told_of_schema(rt, path, ended)
         }
-        Command::Validate(delivery) => told(rt, None, validate_of(rt, terminal, &delivery)),
+        Command::Validate(delivery) => {
+            let ended = validate_of(rt, terminal, &delivery);
+            told(rt, Naming::Paths(&delivery.schemas), ended)
+        }
     }
 }
 
@@ -79,11 +85,20 @@ fn validate_of<R: AllocGlobal + Files + Print + Eprint + Clock>(
             Telling::Quiet => Form::Quiet,
             Telling::Json => Form::Json,
         },
+        page: delivery.page,
     };
+    let mut pages = PageFiles::new(rt);
     let mut progress = Progress::new(rt, terminal);
     let mut writer = ToWriter::new(io::writer(rt));
     let files = FromFiles::new(rt);
-    let ended = validate(rt.alloc(), &files, &asked, &mut writer, &mut progress);
+    let ended = validate(
+        rt.alloc(),
+        &files,
+        &asked,
+        &mut writer,
+        &mut progress,
+        &mut pages,
+    );
     progress.end();
     ended
 }
@@ -115,19 +130,29 @@ fn told_of_schema<R: AllocGlobal + Files + Eprint>(
             let _ = eprintln!(rt; "rp_server: {} is no schema: {words}", Shown(path));
         }
     }
-    told(rt, None, ended)
+    told(rt, Naming::Nothing, ended)
 }
 
-/// How a command ended, which had this path of a configuration, if any; and beside a fault what more can be told of it.
+/// What names the schemas of a command.
+#[derive(Clone, Copy)]
+enum Naming<'a> {
+    Nothing,
+    /// The configuration at this path.
+    Config(&'a str),
+    /// The command line, by these paths.
+    Paths(&'a [&'a str]),
+}
+
+/// How a command ended, and beside a fault what more can be told of it.
 fn told<R: AllocGlobal + Files>(
     rt: &R,
-    config: Option<&str>,
+    naming: Naming<'_>,
     ended: Result<Done, CommandFault>,
 ) -> Result<Done, Fault> {
     match ended {
         Ok(done) => Ok(done),
         Err(fault) => {
-            let words = beside(rt, config, &fault)?;
+            let words = beside(rt, naming, &fault)?;
             Err(Fault::Command(fault, words))
         }
     }
@@ -136,14 +161,16 @@ fn told<R: AllocGlobal + Files>(
 /// What is told beside a fault of a command. Files are read once more for it, so that what is loaded is decided without it.
 fn beside<R: AllocGlobal + Files>(
     rt: &R,
-    config: Option<&str>,
+    naming: Naming<'_>,
     fault: &CommandFault,
 ) -> Result<Option<String>, Fault> {
-    match (fault, config) {
-        (CommandFault::Start(Failure::Fault(StartFault::Load(fault))), _) => beside_file(rt, fault),
-        (CommandFault::Start(Failure::Fault(StartFault::New(fault))), Some(path)) => {
-            beside_config(rt, path, *fault)
-        }
+    match fault {
+        CommandFault::Start(Failure::Fault(StartFault::Load(fault))) => beside_file(rt, fault),
+        CommandFault::Start(Failure::Fault(StartFault::New(fault))) => match naming {
+            Naming::Nothing => Ok(None),
+            Naming::Config(path) => beside_config(rt, path, *fault),
+            Naming::Paths(paths) => beside_paths(rt, paths, *fault),
+        },
         _ => Ok(None),
     }
 }
@@ -159,8 +186,22 @@ fn beside_config<R: AllocGlobal + Files>(
         return Ok(None);
     }
     match fault {
-        NewFault::TwoPartners => found(partner_twice(alloc, &folder, path)),
-        NewFault::TwoSchemas => found(schema_twice(alloc, &folder, path)),
+        NewFault::TwoPartners => found(partner_twice_in(alloc, &folder, path)),
+        NewFault::TwoSchemas => found(schema_twice_in(alloc, &folder, path)),
+        _ => Ok(None),
+    }
+}
+
+/// What is told beside a fault of all schemas at these paths.
+fn beside_paths<R: AllocGlobal + Files>(
+    rt: &R,
+    paths: &[&str],
+    fault: NewFault,
+) -> Result<Option<String>, Fault> {
+    match fault {
+        NewFault::TwoSchemas if paths.iter().all(|path| is_read_again(rt, path)) => {
+            found(schema_twice(rt.alloc(), &FromFiles::new(rt), paths))
+        }
         _ => Ok(None),
     }
 }

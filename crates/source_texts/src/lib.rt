@@ -4,12 +4,14 @@
 
 mod defined;
 mod inside;
+mod instances;
 mod keywords;
 mod paths;
 mod rules;
 mod wrapped;
 
 pub use defined::{Definition, definitions};
+pub use instances::instance_text;
 pub use keywords::push_keywords;
 pub use paths::push_path;
 pub use rules::{Clause, rule_of};
