@@ -112,5 +112,6 @@ With --html FILE the same is written into FILE as a page for a browser, with
 all culprits and the lines that define them. A file that stood there is lost.
 
 The status is 2, with one line on standard error, where the command line, a
-schema or a file isn't taken, or the page can't be written. Each of them has at most 8 MiB. A file of 8 MiB
-takes some 70 MB and half a second before its rules are tried.";
+schema or a file isn't taken, or the page can't be written. Schemas and files
+have at most 8 MiB each. A file of 8 MiB takes some 70 MB and half a second
+before its rules are tried.";
