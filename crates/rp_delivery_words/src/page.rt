@@ -89,15 +89,10 @@ impl<'a> ReportPage<'a> {
 impl fmt::Display for ReportPage<'_> {
     fn fmt<W: fmt::Write>(&self, f: &mut fmt::Formatter<W>) -> fmt::Result {
         write_front(f, verdict_of(self.report), self.line.as_str())?;
-        let (count, schema) = (self.files.len(), Escaped(self.schema));
-        write!(
-            f,
-            "<p>Schema: {schema}. Files: <a href=\"#files\">{count}</a>.</p>\n"
-        )?;
+        write_files(f, self.schema, self.files)?;
         write_contents(f, self.report)?;
         write_sections(f, self)?;
         write_kept(f, self.report)?;
-        write_files(f, self.files)?;
         f.write_str(END)
     }
 }
@@ -139,6 +134,7 @@ fn rules_of(alloc: Global, schema: &[u8], report: &ToldReport) -> Result<Vec<Str
 /// The page of files that were put, and of the one behind them, which is refused.
 #[derive(Drop)]
 pub struct RefusedPage<'a> {
+    schema: &'a str,
     files: &'a [PutFile<'a>],
     path: &'a str,
     words: &'a str,
@@ -155,7 +151,7 @@ impl fmt::Display for RefusedPage<'_> {
             write!(f, "<pre>\n{}</pre>\n", Escaped(self.lines))?;
         }
         if !self.files.is_empty() {
-            write_files(f, self.files)?;
+            write_files(f, self.schema, self.files)?;
         }
         f.write_str(END)
     }
@@ -164,6 +160,7 @@ impl fmt::Display for RefusedPage<'_> {
 /// The page of files that were put and of the one behind them, which is refused so, with the lines of its fault.
 pub fn refused_page<'a>(
     alloc: Global,
+    schema: &'a str,
     files: &'a [PutFile<'a>],
     path: &'a str,
     words: &'a str,
@@ -171,6 +168,7 @@ pub fn refused_page<'a>(
 ) -> Result<RefusedPage<'a>, AllocError> {
     let line = refused_line(alloc, path)?;
     Ok(RefusedPage {
+        schema,
         files,
         path,
         words,
@@ -192,8 +190,16 @@ fn write_front<W: fmt::Write>(
 }
 
 /// The files that were put.
-fn write_files<W: fmt::Write>(f: &mut fmt::Formatter<W>, files: &[PutFile<'_>]) -> fmt::Result {
-    f.write_str("<h2 id=\"files\">Files that were read</h2>\n<table class=\"files\">\n")?;
+fn write_files<W: fmt::Write>(
+    f: &mut fmt::Formatter<W>,
+    schema: &str,
+    files: &[PutFile<'_>],
+) -> fmt::Result {
+    write!(
+        f,
+        "<h2>Files, by the schema {}</h2>\n<table class=\"files\">\n",
+        Escaped(schema)
+    )?;
     for file in files {
         write!(
             f,

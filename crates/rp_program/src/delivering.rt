@@ -189,6 +189,7 @@ fn write_report<P: Pages>(
 /// Writes the page of files of which the last one is refused, if a page is wanted.
 fn write_refused<P: Pages>(
     alloc: Global,
+    schema: SchemaText<'_>,
     asked: &Asked<'_>,
     delivered: &Delivered<'_>,
     path: &str,
@@ -197,7 +198,7 @@ fn write_refused<P: Pages>(
     pages: &mut P,
 ) -> Result<(), AllocError> {
     if let Some(file) = asked.page {
-        let page = refused_page(alloc, &delivered.files, path, words, lines)?;
+        let page = refused_page(alloc, schema.name, &delivered.files, path, words, lines)?;
         let _ = pages.write(file, page);
     }
     Ok(())
@@ -248,7 +249,16 @@ fn tell_refused<W: Sink, P: Pages>(
         .into_bytes(),
     };
     // What is wrong with the file comes before what is wrong with the page.
-    let _ = write_refused(alloc, asked, delivered, path, words.as_str(), lines, pages);
+    let _ = write_refused(
+        alloc,
+        schema,
+        asked,
+        delivered,
+        path,
+        words.as_str(),
+        lines,
+        pages,
+    );
     let fault = Fault::Refused(Text::from_str(alloc, path)?, Text::new(words));
     write(writer, &told)?;
     Err(fault)
