@@ -494,7 +494,7 @@ def test_schemas_that_are_none():
     files = {"t.exp": T, "n.exp": "SCHEMA n; x", "u.exp": "schema t; END_SCHEMA;"}
     refuses(files, "--schema", "t.exp", "--schema", "n.exp", "--schema", "z.exp", "z.step", error='"n.exp" is no schema: Syntax line 1 column 11')
     refuses(files, "--schema", "z.exp", "--schema", "n.exp", "z.step", error='"z.exp" can\'t be read: there is no such file')
-    refuses(files, "--schema", "t.exp", "--schema", "u.exp", "z.step", error="two schemas have one name")
+    refuses(files, "--schema", "t.exp", "--schema", "u.exp", "z.step", error='two schemas have one name: "T", of "t.exp" and "u.exp"')
 
 
 def test_command_lines():
