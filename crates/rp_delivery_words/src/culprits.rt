@@ -103,8 +103,8 @@ fn write_instance<W: fmt::Write>(
     name: u64,
     found: Definition,
 ) -> fmt::Result {
-    let text = instance_text(file.text.as_str(), found.behind, INSTANCE);
-    let cut = if text.ends_with(';') { "" } else { " .." };
+    let (text, is_whole) = instance_text(file.text.as_str(), found.behind, INSTANCE);
+    let cut = if is_whole { "" } else { " .." };
     write!(
         f,
         "<td class=\"line\">line {}</td><td><code>#{name}={}{cut}</code></td>",

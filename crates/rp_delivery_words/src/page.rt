@@ -28,19 +28,26 @@ const FRONT: &str = "\
 const STYLE: &str = "\
 <style>
 :root { color-scheme: light dark; }
-body { font: 1rem/1.5 system-ui, sans-serif; max-width: 70rem; margin: 2rem auto; padding: 0 1rem; }
+body { font: 1rem/1.5 system-ui, sans-serif; max-width: 75rem; margin: 2rem auto; padding: 0 1rem; overflow-wrap: anywhere; }
 h1 { font-size: 1.5rem; border-left: 0.5rem solid; padding-left: 0.75rem; }
 h2 { font-size: 1.2rem; margin-top: 2rem; }
 h3 { font-size: 1rem; margin: 2rem 0 0.5rem; }
 h4 { font-size: 1rem; font-weight: normal; margin: 0.5rem 0; }
 table { border-collapse: collapse; }
-td { border-top: 1px solid #8884; padding: 0.2rem 1.5rem 0.2rem 0; vertical-align: top; overflow-wrap: anywhere; }
-td.line { white-space: nowrap; }
-pre, code { font: 0.9rem/1.4 ui-monospace, monospace; white-space: pre-wrap; unicode-bidi: isolate; }
+td { border-top: 1px solid #8884; padding: 0.2rem 1.5rem 0.2rem 0; vertical-align: top; white-space: pre-wrap; }
+td:last-child { overflow-wrap: break-word; }
+td.line, .checks td:first-child { white-space: nowrap; }
+pre, code { font: 0.9rem/1.4 ui-monospace, monospace; white-space: pre-wrap; overflow-wrap: anywhere; unicode-bidi: isolate; }
 pre { border-left: 0.2rem solid #8884; padding-left: 0.75rem; }
+summary { cursor: pointer; }
 .TRUE { color: light-dark(#17692d, #7ed491); }
 .FALSE { color: light-dark(#b3131c, #ff8f8a); }
 .UNKNOWN, .LIMIT, .NOT_RUN { color: light-dark(#8a5200, #f0b64a); }
+@media (max-width: 45rem) {
+  table, tbody, tr, .culprits td:nth-child(n+3) { display: block; }
+  tr { border-top: 1px solid #8884; padding: 0.3rem 0; }
+  td { display: inline; border: 0; padding: 0 0.5rem 0 0; }
+}
 </style>
 </head>
 <body>
@@ -89,8 +96,8 @@ impl<'a> ReportPage<'a> {
 impl fmt::Display for ReportPage<'_> {
     fn fmt<W: fmt::Write>(&self, f: &mut fmt::Formatter<W>) -> fmt::Result {
         write_front(f, verdict_of(self.report), self.line.as_str())?;
-        write_files(f, self.schema, self.files)?;
         write_contents(f, self.report)?;
+        write_files(f, self.schema, self.files)?;
         write_sections(f, self)?;
         write_kept(f, self.report)?;
         f.write_str(END)

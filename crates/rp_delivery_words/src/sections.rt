@@ -140,10 +140,11 @@ pub(crate) fn write_kept<W: fmt::Write>(
         .iter()
         .filter(|check| check.verdict == Verdict::True)
         .count();
-    write!(
-        f,
-        "<h2>Checks that are TRUE: {count}</h2>\n<details><summary>show</summary>\n<ul class=\"TRUE\">\n"
-    )?;
+    write!(f, "<h2>Checks that are TRUE: {count}</h2>\n")?;
+    if count == 0 {
+        return Ok(());
+    }
+    f.write_str("<details><summary>show</summary>\n<ul class=\"TRUE\">\n")?;
     for check in all {
         if check.verdict == Verdict::True {
             write!(f, "<li>{}</li>\n", Named(check))?;
