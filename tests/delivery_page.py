@@ -65,8 +65,7 @@ WHOLE = """<!DOCTYPE html>
 body { font: 1rem/1.5 system-ui, sans-serif; max-width: 75rem; margin: 2rem auto; padding: 0 1rem; overflow-wrap: anywhere; }
 h1 { font-size: 1.5rem; border-left: 0.5rem solid; padding-left: 0.75rem; }
 h2 { font-size: 1.2rem; margin-top: 2rem; }
-h3 { font-size: 1rem; margin: 2rem 0 0.5rem; }
-h4 { font-size: 1rem; font-weight: normal; margin: 0.5rem 0; }
+h3 { font-size: 1rem; font-weight: normal; margin: 0.5rem 0; }
 table { border-collapse: collapse; }
 td { border-top: 1px solid #8884; padding: 0.2rem 1.5rem 0.2rem 0; vertical-align: top; white-space: pre-wrap; }
 td:last-child { overflow-wrap: break-word; }
@@ -97,17 +96,17 @@ summary { cursor: pointer; }
 <tr><td>a.step</td><td>3 instances</td></tr>
 </table>
 <section id="check-3">
-<h3><span class="FALSE">FALSE</span> where PEG BIG</h3>
+<h2><span class="FALSE">FALSE</span> where PEG BIG</h2>
 <pre>big : size &gt; 3</pre>
-<h4>violated: 1</h4>
+<h3>violated: 1</h3>
 <table class="culprits">
 <tr><td>a.step</td><td class="line">line 2</td><td><code>#2=PEG(2,$);</code></td></tr>
 </table>
 </section>
 <section id="check-5">
-<h3><span class="FALSE">FALSE</span> unique PEG ONE</h3>
+<h2><span class="FALSE">FALSE</span> unique PEG ONE</h2>
 <pre>one : size</pre>
-<h4>violated: 2</h4>
+<h3>violated: 2</h3>
 <table class="culprits">
 <tr><td>a.step</td><td class="line">line 1</td><td><code>#1=PEG(5,&#39;steel&#39;);</code></td></tr>
 <tr><td>a.step</td><td class="line">line 3</td><td><code>#3=PEG(5,
@@ -115,9 +114,9 @@ summary { cursor: pointer; }
 </table>
 </section>
 <section id="check-4">
-<h3><span class="UNKNOWN">UNKNOWN</span> where PEG SOFT</h3>
+<h2><span class="UNKNOWN">UNKNOWN</span> where PEG SOFT</h2>
 <pre>soft : metal &lt;&gt; &#39;lead&#39;</pre>
-<h4>can&#39;t be told: 1</h4>
+<h3>can&#39;t be told: 1</h3>
 <table class="culprits">
 <tr><td>a.step</td><td class="line">line 2</td><td><code>#2=PEG(2,$);</code></td></tr>
 </table>
