@@ -448,6 +448,18 @@ def test_a_page_that_cannot_be_written():
         unwritten(GOOD, page, f"{json.dumps(page)} can't be written: {why}")
 
 
+def test_a_page_in_place_of_something_else():
+    """A file that has something else than a page stays, by whichever path it is named; an empty one and a page are written over."""
+    files = {**GOOD, "b.step": file_of("#1=P(1.,$);"), "empty": "", "page.html": "<!DOCTYPE html>\n<p>an older one", "front": "<!DOC", "text": "<!DOCTYPE htm>"}
+    words = "it has something else than a page"
+    unwritten(files, "./a.step", f"\"./a.step\" can't be written: {words}")
+    unwritten(files, "a.step", f"\"a.step\" can't be written: {words}", ["b.step"])
+    unwritten(files, "sub/../t.exp", f"\"sub/../t.exp\" can't be written: {words}")
+    unwritten(files, "text", f"\"text\" can't be written: {words}")
+    pages = {page_of(files, "--schema", "t.exp", "a.step", page=it)[1] for it in ("empty", "page.html", "front", "new.html")}
+    expect((len(pages),), (1,))
+
+
 def test_a_page_without_permission():
     """Whoever may do all is refused nothing."""
     if os.geteuid() == 0:
