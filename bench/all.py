@@ -72,6 +72,7 @@ def measure(folder, program, with_hostile):
     failed = run_script("single.py", program) or failed
     failed = run_script("groups.py", program) or failed
     failed = run_script("legal.py", program) or failed
+    failed = run_script("delivery.py", program) or failed
     if os.access(TRIAL, os.X_OK):
         failed = run_script("eval.py", TRIAL) or failed
     if with_hostile:
