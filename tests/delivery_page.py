@@ -65,8 +65,7 @@ WHOLE = """<!DOCTYPE html>
 body { font: 1rem/1.5 system-ui, sans-serif; max-width: 75rem; margin: 2rem auto; padding: 0 1rem; overflow-wrap: anywhere; }
 h1 { font-size: 1.5rem; border-left: 0.5rem solid; padding-left: 0.75rem; }
 h2 { font-size: 1.2rem; margin-top: 2rem; }
-h3 { font-size: 1rem; margin: 2rem 0 0.5rem; }
-h4 { font-size: 1rem; font-weight: normal; margin: 0.5rem 0; }
+h3 { font-size: 1rem; font-weight: normal; margin: 0.5rem 0; }
 table { border-collapse: collapse; }
 td { border-top: 1px solid #8884; padding: 0.2rem 1.5rem 0.2rem 0; vertical-align: top; white-space: pre-wrap; }
 td:last-child { overflow-wrap: break-word; }
@@ -97,17 +96,17 @@ summary { cursor: pointer; }
 <tr><td>a.step</td><td>3 instances</td></tr>
 </table>
 <section id="check-3">
-<h3><span class="FALSE">FALSE</span> where PEG BIG</h3>
+<h2><span class="FALSE">FALSE</span> where PEG BIG</h2>
 <pre>big : size &gt; 3</pre>
-<h4>violated: 1</h4>
+<h3>violated: 1</h3>
 <table class="culprits">
 <tr><td>a.step</td><td class="line">line 2</td><td><code>#2=PEG(2,$);</code></td></tr>
 </table>
 </section>
 <section id="check-5">
-<h3><span class="FALSE">FALSE</span> unique PEG ONE</h3>
+<h2><span class="FALSE">FALSE</span> unique PEG ONE</h2>
 <pre>one : size</pre>
-<h4>violated: 2</h4>
+<h3>violated: 2</h3>
 <table class="culprits">
 <tr><td>a.step</td><td class="line">line 1</td><td><code>#1=PEG(5,&#39;steel&#39;);</code></td></tr>
 <tr><td>a.step</td><td class="line">line 3</td><td><code>#3=PEG(5,
@@ -115,9 +114,9 @@ summary { cursor: pointer; }
 </table>
 </section>
 <section id="check-4">
-<h3><span class="UNKNOWN">UNKNOWN</span> where PEG SOFT</h3>
+<h2><span class="UNKNOWN">UNKNOWN</span> where PEG SOFT</h2>
 <pre>soft : metal &lt;&gt; &#39;lead&#39;</pre>
-<h4>can&#39;t be told: 1</h4>
+<h3>can&#39;t be told: 1</h3>
 <table class="culprits">
 <tr><td>a.step</td><td class="line">line 2</td><td><code>#2=PEG(2,$);</code></td></tr>
 </table>
@@ -447,6 +446,18 @@ def test_a_page_that_cannot_be_written():
     for page, why in (("no/page.html", "there is no such folder"), ("sub", "it is a folder"), ("sub/", "it is a folder"),
                       ("a.step/page.html", "a part of its path is no folder"), ("/dev/full", "there is no room"), (long, "its path is too long")):
         unwritten(GOOD, page, f"{json.dumps(page)} can't be written: {why}")
+
+
+def test_a_page_in_place_of_something_else():
+    """A file that has something else than a page stays, by whichever path it is named; an empty one and a page are written over."""
+    files = {**GOOD, "b.step": file_of("#1=P(1.,$);"), "empty": "", "page.html": "<!DOCTYPE html>\n<p>an older one", "front": "<!DOC", "text": "<!DOCTYPE htm>"}
+    words = "it has something else than a page"
+    unwritten(files, "./a.step", f"\"./a.step\" can't be written: {words}")
+    unwritten(files, "a.step", f"\"a.step\" can't be written: {words}", ["b.step"])
+    unwritten(files, "sub/../t.exp", f"\"sub/../t.exp\" can't be written: {words}")
+    unwritten(files, "text", f"\"text\" can't be written: {words}")
+    pages = {page_of(files, "--schema", "t.exp", "a.step", page=it)[1] for it in ("empty", "page.html", "front", "new.html")}
+    expect((len(pages),), (1,))
 
 
 def test_a_page_without_permission():

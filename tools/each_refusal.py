@@ -12,7 +12,8 @@ input. It is a failure too if a run that refuses nothing has a NoMemory, if a ru
 refusals, or if nothing was refused.
 
 Of a check of a schema's file, and of files that are validated, the program writes what it writes with ample memory, or ends with
-status 2, one line on standard error and no output; or it writes with `--json` that memory is wanting.
+status 2, one line on standard error and no output; or it writes with `--json` that memory is wanting. Where a page is wanted too,
+memory may be wanting for this alone: then the output is there.
 """
 import collections
 import concurrent.futures
@@ -101,6 +102,17 @@ TRUE     reference
 
 Violated: 1 FALSE, 2 TRUE of 3 checks.
 """, b""),
+    (("validate", "--schema", "t.exp", "--html", "/dev/null", "--quiet", "page.step"), DELIVERED % "#1=P($,'<a>');#2=Q(#1);#3=P($,'b');", 1,
+     b"Violated: 1 FALSE, 2 TRUE of 3 checks.\n", b""),
+    (("validate", "--schema", "t.exp", "--html", "/dev/null", "page_of_torn.step"), DELIVERED % "\n#2=Q(#1);\n", 2,
+     b"""page_of_torn.step: code 12 InstanceFault, kind Undefined, instance #2, line 2 column 6
+  #2=Q(#1);
+       ^
+  attribute 1, a: P
+  #1 is no instance of this file
+
+Not taken: page_of_torn.step is refused, so nothing is validated.
+""", b'rp_server: "page_of_torn.step" is refused: code 12 InstanceFault, kind Undefined, instance #2, line 2 column 6\n'),
     (("validate", "--schema", "t.exp", "--json", "torn.step"), DELIVERED % "#2=Q(#1);", 2,
      b'{"refused":{"code":12,"instance":2,"kind":"Undefined","name":"InstanceFault"}}\n',
      b'rp_server: "torn.step" is refused: code 12 InstanceFault, kind Undefined, instance #2, line 1 column 122\n'),
@@ -247,7 +259,7 @@ def refuse_check(program, folder, command, *wanted):
     whole = run(program, folder, [], command)
     if (whole.status, whole.output, whole.errors) != wanted:
         raise Failure(f"with no refusal: status {whole.status}, {whole.output!r} and {whole.errors!r}")
-    told = [b"", NO_MEMORY + b"\n"] if "--json" in command else [b""]
+    told = [b"", *([NO_MEMORY + b"\n"] if "--json" in command else []), *([whole.output] if "--html" in command else [])]
 
     def one(key, place):
         result = run(program, folder, [], command, **{key: str(place)})

@@ -242,7 +242,7 @@ def expect_links(browser):
         asked = browser.value(f"document.links[{number}].hash")
         if f"#{seen}" != asked:
             raise Wrong(f"{asked} leads to {seen}")
-        named = browser.value(f"[document.links[{number}].textContent, document.querySelector(':target h3').textContent]")
+        named = browser.value(f"[document.links[{number}].textContent, document.querySelector(':target h2').textContent]")
         if not named[1].endswith(f" {named[0]}"):
             raise Wrong(f"{named[0]!r} leads to {named[1]!r}")
 

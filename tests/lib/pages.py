@@ -11,7 +11,7 @@ from lib.harness import Wrong
 
 # what a page may be made of
 VOID = {"meta"}
-TAGS = VOID | {"html", "head", "title", "style", "body", "h1", "h2", "h3", "h4", "table", "tbody", "tr", "td", "section", "span", "a", "p", "pre",
+TAGS = VOID | {"html", "head", "title", "style", "body", "h1", "h2", "h3", "table", "tbody", "tr", "td", "section", "span", "a", "p", "pre",
                "code", "details", "summary", "ul", "li"}
 ATTRIBUTES = {("html", "lang"), ("meta", "charset"), ("meta", "http-equiv"), ("meta", "name"), ("meta", "content"), ("a", "href"),
               ("section", "id"), *((it, "class") for it in ("h1", "span", "td", "table", "ul", "p"))}
@@ -212,7 +212,7 @@ def section_in(section):
     verdict = head.one("span").text
     if head.one("span").attributes["class"] != verdict or not head.text.startswith(f"{verdict} "):
         raise Wrong(f"{head.text!r} under {verdict}")
-    places = [place for place, it in enumerate(rest) if it.tag == "h4"]
+    places = [place for place, it in enumerate(rest) if it.tag == "h3"]
     lists = [(rest[place].text, rest[place + 1:end]) for place, end in zip(places, [*places[1:], len(rest)])]
     together = lists[0][0] if len(lists) == 1 and not lists[0][1] else ""
     return Section(section.attributes["id"], verdict, head.text.removeprefix(f"{verdict} "), rule, together,

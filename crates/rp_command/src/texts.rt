@@ -109,7 +109,7 @@ the put that was refused, where the partner is me and the models are 01, 02, ..
 in the order of the files.
 
 With --html FILE the same is written into FILE as a page for a browser, with
-all culprits and the lines that define them. A file that stood there is lost.
+all culprits and the lines that define them. A page that stood there is lost.
 
 The status is 2, with one line on standard error, where the command line, a
 schema or a file isn't taken, or the page can't be written. Schemas and files

@@ -48,7 +48,7 @@ fn write_list<W: fmt::Write>(
         return Ok(());
     }
     let (heading, count) = (Escaped(heading_of(verdict)), culprits.len());
-    write!(f, "<h4>{heading}: {count}</h4>\n")?;
+    write!(f, "<h3>{heading}: {count}</h3>\n")?;
     let shown = front(culprits, SHOWN);
     write_rows(f, page, shown)?;
     let folded = culprits.get(shown.len()..).unwrap_or(&[]);

@@ -31,8 +31,7 @@ const STYLE: &str = "\
 body { font: 1rem/1.5 system-ui, sans-serif; max-width: 75rem; margin: 2rem auto; padding: 0 1rem; overflow-wrap: anywhere; }
 h1 { font-size: 1.5rem; border-left: 0.5rem solid; padding-left: 0.75rem; }
 h2 { font-size: 1.2rem; margin-top: 2rem; }
-h3 { font-size: 1rem; margin: 2rem 0 0.5rem; }
-h4 { font-size: 1rem; font-weight: normal; margin: 0.5rem 0; }
+h3 { font-size: 1rem; font-weight: normal; margin: 0.5rem 0; }
 table { border-collapse: collapse; }
 td { border-top: 1px solid #8884; padding: 0.2rem 1.5rem 0.2rem 0; vertical-align: top; white-space: pre-wrap; }
 td:last-child { overflow-wrap: break-word; }

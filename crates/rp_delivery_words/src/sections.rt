@@ -116,14 +116,14 @@ fn write_section<W: fmt::Write>(
     let named = Named(check);
     write!(
         f,
-        "<section id=\"check-{place}\">\n<h3><span class=\"{verdict}\">{verdict}</span> {named}</h3>\n"
+        "<section id=\"check-{place}\">\n<h2><span class=\"{verdict}\">{verdict}</span> {named}</h2>\n"
     )?;
     let rule = page.rule(place).trim_end();
     if !rule.is_empty() {
         write!(f, "<pre>{}</pre>\n", Escaped(rule))?;
     }
     if check.kind == CheckKind::Rule {
-        write!(f, "<h4>{}</h4>\n", Escaped(together_of(check.verdict)))?;
+        write!(f, "<h3>{}</h3>\n", Escaped(together_of(check.verdict)))?;
     } else {
         write_lists(f, page, check)?;
     }

@@ -1,9 +1,30 @@
 //! Files of pages.
-use rp_config::Unreadable;
+use rp_config::{Unreadable, is_read_again};
 use rp_program::Pages;
 use std::fs::{File, Files};
-use std::io::{BufWriter, ErrorKind, Write};
+use std::io::{BufWriter, ErrorKind, Read, Write};
 use std::{fmt, io};
+
+/// How each page begins.
+const FRONT: &[u8] = b"<!DOCTYPE html>";
+
+/// Whether the file of this path has something else than a page: whoever leaves out the path of a page behind `--html` names a file
+/// that is to be read, and would lose it.
+fn has_something_else<R: Files>(files: &R, path: &str) -> bool {
+    if !is_read_again(files, path) {
+        return false;
+    }
+    let Ok(mut file) = File::open(files, path) else {
+        return false;
+    };
+    let mut bytes = [0; FRONT.len()];
+    match file.read(&mut bytes) {
+        Ok(count) => !bytes
+            .get(..count)
+            .is_some_and(|front| FRONT.starts_with(front)),
+        Err(_) => false,
+    }
+}
 
 /// The files of the system, each of which is made anew for a page.
 #[derive(Drop)]
@@ -19,6 +40,9 @@ impl<'r, R: AllocGlobal + Files> PageFiles<'r, R> {
 
 impl<R: AllocGlobal + Files> Pages for PageFiles<'_, R> {
     fn write<T: fmt::Display + Drop>(&mut self, path: &str, page: T) -> io::Result<()> {
+        if has_something_else(self.rt, path) {
+            return Err(io::Error::other("it has something else than a page"));
+        }
         let file = File::create(self.rt, path)?;
         let mut writer = BufWriter::new(self.rt.alloc(), file)?;
         writer.write_fmt(page)?;
