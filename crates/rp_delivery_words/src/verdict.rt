@@ -93,12 +93,11 @@ pub(crate) fn verdict_of(report: &ToldReport) -> Verdict {
 pub fn verdict_line(alloc: Global, report: &ToldReport) -> Result<String, AllocError> {
     let counts = counts_of(report);
     let all = report.checks.len();
-    let mut line = String::from_str(alloc, counts.words())?;
+    let words = counts.words();
     if counts.kept == all {
-        let rest = format!(in alloc; "all {all} checks are TRUE.\n")?;
-        line.push_str(rest.as_str())?;
-        return Ok(line);
+        return format!(in alloc; "{words}all {all} checks are TRUE.\n");
     }
+    let mut line = String::from_str(alloc, words)?;
     push_count(alloc, &mut line, counts.violated, "FALSE, ")?;
     push_count(alloc, &mut line, counts.limited, "LIMIT, ")?;
     push_count(alloc, &mut line, counts.not_run, "NOT_RUN, ")?;
