@@ -353,7 +353,7 @@ class Wanted:
 
     def section(self, number, check):
         kind, verdict = check["check"], check["verdict"]
-        rule = rule_of(self.schema, kind, check["of"], check["rule"]) if "rule" in check else ""
+        rule = shown(rule_of(self.schema, kind, check["of"], check["rule"])) if "rule" in check else ""
         return Section(f"check-{number}", verdict, self.name(check), rule, TOGETHER[verdict] if kind == "rule" else "", list(self.lists(check)))
 
     @staticmethod
