@@ -13,7 +13,7 @@ import subprocess
 import sys
 
 from harness import BATCH, FILE_LIMIT, Table, request, run_bench
-from validate import SIZE_OF_A_PART, assembly_text, file_of, lines, model_of_parts
+from validate import SIZE_OF_A_PART, assembly_text, file_of, lines, model_of_parts, part
 
 RUNS = 5
 
@@ -63,10 +63,8 @@ def measure(folder, table, name, schema, text, files):
 def measure_all(folder, share):
     table = Table({"files": "30", "bytes": "12,", "text": "8.3f", "json": "8.3f", "page": "8.3f", "batch": "8.3f", "text/batch": "10.2f",
                    "memory": "13,", "of batch": "13,", "page's bytes": "13,"})
-    size = len(file_of("MECHANICAL_ASSEMBLY", model_of_parts(1, 10))) // 10
-    parts = FILE_LIMIT // share // size - 1
-    while parts * SIZE_OF_A_PART > 190_000:
-        parts -= 1
+    # (names of later parts are the longest)
+    parts = min(190_000 // SIZE_OF_A_PART, FILE_LIMIT // len(part(2_000, "P02000"))) // share - 1
     for count in (1, 3):
         files = [file_of("MECHANICAL_ASSEMBLY", model_of_parts(1 + parts * place, parts)) for place in range(count)]
         measure(folder, table, f"{count} of parts", "MECHANICAL_ASSEMBLY", assembly_text(), files)
