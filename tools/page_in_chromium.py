@@ -138,8 +138,11 @@ class Browser:
             self.events.append(it)
 
     def wait(self, method):
+        """Waits for an event. A script that waits for a person is answered, and stays among the events."""
         while not any(it.get("method") == method for it in self.events):
             self.events.append(self.message())
+            if self.events[-1].get("method") == "Page.javascriptDialogOpening":
+                self.ask("Page.handleJavaScriptDialog", accept=True)
 
     def value(self, expression):
         """The value of an expression of the page. It isn't bound by what the page forbids itself."""
