@@ -1,27 +1,22 @@
 -- What a binary search finds in a list in the order of its keys, and what is done at its place.
-use Rattle.std.proofs.Common.{◌≡◌, ℕ, ◌<◌, ◌≤◌, Bool, true, false, List, length, set, get_or, Some, None, is_some, refl, sym, ◌∙◌, ap, arith}
-use Rattle.std.specs.Prelude.{◌≢◌, not, slice_get}
-use Rattle.std.specs.List.{find, insert, remove}
+use Rattle.std.proofs.Common.{◌≡◌, ℕ, ◌<◌, ◌≤◌, Bool, true, false, List, [], ◌∷◌, length, set, get_or, Some, None, is_some, refl, sym, ◌∙◌, ap, arith}
+use Rattle.std.specs.Prelude.{not, slice_get}
+use Rattle.std.specs.List.{find, insert, remove, AllByRecursion}
 use Rattle.std.specs.declared.cmp.Ordering.{Ordering}
-use Rattle.std.specs.Ordering.{is_eq, nat_cmp}
+use Rattle.std.specs.declared.cmp.Ordering.TheVariants.{Less, Equal, Greater}
+use Rattle.std.specs.Ordering.{is_lt, is_eq, is_gt}
 use Rattle.std.specs.Cmp.{IsTotalOrder}
 use Rattle.std.proofs.lemmas.List.Filters.{length-filter_both}
 use Rattle.std.proofs.lemmas.Option.{slice_get-get_or, slice_get_past}
 use Rattle.sorted_tables.specs.Table.{is_at, is_before, with_row, IsAscending}
 use Rattle.sorted_tables.proofs.Searching.{at_place, chosen, replaced, absent_stays}
-use Rattle.sorted_tables.proofs.Ascending.{inserted, removed, with_row_ascends, with_none_ascends}
-use Rattle.rp_store.specs.Places.{place_of, IsThere, IsAbsent}
+use Rattle.sorted_tables.proofs.Ascending.{follows_all, none_before, none_there, all_after, inserted, removed, with_row_ascends, with_none_ascends}
+use Rattle.sorted_tables.specs.Places.{place_of, IsThere, IsAbsent}
 
 -- this list is that one, and in order
 pub record Becomes {K X : Type 0} (cmp : K → K → Ordering) (key : X → K) (xs ys : List X) : Type 0 where
   pub are : xs ≡ ys
   pub ascends : IsAscending cmp key xs
-
-pub is_named : (a n : ℕ) → a ≡ n → is_eq (nat_cmp a n) ≡ true
-is_named a n h = grind arith
-
-pub is_not_named : (a n : ℕ) → a ≢ n → is_eq (nat_cmp a n) ≡ false
-is_not_named a n h = grind arith
 
 module _ {K X : Type 0} (cmp : K → K → Ordering) (key : X → K) (total : IsTotalOrder cmp) where
   -- ---- what a search finds
@@ -95,3 +90,17 @@ module _ {K X : Type 0} (cmp : K → K → Ordering) (key : X → K) (total : Is
 
   pub taken_absent : (k : K) (xs : List X) (i : ℕ) → IsAbsent cmp key k xs i → xs ≡ with_row cmp key k None xs
   taken_absent k xs i absent = sym (absent_stays cmp key total k xs absent.order absent.none)
+
+  -- what stands at a key, put there again
+  pub stays : (k : K) (xs : List X) → IsAscending cmp key xs → with_row cmp key k (find (is_at cmp key k) xs) xs ≡ xs
+  stays k [] order = refl
+  stays k (x ∷ xs) order = by (stays k xs order.1) (cmp (key x) k) refl
+    where
+      later : is_lt (cmp (key x) k) ≡ false → AllByRecursion (λ y. is_gt (cmp (key y) k) ≡ true) xs
+      later past = follows_all cmp key total k (key x) xs past order.0
+
+      by : with_row cmp key k (find (is_at cmp key k) xs) xs ≡ xs → (t : Ordering) → cmp (key x) k ≡ t → with_row cmp key k (find (is_at cmp key k) (x ∷ xs)) (x ∷ xs) ≡ x ∷ xs
+      by rest Less e = rw (ap is_lt e, ap is_gt e, ap is_eq e) (ap (λ ys. x ∷ ys) rest)
+      by rest Equal e = rw (ap is_lt e, ap is_gt e, ap is_eq e, none_before cmp key total k xs (later (ap is_lt e)), all_after cmp key total k xs (later (ap is_lt e))) refl
+      by rest Greater e =
+          rw (ap is_lt e, ap is_gt e, ap is_eq e, none_before cmp key total k xs (later (ap is_lt e)), all_after cmp key total k xs (later (ap is_lt e)), none_there cmp key total k xs (later (ap is_lt e))) refl
