@@ -9,12 +9,12 @@ use crate::steps::{
     Altered, GroupStep, ModelStep, group_step, make_group_step, make_model_step, model_step,
 };
 use plain_data::{Rows, Text};
-use rp_content::Instance;
 use rp_rows::limits::{MAX_GROUPS, MAX_MODELS};
 use rp_rows::rows::{Key, Level, Listing, ModelContent, Right};
 use rp_sight::{
     Groups, Member, Seen, group_right, level, members_of, visible_groups, visible_models,
 };
+use rp_store::Edit;
 use rp_tables::Table;
 use std::alloc::{AllocError, Global};
 use std::marker::Model;
@@ -57,13 +57,11 @@ fn refused(_change: Change, reason: AccessFault) -> AccessFault
 impl Access {
     ghost use Rattle.std.specs.Prelude.{◌≡◌, ◌≢◌, [], Some, None, map, filter, IfOk, IfErr};
     ghost use Rattle.std.specs.List.{find};
-    ghost use Rattle.std.specs.Vec.{vec_capacity};
     ghost use Rattle.rp_rows.specs.Rows.{is_row};
     ghost use Rattle.rp_rows.specs.Listings.{with_member, without_member};
-    ghost use Rattle.rp_rows.specs.Instances.{with_instance, without_instance};
     ghost use Rattle.rp_rows.specs.Sight as sight;
     ghost use Rattle.rp_rows.specs.Alterations.{altered};
-    ghost use Rattle.rp_tables.specs.Named.{IsNamed, HasRoomIn};
+    ghost use Rattle.rp_store.specs.Contents.{edited_by, EditFits};
     ghost use Rattle.rp_tables.specs.Stored.{rewritten, reheld, HasRowAt};
     ghost use Rattle.rp_sight.specs.Listed.{members_in, member_of};
     ghost use Rattle.rp_sight.specs.Seen.{seen_model, seen_group, seen_of};
@@ -197,25 +195,13 @@ impl Access {
         make_group_step(&mut self.groups, key, step);
     }
 
-    /// The instance stands in the model of the key from now on, if there is one. The spare has room for one more instance
-    /// than the model has. It takes no memory.
-    pub fn place_instance(&mut self, key: &Key, instance: Instance, spare: Vec<Instance>)
-        requires empty { spare.items ≡ [] }
-        requires named { HasRowAt IsNamed key.now self.old.models.rows }
-        requires room { HasRowAt (HasRoomIn (vec_capacity spare)) key.now self.old.models.rows }
-        ensures models { self.new.models.rows ≡ rewritten key.now (reheld (with_instance instance)) self.old.models.rows }
+    /// What the model of the key holds is changed so, if there is one. It takes no memory.
+    pub fn alter(&mut self, key: &Key, change: Edit)
+        requires { HasRowAt (EditFits change) key.now self.old.models.rows }
+        ensures models { self.new.models.rows ≡ rewritten key.now (reheld (edited_by change)) self.old.models.rows }
         ensures groups { self.new.groups ≡ self.old.groups }
     {
-        self.models.place_instance(key, instance, spare);
-    }
-
-    /// No instance stands under the name in the model of the key from now on. It takes no memory.
-    pub fn drop_instance(&mut self, key: &Key, name: u64)
-        requires { HasRowAt IsNamed key.now self.old.models.rows }
-        ensures models { self.new.models.rows ≡ rewritten key.now (reheld (without_instance name)) self.old.models.rows }
-        ensures groups { self.new.groups ≡ self.old.groups }
-    {
-        self.models.drop_instance(key, name);
+        self.models.alter(key, change);
     }
 
     // ---- changes that may be refused

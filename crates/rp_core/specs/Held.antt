@@ -1,6 +1,5 @@
 -- What a repository in memory holds, and what a prepared request is.
 use Rattle.std.specs.Prelude.{◌≡◌, ℕ, List, [], slice_index_or}
-use Rattle.std.specs.Vec.{vec_capacity}
 use Rattle.rp_rows.specs.Rows.{Text, Model, GroupRow}
 use Rattle.rp_rows.specs.Instances.{with_instance, without_instance}
 use Rattle.rp_rows.specs.Alterations.{altered}
@@ -13,9 +12,9 @@ use Rattle.rp_access.specs.Steps.{alteration_of, model_stepped, group_stepped, M
 use Rattle.rp_plans.specs.declared.edits.Edits.{Edits}
 use Rattle.rp_plans.specs.declared.edits.Edits.TheVariants.{Nothing as NoEdit, OfModel as EditModel, OfGroup as EditGroup, Place as PlaceEdit, DropInstance as DropEdit}
 use Rattle.rp_core.specs.declared.steps.Steps.{Steps}
-use Rattle.rp_core.specs.declared.steps.Steps.TheVariants.{Nothing, OfModel, OfGroup, Place, DropInstance}
+use Rattle.rp_core.specs.declared.steps.Steps.TheVariants.{Nothing, OfModel, OfGroup, Alter}
 use Rattle.rp_core.specs.declared.steps.Pending.{Pending}
-use Rattle.rp_tables.specs.Named.{IsNamed, HasRoomIn}
+use Rattle.rp_store.specs.Contents.{edited_by, EditFits}
 use Rattle.rp_tables.specs.Stored.{rewritten, reheld, HasRowAt}
 
 -- the content, and the rows and rights that it is made of
@@ -29,8 +28,7 @@ abbrev pub made_models : Steps → List Model → List Model
 made_models Nothing ms = ms
 made_models (OfModel k step) ms = model_stepped k step ms
 made_models (OfGroup k step) ms = ms
-made_models (Place k i spare) ms = rewritten k (reheld (with_instance i)) ms
-made_models (DropInstance k n) ms = rewritten k (reheld (without_instance n)) ms
+made_models (Alter k edit) ms = rewritten k (reheld (edited_by edit)) ms
 
 abbrev pub made_groups : Steps → List GroupRow → List GroupRow
 made_groups (OfGroup k step) gs = group_stepped k step gs
@@ -57,8 +55,7 @@ abbrev pub StepsFit : KeptAccess → Steps → Type 0
 StepsFit kept Nothing = Unit {0}
 StepsFit kept (OfModel k step) = ModelFits k step kept.models
 StepsFit kept (OfGroup k step) = GroupFits k step kept.groups
-StepsFit kept (Place k i spare) = (spare.items ≡ []) × HasRowAt IsNamed k kept.models.rows × HasRowAt (HasRoomIn (vec_capacity spare)) k kept.models.rows
-StepsFit kept (DropInstance k n) = HasRowAt IsNamed k kept.models.rows
+StepsFit kept (Alter k edit) = HasRowAt (EditFits edit) k kept.models.rows
 
 -- what is pending was prepared for what is held: its steps take no memory
 unfoldable pub Fits : Kept → Pending → Type 0

@@ -1,18 +1,16 @@
 //! What a prepared request is still to do. No step takes memory.
 
-ghost use Rattle.std.specs.Prelude.{◌≡◌, ◌<◌, ◌≤◌, [], IfOk};
-ghost use Rattle.std.specs.List.{AllByRecursion};
-ghost use Rattle.std.specs.Vec.{vec_capacity};
-ghost use Rattle.rp_rows.specs.Instances.{max_instances};
+ghost use Rattle.std.specs.Prelude.{◌≡◌, IfOk};
 ghost use Rattle.rp_core.specs.Held.{made_models, made_groups, models_by, groups_by, StepsFit};
-ghost use Rattle.rp_tables.specs.Named.{IsNamed, HoldsNamed, HasRoomIn};
+ghost use Rattle.rp_store.specs.Contents.{HasRoomIn};
 ghost use Rattle.rp_tables.specs.Stored.{HasRowAt};
 
 use rp_access::{Access, GroupStep, ModelStep};
-use rp_content::Instance;
+use rp_content::Spare;
 use rp_plain::messages::{Refusal, Reply};
 use rp_plans::{Edits, Plan};
 use rp_rows::rows::{Key, ModelContent};
+use rp_store::Edit;
 use rp_tables::Table;
 use std::alloc::{AllocError, Global};
 
@@ -22,9 +20,8 @@ pub enum Steps {
     Nothing,
     OfModel(Key, ModelStep),
     OfGroup(Key, GroupStep),
-    /// The instance stands in the model, whose instances are moved into the spare room where theirs is full.
-    Place(Key, Instance, Vec<Instance>),
-    DropInstance(Key, u64),
+    /// What the model holds is changed so.
+    Alter(Key, Edit),
 }
 
 /// A request's reply, and what is still to be done. Dropped, it changes nothing.
@@ -34,33 +31,22 @@ pub struct Pending {
     pub(crate) steps: Steps,
 }
 
-/// For how many instances the room of a model of so many is made anew.
-fn room_for(count: usize) -> usize
-    requires { count ≤ max_instances }
-    ensures { count < result }
-{
-    count + count / 2 + 1
-}
-
-/// Room for one more instance of the model of this key, and for more, so that it is seldom used.
+/// Room for one more instance of the model of this key.
 fn spare_for(
     alloc: Global,
     models: &Table<ModelContent>,
     key: &Key,
-) -> Result<Vec<Instance>, AllocError>
-    requires { HasRowAt IsNamed key.now models.now.rows }
-    ensures empty { IfOk result (λ spare. spare.items ≡ []) }
-    ensures room { IfOk result (λ spare. HasRowAt (HasRoomIn (vec_capacity spare)) key.now models.now.rows) }
+) -> Result<Spare, AllocError>
+    ensures { IfOk result (λ spare. HasRowAt (HasRoomIn spare) key.now models.now.rows) }
 {
     match models.find(key) {
-        Some(model) => Vec::with_capacity(alloc, room_for(model.holds.content.instances.len())),
-        None => Ok(Vec::new(alloc)),
+        Some(model) => model.holds.content.instances.spare(alloc),
+        None => Ok(Spare::none(alloc)),
     }
 }
 
 /// The steps that edits come to, with room for them.
 fn steps_for(alloc: Global, access: &mut Access, edits: Edits) -> Result<Steps, AllocError>
-    requires { AllByRecursion HoldsNamed access.old.models.rows }
     ensures models { access.new.models.rows ≡ access.old.models.rows }
     ensures groups { access.new.groups.rows ≡ access.old.groups.rows }
     ensures fits { IfOk result (λ steps. StepsFit access.new steps) }
@@ -79,9 +65,9 @@ fn steps_for(alloc: Global, access: &mut Access, edits: Edits) -> Result<Steps, 
         }
         Edits::Place(key, instance) => {
             let spare = spare_for(alloc, access.models(), &key)?;
-            Ok(Steps::Place(key, instance, spare))
+            Ok(Steps::Alter(key, Edit::Place(instance, spare)))
         }
-        Edits::DropInstance(key, name) => Ok(Steps::DropInstance(key, name)),
+        Edits::DropInstance(key, name) => Ok(Steps::Alter(key, Edit::Drop(name))),
     }
 }
 
@@ -95,8 +81,7 @@ pub fn make_steps(access: &mut Access, steps: Steps)
         Steps::Nothing => {}
         Steps::OfModel(key, step) => access.make_model_step(key, step),
         Steps::OfGroup(key, step) => access.make_group_step(key, step),
-        Steps::Place(key, instance, spare) => access.place_instance(&key, instance, spare),
-        Steps::DropInstance(key, name) => access.drop_instance(&key, name),
+        Steps::Alter(key, change) => access.alter(&key, change),
     }
 }
 
@@ -117,7 +102,6 @@ impl Pending {
         access: &mut Access,
         plan: Plan,
     ) -> Result<Pending, AllocError>
-        requires { AllByRecursion HoldsNamed access.old.models.rows }
         ensures models { access.new.models.rows ≡ access.old.models.rows }
         ensures groups { access.new.groups.rows ≡ access.old.groups.rows }
         ensures fits { IfOk result (λ pending. StepsFit access.new pending.steps) }

@@ -12,7 +12,8 @@ ghost use Rattle.rp_sight.specs.Regrants.{RegrantFits};
 
 use plain_data::{Rows, Text};
 use rp_rows::rows::{Grant, Key, Level, Listing};
-use rp_tables::{Entry, Keyed, Table};
+use rp_store::{Entry, Keyed};
+use rp_tables::Table;
 use std::alloc::{AllocError, Global};
 use std::marker::Model;
 

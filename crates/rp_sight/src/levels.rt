@@ -14,7 +14,8 @@ use crate::groups::Groups;
 use crate::sight::{counts, grant_to, is_granted, owns, right_of};
 use plain_data::{Rows, Text};
 use rp_rows::rows::{Listing, ModelContent, Right};
-use rp_tables::{Entry, RowRef, Table};
+use rp_store::Entry;
+use rp_tables::{RowRef, Table};
 
 /// Whether the model counts in the group of this owner and name, and the partner is granted the group.
 fn counts_at(

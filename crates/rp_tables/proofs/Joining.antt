@@ -4,17 +4,20 @@ use Rattle.std.specs.Prelude.{filter, if◌then◌else◌, is_some, option_map, 
 use Rattle.std.specs.List.{find, AllByRecursion}
 use Rattle.std.specs.Ordering.{is_lt, is_eq, is_gt}
 use Rattle.sorted_tables.specs.Table.{is_before, is_after, with_row, IsAscending}
+use Rattle.sorted_tables.specs.Places.{IsThere}
+use Rattle.sorted_tables.proofs.Finding.{stays}
 use Rattle.sorted_tables.proofs.Tables.{map-append}
 use Rattle.rp_rows.specs.declared.rows.Grant.{Grant}
 use Rattle.rp_rows.specs.declared.rows.Key.{Key}
 use Rattle.rp_rows.specs.Rows.{Text, key_cmp, Row, row_key, is_row}
 use Rattle.rp_rows.specs.Sight.{owns}
 use Rattle.rp_rows.specs.Alterations.{Holds, altered, grants_of}
-use Rattle.rp_tables.specs.declared.keyed.Entry.{Entry}
-use Rattle.rp_tables.specs.Entries.{entry_key, is_entry, IsThere, with_value, revalued, HasAt, standing}
-use Rattle.rp_tables.specs.Stored.{joined_row, joined, IsTable, IsRowThere, rewritten, reheld, HasRowAt}
-use Rattle.rp_tables.proofs.Finding.{keyed_ascends, none_ascends, standing_key, stays, valued_ascends, revalued_ascends}
-use Rattle.rp_tables.proofs.Counting.{is_owned}
+use Rattle.rp_rows.proofs.Keys.{key_total}
+use Rattle.rp_store.specs.declared.keyed.Entry.{Entry}
+use Rattle.rp_store.specs.Entries.{entry_key, is_entry, with_value, revalued, HasAt, standing}
+use Rattle.rp_tables.specs.Stored.{joined_row, joined, IsTable, rewritten, reheld, HasRowAt}
+use Rattle.rp_store.proofs.Finding.{keyed_ascends, none_ascends, standing_key, changed_ascends}
+use Rattle.rp_store.proofs.Counting.{is_owned}
 
 -- ---- entries by their keys
 
@@ -228,14 +231,14 @@ regrant_makes {A = A} k gs xs ys table =
     let changed = with_row key_cmp entry_key k q ys in
     record {
       rows_are =
-          ap (λ zs. joined zs changed) (sym (stays k xs table.order))
+          ap (λ zs. joined zs changed) (sym (stays key_cmp entry_key key_total k xs table.order))
           ∙ joined-with k o q xs ys table.same alike
           ∙ ap (λ r. with_row key_cmp row_key k r (joined xs ys)) (valued_both gs o p)
           ∙ ap (λ (r : Option (Row A)). with_row key_cmp row_key k (option_map (λ (x : Row A). record x { grants = gs }) r) (joined xs ys)) (sym (find-joined k xs ys table.same));
       table = record {
-        same = ap (map entry_key) (sym (stays k xs table.order)) ∙ same_with k o q xs ys table.same alike;
+        same = ap (map entry_key) (sym (stays key_cmp entry_key key_total k xs table.order)) ∙ same_with k o q xs ys table.same alike;
         order = table.order;
-        right_order = valued_ascends k gs ys table.right_order;
+        right_order = changed_ascends k (with_value gs) (λ y. refl) ys table.right_order;
       };
     }
 
@@ -257,13 +260,13 @@ rehold_makes {A = A} k f xs ys table =
     let changed = with_row key_cmp entry_key k q xs in
     record {
       rows_are =
-          ap (joined changed) (sym (stays k ys table.right_order))
+          ap (joined changed) (sym (stays key_cmp entry_key key_total k ys table.right_order))
           ∙ joined-with k q p xs ys table.same alike
           ∙ ap (λ r. with_row key_cmp row_key k r (joined xs ys)) (reheld_both f o p)
           ∙ ap (λ (r : Option (Row A)). with_row key_cmp row_key k (option_map (reheld f) r) (joined xs ys)) (sym (find-joined k xs ys table.same));
       table = record {
-        same = same_with k q p xs ys table.same alike ∙ ap (map entry_key) (stays k ys table.right_order);
-        order = revalued_ascends k f xs table.order;
+        same = same_with k q p xs ys table.same alike ∙ ap (map entry_key) (stays key_cmp entry_key key_total k ys table.right_order);
+        order = changed_ascends k (revalued f) (λ x. refl) xs table.order;
         right_order = table.right_order;
       };
     }
@@ -309,9 +312,9 @@ row_read {A = A} xs ys rows i x y gs are same within is_x is_y is_gs =
     ∙ ap (λ (hs : List Grant). record { owner = x.key.owner; name = x.key.name; holds = x.value; grants = hs }) (sym is_gs)
 
 -- where the row at a key stands, told by its entry
-pub row_there : {A : Type 0} (k : Key) (xs : List (Entry A)) (ys : List (Entry (List Grant))) (rows : List (Row A)) (i : ℕ) → IsTable xs ys → joined xs ys ≡ rows → IsThere k xs i → IsRowThere k rows i
+pub row_there : {A : Type 0} (k : Key) (xs : List (Entry A)) (ys : List (Entry (List Grant))) (rows : List (Row A)) (i : ℕ) → IsTable xs ys → joined xs ys ≡ rows → IsThere key_cmp entry_key k xs i → IsThere key_cmp row_key k rows i
 row_there {A = A} k xs ys rows i table are there =
-    subst (λ (rs : List (Row A)). IsRowThere k rs i) are (record {
+    subst (λ (rs : List (Row A)). IsThere key_cmp row_key k rs i) are (record {
       order = rows_ascend xs ys table.order;
       is =
           there.is

@@ -1,3 +1,2 @@
-pub mod Entries
 pub mod Stored
 pub mod Named

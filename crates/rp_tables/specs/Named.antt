@@ -1,5 +1,5 @@
 -- Models whose instances can be found by their names, and be given new ones: those of each valid repository.
-use Rattle.std.specs.Prelude.{ℕ, ◌<◌, ◌≤◌, length}
+use Rattle.std.specs.Prelude.{◌≤◌, length}
 use Rattle.std.specs.Ordering.{nat_cmp}
 use Rattle.sorted_tables.specs.Table.{IsAscending}
 use Rattle.rp_rows.specs.declared.rows.ModelContent.{ModelContent}
@@ -17,7 +17,3 @@ pub record IsNamed (h : ModelContent) : Type 0 where
 
 abbrev pub HoldsNamed : Model → Type 0
 HoldsNamed m = IsNamed m.holds
-
--- there is room in so much memory for one more instance
-abbrev pub HasRoomIn : ℕ → ModelContent → Type 0
-HasRoomIn capacity h = length h.content.instances < capacity

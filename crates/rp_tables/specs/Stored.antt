@@ -1,13 +1,13 @@
 -- A table of what is held, and beside it one of the grants under the same keys: the rows that the two make.
-use Rattle.std.specs.Prelude.{◌≡◌, ℕ, ◌<◌, true, List, [], ◌∷◌, length, map, filter, Some, is_some, option_map}
+use Rattle.std.specs.Prelude.{◌≡◌, ℕ, ◌<◌, List, [], ◌∷◌, map, Some, option_map}
 use Rattle.std.specs.List.{find}
-use Rattle.sorted_tables.specs.Table.{is_before, with_row, IsAscending}
+use Rattle.sorted_tables.specs.Table.{with_row, IsAscending}
 use Rattle.rp_rows.specs.declared.rows.Grant.{Grant}
 use Rattle.rp_rows.specs.declared.rows.Key.{Key}
 use Rattle.rp_rows.specs.Rows.{key_cmp, Row, row_key, is_row}
-use Rattle.rp_tables.specs.declared.keyed.Entry.{Entry}
+use Rattle.rp_store.specs.declared.keyed.Entry.{Entry}
 use Rattle.rp_tables.specs.declared.table.RowRef.{RowRef}
-use Rattle.rp_tables.specs.Entries.{entry_key}
+use Rattle.rp_store.specs.Entries.{entry_key}
 
 abbrev pub joined_row : {A : Type 0} → Entry A → Entry (List Grant) → Row A
 joined_row x y = record { owner = x.key.owner; name = x.key.name; holds = x.value; grants = y.value }
@@ -48,10 +48,3 @@ HasRoom t = (0 < t.room) × (0 < t.right_room)
 -- a row as it is looked at
 abbrev pub row_of : {A : Type 0} → RowRef A → Row A
 row_of r = record { owner = r.key.now.owner; name = r.key.now.name; holds = r.holds.now; grants = r.grants.now }
-
--- the row at a key stands at this place
-pub record IsRowThere {A : Type 0} (k : Key) (rows : List (Row A)) (place : ℕ) : Type 0 where
-  pub order : IsAscending key_cmp row_key rows
-  pub is : place ≡ length (filter (is_before key_cmp row_key k) rows)
-  pub within : place < length rows
-  pub found : is_some (find (is_row k) rows) ≡ true

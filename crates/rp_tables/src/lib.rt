@@ -2,11 +2,8 @@
 //! in place. Room is made first, and a change then takes no memory.
 #![tactic(auto)]
 
-mod edited;
-mod keyed;
 mod regranted;
 mod table;
 
-pub use keyed::{Entry, Keyed};
 pub use regranted::regranted_for;
 pub use table::{RowRef, Table};

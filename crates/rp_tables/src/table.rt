@@ -3,15 +3,15 @@
 ghost use Rattle.std.specs.Prelude.{◌≡◌, ◌<◌, length, filter, [], Some, None, OnOk, MatchOption, get_or, option_map};
 ghost use Rattle.std.specs.List.{find};
 ghost use Rattle.sorted_tables.specs.Table.{IsAscending};
+ghost use Rattle.sorted_tables.specs.Places.{IsThere};
 ghost use Rattle.rp_rows.specs.Rows.{key_cmp, row_key, is_row, key_of};
 ghost use Rattle.rp_rows.specs.Sight.{owns};
 ghost use Rattle.rp_rows.specs.Alterations.{Holds, altered, grants_of};
-ghost use Rattle.rp_tables.specs.Stored.{row_of, rewritten, HasRoom, IsRowThere};
+ghost use Rattle.rp_tables.specs.Stored.{row_of, rewritten, HasRoom};
 
-use crate::keyed::Keyed;
 use plain_data::{Rows, Text};
-use rp_content::Instance;
 use rp_rows::rows::{Grant, Key, ModelContent};
+use rp_store::{Edit, Keyed};
 use std::alloc::{AllocError, Global};
 use std::marker::Model;
 
@@ -106,7 +106,7 @@ impl<A> Table<A> {
 
     /// Where the row under the key stands.
     pub fn place_of(&self, key: &Key) -> Option<usize>
-        ensures { MatchOption result (find (is_row key.now) self.now.rows ≡ None) (IsRowThere key.now self.now.rows) }
+        ensures { MatchOption result (find (is_row key.now) self.now.rows ≡ None) (IsThere key_cmp row_key key.now self.now.rows) }
     {
         match self.held.search(key) {
             Ok(place) => Some(place),
@@ -170,28 +170,14 @@ impl<A: Drop> Table<A> {
 }
 
 impl Table<ModelContent> {
-    ghost use Rattle.std.specs.Prelude.{[]};
-    ghost use Rattle.std.specs.Vec.{vec_capacity};
-    ghost use Rattle.rp_rows.specs.Instances.{with_instance, without_instance};
+    ghost use Rattle.rp_store.specs.Contents.{edited_by, EditFits};
     ghost use Rattle.rp_tables.specs.Stored.{reheld, HasRowAt};
-    ghost use Rattle.rp_tables.specs.Named.{IsNamed, HasRoomIn};
 
-    /// The instance stands in the model of the key from now on, if there is one. The spare has room for one more instance
-    /// than the model has. It takes no memory.
-    pub fn place_instance(&mut self, key: &Key, instance: Instance, spare: Vec<Instance>)
-        requires empty { spare.items ≡ [] }
-        requires named { HasRowAt IsNamed key.now self.old.rows }
-        requires room { HasRowAt (HasRoomIn (vec_capacity spare)) key.now self.old.rows }
-        ensures { self.new.rows ≡ rewritten key.now (reheld (with_instance instance)) self.old.rows }
+    /// What the model of the key holds is changed so, if there is one. It takes no memory.
+    pub fn alter(&mut self, key: &Key, change: Edit)
+        requires { HasRowAt (EditFits change) key.now self.old.rows }
+        ensures { self.new.rows ≡ rewritten key.now (reheld (edited_by change)) self.old.rows }
     {
-        self.held.place_instance(self.alloc, key, instance, spare);
-    }
-
-    /// No instance stands under the name in the model of the key from now on.
-    pub fn drop_instance(&mut self, key: &Key, name: u64)
-        requires { HasRowAt IsNamed key.now self.old.rows }
-        ensures { self.new.rows ≡ rewritten key.now (reheld (without_instance name)) self.old.rows }
-    {
-        self.held.drop_instance(self.alloc, key, name);
+        self.held.alter(key, change);
     }
 }

@@ -43,11 +43,6 @@ plan-requires-clause-populations c =
     told_populations read c.index.result.now (subst (λ (ms : List Model). IsAscending key_cmp row_key ms) (sym models) c.requires.order.models)
     (subst (λ (ms : List Model). AllByRecursion HoldsNamed ms) (sym models) c.requires.named)
 
-pub of_plan-requires : goal.of_plan-requires
-of_plan-requires c =
-    let models : c.self.inside.access.models.rows ≡ c.args.self.now.content.models = ap (λ h. h.content.models) c.self.view_is in
-    subst (λ (ms : List Model). AllByRecursion HoldsNamed ms) (sym models) c.requires.named
-
 pub returns-in-Err-clause-prepared : goal.returns-in-Err-clause-prepared
 unfolding told
 returns-in-Err-clause-prepared c =

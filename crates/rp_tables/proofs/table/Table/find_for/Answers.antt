@@ -3,7 +3,7 @@ use Rattle.std.specs.Prelude.{option_map}
 use Rattle.std.specs.List.{find}
 use Rattle.sorted_tables.specs.Table.{IsAscending}
 use Rattle.rp_rows.specs.Rows.{key_cmp, row_key, is_row, key_of}
-use Rattle.rp_tables.specs.Entries.{is_entry}
+use Rattle.rp_store.specs.Entries.{is_entry}
 use Rattle.rp_tables.specs.Stored.{row_of, joined_row}
 use Rattle.rp_tables.proofs.Joining.{both, find-joined, rows_ascend}
 use Rattle.rp_tables.proofs.table.Table.find_for.Goals as goal
