@@ -7,7 +7,6 @@ ghost use Rattle.rp_plain.specs.Meaning.{first_some};
 ghost use Rattle.rp_plain.specs.Files as of_files;
 ghost use Rattle.rp_plain.specs.Links as of_links;
 ghost use Rattle.rp_readers.specs.Told.{told};
-ghost use Rattle.rp_readers.specs.Named.{TellsNamed};
 ghost use Rattle.rp_file_plans.specs.Files.{cheap_tests, Reads, Fits, Refills};
 ghost use Rattle.rp_plans.specs.Plans.{Plans};
 
@@ -194,7 +193,6 @@ fn fit_links(
     links: Rows<Link>,
     content: &Content,
 ) -> Result<Items<Link>, Refusal>
-    requires { TellsNamed (told asked.now) }
     ensures { Fits (told asked.now) key.now schema.now links content.now result }
 {
     let many = too_many(content, links.len());
@@ -215,7 +213,6 @@ fn refilled_by(
     file: &Text,
     links: Rows<Link>,
 ) -> Result<ModelContent, Refusal>
-    requires { TellsNamed (told asked.now) }
     ensures { Refills (told asked.now) key.now model.now links (of_files.read_for (told asked.now).schemas model.now (contents.link_names links) (file_of file.now)) result }
 {
     let content = match read_linked(alloc, asked, model, links.as_slice(), file) {
@@ -240,7 +237,6 @@ pub fn plan_put(
     file: &Text,
     links: Rows<Link>,
 ) -> Result<Plan, Refusal>
-    requires { TellsNamed (told asked.now) }
     ensures { Plans (told asked.now) asked.now.caller.now (Request.Put key file.now links) result }
 {
     if let Some(refusal) = early_fault(asked, &key, file, links.as_slice()) {

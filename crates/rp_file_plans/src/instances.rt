@@ -3,7 +3,6 @@
 ghost use Rattle.std.specs.Prelude.{◌≡◌, option_copied};
 ghost use Rattle.rp_plain.specs.Instances as of_instances;
 ghost use Rattle.rp_readers.specs.Told.{told};
-ghost use Rattle.rp_readers.specs.Named.{TellsNamed};
 ghost use Rattle.rp_plans.specs.Plans.{Plans};
 
 use rp_content::Instance;
@@ -29,8 +28,7 @@ pub fn plan_get(
     key: &Key,
     name: u64,
 ) -> Result<Plan, Refusal>
-    requires named { TellsNamed (told asked.now) }
-    requires schemas { layouts.old ≡ (told asked.now).schemas }
+    requires { layouts.old ≡ (told asked.now).schemas }
     ensures layouts { layouts.new ≡ layouts.old }
     ensures planned { Plans (told asked.now) asked.now.caller.now (Request.Get key.now name) result }
 {

@@ -15,7 +15,7 @@ use plain_data::{Failure, Text};
 use rp_content::Instance;
 use rp_plain::messages::{Refusal, Reply, Request};
 use rp_plans::{Edits, Plan, first, is_no_partner, key_fault, lacks, when};
-use rp_readers::instances::{instance_in, instance_named};
+use rp_readers::instances::instance_in;
 use rp_readers::{KeptLayouts, ModelNames, Readers};
 use rp_rows::limits::{MAX_INSTANCES, MAX_NAME};
 use rp_rows::rows::{Key, ModelContent, Right};
@@ -104,7 +104,7 @@ pub fn plan_set(
         return Err(Refusal::NoSuchItem);
     };
     let instance = said_by(alloc, layouts, model, name, text)?;
-    match is_absent(instance_named(model.content.instances.as_slice(), name)) {
+    match is_absent(model.content.instances.get(name)) {
         Some(refusal) => Err(refusal),
         None => Ok(Plan {
             reply: Reply::Done,
@@ -128,7 +128,6 @@ fn is_needed(asked: &Readers<'_, '_>, key: &Key, name: u64) -> Option<Refusal>
 
 /// A model without the instance of this name.
 pub fn plan_drop(asked: &Readers<'_, '_>, key: Key, name: u64) -> Result<Plan, Refusal>
-    requires { TellsNamed (told asked.now) }
     ensures { Plans (told asked.now) asked.now.caller.now (Request.DropInstance key name) result }
 {
     let tests = [
