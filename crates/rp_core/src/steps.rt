@@ -32,11 +32,7 @@ pub struct Pending {
 }
 
 /// Room for one more instance of the model of this key.
-fn spare_for(
-    alloc: Global,
-    models: &Table<ModelContent>,
-    key: &Key,
-) -> Result<Spare, AllocError>
+fn spare_for(alloc: Global, models: &Table<ModelContent>, key: &Key) -> Result<Spare, AllocError>
     ensures { IfOk result (λ spare. HasRowAt (HasRoomIn spare) key.now models.now.rows) }
 {
     match models.find(key) {

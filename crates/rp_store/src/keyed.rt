@@ -4,7 +4,7 @@ ghost use Rattle.std.specs.Prelude.{◌≡◌, ◌<◌, ◌≤◌, ◌+◌, [], 
 ghost use Rattle.std.specs.List.{find};
 ghost use Rattle.std.specs.Ordering.{is_lt, is_gt};
 ghost use Rattle.std.specs.Str.{bytes_eq};
-ghost use Rattle.sorted_tables.specs.Table.{with_row};
+ghost use Rattle.sorted_tables.specs.Table.{with_row, IsAscending};
 ghost use Rattle.sorted_tables.specs.Places.{IsThere, IsAbsent};
 ghost use Rattle.rp_rows.specs.Rows.{text_cmp, key_cmp, key_of};
 ghost use Rattle.rp_store.specs.Entries.{entry_key, is_entry, with_value, revalued, standing, without_name};
@@ -129,6 +129,14 @@ impl<B> Keyed<B> {
         ensures { result ≡ length self.now.entries }
     {
         self.entries.len()
+    }
+
+    /// All of them, whose keys ascend.
+    pub fn entries(&self) -> &[Entry<B>]
+        ensures are { result.now ≡ self.now.entries }
+        ensures order { IsAscending key_cmp entry_key self.now.entries }
+    {
+        self.entries.as_slice()
     }
 
     pub fn entry(&self, place: usize) -> &Entry<B>

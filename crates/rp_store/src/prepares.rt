@@ -77,7 +77,9 @@ impl Store {
         let Some(model) = self.find(key) else {
             return Err(StoreFault::Absent);
         };
-        if model.value.greatest >= MAX_NAME || model.value.content.instances.len() >= MAX_INSTANCES {
+        if model.value.greatest >= MAX_NAME
+            || model.value.content.instances.len() >= MAX_INSTANCES
+        {
             return Err(StoreFault::TooMany);
         }
         Ok(model.value.greatest + 1)
@@ -117,10 +119,10 @@ impl Store {
     fn set(&self, alloc: Global, key: Key, instance: Instance) -> Result<Prepared, StoreFault>
         ensures { Prepares (c.Set key instance) self.now.entries self.now result }
     {
-        let Some(model) = self.find(&key) else {
+        if self.find(&key).is_none() {
             return Err(StoreFault::Absent);
-        };
-        if model.value.content.instances.get(instance.name).is_none() {
+        }
+        if self.get(&key, instance.name).is_none() {
             return Err(StoreFault::NoSuchInstance);
         }
         let spare = Spare::none(alloc);

@@ -4,10 +4,12 @@
 ghost use Rattle.std.specs.Prelude.{◌≡◌, [], option_copied};
 ghost use Rattle.std.specs.List.{find};
 ghost use Rattle.rp_store.specs.Entries.{is_entry};
+ghost use Rattle.rp_store.specs.Models.{instance_at};
 ghost use Rattle.rp_store.specs.Kept.{made, Fits};
 
 use crate::changes::Prepared;
 use crate::keyed::{Entry, Keyed};
+use rp_content::Instance;
 use rp_rows::rows::{Key, ModelContent};
 use std::alloc::Global;
 use std::marker::Model;
@@ -53,6 +55,16 @@ impl Store {
         ensures { option_copied result ≡ find (is_entry key.now) self.now.entries }
     {
         self.models.find(key)
+    }
+
+    /// The instance of this name in the model of this key.
+    pub fn get(&self, key: &Key, name: u64) -> Option<&Instance>
+        ensures { option_copied result ≡ instance_at key.now name self.now.entries }
+    {
+        match self.find(key) {
+            Some(model) => model.value.content.instances.get(name),
+            None => None,
+        }
     }
 
     /// Makes a prepared change, if nothing has changed since. It takes no memory.
