@@ -7,7 +7,7 @@ ghost use Rattle.rp_plans.specs.Plans.{Plans};
 
 use rp_content::Instance;
 use rp_plain::messages::{Refusal, Reply, Request};
-use rp_plans::{Edits, Plan, first, is_no_partner, key_fault, unseen, when};
+use rp_plans::{Plan, first, is_no_partner, key_fault, unseen, when};
 use rp_readers::instances::{instance_in, line_of};
 use rp_readers::{KeptLayouts, Readers};
 use rp_rows::rows::Key;
@@ -42,8 +42,5 @@ pub fn plan_get(
     if let Some(refusal) = first(&tests) {
         return Err(refusal);
     }
-    Ok(Plan {
-        reply: Reply::Line(line_of(alloc, asked, layouts, key, found)?),
-        edits: Edits::Nothing,
-    })
+    Ok(Plan::told(alloc, Reply::Line(line_of(alloc, asked, layouts, key, found)?)))
 }

@@ -19,8 +19,7 @@ use Rattle.rp_positions.specs.Positions.{AreInOrder, IsSearchable}
 use Rattle.rp_plain.specs.Plain.{Plain, model_at, group_at}
 use Rattle.rp_plain.specs.Readers.{asked, counted_in, held}
 use Rattle.rp_plain.proofs.Counted.{all_counted, counted_ascending}
-use Rattle.rp_tables.specs.Named.{IsNamed, HoldsNamed}
-use Rattle.rp_readers.specs.Named.{AreNamed, TellsNamed}
+use Rattle.rp_readers.specs.Named.{IsNamed, HoldsNamed, AreNamed, TellsNamed}
 use Rattle.rp_rows.specs.Listings.{IsListed}
 use Rattle.rp_readers.specs.Listed.{HoldsListed, AreListed, TellsListed, TellsPopulations}
 

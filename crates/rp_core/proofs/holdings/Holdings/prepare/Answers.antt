@@ -5,7 +5,7 @@ use Rattle.sorted_tables.specs.Table.{IsAscending}
 use Rattle.rp_rows.specs.Rows.{key_cmp, row_key, Model, GroupRow}
 use Rattle.rp_plain.specs.Plain.{Plain}
 use Rattle.rp_core.specs.Held.{partner_at, turn, made_models, made_groups, models_by, groups_by}
-use Rattle.rp_tables.specs.Named.{HoldsNamed}
+use Rattle.rp_readers.specs.Named.{HoldsNamed}
 use Rattle.rp_readers.specs.Listed.{HoldsListed}
 use Rattle.rp_readers.specs.Told.{told}
 use Rattle.rp_core.proofs.Preparing.{prepared_from, refused_from, wanting}
