@@ -60,10 +60,6 @@ changed_absent k f xs i absent =
 
 -- ---- one more, unless one stands there
 
-pub added_new : {B : Type 0} (k : Key) (b : B) (xs ys : List (Entry B)) → xs ≡ ys → find (is_entry k) ys ≡ None
-    → with_row key_cmp entry_key k (Some (record { key = k; value = b })) xs ≡ with_row key_cmp entry_key k (Some (standing k b (find (is_entry k) ys))) ys
-added_new k b xs ys same none = λ i. with_row key_cmp entry_key k (Some (standing k b (sym none i))) (same i)
-
 pub added_old : {B : Type 0} (k : Key) (b : B) (xs : List (Entry B)) → IsAscending key_cmp entry_key xs → is_some (find (is_entry k) xs) ≡ true → xs ≡ with_row key_cmp entry_key k (Some (standing k b (find (is_entry k) xs))) xs
 added_old {B = B} k b xs order there = by (find (is_entry k) xs) refl
   where
