@@ -64,17 +64,21 @@ impl Model for Spare {
 }
 
 /// For how many instances room is made beside so many: for more than one more, so that it is seldom used.
-fn room_beside(count: usize) -> usize {
-    count.saturating_add(count / 2).saturating_add(1)
+fn room_beside(count: usize) -> usize
+    requires { count < 9223372036854775808 }
+    ensures { count < result }
+{
+    count + count / 2 + 1
 }
 
-/// Moves the instances into the spare, where they have no room for one more.
-fn make_room(items: &mut Vec<Instance>, spare: Spare)
-    requires { length items.old.items < spare }
+/// Moves the instances into the spare, where one of this name is one more and they have no room for it.
+fn make_room(items: &mut Vec<Instance>, name: u64, spare: Spare)
+    requires order { IsAscending nat_cmp instance_name items.old.items }
+    requires takes { Takes spare name items.old.items }
     ensures items { items.new.items ≡ items.old.items }
-    ensures room { vec_len items.new < vec_capacity items.new }
+    ensures room { list.find (is_at nat_cmp instance_name name) items.new.items ≡ None → vec_len items.new < vec_capacity items.new }
 {
-    if items.len() < items.capacity() {
+    if items.len() < items.capacity() || find(items.as_slice(), &name).is_some() {
         return;
     }
     let Spare { items: mut room } = spare;
@@ -142,9 +146,7 @@ impl Instances {
         requires { Takes spare instance.name self.old }
         ensures { self.new ≡ with_row nat_cmp instance_name instance.name (Some instance) self.old }
     {
-        if self.get(instance.name).is_none() {
-            make_room(&mut self.items, spare);
-        }
+        make_room(&mut self.items, instance.name, spare);
         put(&mut self.items, instance);
     }
 

@@ -10,7 +10,9 @@ use Rattle.rp_rows.specs.declared.rows.Key.{Key}
 use Rattle.rp_rows.specs.Rows.{key_cmp, Row}
 use Rattle.rp_rows.proofs.Keys.{key_total, key_at, found_at}
 use Rattle.rp_store.specs.declared.keyed.Entry.{Entry}
-use Rattle.rp_store.specs.Entries.{entry_key, is_entry, standing}
+use Rattle.rp_rows.specs.declared.rows.ModelContent.{ModelContent}
+use Rattle.rp_store.specs.Entries.{entry_key, is_entry, revalued, standing}
+use Rattle.rp_store.specs.Models.{Held, model, edited}
 
 -- an entry at a key has that key
 pub entry_at : {B : Type 0} (k : Key) (x : Entry B) → is_entry k x ≡ true → entry_key x ≡ k
@@ -58,13 +60,18 @@ changed_absent k f xs i absent =
 
 -- ---- one more, unless one stands there
 
-pub added_new : {B : Type 0} (k : Key) (b : B) (xs ys : List (Entry B)) → xs ≡ ys → find (is_entry k) ys ≡ None
-    → with_row key_cmp entry_key k (Some (record { key = k; value = b })) xs ≡ with_row key_cmp entry_key k (Some (standing k b (find (is_entry k) ys))) ys
-added_new k b xs ys same none = λ i. with_row key_cmp entry_key k (Some (standing k b (sym none i))) (same i)
-
 pub added_old : {B : Type 0} (k : Key) (b : B) (xs : List (Entry B)) → IsAscending key_cmp entry_key xs → is_some (find (is_entry k) xs) ≡ true → xs ≡ with_row key_cmp entry_key k (Some (standing k b (find (is_entry k) xs))) xs
 added_old {B = B} k b xs order there = by (find (is_entry k) xs) refl
   where
     by : (o : Option (Entry B)) → find (is_entry k) xs ≡ o → xs ≡ with_row key_cmp entry_key k (Some (standing k b o)) xs
     by None e = let wrong : true ≡ false = sym there ∙ ap is_some e in cc
     by (Some x) e = sym (ap (λ o. with_row key_cmp entry_key k o xs) (sym e) ∙ stays key_cmp entry_key key_total k xs order)
+
+-- ---- what a model holds is changed
+
+pub edited_rows : (k : Key) (f : ModelContent → ModelContent) (ms : List Held) → with_row key_cmp entry_key k (option_map (revalued f) (find (is_entry k) ms)) ms ≡ edited k f ms
+edited_rows k f ms = by (find (is_entry k) ms) refl
+  where
+    by : (o : Option Held) → find (is_entry k) ms ≡ o → with_row key_cmp entry_key k (option_map (revalued f) o) ms ≡ with_row key_cmp entry_key k (option_map (model k) (option_map f (option_map (λ m. m.value) o))) ms
+    by None e = refl
+    by (Some x) e = ap (λ j. with_row key_cmp entry_key k (Some (record { key = j; value = f x.value })) ms) (entry_at k x (found_at (is_entry k) ms x e))

@@ -229,9 +229,10 @@ impl<B: Drop> Keyed<B> {
         requires { 0 < self.old.room }
         ensures { self.new.entries ≡ with_row key_cmp entry_key key (Some (standing key value (find (is_entry key) self.old.entries))) self.old.entries }
     {
-        if self.find(&key).is_none() {
-            sorted_tables::put(&mut self.entries, Entry { key, value });
+        if self.find(&key).is_some() {
+            return;
         }
+        sorted_tables::put(&mut self.entries, Entry { key, value });
     }
 
     /// This stands under the key from now on, if something stands there.
