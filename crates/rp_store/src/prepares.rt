@@ -77,7 +77,9 @@ impl Store {
         let Some(model) = self.find(key) else {
             return Err(StoreFault::Absent);
         };
-        if model.value.greatest >= MAX_NAME || model.value.content.instances.len() >= MAX_INSTANCES {
+        if model.value.greatest >= MAX_NAME
+            || model.value.content.instances.len() >= MAX_INSTANCES
+        {
             return Err(StoreFault::TooMany);
         }
         Ok(model.value.greatest + 1)
