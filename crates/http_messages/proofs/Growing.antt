@@ -1,5 +1,5 @@
 -- What stands at the front of some bytes stands there whatever bytes follow.
-use Rattle.std.proofs.Common.{◌≡◌, ℕ, zero, suc, ◌+◌, ◌-◌, ◌<◌, ◌≤◌, List, [], ◌∷◌, ◌++◌, length, take, drop, length-append, length-drop, append_assoc, refl, sym, ap, subst, ◌∙◌, arith}
+use Rattle.std.proofs.Common.{◌≡◌, ℕ, zero, suc, ◌-◌, ◌≤◌, List, [], ◌∷◌, ◌++◌, length, take, drop, length-append, length-drop, append_assoc, refl, sym, ap, subst, ◌∙◌, arith}
 use Rattle.std.proofs.lemmas.List.{take-append-le, drop-append-le}
 use Rattle.std.specs.Prelude.{slice_range}
 use Rattle.httparse.specs.Grammar.{RequestHead, print_request}
@@ -48,7 +48,7 @@ announced_stays bytes more parts start end is =
       size = is.size;
       has = head_grows bytes more is.head _ is.has;
       small = is.small;
-      said = is.said;
+      says = is.says;
       front = is.front;
       whole = is.whole;
     }

@@ -1,11 +1,11 @@
 -- Masking goes with printing.
-use Rattle.std.proofs.Common.{◌≡◌, ◌≢◌, ℕ, ◌<◌, ◌≤◌, Bool, true, false, not, ◌&&◌, ◌==◌, nat_lt, List, [], ◌∷◌, ◌++◌, length, map, get_or, take, drop, length-append, append_assoc, refl, sym, ap, subst, ◌∙◌, arith, IsTrue, All, true≢false}
+use Rattle.std.proofs.Common.{◌≡◌, ℕ, ◌<◌, Bool, true, false, ◌==◌, nat_lt, List, [], ◌∷◌, ◌++◌, length, map, get_or, take, drop, length-append, append_assoc, refl, sym, ap, subst, ◌∙◌, arith, IsTrue, true≢false}
 use Rattle.std.specs.Prelude.{if◌then◌else◌}
 use Rattle.std.specs.List.{AllByRecursion}
 use Rattle.std.proofs.lemmas.Bool.Decides.{nat_tests}
 use Rattle.std.proofs.lemmas.List.{length-map}
 use Rattle.std.proofs.lemmas.List.Elements.{recursion_from_All, All-from_recursion}
-use Rattle.httparse.specs.Grammar.{LineEnd, crlf, lf, print_end, print_blank, print_version, print_section, RequestHead, IsToken, is_token_byte, is_uri_byte, print_request, ReadsRequest}
+use Rattle.httparse.specs.Grammar.{LineEnd, crlf, lf, print_end, print_blank, print_version, print_section, RequestHead, is_token_byte, is_uri_byte, print_request, ReadsRequest}
 use Rattle.httparse.proofs.GrammarLemmas.{cons-append}
 use Rattle.http_messages.specs.Heads.{IsHead}
 use Rattle.http_messages.specs.Mask.{plain, mask_target, masked, blank_at, target_at, target_in}

@@ -1,18 +1,23 @@
 -- What the parser says of the masked bytes is so of the bytes.
-use Rattle.std.proofs.Common.{◌≡◌, ◌≢◌, ℕ, zero, suc, ◌+◌, ◌-◌, ◌<◌, ◌≤◌, ◌⊎◌, inl, inr, Bool, true, false, ◌==◌, nat_lt, List, [], ◌∷◌, ◌++◌, length, take, drop, map, slice_index, length-append, append_assoc, append-nil, refl, sym, ap, subst, ◌∙◌, arith, IsTrue, All}
-use Rattle.std.specs.Prelude.{if◌then◌else◌, IsAscii, IsUtf8}
+use Rattle.std.proofs.Common.{◌≡◌, ℕ, zero, suc, ◌<◌, ◌≤◌, inl, inr, Bool, true, false, ◌==◌, nat_lt, List, [], ◌∷◌, ◌++◌, length, drop, map, length-append, append_assoc, refl, sym, ap, subst, ◌∙◌, arith, IsTrue, Result, Ok, Err}
+use Rattle.std.specs.Prelude.{if◌then◌else◌, IsAscii, OnErr}
 use Rattle.std.specs.List.{AllByRecursion}
 use Rattle.std.proofs.lemmas.Bool.Decides.{nat_tests}
 use Rattle.std.proofs.lemmas.List.{length-map}
 use Rattle.std.proofs.lemmas.List.Elements.{recursion_from_All, All-from_recursion}
 use Rattle.std.proofs.lemmas.Str.{IsUtf8-from_ascii}
-use Rattle.httparse.specs.Grammar.{LineEnd, lf, print_blank, RequestHead, IsRequestHead, IsToken, AllPass, is_uri_byte, print_request, ReadsRequest, HasNoRequest, NeverHasRequest, MayBecomeRequest, EndsInTarget}
-use Rattle.httparse.specs.Spans.{IsRequestOf, name_and_value}
+use Rattle.httparse.specs.Grammar.{LineEnd, lf, print_blank, RequestHead, IsRequestHead, IsToken, AllPass, is_uri_byte, print_request, ReadsRequest, HasNoRequest, NeverHasRequest, MayBecomeRequest}
+use Rattle.httparse.specs.Spans.{IsRequestOf, RequestExceeds, name_and_value}
+use Rattle.httparse.specs.Outcome.{IfComplete, OnPartial, OnInvalid, OnTooManyHeaders}
+use Rattle.httparse.specs.declared.Error.{Error}
+use Rattle.httparse.specs.declared.Status.{Status}
+use Rattle.httparse.specs.declared.Status.TheVariants.{Complete, Partial}
 use Rattle.httparse.specs.declared.spans.HeaderSpan.{HeaderSpan}
 use Rattle.httparse.specs.declared.spans.RequestSpans.{RequestSpans}
 use Rattle.httparse.proofs.GrammarLemmas.{cons-append}
 use Rattle.http_messages.specs.Heads.{IsHead, ReadsHead, HasNoHead, NeverHasHead, MayBecomeHead}
 use Rattle.http_messages.specs.Mask.{plain, mask_target, masked, target_in, IsHeadAt}
+use Rattle.http_messages.proofs.Sizes.{never_too_many}
 use Rattle.http_messages.proofs.Masks.{plain_head, plain_blank, after, forth, back, grows, target_of_head}
 
 -- ---- a head with a plain target is one of the parser's grammar
@@ -52,7 +57,7 @@ reads_plain bytes h rest reads = (plain_is h reads.0, ap masked reads.1 ∙ fort
 
 -- each head of the parser's grammar is one here
 is_head : (h : RequestHead) → IsRequestHead h → IsHead h
-is_head h is = record { method = is.method; target = is.target; minor = is.minor; fields = is.fields; }
+is_head h is = record { method = is.method; target = is.target; minor = is.minor; fields = is.fields }
 
 -- ---- no head, now or ever
 
@@ -99,7 +104,7 @@ may_by bytes more h is printed =
 
 -- a head whose target goes on by one byte, with the least that may follow
 ended : List LineEnd → List ℕ → List ℕ → RequestHead
-ended blank method target = record { blank = blank; method = method; target = target ++ 97 ∷ []; minor = 1; line_end = lf; fields = []; last = lf; }
+ended blank method target = record { blank = blank; method = method; target = target ++ 97 ∷ []; minor = 1; line_end = lf; fields = []; last = lf }
 
 uris_ended : (xs : List ℕ) → AllByRecursion (λ b. IsTrue (is_uri_byte b)) xs → AllByRecursion (λ b. IsTrue (is_uri_byte b)) (xs ++ 97 ∷ [])
 uris_ended [] h = (refl, tt)
@@ -148,3 +153,36 @@ head_at bytes spans r found =
       version = at.version ∙ sym (ap (λ k. k.minor) was.3);
       fields = at.fields ∙ sym (ap (λ k. map name_and_value k.fields) was.3);
     }
+
+-- ---- what the parser answers, by its result
+
+pub never_parsed : {A : Type 0} (r : Result A Error) (text : List ℕ) (room : ℕ) → length text ≤ 16384 → 5461 ≤ room → OnInvalid r (NeverHasRequest text)
+    → OnTooManyHeaders r (RequestExceeds room text) → OnErr r (NeverHasRequest text)
+never_parsed (Ok a) text room short enough invalid many = tt
+never_parsed (Err e) text room short enough invalid many = invalid (λ full. never_too_many text room short enough (many (ap Err full)))
+
+pub head_parsed : (r : Result (Status RequestSpans) Error) (bytes text : List ℕ) (spans : List HeaderSpan) → text ≡ masked bytes
+    → IfComplete r (IsRequestOf text spans) → IfComplete r (IsHeadAt bytes text spans)
+head_parsed (Ok (Complete a)) bytes text spans same found =
+    subst (λ t. IsHeadAt bytes t spans a) (sym same) (head_at bytes spans a (subst (λ t. IsRequestOf t spans a) same found))
+head_parsed (Ok Partial) bytes text spans same found = tt
+head_parsed (Err e) bytes text spans same found = tt
+
+-- the same of texts and spans that are those
+pub head_held : (r : Result (Status RequestSpans) Error) (bytes text held : List ℕ) (spans kept : List HeaderSpan) → text ≡ held → kept ≡ spans
+    → IfComplete r (IsHeadAt bytes text spans) → IfComplete r (IsHeadAt bytes held kept)
+head_held r bytes text held spans kept same whole found = subst (λ t. IfComplete r (IsHeadAt bytes t kept)) same (subst (λ s. IfComplete r (IsHeadAt bytes text s)) (sym whole) found)
+
+pub none_parsed : (r : Result (Status RequestSpans) Error) (bytes text : List ℕ) → text ≡ masked bytes → OnPartial r (HasNoRequest text) → OnPartial r (HasNoHead bytes)
+none_parsed (Ok (Complete a)) bytes text same none = tt
+none_parsed (Ok Partial) bytes text same none = no_head bytes (subst (λ t. HasNoRequest t) same none)
+none_parsed (Err e) bytes text same none = tt
+
+pub may_parsed : (r : Result (Status RequestSpans) Error) (bytes text : List ℕ) → text ≡ masked bytes → OnPartial r (MayBecomeRequest text) → OnPartial r (MayBecomeHead bytes)
+may_parsed (Ok (Complete a)) bytes text same may = tt
+may_parsed (Ok Partial) bytes text same may = may_head bytes (subst (λ t. MayBecomeRequest t) same may)
+may_parsed (Err e) bytes text same may = tt
+
+pub never_head_parsed : (r : Result (Status RequestSpans) Error) (bytes text : List ℕ) → text ≡ masked bytes → OnErr r (NeverHasRequest text) → OnErr r (NeverHasHead bytes)
+never_head_parsed (Ok a) bytes text same never = tt
+never_head_parsed (Err e) bytes text same never = never_head bytes (subst (λ t. NeverHasRequest t) same never)

@@ -1,6 +1,7 @@
 -- Where a target stands, and the masked bytes piece by piece.
-use Rattle.std.proofs.Common.{◌≡◌, ◌≢◌, ℕ, zero, suc, ◌+◌, ◌-◌, ◌<◌, ◌≤◌, Bool, true, false, ◌==◌, List, [], ◌∷◌, ◌++◌, length, take, drop, map, slice_index, Option, Some, None, MatchOption, refl, sym, ap, ◌∙◌, arith}
+use Rattle.std.proofs.Common.{◌≡◌, ℕ, zero, suc, ◌<◌, Bool, true, false, ◌==◌, List, [], ◌∷◌, ◌++◌, length, take, drop, map, slice_index, Option, Some, None, MatchOption, refl, sym, ap, ◌∙◌, arith}
 use Rattle.std.specs.Prelude.{if◌then◌else◌}
+use borrow.Rule.Slice.PartMut.{put_mid}
 use Rattle.memchr.specs.Find.{IsFirstByte, is_byte}
 use Rattle.http_messages.specs.Mask.{plain, mask_target, masked, blank_at, target_at}
 
@@ -61,3 +62,12 @@ plain_all (x ∷ xs) [] same each = absurd (omega (arith, same))
 plain_all (x ∷ xs) (y ∷ ys) same each =
     let shorter : length ys ≡ length xs = omega (arith, same) in
     ap (λ n. n ∷ ys) (each 0 (omega arith)) ∙ ap (λ l. plain x ∷ l) (plain_all xs ys shorter (λ k lt. each (suc k) (omega arith)))
+
+-- the target was made plain in its place: n is where it begins, and m how many bytes it has
+pub masked_in_place : (xs ys : List ℕ) (n m : ℕ) → n ≡ target_at xs → m ≡ blank_at (drop n xs) → ys ≡ map plain (take m (drop n xs)) → put_mid n m xs ys ≡ masked xs
+masked_in_place xs ys n m at size made =
+    let by_m : put_mid n m xs ys ≡ take n xs ++ (map plain (take (blank_at (drop n xs)) (drop n xs)) ++ drop (blank_at (drop n xs)) (drop n xs)) =
+    ap (λ l. take n xs ++ (l ++ drop m (drop n xs))) made ∙ ap (λ k. take n xs ++ (map plain (take k (drop n xs)) ++ drop k (drop n xs))) size in
+    by_m
+    ∙ ap (λ k. take k xs ++ (map plain (take (blank_at (drop k xs)) (drop k xs)) ++ drop (blank_at (drop k xs)) (drop k xs))) at
+    ∙ sym (all_pieces xs)

@@ -1,5 +1,5 @@
 -- Bytes begin with one head at most, and so with one request.
-use Rattle.std.proofs.Common.{◌≡◌, ◌≢◌, ℕ, ◌+◌, ◌<◌, ◌≤◌, Bool, true, false, true≢false, List, [], ◌∷◌, ◌++◌, length, take, drop, map, append_assoc, append-nil, refl, sym, ap, subst, ◌∙◌, arith}
+use Rattle.std.proofs.Common.{◌≡◌, ℕ, ◌+◌, Bool, true, false, true≢false, List, [], ◌∷◌, ◌++◌, length, drop, map, append-nil, Option, refl, sym, ap, subst, ◌∙◌, arith}
 use Rattle.std.specs.Prelude.{slice_range}
 use Rattle.std.proofs.lemmas.List.{append_cancel_left, append_cancel_right}
 use Rattle.httparse.specs.Grammar.{RequestHead, print_blank, print_request}
@@ -12,7 +12,8 @@ use Rattle.http_messages.specs.declared.message.Fault.TheVariants.{BadHead, BadB
 use Rattle.http_messages.specs.Heads.{ReadsHead}
 use Rattle.http_messages.specs.Mask.{masked}
 use Rattle.http_messages.specs.Framing.{framing_of}
-use Rattle.http_messages.specs.Next.{head_of, HasHead, Parts, parts_of, Announces, Call, IsCall, FailsBy}
+use Rattle.http_messages.specs.Fields.{token_in, stays_of}
+use Rattle.http_messages.specs.Next.{head_of, HasHead, Parts, Says, Announces, Call, IsCall, FailsBy}
 use Rattle.http_messages.proofs.Masks.{plain_head, after, printed}
 use Rattle.http_messages.proofs.Parsing.{reads_plain}
 
@@ -36,7 +37,7 @@ one_head bytes g h r s x y =
     let k = record h { target = g.target } in
     let but_target : g ≡ k = ap (with_target g.target) same.0 in
     let spelled : print_request k ++ r ≡ print_request h ++ r =
-        sym (ap (λ p. print_request p ++ r) but_target) ∙ sym x.1 ∙ y.1 ∙ ap (λ l. print_request h ++ l) (sym same.1) in
+    sym (ap (λ p. print_request p ++ r) but_target) ∙ sym x.1 ∙ y.1 ∙ ap (λ l. print_request h ++ l) (sym same.1) in
     but_target ∙ ap (λ t. with_target t h) (same_targets h g.target r spelled)
 
 one_framing : (bytes : List ℕ) (g h : RequestHead) (f e : Framing) → HasHead bytes g f → HasHead bytes h e → f ≡ e
@@ -57,12 +58,26 @@ one_size : (n m : ℕ) → Sized n ≡ Sized m → n ≡ m
 unfolding size_in
 one_size n m e = ap size_in e
 
+as_parts : List ℕ → List ℕ → Option (List ℕ) → Bool → Parts
+as_parts method target token stays = record { method = method; target = target; token = token; stays = stays }
+
+parts_of : RequestHead → Parts
+parts_of h = as_parts h.method h.target (token_in (map name_and_value h.fields)) (stays_of h.minor (map name_and_value h.fields))
+
+said : (h : RequestHead) (p : Parts) → Says h p → p ≡ parts_of h
+unfolding as_parts parts_of
+said h p says =
+    ap (λ x. as_parts x p.target p.token p.stays) says.method
+    ∙ ap (λ x. as_parts h.method x p.token p.stays) says.target
+    ∙ ap (λ x. as_parts h.method h.target x p.stays) says.token
+    ∙ ap (λ x. as_parts h.method h.target (token_in (map name_and_value h.fields)) x) says.stays
+
 pub announces_one : (bytes : List ℕ) (p q : Parts) (s t n m : ℕ) → Announces bytes p s n → Announces bytes q t m → (p ≡ q) × (s ≡ t) × (n ≡ m)
 announces_one bytes p q s t n m x y =
     let heads = one_head (head_of bytes) x.head y.head x.has.rest y.has.rest x.has.reads y.has.reads in
     let sizes = one_size x.size y.size (one_framing bytes x.head y.head _ _ x.has y.has) in
     let starts : s ≡ t = x.front ∙ ap (λ h. length (print_request h)) heads ∙ sym y.front in
-    (x.said ∙ ap parts_of heads ∙ sym y.said, starts, x.whole ∙ ap (λ k. k + x.size) starts ∙ ap (λ k. t + k) sizes ∙ sym y.whole)
+    (said x.head p x.says ∙ ap parts_of heads ∙ sym (said y.head q y.says), starts, x.whole ∙ ap (λ k. k + x.size) starts ∙ ap (λ k. t + k) sizes ∙ sym y.whole)
 
 as_call : Parts → List ℕ → Call
 as_call parts body = record { parts = parts; body = body }

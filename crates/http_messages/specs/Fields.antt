@@ -1,7 +1,6 @@
 -- What the fields of a head say beside the length of the body.
-use Rattle.std.specs.Prelude.{ℕ, ◌==◌, List, [], ◌∷◌, Bool, true, false, not, length, take, drop, map, codes, if◌then◌else◌, Option, Some, None, option_and_then, nat_eq}
+use Rattle.std.specs.Prelude.{ℕ, ◌==◌, List, [], ◌∷◌, Bool, true, false, not, take, drop, codes, if◌then◌else◌, Option, Some, None, option_and_then, nat_eq}
 use Rattle.std.specs.Cmp.Lexicographic.{pointwise}
-use Rattle.std.specs.Char.{to_ascii_lowercase}
 use Rattle.http_messages.specs.Framing.{is_named}
 
 -- the value of the first field of this name, each field as its name and its value

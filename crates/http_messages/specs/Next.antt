@@ -40,13 +40,12 @@ pub record Parts : Type 0 where
   pub token : Option (List ℕ)
   pub stays : Bool
 
-abbrev pub parts_of : RequestHead → Parts
-parts_of h = record {
-    method = h.method;
-    target = h.target;
-    token = token_in (map name_and_value h.fields);
-    stays = stays_of h.minor (map name_and_value h.fields);
-  }
+-- this head says it
+pub record Says (h : RequestHead) (parts : Parts) : Type 0 where
+  pub method : parts.method ≡ h.method
+  pub target : parts.target ≡ h.target
+  pub token : parts.token ≡ token_in (map name_and_value h.fields)
+  pub stays : parts.stays ≡ stays_of h.minor (map name_and_value h.fields)
 
 -- a request as its parts
 pub record Call : Type 0 where
@@ -59,7 +58,7 @@ pub record Announces (bytes : List ℕ) (parts : Parts) (start end : ℕ) : Type
   pub size : ℕ
   pub has : HasHead bytes head (Sized size)
   pub small : size ≤ body_limit
-  pub said : parts ≡ parts_of head
+  pub says : Says head parts
   pub front : start ≡ length (print_request head)
   pub whole : end ≡ start + size
 

@@ -4,15 +4,15 @@ ghost use Rattle.httparse.specs.Grammar.{HasNoRequest, NeverHasRequest, MayBecom
 ghost use Rattle.httparse.specs.Outcome.{IfComplete, OnPartial};
 ghost use Rattle.httparse.specs.Spans.{IsRequestWithin, IsRequestOf};
 ghost use Rattle.http_messages.specs.Heads.{HasNoHead, NeverHasHead, MayBecomeHead};
-ghost use Rattle.http_messages.specs.Mask.{masked, IsHeadAt};
+ghost use Rattle.http_messages.specs.Mask.{IsHeadAt};
 ghost use Rattle.http_messages.specs.Next.{IsNext, head_of};
 
 use crate::fields::{find_token, stays};
 use crate::framing::{Framing, find_framing};
 use crate::mask::{copy_masked, target_in};
 use crate::scratch::{HEAD_LIMIT, Scratch};
-use httparse::{Error, Status};
 use httparse::spans::{HeaderSpan, RequestSpans, parse_request};
+use httparse::{Error, Status};
 
 /// What the head of a request says, beside the length of its body. Its texts lie in what was read.
 #[derive(Clone, Copy)]
@@ -68,8 +68,9 @@ const BODY_LIMIT: u64 = 16_777_216;
 pub fn next_message<'b>(buf: &'b [u8], scratch: &'b mut Scratch) -> Next<'b>
     ensures { IsNext buf.entry.now result }
 {
-    match read_head(head_part(buf), scratch) {
-        Ok(Status::Complete(head)) => with_head(buf, scratch, head),
+    let cut = head_part(buf);
+    match read_head(cut, scratch) {
+        Ok(Status::Complete(head)) => with_head(buf, cut, scratch, head),
         Ok(Status::Partial) => {
             if buf.len() < HEAD_LIMIT {
                 Next::Partial
@@ -84,9 +85,8 @@ pub fn next_message<'b>(buf: &'b [u8], scratch: &'b mut Scratch) -> Next<'b>
 /// Parses the head that the bytes begin with. What is found lies in the copy that is made of them.
 fn read_head(cut: &[u8], scratch: &mut Scratch) -> Result<Status<RequestSpans>, Error>
     requires { length cut.now ≤ 16384 }
-    ensures copy { take (length cut.now) scratch.new.copy.items ≡ masked cut.now }
-    ensures within { IfComplete result (IsRequestWithin (masked cut.now) scratch.new.spans.items) }
-    ensures head { IfComplete result (IsHeadAt cut.now (masked cut.now) scratch.new.spans.items) }
+    ensures within { IfComplete result (IsRequestWithin (take (length cut.now) scratch.new.copy.items) scratch.new.spans.items) }
+    ensures head { IfComplete result (IsHeadAt cut.now (take (length cut.now) scratch.new.copy.items) scratch.new.spans.items) }
     ensures none { OnPartial result (HasNoHead cut.now) }
     ensures may { OnPartial result (MayBecomeHead cut.now) }
     ensures never { OnErr result (NeverHasHead cut.now) }
@@ -121,13 +121,12 @@ fn head_part(buf: &[u8]) -> &[u8]
 }
 
 /// What stands there where a head is whole, whose parts these spans cover.
-fn with_head<'b>(buf: &'b [u8], scratch: &'b Scratch, head: RequestSpans) -> Next<'b>
-    requires copy { take (length (head_of buf.now)) scratch.now.copy.items ≡ masked (head_of buf.now) }
-    requires within { IsRequestWithin (masked (head_of buf.now)) scratch.now.spans.items head }
-    requires head { IsHeadAt (head_of buf.now) (masked (head_of buf.now)) scratch.now.spans.items head }
+fn with_head<'b>(buf: &'b [u8], cut: &'b [u8], scratch: &'b Scratch, head: RequestSpans) -> Next<'b>
+    requires cut { cut.now ≡ head_of buf.now }
+    requires within { IsRequestWithin (take (length cut.now) scratch.now.copy.items) scratch.now.spans.items head }
+    requires head { IsHeadAt cut.now (take (length cut.now) scratch.now.copy.items) scratch.now.spans.items head }
     ensures { IsNext buf.entry.now result }
 {
-    let cut = head_part(buf);
     let text = &scratch.copy[..cut.len()];
     let fields = &scratch.spans[..head.headers];
     match find_framing(text, fields) {

@@ -1,5 +1,5 @@
-use Rattle.std.proofs.Common.{arith, rules, ◌<◌, ◌≤◌}
-use Rattle.http_messages.proofs.HttpLemmas.{room_for_digit, one_digit_more}
+use Rattle.std.proofs.Common.{arith, ◌<◌, ◌≤◌}
+use Rattle.http_messages.proofs.Sizes.{room_for_digit}
 use Rattle.http_messages.proofs.framing.number.Goals as goal
 
 pub overflow_mul-n : goal.overflow_mul-n
