@@ -8,7 +8,7 @@ use Rattle.http_messages.specs.Next.{Call}
 use Rattle.http_routes.specs.declared.answers.Bare.{Bare}
 use Rattle.rp_http.specs.Routing.{Stops, headed, Routed, Asks, Unreadable, Unasked, routed}
 use Rattle.rp_http.specs.Answers.{Answer, Told, Barely, answer_of_reply}
-use Rattle.rp_http.specs.Meaning.{MessageRun}
+use Rattle.rp_http.specs.Meaning.{meant, MessageRun}
 
 -- the turn that a message asks for; one that is no partner's request asks for none
 abbrev pub turn_in : List (List ℕ) → Routed → Option Turn
@@ -64,3 +64,8 @@ TwoConnections = (tokens marks : List (List ℕ)) (r s end last : Plain) (c : Li
 -- what a head decides is the answer to each message with that head
 abbrev pub HeadDecides : Type 0
 HeadDecides = (tokens : List (List ℕ)) (call : Call) (bare : Bare) → headed tokens call.parts ≡ Stops bare → routed tokens call ≡ Unasked bare
+
+-- A message that asks for no turn is answered by what it is, whatever the repository holds, and changes nothing.
+abbrev pub OthersAreFixed : Type 0
+OthersAreFixed = (tokens : List (List ℕ)) (r s : Plain) (call : Call) → turn_of tokens r.partners call ≡ None
+    → ((meant tokens r call).answer ≡ (meant tokens s call).answer) × ((meant tokens r call).next ≡ r)

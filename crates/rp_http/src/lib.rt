@@ -8,5 +8,5 @@ mod routing;
 pub use answers::{answer_bytes, reply_status};
 pub use http_messages::{Fault, Head, Message, Next, Scratch, next_message};
 pub use http_routes::{Bare, TokenFault, Tokens};
-pub use laws::{heads_decide, messages_are_turns, two_connections};
+pub use laws::{heads_decide, messages_are_turns, others_are_fixed, two_connections};
 pub use routing::{Asked, Unrouted, route, route_head};
