@@ -541,6 +541,16 @@ def on_terminal(folder, *words):
         os.close(near)
 
 
+def told_at_once(folder, *words):
+    """The same of a run that took less than a second. (On a busy machine a run may stand still for longer.)"""
+    for _ in range(60):
+        begin = time.monotonic()
+        seen = on_terminal(folder, *words)
+        if time.monotonic() - begin < 1:
+            return seen
+    raise Wrong("each run takes a second")
+
+
 def write_late(path, text):
     """Gives a pipe its bytes after a second and a half."""
     time.sleep(1.5)
@@ -554,7 +564,7 @@ def test_progress():
         folder.write("t.exp", T)
         folder.write("b.step", file_of(""))
         words = ("--schema", "t.exp", "--quiet")
-        expect(on_terminal(folder, *words, "b.step"), (0, b"Kept: all 5 checks are TRUE.\n", b""))
+        expect(told_at_once(folder, *words, "b.step"), (0, b"Kept: all 5 checks are TRUE.\n", b""))
         os.mkfifo(folder.path("a.step"))
         late = threading.Thread(target=write_late, args=(folder.path("a.step"), file_of("")), daemon=True)
         late.start()
