@@ -102,6 +102,16 @@ fn tell<W: Sink, P: Pages>(
                 delivered.refused.as_str(),
                 *refusal,
             )?;
+            // What is wrong with the file comes before what is wrong with the page.
+            let _ = write_refused(
+                alloc,
+                schema,
+                asked,
+                delivered,
+                *refusal,
+                place.as_ref(),
+                pages,
+            );
             tell_refused(
                 alloc,
                 schema,
@@ -110,7 +120,6 @@ fn tell<W: Sink, P: Pages>(
                 *refusal,
                 place.as_ref(),
                 writer,
-                pages,
             )
         },
         reply => {
@@ -186,26 +195,55 @@ fn write_report<P: Pages>(
     }
 }
 
+/// The path of the file that is refused.
+fn path_refused<'a>(asked: &Asked<'a>, delivered: &Delivered<'_>) -> &'a str {
+    match asked.files.get(delivered.files.len()) {
+        Some(path) => path,
+        None => "",
+    }
+}
+
+/// What is shown of the file at a place.
+fn lines_at(place: Option<&FaultPlace>) -> &str {
+    match place {
+        Some(place) => place.lines.as_str(),
+        None => "",
+    }
+}
+
 /// Writes the page of files of which the last one is refused, if a page is wanted.
 fn write_refused<P: Pages>(
     alloc: Global,
     schema: SchemaText<'_>,
     asked: &Asked<'_>,
     delivered: &Delivered<'_>,
-    path: &str,
-    words: &str,
-    lines: &str,
+    refusal: Refusal,
+    place: Option<&FaultPlace>,
     pages: &mut P,
 ) -> Result<(), AllocError> {
-    if let Some(file) = asked.page {
-        let page = refused_page(alloc, schema.name, &delivered.files, path, words, lines)?;
-        let _ = pages.write(file, page);
+    let Some(file) = asked.page else {
+        return Ok(());
+    };
+    if let Refusal::NoMemory = refusal {
+        return Ok(());
     }
+    let reply = reply_line(alloc, &delivered.reply)?;
+    let words = words_of_refusal(alloc, place, refusal, &reply)?;
+    let (path, lines) = (path_refused(asked, delivered), lines_at(place));
+    let page = refused_page(
+        alloc,
+        schema.name,
+        &delivered.files,
+        path,
+        words.as_str(),
+        lines,
+    )?;
+    let _ = pages.write(file, page);
     Ok(())
 }
 
 /// Writes what is told where a file is refused, and answers why.
-fn tell_refused<W: Sink, P: Pages>(
+fn tell_refused<W: Sink>(
     alloc: Global,
     schema: SchemaText<'_>,
     asked: &Asked<'_>,
@@ -213,7 +251,6 @@ fn tell_refused<W: Sink, P: Pages>(
     refusal: Refusal,
     place: Option<&FaultPlace>,
     writer: &mut W,
-    pages: &mut P,
 ) -> Result<Done, Fault>
     ensures refused { OnOk result ⊥ }
     ensures json { asked.now.form ≡ Form.Json → (path words : List ℕ) → IsErrOf result (Fault.Refused path words) →
@@ -227,14 +264,7 @@ fn tell_refused<W: Sink, P: Pages>(
         return Err(Fault::Start(Failure::NoMemory));
     }
     let words = words_of_refusal(alloc, place, refusal, &reply)?;
-    let path = match asked.files.get(delivered.files.len()) {
-        Some(path) => path,
-        None => "",
-    };
-    let lines = match place {
-        Some(place) => place.lines.as_str(),
-        None => "",
-    };
+    let (path, lines) = (path_refused(asked, delivered), lines_at(place));
     let told = match asked.form {
         Form::Json => reply,
         Form::Quiet => refused_line(alloc, path)?.into_bytes(),
@@ -248,18 +278,7 @@ fn tell_refused<W: Sink, P: Pages>(
         )?
         .into_bytes(),
     };
-    // What is wrong with the file comes before what is wrong with the page.
-    let _ = write_refused(
-        alloc,
-        schema,
-        asked,
-        delivered,
-        path,
-        words.as_str(),
-        lines,
-        pages,
-    );
-    let fault = Fault::Refused(Text::from_str(alloc, path)?, Text::new(words));
+    let (path, words) = (Text::from_str(alloc, path)?, Text::new(words));
     write(writer, &told)?;
-    Err(fault)
+    Err(Fault::Refused(path, words))
 }
