@@ -242,6 +242,28 @@ fn write_refused<P: Pages>(
     Ok(())
 }
 
+/// What is told of files of which the last one is refused.
+fn told_of_refusal(
+    alloc: Global,
+    schema: SchemaText<'_>,
+    asked: &Asked<'_>,
+    delivered: &Delivered<'_>,
+    path: &str,
+    words: &str,
+    lines: &str,
+) -> Result<Vec<u8>, AllocError>
+    ensures { asked.now.form ≡ Form.Json → IfOk result (λ told. told.items ≡ line_of_reply delivered.now.reply) }
+{
+    match asked.form {
+        Form::Json => reply_line(alloc, &delivered.reply),
+        Form::Quiet => Ok(refused_line(alloc, path)?.into_bytes()),
+        Form::Text(_) => {
+            let files = &delivered.files;
+            Ok(refused_text(alloc, schema.name, files, path, words, lines)?.into_bytes())
+        }
+    }
+}
+
 /// Writes what is told where a file is refused, and answers why.
 fn tell_refused<W: Sink>(
     alloc: Global,
@@ -265,19 +287,7 @@ fn tell_refused<W: Sink>(
     }
     let words = words_of_refusal(alloc, place, refusal, &reply)?;
     let (path, lines) = (path_refused(asked, delivered), lines_at(place));
-    let told = match asked.form {
-        Form::Json => reply,
-        Form::Quiet => refused_line(alloc, path)?.into_bytes(),
-        Form::Text(_) => refused_text(
-            alloc,
-            schema.name,
-            &delivered.files,
-            path,
-            words.as_str(),
-            lines,
-        )?
-        .into_bytes(),
-    };
+    let told = told_of_refusal(alloc, schema, asked, delivered, path, words.as_str(), lines)?;
     let (path, words) = (Text::from_str(alloc, path)?, Text::new(words));
     write(writer, &told)?;
     Err(Fault::Refused(path, words))
