@@ -102,16 +102,6 @@ fn tell<W: Sink, P: Pages>(
                 delivered.refused.as_str(),
                 *refusal,
             )?;
-            // What is wrong with the file comes before what is wrong with the page.
-            let _ = write_refused(
-                alloc,
-                schema,
-                asked,
-                delivered,
-                *refusal,
-                place.as_ref(),
-                pages,
-            );
             tell_refused(
                 alloc,
                 schema,
@@ -120,6 +110,7 @@ fn tell<W: Sink, P: Pages>(
                 *refusal,
                 place.as_ref(),
                 writer,
+                pages,
             )
         },
         reply => {
@@ -195,55 +186,8 @@ fn write_report<P: Pages>(
     }
 }
 
-/// The path of the file that is refused.
-fn path_refused<'a>(asked: &Asked<'a>, delivered: &Delivered<'_>) -> &'a str {
-    match asked.files.get(delivered.files.len()) {
-        Some(path) => path,
-        None => "",
-    }
-}
-
-/// What is shown of the file at a place.
-fn lines_at(place: Option<&FaultPlace>) -> &str {
-    match place {
-        Some(place) => place.lines.as_str(),
-        None => "",
-    }
-}
-
 /// Writes the page of files of which the last one is refused, if a page is wanted.
 fn write_refused<P: Pages>(
-    alloc: Global,
-    schema: SchemaText<'_>,
-    asked: &Asked<'_>,
-    delivered: &Delivered<'_>,
-    refusal: Refusal,
-    place: Option<&FaultPlace>,
-    pages: &mut P,
-) -> Result<(), AllocError> {
-    let Some(file) = asked.page else {
-        return Ok(());
-    };
-    if let Refusal::NoMemory = refusal {
-        return Ok(());
-    }
-    let reply = reply_line(alloc, &delivered.reply)?;
-    let words = words_of_refusal(alloc, place, refusal, &reply)?;
-    let (path, lines) = (path_refused(asked, delivered), lines_at(place));
-    let page = refused_page(
-        alloc,
-        schema.name,
-        &delivered.files,
-        path,
-        words.as_str(),
-        lines,
-    )?;
-    let _ = pages.write(file, page);
-    Ok(())
-}
-
-/// What is told of files of which the last one is refused.
-fn told_of_refusal(
     alloc: Global,
     schema: SchemaText<'_>,
     asked: &Asked<'_>,
@@ -251,21 +195,17 @@ fn told_of_refusal(
     path: &str,
     words: &str,
     lines: &str,
-) -> Result<Vec<u8>, AllocError>
-    ensures { asked.now.form ≡ Form.Json → IfOk result (λ told. told.items ≡ line_of_reply delivered.now.reply) }
-{
-    match asked.form {
-        Form::Json => reply_line(alloc, &delivered.reply),
-        Form::Quiet => Ok(refused_line(alloc, path)?.into_bytes()),
-        Form::Text(_) => {
-            let files = &delivered.files;
-            Ok(refused_text(alloc, schema.name, files, path, words, lines)?.into_bytes())
-        }
+    pages: &mut P,
+) -> Result<(), AllocError> {
+    if let Some(file) = asked.page {
+        let page = refused_page(alloc, schema.name, &delivered.files, path, words, lines)?;
+        let _ = pages.write(file, page);
     }
+    Ok(())
 }
 
 /// Writes what is told where a file is refused, and answers why.
-fn tell_refused<W: Sink>(
+fn tell_refused<W: Sink, P: Pages>(
     alloc: Global,
     schema: SchemaText<'_>,
     asked: &Asked<'_>,
@@ -273,6 +213,7 @@ fn tell_refused<W: Sink>(
     refusal: Refusal,
     place: Option<&FaultPlace>,
     writer: &mut W,
+    pages: &mut P,
 ) -> Result<Done, Fault>
     ensures refused { OnOk result ⊥ }
     ensures json { asked.now.form ≡ Form.Json → (path words : List ℕ) → IsErrOf result (Fault.Refused path words) →
@@ -286,9 +227,39 @@ fn tell_refused<W: Sink>(
         return Err(Fault::Start(Failure::NoMemory));
     }
     let words = words_of_refusal(alloc, place, refusal, &reply)?;
-    let (path, lines) = (path_refused(asked, delivered), lines_at(place));
-    let told = told_of_refusal(alloc, schema, asked, delivered, path, words.as_str(), lines)?;
-    let (path, words) = (Text::from_str(alloc, path)?, Text::new(words));
+    let path = match asked.files.get(delivered.files.len()) {
+        Some(path) => path,
+        None => "",
+    };
+    let lines = match place {
+        Some(place) => place.lines.as_str(),
+        None => "",
+    };
+    let told = match asked.form {
+        Form::Json => reply,
+        Form::Quiet => refused_line(alloc, path)?.into_bytes(),
+        Form::Text(_) => refused_text(
+            alloc,
+            schema.name,
+            &delivered.files,
+            path,
+            words.as_str(),
+            lines,
+        )?
+        .into_bytes(),
+    };
+    // What is wrong with the file comes before what is wrong with the page.
+    let _ = write_refused(
+        alloc,
+        schema,
+        asked,
+        delivered,
+        path,
+        words.as_str(),
+        lines,
+        pages,
+    );
+    let fault = Fault::Refused(Text::from_str(alloc, path)?, Text::new(words));
     write(writer, &told)?;
-    Err(Fault::Refused(path, words))
+    Err(fault)
 }
