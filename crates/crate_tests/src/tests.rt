@@ -2,6 +2,5 @@
 
 mod decimals;
 mod operations;
-mod rights;
 mod values;
 mod words;

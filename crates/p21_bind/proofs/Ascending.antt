@@ -9,8 +9,8 @@ use Rattle.plain_data.specs.declared.failure.Failure.{Failure}
 use Rattle.plain_data.specs.Gives.{Gives}
 use Rattle.ex_schemas.specs.Schemas.{Checked}
 use Rattle.p21_instances.specs.Instances as spelled
-use Rattle.p21_instances.specs.Instances.{in_order}
-use Rattle.p21_instances.proofs.ByName.{below, AreOnce, once-in_order}
+use Rattle.p21_instances.specs.Instances.{in_order, AreOnce}
+use Rattle.p21_instances.proofs.ByName.{below, once-in_order}
 use Rattle.p21_instances.proofs.SortedBy.{Rises, rises_in_order}
 use Rattle.ex_layouts.specs.Entities.{entity_spelled}
 use Rattle.p21_mappings.specs.Contents.{content}
@@ -124,12 +124,17 @@ module _ (schema : Checked) (defined : ℕ → Bool) where
       let rest = later_apart (more stood x) n xs b.later (or_right (x.name == n) (stood n) there) b.follow in
       subst (λ js. is_among (map name_of js) n ≡ false) b.are (or_from (b.first.name == n) (is_among (map name_of b.later) n) here rest)
 
-  bound_once : (stood : ℕ → Bool) (xs : List tree.Instance) (is : List Instance) → instances_after schema defined stood xs ≡ Ok is → AreOnce name_of is
+  pub bound_once : (stood : ℕ → Bool) (xs : List tree.Instance) (is : List Instance) → instances_after schema defined stood xs ≡ Ok is → AreOnce name_of is
   bound_once stood [] is e = subst (AreOnce name_of) (none_are is stood e) tt
   bound_once stood (x ∷ xs) is e =
       let b = begun stood x xs is e in
       let stands : more stood x b.first.name ≡ true = or_left (x.name == b.first.name) (stood b.first.name) (eq-eqb x.name b.first.name (sym b.name_is)) in
       subst (AreOnce name_of) b.are (later_apart (more stood x) b.first.name xs b.later stands b.follow, bound_once (more stood x) xs b.later b.follow)
+
+-- what is found has no name twice
+pub found_once : (schema : Checked) (linked : List ℕ) (xs : List tree.Instance) (found : List Instance) → instances schema linked xs ≡ Ok found → AreOnce name_of found
+unfolding instances
+found_once schema linked xs found e = bound_once schema (is_among (spelled.names xs ++ linked)) (λ n. false) xs found e
 
 -- the names that references of a file's instances may have, where these are linked
 abbrev pub defined_by : List ℕ → Raw → ℕ → Bool

@@ -1,5 +1,5 @@
 -- Instances that were bound as if each name were defined are those of their file, where each name is.
-use Rattle.std.proofs.Common.{◌≡◌, ℕ, Bool, true, false, ◌&&◌, ◌||◌, ◌==◌, List, [], ◌∷◌, ◌++◌, Option, None, Some, IfSome, Result, Ok, Err, IfOk, refl, sym, ◌∙◌, ap}
+use Rattle.std.proofs.Common.{◌≡◌, ℕ, Bool, true, false, ◌&&◌, ◌||◌, ◌==◌, List, [], ◌∷◌, ◌++◌, map, Option, None, Some, IfSome, Result, Ok, Err, IfOk, refl, sym, ◌∙◌, ap}
 use Rattle.std.proofs.lemmas.List.{append_assoc, append-nil}
 use Rattle.std.specs.List.{AllByRecursion, list_all, list_any}
 use Rattle.plain_data.specs.Numbers.{is_among}
@@ -18,8 +18,10 @@ use Rattle.p21_bind.specs.declared.loading.Loading.{Loading}
 use Rattle.p21_mappings.specs.Contents.{content}
 use Rattle.p21_bind.specs.Files.{Instances, first_of, told, one, instances, instances_after, bound_file}
 use Rattle.p21_bind.specs.OnePass.{any_name, no_name, apart, all_references, Becomes, loaded}
+use Rattle.p21_mappings.specs.Instances.{Mapped, instance}
 use Rattle.p21_mappings.specs.Referred.{mapping_references}
 use Rattle.p21_mappings.proofs.Agreement.{instance_same}
+use Rattle.p21_bind.proofs.Ascending.{instance_named}
 use Rattle.p21_bind.proofs.Reading.{neither, apart_from, alike}
 
 -- ---- one more
@@ -40,6 +42,35 @@ pub references_more : (xs : List tree.Instance) (x : tree.Instance) → all_refe
 references_more [] x = append-nil (mapping_references x.mapping)
 references_more (z ∷ xs) x =
     ap (λ l. mapping_references z.mapping ++ l) (references_more xs x) ∙ sym (append_assoc (mapping_references z.mapping) (all_references xs) (mapping_references x.mapping))
+
+-- ---- their names
+
+abbrev name_of : Instance → ℕ
+name_of i = i.name
+
+one_named : (name : ℕ) (o : Mapped Instance) (y : Instance) → ((i : Instance) → o ≡ Ok i → i.name ≡ name) → told name o ≡ Ok y → y.name ≡ name
+one_named name (Ok i) y named e = let same : i ≡ y = cc in ap name_of (sym same) ∙ named i refl
+one_named name (Err kind) y named e = cc
+
+first_named : (name : ℕ) (names : List ℕ) (o : Result Instance InstanceFault) (r : Instances) (ys : List Instance) → first_of o r ≡ Ok ys → ((y : Instance) → o ≡ Ok y → y.name ≡ name)
+    → ((zs : List Instance) → r ≡ Ok zs → map name_of zs ≡ names) → map name_of ys ≡ name ∷ names
+first_named name names (Ok z) (Ok zs) ys e first next =
+    let same : z ∷ zs ≡ ys = cc in
+    ap (map name_of) (sym same) ∙ (λ i. first z refl i ∷ next zs refl i)
+first_named name names (Ok z) (Err fault) ys e first next = cc
+first_named name names (Err fault) r ys e first next = cc
+
+-- instances that are bound have the names that they have in the file
+pub apart_named : (schema : Checked) (xs : List tree.Instance) (ys : List Instance) → apart schema xs ≡ Ok ys → map name_of ys ≡ names xs
+apart_named schema [] ys e = let none : [] ≡ ys = cc in ap (map name_of) (sym none)
+apart_named schema (x ∷ xs) ys e =
+    first_named x.name (names xs) (one schema any_name no_name x) (apart schema xs) ys e
+    (λ y is. one_named x.name (instance schema any_name false x) y (λ i made. (instance_named schema any_name false x i made).1) is)
+    (λ zs rest. apart_named schema xs zs rest)
+
+pub loaded_named : (first now : Loading) (rest : Raw) (file : Result Raw FileFault) → ShownAll (Becomes first) rest now file → now.names.items ≡ map name_of now.instances.items
+loaded_named first now rest (Err fault) shown = cc
+loaded_named first now rest (Ok raw) shown = sym shown.1.names ∙ sym (apart_named first.layouts raw.instances now.instances.items shown.1.instances)
 
 -- ---- all of them
 

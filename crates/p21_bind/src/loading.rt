@@ -55,10 +55,11 @@ impl<'s> Visitor for Loading<'s> {
 }
 
 impl<'s> Loading<'s> {
-    ghost use Rattle.std.specs.Prelude.{◌≡◌, ◌++◌, ◌==◌, [], true, false, IfOk, IfSome};
+    ghost use Rattle.std.specs.Prelude.{◌≡◌, ◌++◌, ◌==◌, [], true, false, map, IfOk, IfSome};
     ghost use Rattle.std.specs.List.{list_all};
     ghost use Rattle.plain_data.specs.Numbers.{is_among};
     ghost use Rattle.p21_instances.specs.Instances.{has_twice};
+    ghost use Rattle.rp_content.specs.Names.{instance_name};
     ghost use Rattle.p21_mappings.specs.Contents as contents;
 
     /// Nothing yet. `bytes` is the length of the file: as most instances take 32 bytes and more, and a reference with what
@@ -89,6 +90,7 @@ impl<'s> Loading<'s> {
         linked: &[u64],
         header: &Header<'_>,
     ) -> Result<Option<Content>, AllocError>
+        requires { self.names.items ≡ map instance_name self.instances.items }
         ensures content { IfOk result (λ found. IfSome found (λ content. content ≡ contents.content header.now self.entry.instances.items)) }
         ensures once { IfOk result (λ found. IfSome found (λ content. has_twice (λ m n. m == n) self.entry.names.items ≡ false)) }
         ensures defined { IfOk result (λ found. IfSome found (λ content. list_all (is_among (self.entry.names.items ++ linked.now)) self.entry.references.items ≡ true)) }

@@ -5,7 +5,7 @@ use Rattle.std.proofs.lemmas.Bool.{cases_Bool, or_parts, or_from}
 use Rattle.std.proofs.lemmas.Bool.Decides.{nat_tests}
 use Rattle.plain_data.specs.Numbers.{is_among}
 use Rattle.plain_data.proofs.Disjunctions.{or_turn}
-use Rattle.p21_instances.specs.Instances.{placed, in_order}
+use Rattle.p21_instances.specs.Instances.{placed, in_order, AreOnce}
 
 other_way : (m n : ℕ) → (m == n) ≡ false → (n == m) ≡ false
 other_way m n apart = grind (arith, nat_tests)
@@ -52,12 +52,7 @@ module _ {X : Type 0} (name : X → ℕ) where
 
   -- ---- in order, each name once
 
-  -- none has the name of one behind it
-  abbrev pub AreOnce : List X → Type 0
-  AreOnce [] = Unit {0}
-  AreOnce (x ∷ xs) = (is_among (map name xs) (name x) ≡ false) × AreOnce xs
-
-  once-placed : (x : X) (ys : List X) → is_among (map name ys) (name x) ≡ false → AreOnce ys → AreOnce (placed below x ys)
+  once-placed : (x : X) (ys : List X) → is_among (map name ys) (name x) ≡ false → AreOnce name ys → AreOnce name (placed below x ys)
   once-placed x [] new once = (refl, tt)
   once-placed x (y ∷ ys) new once =
       let apart = or_parts (name y == name x) (is_among (map name ys) (name x)) new in
@@ -66,6 +61,6 @@ module _ {X : Type 0} (name : X → ℕ) where
       (λ (e : below y x ≡ false). rw e (new, once))
       (cases_Bool (below y x))
 
-  pub once-in_order : (xs : List X) → AreOnce xs → AreOnce (in_order below xs)
+  pub once-in_order : (xs : List X) → AreOnce name xs → AreOnce name (in_order below xs)
   once-in_order [] once = tt
   once-in_order (x ∷ xs) once = once-placed x (in_order below xs) (sym (among_in_order (name x) xs) ∙ once.0) (once-in_order xs once.1)

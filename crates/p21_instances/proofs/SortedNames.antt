@@ -98,7 +98,7 @@ once_in_any_order xs ys same e = none_twice xs (IsDistinct-IsPermutation is_one 
 
 -- ---- what stood before
 
-among_turns : (xs : List ℕ) (m : ℕ) → is_among xs m ≡ list_any (is_one m) xs
+pub among_turns : (xs : List ℕ) (m : ℕ) → is_among xs m ≡ list_any (is_one m) xs
 among_turns [] m = refl
 among_turns (x ∷ xs) m = rw (turns x m, among_turns xs m) refl
 

@@ -1,6 +1,7 @@
 -- The instances of a file: elements in order, their names, and what they refer to.
-use Rattle.std.specs.Prelude.{ℕ, Bool, false, ◌||◌, if◌then◌else◌, List, [], ◌∷◌, map}
+use Rattle.std.specs.Prelude.{◌≡◌, ℕ, Bool, false, ◌||◌, if◌then◌else◌, List, [], ◌∷◌, map}
 use Rattle.std.specs.List.{flat_map, list_any}
+use Rattle.plain_data.specs.Numbers.{is_among}
 use Rattle.p21_tree.specs.declared.instance.Instance.{Instance}
 use Rattle.p21_tree.specs.declared.value.Value.{Value}
 use Rattle.p21_tree.specs.declared.value.Value.TheFolds.{fold-Value}
@@ -28,6 +29,11 @@ names = map (λ i. i.name)
 abbrev pub has_twice : {X : Type 0} → (X → X → Bool) → List X → Bool
 has_twice same [] = false
 has_twice same (x ∷ xs) = list_any (same x) xs || has_twice same xs
+
+-- none has the name of one behind it
+abbrev pub AreOnce : {X : Type 0} → (X → ℕ) → List X → Type 0
+AreOnce name [] = Unit {0}
+AreOnce name (x ∷ xs) = (is_among (map name xs) (name x) ≡ false) × AreOnce name xs
 
 -- ---- references
 

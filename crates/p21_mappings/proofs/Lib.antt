@@ -3,3 +3,4 @@ pub mod Stars
 pub mod Slots
 pub mod Agreement
 pub mod Linked
+pub mod Ordered

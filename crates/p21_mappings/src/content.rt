@@ -1,24 +1,26 @@
 //! What a model holds, of a file's header and of its instances.
 
-ghost use Rattle.std.specs.Prelude.{◌≡◌, ◌++◌, ◌==◌, ◌&&◌, true, false, not, nat_lt, IfOk, IfSome};
+ghost use Rattle.std.specs.Prelude.{◌≡◌, ◌++◌, ◌==◌, ◌&&◌, true, false, not, nat_lt, map, IfOk, IfSome};
 ghost use Rattle.std.specs.List.{list_all};
 ghost use Rattle.plain_data.specs.Numbers.{is_among};
-ghost use Rattle.p21_instances.specs.Instances.{has_twice, in_order};
+ghost use Rattle.p21_instances.specs.Instances.{has_twice, in_order, AreOnce};
+ghost use Rattle.rp_content.specs.Names.{instance_name};
 ghost use Rattle.p21_mappings.specs.Contents as spec;
 
 use crate::header::header_of;
 use crate::names::{Defined, DefinedNames, Names};
 use p21_tree::Header;
-use plain_data::{Items, Rows};
-use rp_content::{Content, Instance};
+use plain_data::Items;
+use rp_content::{Content, Instance, Instances};
 use std::alloc::{AllocError, Global};
 
-/// The instances in the order of their names.
-pub fn in_name_order(mut instances: Vec<Instance>) -> Result<Rows<Instance>, AllocError>
+/// The instances in the order of their names, of which none stands twice.
+pub fn in_name_order(mut instances: Vec<Instance>) -> Result<Instances, AllocError>
+    requires { AreOnce instance_name instances.items }
     ensures { IfOk result (λ ordered. ordered ≡ in_order (λ x y. nat_lt x.name y.name) instances.items) }
 {
     instances.sort_by_key(|instance| instance.name)?;
-    Ok(Rows::from_vec(instances))
+    Ok(Instances::of(instances))
 }
 
 /// Whether each reference is to one of the names.
@@ -53,6 +55,7 @@ fn content(
     header: &Header<'_>,
     mut instances: Vec<Instance>,
 ) -> Result<Content, AllocError>
+    requires { AreOnce instance_name instances.items }
     ensures { IfOk result (λ content. content ≡ spec.content header.now instances.items) }
 {
     instances.shrink_to_fit();
@@ -65,8 +68,8 @@ fn content(
     })
 }
 
-/// What a model holds that a file is put into which has this header and these instances, if none of their names stands
-/// twice and each of the references is to one of them or is linked.
+/// What a model holds that a file is put into which has this header and these instances, of these names, if none of the names
+/// stands twice and each of the references is to one of them or is linked.
 ///
 /// # Errors
 ///
@@ -79,6 +82,7 @@ pub fn whole(
     linked: &[u64],
     header: &Header<'_>,
 ) -> Result<Option<Content>, AllocError>
+    requires { names.items ≡ map instance_name instances.items }
     ensures content { IfOk result (λ found. IfSome found (λ content. content ≡ spec.content header.now instances.items)) }
     ensures once { IfOk result (λ found. IfSome found (λ content. has_twice (λ m n. m == n) names.items ≡ false)) }
     ensures defined { IfOk result (λ found. IfSome found (λ content. list_all (is_among (names.items ++ linked.now)) references.items ≡ true)) }

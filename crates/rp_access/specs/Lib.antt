@@ -1,4 +1,3 @@
 pub mod Kept
-pub mod Steps
 pub mod Changes
-pub mod Prepared
+pub mod Steps

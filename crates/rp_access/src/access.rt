@@ -1,28 +1,26 @@
-//! Models and groups, and who may do what with them.
+//! Who may do what with models, and groups.
 
 ghost use Rattle.std.specs.Prelude.{◌≡◌};
 
 use crate::changes::{AccessFault, Change};
 use crate::faults::{is_listable, is_new, is_there, is_unlistable};
+use crate::regranted::regranted_for;
 use crate::relisting::{excluding, including};
-use crate::steps::{
-    Altered, GroupStep, ModelStep, group_step, make_group_step, make_model_step, model_step,
-};
+use crate::steps::{Altered, GroupStep, group_step, make_group_step};
 use plain_data::{Rows, Text};
-use rp_content::Instance;
 use rp_rows::limits::{MAX_GROUPS, MAX_MODELS};
-use rp_rows::rows::{Key, Level, Listing, ModelContent, Right};
+use rp_rows::rows::{Grant, Key, Level, Listing, ModelContent, Right};
 use rp_sight::{
-    Groups, Member, Seen, group_right, level, members_of, visible_groups, visible_models,
+    Groups, Member, Seen, Table, group_right, level, members_of, visible_groups, visible_models,
 };
-use rp_tables::Table;
+use rp_store::{Keyed, Store};
 use std::alloc::{AllocError, Global};
 use std::marker::Model;
 
-/// Models and groups with the grants on them.
+/// The grants on models, under the key of each, and groups with the grants on them.
 #[derive(Drop)]
 pub struct Access {
-    models: Table<ModelContent>,
+    models: Keyed<Rows<Grant>>,
     groups: Groups,
 }
 
@@ -31,11 +29,6 @@ impl Model for Access {
 
     ghost Value = { KeptAccess };
 
-    ghost use Rattle.std.specs.Coded.{codes};
-    ghost use Rattle.rp_rows.specs.contracts.rows.ModelContent as content_type;
-
-    ghost coded = { Prim.hlevel (codes, content_type.the_row.coded) };
-
     ghost view = { λ a. record { models = a.models; groups = a.groups } };
 }
 
@@ -43,7 +36,11 @@ impl Model for Access {
 #[derive(Drop)]
 pub enum Prepared {
     Nothing,
-    OfModel(Key, ModelStep),
+    /// There are rights on the model from now on, and these grants.
+    Open(Key, Rows<Grant>),
+    Close(Key),
+    /// All the grants on the model.
+    Regrant(Key, Rows<Grant>),
     OfGroup(Key, GroupStep),
 }
 
@@ -57,36 +54,36 @@ fn refused(_change: Change, reason: AccessFault) -> AccessFault
 impl Access {
     ghost use Rattle.std.specs.Prelude.{◌≡◌, ◌≢◌, [], Some, None, map, filter, IfOk, IfErr};
     ghost use Rattle.std.specs.List.{find};
-    ghost use Rattle.std.specs.Vec.{vec_capacity};
-    ghost use Rattle.rp_rows.specs.Rows.{is_row};
+    ghost use Rattle.sorted_tables.specs.Table.{IsAscending};
+    ghost use Rattle.rp_rows.specs.Rows.{key_cmp, row_key, is_row, key_of};
     ghost use Rattle.rp_rows.specs.Listings.{with_member, without_member};
-    ghost use Rattle.rp_rows.specs.Instances.{with_instance, without_instance};
     ghost use Rattle.rp_rows.specs.Sight as sight;
     ghost use Rattle.rp_rows.specs.Alterations.{altered};
-    ghost use Rattle.rp_tables.specs.Named.{IsNamed, HasRoomIn};
-    ghost use Rattle.rp_tables.specs.Stored.{rewritten, reheld, HasRowAt};
+    ghost use Rattle.rp_store.specs.Entries.{entry_key};
+    ghost use Rattle.rp_sight.specs.Stored.{joined};
     ghost use Rattle.rp_sight.specs.Listed.{members_in, member_of};
     ghost use Rattle.rp_sight.specs.Seen.{seen_model, seen_group, seen_of};
-    ghost use Rattle.rp_access.specs.Changes.{models_after, groups_after, fault, granted, relisted_at, right_on_model, right_on_group};
+    ghost use Rattle.rp_access.specs.Changes.{models_after, groups_after, fault, granted, granted_on, regranted_on, grants_at, relisted_at, right_on_model, right_on_group};
     ghost use Rattle.rp_access.specs.declared.changes.AccessFault.TheVariants.{NoMemory};
-    ghost use Rattle.rp_access.specs.Prepared.{prepared_models, prepared_groups, PreparedFits};
-    ghost use Rattle.rp_access.specs.Steps.{alteration_of, model_stepped, group_stepped, ModelFits, GroupFits};
+    ghost use Rattle.rp_access.specs.Steps.{prepared_models, prepared_groups, PreparedFits, alteration_of};
 
-    /// No model and no group.
+    /// No rights and no group.
     pub fn new(alloc: Global) -> Access
-        ensures models { result.models.rows ≡ [] }
+        ensures models { result.models.entries ≡ [] }
         ensures groups { result.groups.rows ≡ [] }
     {
         Access {
-            models: Table::new(alloc),
+            models: Keyed::new(alloc),
             groups: Groups::new(alloc),
         }
     }
 
-    pub fn models(&self) -> &Table<ModelContent>
-        ensures { result.now ≡ self.now.models }
+    /// The models of a store, each with the grants on it.
+    pub fn models<'a>(&'a self, store: &'a Store) -> Table<'a, ModelContent>
+        requires { map entry_key store.now.entries ≡ map entry_key self.now.models.entries }
+        ensures { result.rows ≡ joined store.now.entries self.now.models.entries }
     {
-        &self.models
+        Table::of(store.models(), &self.models)
     }
 
     pub fn groups(&self) -> &Groups
@@ -95,11 +92,18 @@ impl Access {
         &self.groups
     }
 
-    /// What the partner may do with the model of the key. Of groups only those are looked at that he is granted.
-    pub fn right_on_model(&self, partner: &Text, key: &Key) -> Right
-        ensures { result ≡ right_on_model self.now.groups.rows partner.now (find (is_row key.now) self.now.models.rows) }
+    /// What the partner may do with the model of this owner and name. Of groups only those are looked at that he is granted.
+    pub fn right_on_model(
+        &self,
+        models: &Table<'_, ModelContent>,
+        partner: &Text,
+        owner: &Text,
+        name: &Text,
+    ) -> Right
+        ensures right { result ≡ right_on_model self.now.groups.rows partner.now (find (is_row (key_of owner.now name.now)) models.now.rows) }
+        ensures order { IsAscending key_cmp row_key models.now.rows }
     {
-        match self.models.find(key) {
+        match models.find_for(owner, name) {
             Some(model) => level(&self.groups, partner, &model),
             None => Right::Unseen,
         }
@@ -116,14 +120,15 @@ impl Access {
     }
 
     /// The models that the partner sees, in the order of owner and name.
-    pub fn visible_models(
+    pub fn visible_models<'a>(
         &self,
         alloc: Global,
+        models: &Table<'a, ModelContent>,
         partner: &Text,
-    ) -> Result<Vec<Seen<'_, ModelContent>>, AllocError>
-        ensures { IfOk result (λ seen. map seen_of seen.items ≡ map (seen_model self.now.groups.rows partner.now) (filter (sight.sees self.now.groups.rows partner.now) self.now.models.rows)) }
+    ) -> Result<Vec<Seen<'a, ModelContent>>, AllocError>
+        ensures { IfOk result (λ seen. map seen_of seen.items ≡ map (seen_model self.now.groups.rows partner.now) (filter (sight.sees self.now.groups.rows partner.now) models.now.rows)) }
     {
-        visible_models(alloc, &self.models, &self.groups, partner)
+        visible_models(alloc, models, &self.groups, partner)
     }
 
     /// The groups that the partner sees, in the order of owner and name.
@@ -138,101 +143,44 @@ impl Access {
     }
 
     /// The models that the group of the key lists, in the order of owner and name, and which of them count.
-    pub fn members(&self, alloc: Global, key: &Key) -> Result<Vec<Member<'_>>, AllocError>
-        ensures { IfOk result (λ out. map member_of out.items ≡ members_in self.now.models.rows (find (is_row key.now) self.now.groups.rows)) }
+    pub fn members(
+        &self,
+        alloc: Global,
+        models: &Table<'_, ModelContent>,
+        key: &Key,
+    ) -> Result<Vec<Member<'_>>, AllocError>
+        ensures members { IfOk result (λ out. map member_of out.items ≡ members_in models.now.rows (find (is_row key.now) self.now.groups.rows)) }
+        ensures order { IsAscending key_cmp row_key self.now.groups.rows }
     {
         match self.groups.table().find(key) {
-            Some(group) => members_of(alloc, &self.models, &group),
+            Some(group) => members_of(alloc, models, &group),
             None => Ok(Vec::new(alloc)),
         }
     }
 
-    // ---- changes of one row
-
-    /// The step that a change of the model of the key comes to, with room for it.
-    pub fn model_step(
-        &mut self,
-        alloc: Global,
-        key: &Key,
-        change: Altered<ModelContent>,
-    ) -> Result<ModelStep, AllocError>
-        ensures models { self.new.models.rows ≡ self.old.models.rows }
-        ensures groups { self.new.groups ≡ self.old.groups }
-        ensures fits { IfOk result (λ step. ModelFits key.now step self.new.models) }
-        ensures makes { IfOk result (λ step. model_stepped key.now step self.old.models.rows ≡ altered key.now (alteration_of change) self.old.models.rows) }
-    {
-        model_step(alloc, &mut self.models, key, change)
-    }
-
-    /// The step that a change of the group of the key comes to, with room for it.
-    pub fn group_step(
-        &mut self,
-        alloc: Global,
-        key: &Key,
-        change: Altered<Listing>,
-    ) -> Result<GroupStep, AllocError>
-        ensures models { self.new.models ≡ self.old.models }
-        ensures groups { self.new.groups.rows ≡ self.old.groups.rows }
-        ensures fits { IfOk result (λ step. GroupFits key.now step self.new.groups) }
-        ensures makes { IfOk result (λ step. group_stepped key.now step self.old.groups.rows ≡ altered key.now (alteration_of change) self.old.groups.rows) }
-    {
-        group_step(alloc, &mut self.groups, key, change)
-    }
-
-    /// Makes the step. It takes no memory.
-    pub fn make_model_step(&mut self, key: Key, step: ModelStep)
-        requires { ModelFits key step self.old.models }
-        ensures models { self.new.models.rows ≡ model_stepped key step self.old.models.rows }
-        ensures groups { self.new.groups ≡ self.old.groups }
-    {
-        make_model_step(&mut self.models, key, step);
-    }
-
-    /// Makes the step. It takes no memory.
-    pub fn make_group_step(&mut self, key: Key, step: GroupStep)
-        requires { GroupFits key step self.old.groups }
-        ensures models { self.new.models ≡ self.old.models }
-        ensures groups { self.new.groups.rows ≡ group_stepped key step self.old.groups.rows }
-    {
-        make_group_step(&mut self.groups, key, step);
-    }
-
-    /// The instance stands in the model of the key from now on, if there is one. The spare has room for one more instance
-    /// than the model has. It takes no memory.
-    pub fn place_instance(&mut self, key: &Key, instance: Instance, spare: Vec<Instance>)
-        requires empty { spare.items ≡ [] }
-        requires named { HasRowAt IsNamed key.now self.old.models.rows }
-        requires room { HasRowAt (HasRoomIn (vec_capacity spare)) key.now self.old.models.rows }
-        ensures models { self.new.models.rows ≡ rewritten key.now (reheld (with_instance instance)) self.old.models.rows }
-        ensures groups { self.new.groups ≡ self.old.groups }
-    {
-        self.models.place_instance(key, instance, spare);
-    }
-
-    /// No instance stands under the name in the model of the key from now on. It takes no memory.
-    pub fn drop_instance(&mut self, key: &Key, name: u64)
-        requires { HasRowAt IsNamed key.now self.old.models.rows }
-        ensures models { self.new.models.rows ≡ rewritten key.now (reheld (without_instance name)) self.old.models.rows }
-        ensures groups { self.new.groups ≡ self.old.groups }
-    {
-        self.models.drop_instance(key, name);
-    }
-
-    // ---- changes that may be refused
+    // ---- changes
 
     /// Why the change isn't made, if there is a reason.
     fn fault_of(&self, change: &Change) -> Option<AccessFault>
-        ensures { result ≡ fault self.now.models.rows self.now.groups.rows change.now }
+        ensures { result ≡ fault self.now.models.entries self.now.groups.rows change.now }
     {
         let groups = self.groups.table();
         match change {
-            Change::CreateModel(key, _) => is_new(MAX_MODELS, key, &self.models),
-            Change::CreateGroup(key, _) => is_new(MAX_GROUPS, key, groups),
+            Change::CreateModel(key) => is_new(
+                self.models.find(key).is_some(),
+                self.models.count_of(&key.owner),
+                MAX_MODELS,
+            ),
+            Change::CreateGroup(key, _) => is_new(
+                groups.find(key).is_some(),
+                groups.count_of(&key.owner),
+                MAX_GROUPS,
+            ),
             Change::RemoveModel(key)
             | Change::GrantModel(key, _, _)
-            | Change::RevokeModel(key, _) => { is_there(key, &self.models) }
+            | Change::RevokeModel(key, _) => is_there(self.models.find(key).is_some()),
             Change::RemoveGroup(key) | Change::GrantGroup(key, _) | Change::RevokeGroup(key, _) => {
-                is_there(key, groups)
+                is_there(groups.find(key).is_some())
             }
             Change::Include(group, model) => {
                 if self.models.find(model).is_none() {
@@ -244,63 +192,48 @@ impl Access {
         }
     }
 
+    /// The grants on the model of the key.
+    fn grants_on(&self, key: &Key) -> &[Grant]
+        ensures { result.now ≡ grants_at key.now self.now.models.entries }
+    {
+        match self.models.find(key) {
+            Some(entry) => entry.value.as_slice(),
+            None => &[],
+        }
+    }
+
+    /// One partner's grant on the model of the key, or none.
+    fn regrant_model(
+        &self,
+        alloc: Global,
+        key: Key,
+        to: Text,
+        level: Option<Level>,
+    ) -> Result<Prepared, AllocError>
+        ensures fits { IfOk result (λ prepared. PreparedFits self.now prepared) }
+        ensures models { IfOk result (λ prepared. prepared_models prepared self.now.models.entries ≡ regranted_on key to level self.now.models.entries) }
+        ensures groups { IfOk result (λ prepared. prepared_groups prepared self.now.groups.rows ≡ self.now.groups.rows) }
+    {
+        let grants = regranted_for(alloc, to, level, self.grants_on(&key))?;
+        Ok(Prepared::Regrant(key, grants))
+    }
+
     /// One partner's grant on the model of the key, unless he is its owner.
     fn grant_model(
-        &mut self,
+        &self,
         alloc: Global,
         key: Key,
         to: Text,
-        level: Option<Level>,
+        level: Level,
     ) -> Result<Prepared, AllocError>
-        ensures models { self.new.models.rows ≡ self.old.models.rows }
-        ensures groups { self.new.groups.rows ≡ self.old.groups.rows }
-        ensures fits { IfOk result (λ prepared. PreparedFits self.new prepared) }
-        ensures model_rows { IfOk result (λ prepared. prepared_models prepared self.old.models.rows ≡ granted key to level self.old.models.rows) }
-        ensures group_rows { IfOk result (λ prepared. prepared_groups prepared self.old.groups.rows ≡ self.old.groups.rows) }
+        ensures fits { IfOk result (λ prepared. PreparedFits self.now prepared) }
+        ensures models { IfOk result (λ prepared. prepared_models prepared self.now.models.entries ≡ granted_on key to level self.now.models.entries) }
+        ensures groups { IfOk result (λ prepared. prepared_groups prepared self.now.groups.rows ≡ self.now.groups.rows) }
     {
         if to.is(&key.owner) {
             return Ok(Prepared::Nothing);
         }
-        let step = self.model_step(alloc, &key, Altered::Grants(to, level))?;
-        Ok(Prepared::OfModel(key, step))
-    }
-
-    /// One partner's grant on the group of the key, unless he is its owner.
-    fn grant_group(
-        &mut self,
-        alloc: Global,
-        key: Key,
-        to: Text,
-        level: Option<Level>,
-    ) -> Result<Prepared, AllocError>
-        ensures models { self.new.models.rows ≡ self.old.models.rows }
-        ensures groups { self.new.groups.rows ≡ self.old.groups.rows }
-        ensures fits { IfOk result (λ prepared. PreparedFits self.new prepared) }
-        ensures model_rows { IfOk result (λ prepared. prepared_models prepared self.old.models.rows ≡ self.old.models.rows) }
-        ensures group_rows { IfOk result (λ prepared. prepared_groups prepared self.old.groups.rows ≡ granted key to level self.old.groups.rows) }
-    {
-        if to.is(&key.owner) {
-            return Ok(Prepared::Nothing);
-        }
-        let step = self.group_step(alloc, &key, Altered::Grants(to, level))?;
-        Ok(Prepared::OfGroup(key, step))
-    }
-
-    /// The model of the key is changed so.
-    fn alter_model(
-        &mut self,
-        alloc: Global,
-        key: Key,
-        change: Altered<ModelContent>,
-    ) -> Result<Prepared, AllocError>
-        ensures models { self.new.models.rows ≡ self.old.models.rows }
-        ensures groups { self.new.groups.rows ≡ self.old.groups.rows }
-        ensures fits { IfOk result (λ prepared. PreparedFits self.new prepared) }
-        ensures model_rows { IfOk result (λ prepared. prepared_models prepared self.old.models.rows ≡ altered key (alteration_of change) self.old.models.rows) }
-        ensures group_rows { IfOk result (λ prepared. prepared_groups prepared self.old.groups.rows ≡ self.old.groups.rows) }
-    {
-        let step = self.model_step(alloc, &key, change)?;
-        Ok(Prepared::OfModel(key, step))
+        self.regrant_model(alloc, key, to, Some(level))
     }
 
     /// The group of the key is changed so.
@@ -310,22 +243,36 @@ impl Access {
         key: Key,
         change: Altered<Listing>,
     ) -> Result<Prepared, AllocError>
-        ensures models { self.new.models.rows ≡ self.old.models.rows }
+        ensures models { self.new.models.entries ≡ self.old.models.entries }
         ensures groups { self.new.groups.rows ≡ self.old.groups.rows }
         ensures fits { IfOk result (λ prepared. PreparedFits self.new prepared) }
-        ensures model_rows { IfOk result (λ prepared. prepared_models prepared self.old.models.rows ≡ self.old.models.rows) }
+        ensures model_rows { IfOk result (λ prepared. prepared_models prepared self.old.models.entries ≡ self.old.models.entries) }
         ensures group_rows { IfOk result (λ prepared. prepared_groups prepared self.old.groups.rows ≡ altered key (alteration_of change) self.old.groups.rows) }
     {
-        let step = self.group_step(alloc, &key, change)?;
+        let step = group_step(alloc, &mut self.groups, &key, change)?;
         Ok(Prepared::OfGroup(key, step))
+    }
+
+    /// A partner may read the group of the key, unless he is its owner.
+    fn grant_group(&mut self, alloc: Global, key: Key, to: Text) -> Result<Prepared, AllocError>
+        ensures models { self.new.models.entries ≡ self.old.models.entries }
+        ensures groups { self.new.groups.rows ≡ self.old.groups.rows }
+        ensures fits { IfOk result (λ prepared. PreparedFits self.new prepared) }
+        ensures model_rows { IfOk result (λ prepared. prepared_models prepared self.old.models.entries ≡ self.old.models.entries) }
+        ensures group_rows { IfOk result (λ prepared. prepared_groups prepared self.old.groups.rows ≡ granted key to Level.Read self.old.groups.rows) }
+    {
+        if to.is(&key.owner) {
+            return Ok(Prepared::Nothing);
+        }
+        self.alter_group(alloc, key, Altered::Grants(to, Some(Level::Read)))
     }
 
     /// What the group of the key lists, with the model.
     fn include(&mut self, alloc: Global, group: Key, model: Key) -> Result<Prepared, AllocError>
-        ensures models { self.new.models.rows ≡ self.old.models.rows }
+        ensures models { self.new.models.entries ≡ self.old.models.entries }
         ensures groups { self.new.groups.rows ≡ self.old.groups.rows }
         ensures fits { IfOk result (λ prepared. PreparedFits self.new prepared) }
-        ensures model_rows { IfOk result (λ prepared. prepared_models prepared self.old.models.rows ≡ self.old.models.rows) }
+        ensures model_rows { IfOk result (λ prepared. prepared_models prepared self.old.models.entries ≡ self.old.models.entries) }
         ensures group_rows { IfOk result (λ prepared. prepared_groups prepared self.old.groups.rows ≡ relisted_at group (with_member model) (find (is_row group) self.old.groups.rows) self.old.groups.rows) }
     {
         let listing = match self.groups.table().find(&group) {
@@ -337,10 +284,10 @@ impl Access {
 
     /// What the group of the key lists, without the model.
     fn exclude(&mut self, alloc: Global, group: Key, model: &Key) -> Result<Prepared, AllocError>
-        ensures models { self.new.models.rows ≡ self.old.models.rows }
+        ensures models { self.new.models.entries ≡ self.old.models.entries }
         ensures groups { self.new.groups.rows ≡ self.old.groups.rows }
         ensures fits { IfOk result (λ prepared. PreparedFits self.new prepared) }
-        ensures model_rows { IfOk result (λ prepared. prepared_models prepared self.old.models.rows ≡ self.old.models.rows) }
+        ensures model_rows { IfOk result (λ prepared. prepared_models prepared self.old.models.entries ≡ self.old.models.entries) }
         ensures group_rows { IfOk result (λ prepared. prepared_groups prepared self.old.groups.rows ≡ relisted_at group (without_member model.now) (find (is_row group) self.old.groups.rows) self.old.groups.rows) }
     {
         let listing = match self.groups.table().find(&group) {
@@ -350,28 +297,39 @@ impl Access {
         self.alter_group(alloc, group, Altered::Hold(listing))
     }
 
+    /// Rights on one model more, with room for them.
+    fn open(&mut self, alloc: Global, key: Key) -> Result<Prepared, AllocError>
+        ensures models { self.new.models.entries ≡ self.old.models.entries }
+        ensures groups { self.new.groups ≡ self.old.groups }
+        ensures fits { IfOk result (λ prepared. PreparedFits self.new prepared) }
+        ensures opened { IfOk result (λ prepared. prepared ≡ Prepared.Open key []) }
+    {
+        self.models.reserve()?;
+        Ok(Prepared::Open(key, Rows::new(alloc)))
+    }
+
     /// The change with room for it, whether or not there is a reason against it.
     fn with_room(&mut self, alloc: Global, change: Change) -> Result<Prepared, AllocError>
-        ensures models { self.new.models.rows ≡ self.old.models.rows }
+        ensures models { self.new.models.entries ≡ self.old.models.entries }
         ensures groups { self.new.groups.rows ≡ self.old.groups.rows }
         ensures fits { IfOk result (λ prepared. PreparedFits self.new prepared) }
-        ensures model_rows { IfOk result (λ prepared. prepared_models prepared self.old.models.rows ≡ models_after change self.old.models.rows) }
+        ensures model_rows { IfOk result (λ prepared. prepared_models prepared self.old.models.entries ≡ models_after change self.old.models.entries) }
         ensures group_rows { IfOk result (λ prepared. prepared_groups prepared self.old.groups.rows ≡ groups_after change self.old.groups.rows) }
     {
         match change {
-            Change::CreateModel(key, content) => {
-                self.alter_model(alloc, key, Altered::Hold(content))
-            }
+            Change::CreateModel(key) => self.open(alloc, key),
             Change::CreateGroup(key, schema) => {
                 let members = Rows::new(alloc);
                 self.alter_group(alloc, key, Altered::Hold(Listing { schema, members }))
             }
-            Change::RemoveModel(key) => self.alter_model(alloc, key, Altered::Remove),
+            Change::RemoveModel(key) => Ok(Prepared::Close(key)),
             Change::RemoveGroup(key) => self.alter_group(alloc, key, Altered::Remove),
-            Change::GrantModel(key, to, level) => self.grant_model(alloc, key, to, Some(level)),
-            Change::GrantGroup(key, to) => self.grant_group(alloc, key, to, Some(Level::Read)),
-            Change::RevokeModel(key, to) => self.grant_model(alloc, key, to, None),
-            Change::RevokeGroup(key, to) => self.grant_group(alloc, key, to, None),
+            Change::GrantModel(key, to, level) => self.grant_model(alloc, key, to, level),
+            Change::GrantGroup(key, to) => self.grant_group(alloc, key, to),
+            Change::RevokeModel(key, to) => self.regrant_model(alloc, key, to, None),
+            Change::RevokeGroup(key, to) => {
+                self.alter_group(alloc, key, Altered::Grants(to, None))
+            }
             Change::Include(group, model) => self.include(alloc, group, model),
             Change::Exclude(group, model) => self.exclude(alloc, group, &model),
         }
@@ -379,10 +337,10 @@ impl Access {
 
     /// The same, where want of memory is the reason against it.
     fn allowed(&mut self, alloc: Global, change: Change) -> Result<Prepared, AccessFault>
-        ensures models { self.new.models.rows ≡ self.old.models.rows }
+        ensures models { self.new.models.entries ≡ self.old.models.entries }
         ensures groups { self.new.groups.rows ≡ self.old.groups.rows }
         ensures fits { IfOk result (λ prepared. PreparedFits self.new prepared) }
-        ensures model_rows { IfOk result (λ prepared. prepared_models prepared self.old.models.rows ≡ models_after change self.old.models.rows) }
+        ensures model_rows { IfOk result (λ prepared. prepared_models prepared self.old.models.entries ≡ models_after change self.old.models.entries) }
         ensures group_rows { IfOk result (λ prepared. prepared_groups prepared self.old.groups.rows ≡ groups_after change self.old.groups.rows) }
         ensures wanting { IfErr result (λ reason. reason ≡ NoMemory) }
     {
@@ -395,13 +353,13 @@ impl Access {
     ///
     /// The reason against it; or `NoMemory`.
     pub fn prepare(&mut self, alloc: Global, change: Change) -> Result<Prepared, AccessFault>
-        ensures models { self.new.models.rows ≡ self.old.models.rows }
+        ensures models { self.new.models.entries ≡ self.old.models.entries }
         ensures groups { self.new.groups.rows ≡ self.old.groups.rows }
-        ensures allowed { IfOk result (λ _. fault self.old.models.rows self.old.groups.rows change ≡ None) }
+        ensures allowed { IfOk result (λ _. fault self.old.models.entries self.old.groups.rows change ≡ None) }
         ensures fits { IfOk result (λ prepared. PreparedFits self.new prepared) }
-        ensures model_rows { IfOk result (λ prepared. prepared_models prepared self.old.models.rows ≡ models_after change self.old.models.rows) }
+        ensures model_rows { IfOk result (λ prepared. prepared_models prepared self.old.models.entries ≡ models_after change self.old.models.entries) }
         ensures group_rows { IfOk result (λ prepared. prepared_groups prepared self.old.groups.rows ≡ groups_after change self.old.groups.rows) }
-        ensures refused { IfErr result (λ reason. reason ≢ NoMemory → fault self.old.models.rows self.old.groups.rows change ≡ Some reason) }
+        ensures refused { IfErr result (λ reason. reason ≢ NoMemory → fault self.old.models.entries self.old.groups.rows change ≡ Some reason) }
     {
         match self.fault_of(&change) {
             Some(reason) => Err(refused(change, reason)),
@@ -412,13 +370,15 @@ impl Access {
     /// Makes a change that was prepared for what is held. It takes no memory.
     pub fn commit(&mut self, prepared: Prepared)
         requires { PreparedFits self.old prepared }
-        ensures models { self.new.models.rows ≡ prepared_models prepared self.old.models.rows }
+        ensures models { self.new.models.entries ≡ prepared_models prepared self.old.models.entries }
         ensures groups { self.new.groups.rows ≡ prepared_groups prepared self.old.groups.rows }
     {
         match prepared {
             Prepared::Nothing => {}
-            Prepared::OfModel(key, step) => self.make_model_step(key, step),
-            Prepared::OfGroup(key, step) => self.make_group_step(key, step),
+            Prepared::Open(key, grants) => self.models.add(key, grants),
+            Prepared::Close(key) => self.models.remove(&key),
+            Prepared::Regrant(key, grants) => self.models.replace(&key, grants),
+            Prepared::OfGroup(key, step) => make_group_step(&mut self.groups, key, step),
         }
     }
 }

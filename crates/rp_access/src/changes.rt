@@ -1,16 +1,17 @@
-//! Changes of models and groups and of who may do what with them.
+//! Changes of who may do what with models, and of groups.
 
 use plain_data::Text;
-use rp_rows::rows::{Key, Level, ModelContent};
+use rp_rows::rows::{Key, Level};
 use std::alloc::AllocError;
 
-/// A change of models and groups, or of who may do what with them.
+/// A change of groups, or of who may do what with models and groups.
 #[derive(Drop)]
 pub enum Change {
-    CreateModel(Key, ModelContent),
+    /// Rights on one model more, with no grant.
+    CreateModel(Key),
     /// A group of a schema, without members.
     CreateGroup(Key, Text),
-    /// It is gone, with its grants.
+    /// Its grants are gone.
     RemoveModel(Key),
     RemoveGroup(Key),
     /// The partner has this level on it from now on.

@@ -1,39 +1,32 @@
-//! Why a change of models, groups and rights isn't made.
+//! Why a change of groups and rights isn't made.
 
 ghost use Rattle.std.specs.Prelude.{◌≡◌, option_map};
-ghost use Rattle.std.specs.List.{find};
-ghost use Rattle.rp_rows.specs.Rows.{is_row};
-ghost use Rattle.rp_tables.specs.Stored.{row_of};
+ghost use Rattle.rp_sight.specs.Stored.{row_of};
 ghost use Rattle.rp_access.specs.Changes as changes;
 
 use crate::changes::AccessFault;
 use rp_rows::limits::MAX_MEMBERS;
 use rp_rows::rows::{Key, Listing};
-use rp_sight::has_key;
-use rp_tables::{RowRef, Table};
+use rp_sight::{RowRef, has_key};
 
 /// Of an item that is there, or whose owner has as many as he may.
-pub fn is_new<A>(most: usize, key: &Key, table: &Table<A>) -> Option<AccessFault>
-    ensures { result ≡ changes.is_new most key.now table.now.rows }
+pub fn is_new(there: bool, count: usize, most: usize) -> Option<AccessFault>
+    ensures { result ≡ changes.is_new there count most }
 {
-    if table.find(key).is_some() {
-        return Some(AccessFault::Exists);
+    if there {
+        Some(AccessFault::Exists)
+    } else if count >= most {
+        Some(AccessFault::TooMany)
+    } else {
+        None
     }
-    if table.count_of(&key.owner) >= most {
-        return Some(AccessFault::TooMany);
-    }
-    None
 }
 
 /// Of an item that isn't there.
-pub fn is_there<A>(key: &Key, table: &Table<A>) -> Option<AccessFault>
-    ensures { result ≡ changes.is_there key.now table.now.rows }
+pub fn is_there(there: bool) -> Option<AccessFault>
+    ensures { result ≡ changes.is_there there }
 {
-    if table.find(key).is_some() {
-        None
-    } else {
-        Some(AccessFault::Absent)
-    }
+    if there { None } else { Some(AccessFault::Absent) }
 }
 
 /// Of a group that isn't there, or can't list the model more.

@@ -1,4 +1,5 @@
-//! Models and groups with the rights on them, and changes of all that.
+//! Who may do what with models, and groups with the rights on them: what is told of them, and changes of all that. What models
+//! hold isn't here.
 //!
 //! A change is prepared, which makes all the room that it takes and changes nothing that is seen, and then committed,
 //! which is never refused.
@@ -7,6 +8,7 @@
 mod access;
 mod changes;
 mod faults;
+mod regranted;
 mod relisted;
 mod relisting;
 mod steps;
@@ -14,4 +16,3 @@ mod steps;
 pub use access::{Access, Prepared};
 pub use changes::{AccessFault, Change};
 pub use relisting::{excluding, including};
-pub use steps::{Altered, GroupStep, ModelStep};

@@ -1,16 +1,16 @@
-//! Changes of models and groups, and what is still to be done of one, with all the memory that it takes.
+//! Changes of groups, and what is still to be done of one, with all the memory that it takes.
 
 ghost use Rattle.std.specs.Prelude.{◌≡◌, IfOk};
 ghost use Rattle.rp_rows.specs.Rows.{key_of};
 ghost use Rattle.rp_rows.specs.Alterations.{altered};
 ghost use Rattle.rp_sight.specs.Regrants.{RegrantFits};
-ghost use Rattle.rp_access.specs.Steps.{alteration_of, model_stepped, group_stepped, ModelFits, GroupFits};
+ghost use Rattle.rp_access.specs.Steps.{alteration_of, group_stepped, GroupFits};
 
+use crate::regranted::regranted_for;
 use crate::relisted::relisted;
-use plain_data::{Rows, Text};
-use rp_rows::rows::{Grant, Key, Level, Listing, ModelContent};
+use plain_data::Text;
+use rp_rows::rows::{Key, Level, Listing};
 use rp_sight::{Groups, Regrant};
-use rp_tables::{Table, regranted_for};
 use std::alloc::{AllocError, Global};
 
 /// What is done to what stands under a key.
@@ -20,16 +20,6 @@ pub enum Altered<A> {
     Remove,
     /// One partner's grant.
     Grants(Text, Option<Level>),
-}
-
-/// A change of the model of a key, with all the memory that it takes.
-#[derive(Drop)]
-pub enum ModelStep {
-    /// The key once more, and what is held there.
-    Put(Key, ModelContent),
-    Remove,
-    /// All the grants on it.
-    Regrant(Rows<Grant>),
 }
 
 /// A change of the group of a key, with all the memory that it takes.
@@ -92,43 +82,6 @@ pub fn group_step(
             let regrant = regrant_for(alloc, groups, key, to, level)?;
             Ok(GroupStep::Regrant(regrant))
         }
-    }
-}
-
-/// The step that a change of a model comes to, with room for it.
-pub fn model_step(
-    alloc: Global,
-    models: &mut Table<ModelContent>,
-    key: &Key,
-    change: Altered<ModelContent>,
-) -> Result<ModelStep, AllocError>
-    ensures rows { models.new.rows ≡ models.old.rows }
-    ensures fits { IfOk result (λ step. ModelFits key.now step models.new) }
-    ensures makes { IfOk result (λ step. model_stepped key.now step models.old.rows ≡ altered key.now (alteration_of change) models.old.rows) }
-{
-    match change {
-        Altered::Hold(content) => {
-            let again = key.copy(alloc)?;
-            models.reserve()?;
-            Ok(ModelStep::Put(again, content))
-        }
-        Altered::Remove => Ok(ModelStep::Remove),
-        Altered::Grants(to, level) => {
-            let grants = regranted_for(alloc, to, level, models.grants_at(key))?;
-            Ok(ModelStep::Regrant(grants))
-        }
-    }
-}
-
-/// Makes the step. It takes no memory.
-pub fn make_model_step(models: &mut Table<ModelContent>, key: Key, step: ModelStep)
-    requires { ModelFits key step models.old }
-    ensures { models.new.rows ≡ model_stepped key step models.old.rows }
-{
-    match step {
-        ModelStep::Put(again, content) => models.put(key, again, content),
-        ModelStep::Remove => models.remove(&key),
-        ModelStep::Regrant(grants) => models.regrant(&key, grants),
     }
 }
 

@@ -1,17 +1,16 @@
 //! The content of a model.
 
 use crate::header::Header;
-use crate::instance::Instance;
+use crate::instances::Instances;
 use crate::link::Link;
-use plain_data::{Items, Rows};
+use plain_data::Items;
 use std::alloc::{AllocError, Global};
 
 /// What a model holds.
 #[derive(Drop)]
 pub struct Content {
     pub header: Header,
-    /// In order of name.
-    pub instances: Rows<Instance>,
+    pub instances: Instances,
     /// In order of name.
     pub links: Items<Link>,
 }
@@ -26,7 +25,7 @@ impl Content {
     {
         Ok(Content {
             header: Header::new(alloc)?,
-            instances: Rows::new(alloc),
+            instances: Instances::new(alloc),
             links: Items::new(alloc),
         })
     }

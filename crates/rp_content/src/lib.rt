@@ -4,9 +4,12 @@
 mod content;
 mod header;
 mod instance;
+mod instances;
 mod link;
+mod names;
 
 pub use content::Content;
 pub use header::Header;
 pub use instance::{Entities, Instance};
+pub use instances::{Instances, Spare};
 pub use link::Link;

@@ -19,7 +19,7 @@ use Rattle.rp_plain.specs.Instances.{placing, dropping}
 use Rattle.rp_plans.specs.declared.edits.Edits.{Edits}
 use Rattle.rp_plans.specs.declared.edits.Edits.TheVariants as edits
 use Rattle.rp_plans.specs.Plans.{edits_of, IsSeen}
-use Rattle.rp_tables.specs.Stored.{rewritten, reheld}
+use Rattle.rp_sight.specs.Stored.{rewritten, reheld}
 use Rattle.rp_core.specs.Held.{models_by, groups_by}
 use Rattle.rp_readers.proofs.Looking.{seen_found}
 

@@ -1,68 +1,115 @@
 -- What a repository in memory holds, and what a prepared request is.
-use Rattle.std.specs.Prelude.{◌≡◌, ℕ, List, [], slice_index_or}
-use Rattle.std.specs.Vec.{vec_capacity}
-use Rattle.rp_rows.specs.Rows.{Text, Model, GroupRow}
-use Rattle.rp_rows.specs.Instances.{with_instance, without_instance}
-use Rattle.rp_rows.specs.Alterations.{altered}
+use Rattle.std.specs.Prelude.{◌≡◌, ◌≤◌, ◌+◌, ℕ, List, [], ◌∷◌, map, slice_index_or, Option, Some, None}
+use Rattle.rp_rows.specs.declared.rows.ModelContent.{ModelContent}
+use Rattle.rp_rows.specs.Rows.{Text, GroupRow}
 use Rattle.rp_plain.specs.declared.messages.Request.{Request}
 use Rattle.rp_plain.specs.Plain.{Plain}
 use Rattle.rp_plain.specs.Runs.{MayReply}
 use Rattle.rp_plain.specs.Turns.{Turn, effect, after}
-use Rattle.rp_access.specs.Kept.{KeptAccess}
-use Rattle.rp_access.specs.Steps.{alteration_of, model_stepped, group_stepped, ModelFits, GroupFits}
-use Rattle.rp_plans.specs.declared.edits.Edits.{Edits}
-use Rattle.rp_plans.specs.declared.edits.Edits.TheVariants.{Nothing as NoEdit, OfModel as EditModel, OfGroup as EditGroup, Place as PlaceEdit, DropInstance as DropEdit}
-use Rattle.rp_core.specs.declared.steps.Steps.{Steps}
-use Rattle.rp_core.specs.declared.steps.Steps.TheVariants.{Nothing, OfModel, OfGroup, Place, DropInstance}
+use Rattle.rp_store.specs.declared.changes.Prepared as store
+use Rattle.rp_store.specs.Entries.{Entries, entry_key}
+use Rattle.rp_store.specs.Models.{Held}
+use Rattle.rp_store.specs.Kept.{made, Fits as StoreFits}
+use Rattle.rp_access.specs.Kept.{Rights, KeptAccess}
+use Rattle.rp_access.specs.Steps.{prepared_models, prepared_groups, PreparedFits}
+use Rattle.rp_sight.specs.Stored.{joined}
+use Rattle.rp_access.specs.declared.changes.Change as access
+use Rattle.rp_access.specs.Changes as access_changes
+use Rattle.rp_store.specs.Changes as store_changes
+use Rattle.rp_plans.specs.declared.edits.Edit.{Edit}
+use Rattle.rp_plans.specs.declared.edits.Edit.TheVariants.{OfModel, OfRights}
+use Rattle.rp_core.specs.Faults.{with_rights, edit_fault}
+use Rattle.rp_core.specs.declared.steps.Step.{Step}
 use Rattle.rp_core.specs.declared.steps.Pending.{Pending}
-use Rattle.rp_tables.specs.Named.{IsNamed, HasRoomIn}
-use Rattle.rp_tables.specs.Stored.{rewritten, reheld, HasRowAt}
 
--- the content, and the rows and rights that it is made of
+-- what models hold, and who may do what
+pub record Both : Type 0 where
+  pub models : Entries ModelContent
+  pub access : KeptAccess
+
+-- both have the same models
+abbrev pub AreAlike : Both → Type 0
+AreAlike b = map entry_key b.models.entries ≡ map entry_key b.access.models.entries
+
+-- the content, and what it is made of
 pub record Kept : Type 0 where
   pub content : Plain
-  pub access : KeptAccess
+  pub both : Both
+
+-- ---- what edits make of what is kept
+
+abbrev pub entries_after : Edit → List Held → List Held
+entries_after (OfModel change) ms = store_changes.changed change ms
+entries_after (OfRights change) ms = ms
+
+abbrev pub rights_by : Option access.Change → List Rights → List Rights
+rights_by None es = es
+rights_by (Some change) es = access_changes.models_after change es
+
+abbrev pub rights_after : Edit → List Rights → List Rights
+rights_after (OfModel change) es = rights_by (with_rights change) es
+rights_after (OfRights change) es = rights_by (Some change) es
+
+abbrev pub groups_of : Edit → List GroupRow → List GroupRow
+groups_of (OfModel change) gs = gs
+groups_of (OfRights change) gs = access_changes.groups_after change gs
 
 -- ---- what steps do
 
-abbrev pub made_models : Steps → List Model → List Model
-made_models Nothing ms = ms
-made_models (OfModel k step) ms = model_stepped k step ms
-made_models (OfGroup k step) ms = ms
-made_models (Place k i spare) ms = rewritten k (reheld (with_instance i)) ms
-made_models (DropInstance k n) ms = rewritten k (reheld (without_instance n)) ms
+abbrev pub made_by : Option store.Prepared → List Held → List Held
+made_by None ms = ms
+made_by (Some prepared) ms = made prepared ms
 
-abbrev pub made_groups : Steps → List GroupRow → List GroupRow
-made_groups (OfGroup k step) gs = group_stepped k step gs
-made_groups _ gs = gs
+abbrev pub made_entries : List Step → List Held → List Held
+made_entries [] ms = ms
+made_entries (s ∷ steps) ms = made_entries steps (made_by s.store ms)
 
-abbrev pub made : Steps → Plain → Plain
-made steps r = record r { models = made_models steps r.models; groups = made_groups steps r.groups }
+abbrev pub made_rights : List Step → List Rights → List Rights
+made_rights [] es = es
+made_rights (s ∷ steps) es = made_rights steps (prepared_models s.rights es)
 
--- what edits make of the models, and of the groups
-abbrev pub models_by : Edits → List Model → List Model
-models_by NoEdit ms = ms
-models_by (EditModel k change) ms = altered k (alteration_of change) ms
-models_by (EditGroup k change) ms = ms
-models_by (PlaceEdit k i) ms = rewritten k (reheld (with_instance i)) ms
-models_by (DropEdit k n) ms = rewritten k (reheld (without_instance n)) ms
+abbrev pub made_groups : List Step → List GroupRow → List GroupRow
+made_groups [] gs = gs
+made_groups (s ∷ steps) gs = made_groups steps (prepared_groups s.rights gs)
 
-abbrev pub groups_by : Edits → List GroupRow → List GroupRow
-groups_by (EditGroup k change) gs = altered k (alteration_of change) gs
-groups_by _ gs = gs
+abbrev pub made_of : List Step → Both → Plain → Plain
+made_of steps b r = record r { models = joined (made_entries steps b.models.entries) (made_rights steps b.access.models.entries); groups = made_groups steps r.groups }
 
 -- ---- what steps ask
 
-abbrev pub StepsFit : KeptAccess → Steps → Type 0
-StepsFit kept Nothing = Unit {0}
-StepsFit kept (OfModel k step) = ModelFits k step kept.models
-StepsFit kept (OfGroup k step) = GroupFits k step kept.groups
-StepsFit kept (Place k i spare) = (spare.items ≡ []) × HasRowAt IsNamed k kept.models.rows × HasRowAt (HasRoomIn (vec_capacity spare)) k kept.models.rows
-StepsFit kept (DropInstance k n) = HasRowAt IsNamed k kept.models.rows
+abbrev pub store_fits : Entries ModelContent → Option store.Prepared → Type 0
+store_fits s None = Unit {0}
+store_fits s (Some prepared) = StoreFits s prepared
+
+abbrev pub StepFits : Both → Step → Type 0
+StepFits b s = store_fits b.models s.store × PreparedFits b.access s.rights
+
+-- nothing speaks against the edit, this step makes it, and there is room for it in what is kept from then on
+pub record IsMadeOf (edit : Edit) (b : Both) (s : Step) : Type 0 where
+  pub passes : edit_fault b.models.entries b.access.models.entries b.access.groups.rows edit ≡ None
+  pub models : made_by s.store b.models.entries ≡ entries_after edit b.models.entries
+  pub rights : prepared_models s.rights b.access.models.entries ≡ rights_after edit b.access.models.entries
+  pub groups : prepared_groups s.rights b.access.groups.rows ≡ groups_of edit b.access.groups.rows
+
+abbrev pub IsStepOf : Edit → Both → Both → Step → Type 0
+IsStepOf edit old new s = IsMadeOf edit old s × StepFits new s
+
+-- what is kept after a step: what it makes, and no more room than that of one row less
+pub record After (s : Step) (b next : Both) : Type 0 where
+  pub models : next.models.entries ≡ made_by s.store b.models.entries
+  pub rights : next.access.models.entries ≡ prepared_models s.rights b.access.models.entries
+  pub groups : next.access.groups.rows ≡ prepared_groups s.rights b.access.groups.rows
+  pub room : b.models.room ≤ next.models.room + 1
+  pub right_room : b.access.models.room ≤ next.access.models.room + 1
+
+-- each fits what those before it leave
+abbrev pub StepsFit : Both → List Step → Type 0
+StepsFit b [] = Unit {0}
+StepsFit b (s ∷ steps) = StepFits b s × ((next : Both) → After s b next → StepsFit next steps)
 
 -- what is pending was prepared for what is held: its steps take no memory
 unfoldable pub Fits : Kept → Pending → Type 0
-Fits kept pending = StepsFit kept.access pending.steps
+Fits kept pending = StepsFit kept.both pending.steps
 
 -- ---- prepared requests
 
@@ -74,6 +121,6 @@ abbrev pub turn : Plain → ℕ → Request → Turn
 turn r place q = record { caller = partner_at r place; request = q }
 
 -- the reply is that of c's turn, and the steps make what the turn leaves
-pub record IsPrepared (r : Plain) (t : Turn) (pending : Pending) : Type 0 where
+pub record IsPrepared (r : Plain) (b : Both) (t : Turn) (pending : Pending) : Type 0 where
   pub replies : MayReply (effect r t) pending.reply
-  pub changes : made pending.steps r ≡ after r t pending.reply
+  pub changes : made_of pending.steps b r ≡ after r t pending.reply

@@ -10,6 +10,7 @@ use rp_access::Access;
 use rp_plain::messages::{NewFault, Reply, Request};
 use rp_readers::{KeptLayouts, Readers, place_among};
 use rp_reports::SchemaRules;
+use rp_store::Store;
 use std::alloc::Global;
 use std::marker::Model;
 
@@ -20,12 +21,14 @@ pub struct Holdings<'s> {
     layouts: KeptLayouts<'s>,
     rules: SchemaRules<'s>,
     partners: Vec<Text>,
+    store: Store,
     access: Access,
 }
 
 impl<'s> Model for Holdings<'s> {
     ghost use Rattle.std.specs.Prelude.{◌≡◌};
-    ghost use Rattle.rp_core.specs.Held.{Kept};
+    ghost use Rattle.rp_sight.specs.Stored.{joined};
+    ghost use Rattle.rp_core.specs.Held.{Kept, AreAlike};
 
     ghost Value = { Kept };
 
@@ -36,11 +39,11 @@ impl<'s> Model for Holdings<'s> {
     ghost coded = { Prim.hlevel (codes, schema_type.the_row.coded, content_type.the_row.coded) };
 
     ghost view = { λ h. record {
-      content = record { schemas = h.schemas.now; partners = h.partners.items; models = h.access.models.rows; groups = h.access.groups.rows };
-      access = h.access;
+      content = record { schemas = h.schemas.now; partners = h.partners.items; models = joined h.store.entries h.access.models.entries; groups = h.access.groups.rows };
+      both = record { models = h.store; access = h.access };
     } };
 
-    ghost invariant = { λ h. record { layouts : h.layouts ≡ h.schemas.now; rules : h.rules ≡ h.schemas.now } };
+    ghost invariant = { λ h. record { layouts : h.layouts ≡ h.schemas.now; rules : h.rules ≡ h.schemas.now; alike : AreAlike (record { models = h.store; access = h.access }) } };
 }
 
 impl<'s> Holdings<'s> {
@@ -48,7 +51,7 @@ impl<'s> Holdings<'s> {
     ghost use Rattle.rp_plain.specs.Meaning.{has_text};
     ghost use Rattle.rp_plain.specs.Opening.{new_fault, opened};
     ghost use Rattle.rp_plain.specs.Valid.{IsOrdered};
-    ghost use Rattle.rp_core.specs.Held.{partner_at, turn, made, Fits, IsPrepared};
+    ghost use Rattle.rp_core.specs.Held.{partner_at, turn, made_of, Fits, IsPrepared};
     ghost use Rattle.rp_readers.specs.Named.{AreNamed};
     ghost use Rattle.rp_readers.specs.Listed.{AreListed};
 
@@ -72,6 +75,7 @@ impl<'s> Holdings<'s> {
             layouts: KeptLayouts::of(alloc, schemas)?,
             rules: SchemaRules::of(alloc, schemas)?,
             partners,
+            store: Store::new(alloc),
             access: Access::new(alloc),
         })
     }
@@ -93,21 +97,22 @@ impl<'s> Holdings<'s> {
         requires named { AreNamed self.old.content }
         requires listed { AreListed self.old.content }
         ensures content { self.new.content ≡ self.old.content }
-        ensures prepared { IsPrepared self.old.content (turn self.old.content place request) result }
+        ensures prepared { IsPrepared self.old.content self.new.both (turn self.old.content place request) result }
         ensures fits { Fits self.new result }
     {
+        let models = self.access.models(&self.store);
         let asked = Readers {
             schemas: self.schemas,
             partners: &self.partners,
-            models: self.access.models(),
-            groups: self.access.groups(),
+            models: &models,
+            access: &self.access,
             caller: &self.partners[place],
         };
         match plan(alloc, &asked, &mut self.layouts, &self.rules, request) {
-            Err(refusal) => Pending::refused(refusal),
-            Ok(plan) => match Pending::of_plan(alloc, &mut self.access, plan) {
+            Err(refusal) => Pending::refused(alloc, refusal),
+            Ok(plan) => match Pending::of_plan(alloc, &mut self.store, &mut self.access, plan) {
                 Ok(pending) => pending,
-                Err(error) => Pending::refused(error.into()),
+                Err(refusal) => Pending::refused(alloc, refusal),
             },
         }
     }
@@ -116,10 +121,10 @@ impl<'s> Holdings<'s> {
     pub fn commit(&mut self, pending: Pending) -> Reply
         requires { Fits self.old pending }
         ensures reply { result ≡ pending.reply }
-        ensures content { self.new.content ≡ made pending.steps self.old.content }
+        ensures content { self.new.content ≡ made_of pending.steps self.old.both self.old.content }
     {
         let Pending { reply, steps } = pending;
-        make_steps(&mut self.access, steps);
+        make_steps(&mut self.store, &mut self.access, steps);
         reply
     }
 }

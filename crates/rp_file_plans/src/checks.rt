@@ -11,7 +11,7 @@ use ex_check::compile_schema;
 use ex_compiled::Compiled;
 use plain_data::{Failure, Rows, Text};
 use rp_plain::messages::{Refusal, Reply, Request};
-use rp_plans::{Edits, Plan, too_large};
+use rp_plans::{Plan, too_large};
 use rp_readers::Readers;
 use std::alloc::{AllocError, Global};
 
@@ -45,8 +45,5 @@ pub fn plan_check(alloc: Global, asked: &Readers<'_, '_>, text: &Text) -> Result
     if let Some(refusal) = too_large(text) {
         return Err(refusal);
     }
-    Ok(Plan {
-        reply: told_of_text(alloc, text)?,
-        edits: Edits::Nothing,
-    })
+    Ok(Plan::told(alloc, told_of_text(alloc, text)?))
 }

@@ -7,8 +7,7 @@ ghost use Rattle.rp_plain.specs.Meaning.{first_some};
 ghost use Rattle.rp_plain.specs.Files as of_files;
 ghost use Rattle.rp_plain.specs.Links as of_links;
 ghost use Rattle.rp_readers.specs.Told.{told};
-ghost use Rattle.rp_readers.specs.Named.{TellsNamed};
-ghost use Rattle.rp_file_plans.specs.Files.{cheap_tests, Reads, Fits, Refills};
+ghost use Rattle.rp_file_plans.specs.Files.{cheap_tests, Reads, Fits, Links};
 ghost use Rattle.rp_plans.specs.Plans.{Plans};
 
 use crate::links::{in_order, link_refusal, names_of, no_request};
@@ -17,14 +16,13 @@ use p21_bind::{bind, load};
 use p21_read::{is_of_schema, read_raw};
 use p21_tree::Raw;
 use plain_data::{Failure, Items, Rows, Text};
-use rp_access::Altered;
-use rp_content::{Content, Instance, Link};
+use rp_content::{Content, Link};
 use rp_plain::messages::{Refusal, Reply, Request};
-use rp_plans::{Edits, Plan, first, is_no_partner, key_fault, lacks, too_large, unseen, when};
+use rp_plans::{Edit, Plan, first, is_no_partner, key_fault, lacks, too_large, unseen, when};
 use rp_readers::Readers;
 use rp_readers::contents::{copies, links_of, text_of};
-use rp_rows::limits::{MAX_INSTANCES, MAX_LINKS};
 use rp_rows::rows::{Key, ModelContent, Right};
+use rp_store::Change;
 use std::alloc::{AllocError, Global};
 
 /// Why a request that puts a text into a model is refused without a look into the text.
@@ -106,61 +104,6 @@ fn read_for(
     bound(alloc, asked.schema_named(&model.schema), linked, raw)
 }
 
-/// Of more instances than a model may have, or more links.
-fn too_many(content: &Content, links: usize) -> Option<Refusal>
-    ensures { (all : List Link) → length all ≡ links → result ≡ of_files.too_many all (Ok content.now) }
-{
-    when(
-        content.instances.len() > MAX_INSTANCES || links > MAX_LINKS,
-        Refusal::TooMany,
-    )
-}
-
-/// The greatest of a number and the names of the instances.
-fn greatest_name(start: u64, instances: &[Instance]) -> u64
-    ensures { result ≡ contents.greatest_name start instances.now }
-{
-    let mut greatest = start;
-    for instance in instances {
-        greatest = greatest.max(instance.name);
-    }
-    greatest
-}
-
-/// The greatest of a number and the names of the links.
-fn greatest_link(start: u64, links: &[Link]) -> u64
-    ensures { result ≡ fold max start (contents.link_names links.now) }
-{
-    let mut greatest = start;
-    for link in links {
-        greatest = greatest.max(link.name);
-    }
-    greatest
-}
-
-/// What the model holds once this content and these links are put into it.
-fn refilled(
-    alloc: Global,
-    model: &ModelContent,
-    content: Content,
-    links: Items<Link>,
-) -> Result<ModelContent, AllocError>
-    ensures { IfOk result (λ h. h ≡ of_files.refilled model.now (record content { links = links })) }
-{
-    let schema = model.schema.copy(alloc)?;
-    let greatest = greatest_name(model.greatest, content.instances.as_slice());
-    let greatest = greatest_link(greatest, links.as_slice());
-    Ok(ModelContent {
-        schema,
-        greatest,
-        content: Content {
-            header: content.header,
-            instances: content.instances,
-            links,
-        },
-    })
-}
-
 /// Why a file and links are refused without a look into the file.
 fn early_fault(asked: &Readers<'_, '_>, key: &Key, file: &Text, links: &[Link]) -> Option<Refusal>
     ensures { result ≡ first_some (of_links.no_request links.now ∷ cheap_tests (told asked.now) key.now file.now) }
@@ -194,36 +137,35 @@ fn fit_links(
     links: Rows<Link>,
     content: &Content,
 ) -> Result<Items<Link>, Refusal>
-    requires { TellsNamed (told asked.now) }
     ensures { Fits (told asked.now) key.now schema.now links content.now result }
 {
-    let many = too_many(content, links.len());
     let links = in_order(alloc, links)?;
-    let fault = link_refusal(alloc, asked, key, schema, links.as_slice(), content)?;
-    match first(&[fault, many]) {
+    match link_refusal(alloc, asked, key, schema, links.as_slice(), content)? {
         Some(refusal) => Err(refusal),
         None => Ok(links),
     }
 }
 
-/// What the model of this key holds once what the file says and these links are put into it, or why they are refused.
-fn refilled_by(
+/// What the file says and these links, for the model of this key, or why they are refused.
+fn linked_by(
     alloc: Global,
     asked: &Readers<'_, '_>,
     key: &Key,
     model: &ModelContent,
     file: &Text,
     links: Rows<Link>,
-) -> Result<ModelContent, Refusal>
-    requires { TellsNamed (told asked.now) }
-    ensures { Refills (told asked.now) key.now model.now links (of_files.read_for (told asked.now).schemas model.now (contents.link_names links) (file_of file.now)) result }
+) -> Result<Content, Refusal>
+    ensures { Links (told asked.now) key.now model.now links (of_files.read_for (told asked.now).schemas model.now (contents.link_names links) (file_of file.now)) result }
 {
-    let content = match read_linked(alloc, asked, model, links.as_slice(), file) {
+    let mut content = match read_linked(alloc, asked, model, links.as_slice(), file) {
         Ok(content) => content,
         Err(refusal) => return Err(refusal),
     };
     match fit_links(alloc, asked, key, &model.schema, links, &content) {
-        Ok(links) => Ok(refilled(alloc, model, content, links)?),
+        Ok(links) => {
+            content.links = links;
+            Ok(content)
+        }
         Err(refusal) => {
             // (A call, since content that goes out of scope is opened here down to its texts.)
             drop(content);
@@ -240,7 +182,6 @@ pub fn plan_put(
     file: &Text,
     links: Rows<Link>,
 ) -> Result<Plan, Refusal>
-    requires { TellsNamed (told asked.now) }
     ensures { Plans (told asked.now) asked.now.caller.now (Request.Put key file.now links) result }
 {
     if let Some(refusal) = early_fault(asked, &key, file, links.as_slice()) {
@@ -249,12 +190,10 @@ pub fn plan_put(
     let Some(model) = asked.content(&key) else {
         return Err(Refusal::NoSuchItem);
     };
-    let holds = refilled_by(alloc, asked, &key, model, file, links)?;
-    let reply = Reply::Stored(holds.content.instances.len());
-    Ok(Plan {
-        reply,
-        edits: Edits::OfModel(key, Altered::Hold(holds)),
-    })
+    let content = linked_by(alloc, asked, &key, model, file, links)?;
+    let reply = Reply::Stored(content.instances.len());
+    let edit = Edit::OfModel(Change::Put(key, content));
+    Ok(Plan::of(alloc, reply, edit)?)
 }
 
 /// Of a model whose links aren't asked for.
@@ -294,8 +233,5 @@ pub fn plan_export(
         return Err(refusal);
     }
     let file = text_of(alloc, asked, key)?;
-    Ok(Plan {
-        reply: exported(alloc, linked, file, links_of(asked, key))?,
-        edits: Edits::Nothing,
-    })
+    Ok(Plan::told(alloc, exported(alloc, linked, file, links_of(asked, key))?))
 }

@@ -3,12 +3,11 @@
 ghost use Rattle.std.specs.Prelude.{◌≡◌, option_copied};
 ghost use Rattle.rp_plain.specs.Instances as of_instances;
 ghost use Rattle.rp_readers.specs.Told.{told};
-ghost use Rattle.rp_readers.specs.Named.{TellsNamed};
 ghost use Rattle.rp_plans.specs.Plans.{Plans};
 
 use rp_content::Instance;
 use rp_plain::messages::{Refusal, Reply, Request};
-use rp_plans::{Edits, Plan, first, is_no_partner, key_fault, unseen, when};
+use rp_plans::{Plan, first, is_no_partner, key_fault, unseen, when};
 use rp_readers::instances::{instance_in, line_of};
 use rp_readers::{KeptLayouts, Readers};
 use rp_rows::rows::Key;
@@ -29,8 +28,7 @@ pub fn plan_get(
     key: &Key,
     name: u64,
 ) -> Result<Plan, Refusal>
-    requires named { TellsNamed (told asked.now) }
-    requires schemas { layouts.old ≡ (told asked.now).schemas }
+    requires { layouts.old ≡ (told asked.now).schemas }
     ensures layouts { layouts.new ≡ layouts.old }
     ensures planned { Plans (told asked.now) asked.now.caller.now (Request.Get key.now name) result }
 {
@@ -44,8 +42,5 @@ pub fn plan_get(
     if let Some(refusal) = first(&tests) {
         return Err(refusal);
     }
-    Ok(Plan {
-        reply: Reply::Line(line_of(alloc, asked, layouts, key, found)?),
-        edits: Edits::Nothing,
-    })
+    Ok(Plan::told(alloc, Reply::Line(line_of(alloc, asked, layouts, key, found)?)))
 }

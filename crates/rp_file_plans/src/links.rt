@@ -8,7 +8,6 @@ ghost use Rattle.rp_rows.specs.Contents as contents;
 ghost use Rattle.rp_rows.specs.Contents.{link_names};
 ghost use Rattle.rp_plain.specs.Links as of_links;
 ghost use Rattle.rp_readers.specs.Told.{told};
-ghost use Rattle.rp_readers.specs.Named.{TellsNamed};
 ghost use Rattle.rp_file_plans.specs.Links.{AreInOrder};
 
 use itertools::Itertools;
@@ -18,7 +17,6 @@ use rp_content::{Content, Instance, Link};
 use rp_plain::messages::{LinkFault, LinkFaultKind, Refusal};
 use rp_plans::when;
 use rp_readers::Readers;
-use rp_readers::instances::instance_named;
 use rp_rows::limits::MAX_NAME;
 use rp_rows::rows::Key;
 use std::alloc::{AllocError, Global};
@@ -83,7 +81,6 @@ fn leads_to(link: &Link, key: &Key) -> bool
 
 /// What is wrong with the instance that is linked to, where its model is to be of this schema.
 fn target_fault(asked: &Readers<'_, '_>, schema: &Text, link: &Link) -> Option<LinkFaultKind>
-    requires { TellsNamed (told asked.now) }
     ensures { result ≡ of_links.target_fault schema.now link.now.target ((told asked.now).content (of_links.target_model link.now)) }
 {
     let Some(model) = asked.content_of(&link.owner, &link.model) else {
@@ -92,7 +89,7 @@ fn target_fault(asked: &Readers<'_, '_>, schema: &Text, link: &Link) -> Option<L
     if !model.schema.is(schema) {
         return Some(LinkFaultKind::OtherSchema);
     }
-    match instance_named(model.content.instances.as_slice(), link.target) {
+    match model.content.instances.get(link.target) {
         Some(_) => None,
         None => Some(LinkFaultKind::NoInstance),
     }
@@ -114,8 +111,7 @@ fn fault_of(
     link: &Link,
     others: &[Link],
 ) -> Option<LinkFaultKind>
-    requires named { TellsNamed (told asked.now) }
-    requires order { AreInOrder (link.now ∷ others.now) }
+    requires { AreInOrder (link.now ∷ others.now) }
     ensures { result ≡ of_links.fault_of (told asked.now) holder.now.key.now holder.now.schema.now holder.now.instances.now (link_names others.now) link.now }
 {
     if holder.instances.has(link.name) || stands_again(link, others) {
@@ -129,8 +125,7 @@ fn fault_of(
 
 /// The fault of the first of the links that has one.
 fn first_fault(asked: &Readers<'_, '_>, holder: &Holder<'_>, links: &[Link]) -> Option<LinkFault>
-    requires named { TellsNamed (told asked.now) }
-    requires order { AreInOrder links.now }
+    requires { AreInOrder links.now }
     ensures { result ≡ of_links.first_fault (told asked.now) holder.now.key.now holder.now.schema.now holder.now.instances.now links.now }
 {
     for (i, link) in links.iter().enumerate() {
@@ -173,8 +168,7 @@ pub fn link_refusal(
     links: &[Link],
     content: &Content,
 ) -> Result<Option<Refusal>, AllocError>
-    requires named { TellsNamed (told asked.now) }
-    requires order { AreInOrder links.now }
+    requires { AreInOrder links.now }
     ensures { IfOk result (λ refusal. refusal ≡ of_links.told (of_links.first_fault (told asked.now) key.now schema.now (contents.names content.now.instances) links.now)) }
 {
     if links.is_empty() {

@@ -9,17 +9,14 @@ ghost use Rattle.rp_readers.specs.Single.{Says};
 ghost use Rattle.rp_plans.specs.Plans.{Plans};
 
 use crate::files::cheap_fault;
-use crate::instances::is_absent;
 use p21_read::read_instance;
 use plain_data::{Failure, Text};
 use rp_content::Instance;
 use rp_plain::messages::{Refusal, Reply, Request};
-use rp_plans::{Edits, Plan, first, is_no_partner, key_fault, lacks, when};
-use rp_readers::instances::{instance_in, instance_named};
+use rp_plans::{Edit, Plan, first, is_no_partner, key_fault, lacks};
 use rp_readers::{KeptLayouts, ModelNames, Readers};
-use rp_rows::limits::{MAX_INSTANCES, MAX_NAME};
 use rp_rows::rows::{Key, ModelContent, Right};
-use rp_store::is_used;
+use rp_store::Change;
 use std::alloc::{AllocError, Global};
 
 /// The instance of this name that the text is by the model's schema, or why it is refused.
@@ -43,16 +40,6 @@ fn said_by(
     layouts.bound(alloc, &model.schema, &names, name, mapping)
 }
 
-/// Of a model that has all instances that it may, or whose last name is used.
-fn is_full(model: &ModelContent) -> Option<Refusal>
-    ensures { result ≡ of_instances.is_full (Some model.now) }
-{
-    when(
-        model.greatest >= MAX_NAME || model.content.instances.len() >= MAX_INSTANCES,
-        Refusal::TooMany,
-    )
-}
-
 /// One instance more of a model.
 pub fn plan_add(
     alloc: Global,
@@ -74,13 +61,8 @@ pub fn plan_add(
     };
     let name = model.greatest + 1;
     let instance = said_by(alloc, layouts, model, name, text)?;
-    match is_full(model) {
-        Some(refusal) => Err(refusal),
-        None => Ok(Plan {
-            reply: Reply::Added(name),
-            edits: Edits::Place(key, instance),
-        }),
-    }
+    let change = Change::Add(key, instance.entities, instance.values);
+    Ok(Plan::of(alloc, Reply::Added(name), Edit::OfModel(change))?)
 }
 
 /// Another instance in place of the one of its name.
@@ -104,47 +86,27 @@ pub fn plan_set(
         return Err(Refusal::NoSuchItem);
     };
     let instance = said_by(alloc, layouts, model, name, text)?;
-    match is_absent(instance_named(model.content.instances.as_slice(), name)) {
-        Some(refusal) => Err(refusal),
-        None => Ok(Plan {
-            reply: Reply::Done,
-            edits: Edits::Place(key, instance),
-        }),
-    }
-}
-
-/// Of an instance that another one of the model refers to, if the partner sees the model.
-fn is_needed(asked: &Readers<'_, '_>, key: &Key, name: u64) -> Option<Refusal>
-    ensures { result ≡ of_instances.is_needed name ((told asked.now).content key.now) }
-{
-    match asked.content(key) {
-        Some(model) => when(
-            is_used(name, model.content.instances.as_slice()),
-            Refusal::InUse,
-        ),
-        None => None,
-    }
+    let change = Change::Set(key, instance);
+    Ok(Plan::of(alloc, Reply::Done, Edit::OfModel(change))?)
 }
 
 /// A model without the instance of this name.
-pub fn plan_drop(asked: &Readers<'_, '_>, key: Key, name: u64) -> Result<Plan, Refusal>
-    requires { TellsNamed (told asked.now) }
+pub fn plan_drop(
+    alloc: Global,
+    asked: &Readers<'_, '_>,
+    key: Key,
+    name: u64,
+) -> Result<Plan, Refusal>
     ensures { Plans (told asked.now) asked.now.caller.now (Request.DropInstance key name) result }
 {
     let tests = [
         key_fault(&key),
         is_no_partner(asked, &key.owner),
         lacks(Right::Writes, asked.model_right(&key)),
-        is_absent(instance_in(asked, &key, name)),
     ];
     if let Some(refusal) = first(&tests) {
         return Err(refusal);
     }
-    if let Some(refusal) = is_needed(asked, &key, name) {
-        return Err(refusal);
-    }
-    Ok(Plan {
-        reply: Reply::Done,
-        edits: Edits::DropInstance(key, name),
-    })
+    let change = Change::DropInstance(key, name);
+    Ok(Plan::of(alloc, Reply::Done, Edit::OfModel(change))?)
 }

@@ -1,5 +1,4 @@
 pub mod Positioning
-pub mod Searching
 pub mod Walks
 pub mod PlaceOrder
 pub mod Standing

@@ -43,7 +43,7 @@ module _ (ms : List Counted) (xs : List Placed) (counted : IsPopulation ms xs) (
   searchable = holds_at (λ (n : Counted). IsSearchable n.content) ms at m is counted.order.contents
 
   pub can_name : CanName (names_at ms xs at m)
-  can_name = record { within = rw counted.all (own_within ms at m is); instances = searchable.instances; links = searchable.links }
+  can_name = record { within = rw counted.all (own_within ms at m is); links = searchable.links }
 
   pub all_named : AreNamesOf xs m (names_at ms xs at m)
   unfolding named_at

@@ -11,7 +11,7 @@ use Rattle.rp_content.specs.declared.instance.Instance as content
 use Rattle.rp_content.specs.declared.link.Link.{Link}
 use Rattle.rp_rows.specs.Rows.{key_cmp}
 use Rattle.rp_rows.specs.Contents.{link_name}
-use Rattle.rp_rows.specs.Instances.{is_instance, IsInOrder}
+use Rattle.rp_rows.specs.Instances.{is_instance}
 use Rattle.rp_population.specs.declared.place.Place.{Place}
 use Rattle.rp_population.specs.Populations.{Counted, Placed, placed, population, target_of}
 use Rattle.rp_positions.specs.Positions.{AreInOrder, place_position, position_of, positioned}
@@ -53,10 +53,9 @@ pub record Names : Type 0 where
   pub links : List Link
   pub targets : List ℕ
 
--- none stands behind the last of the population, and both can be searched
+-- none stands behind the last of the population, and the links can be searched
 pub record CanName (n : Names) : Type 0 where
   pub within : n.start + length n.instances ≤ n.count
-  pub instances : IsInOrder n.instances
   pub links : IsAscending nat_cmp link_name n.links
 
 -- where the instance of this place among the model's stands

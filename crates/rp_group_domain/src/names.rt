@@ -10,13 +10,14 @@ use crate::models::{CountedModel, PlacedInstance};
 use crate::places::place_near;
 use crate::targets::targets;
 use plain_data::Items;
-use rp_content::{Instance, Link};
+use rp_content::{Instances, Link};
+use sorted_tables::search;
 use std::alloc::{AllocError, Global};
 use std::marker::Model;
 
 /// The instances of a model and its links, by where they stand and where they lead in a population of so many.
 pub(crate) struct Names<'a> {
-    instances: &'a [Instance],
+    instances: &'a Instances,
     /// Where the first of them stands.
     start: usize,
     count: usize,
@@ -58,7 +59,7 @@ fn link_of(links: &[Link], name: u64) -> usize
     requires { IsAscending nat_cmp link_name links.now }
     ensures { result ≡ spec.link_of links.now name }
 {
-    match links.binary_search_by_key(&name, |link| link.name) {
+    match search(links, &name) {
         Ok(place) => place,
         Err(_) => links.len(),
     }
@@ -87,7 +88,7 @@ impl<'a> Names<'a> {
         let links = content.links.as_slice();
         let targets = targets(alloc, population, links)?;
         Ok(Names {
-            instances: content.instances.as_slice(),
+            instances: &content.instances,
             start,
             count: population.len(),
             links,

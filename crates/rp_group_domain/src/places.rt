@@ -1,28 +1,26 @@
 //! Where the instances of a model stand, by their names.
 
 ghost use Rattle.std.specs.Prelude.{◌≡◌, IsTrue};
-ghost use Rattle.rp_rows.specs.Instances.{IsInOrder};
 ghost use Rattle.rp_group_domain.specs.Models as spec;
 
-use rp_content::Instance;
+use rp_content::{Instance, Instances};
+use sorted_tables::search;
 
 /// Where the instance of a name stands; behind the last where none has it.
-fn place_of(instances: &[Instance], name: u64) -> usize
-    requires { IsInOrder instances.now }
+fn place_of(instances: &Instances, name: u64) -> usize
     ensures { result ≡ spec.place_of instances.now name }
 {
-    match instances.binary_search_by_key(&name, |instance| instance.name) {
+    match search(instances.ordered(), &name) {
         Ok(place) => place,
         Err(_) => instances.len(),
     }
 }
 
 /// Whether the instance of a name stands there.
-fn stands_at(instances: &[Instance], place: usize, name: u64) -> bool
-    requires { IsInOrder instances.now }
+fn stands_at(instances: &Instances, place: usize, name: u64) -> bool
     ensures { IsTrue result → spec.place_of instances.now name ≡ place }
 {
-    match instances.get(place) {
+    match instances.ordered().get(place) {
         Some(instance) => instance.name == name,
         None => false,
     }
@@ -54,15 +52,14 @@ fn place_between(instances: &[Instance], from: usize, to: usize, name: u64) -> u
 
 /// Where the instance of a name stands; behind the last where none has it. It is looked for first as far from a place as its name
 /// is from the one there, and then between.
-pub(crate) fn place_near(instances: &[Instance], from: usize, name: u64) -> usize
-    requires { IsInOrder instances.now }
+pub(crate) fn place_near(instances: &Instances, from: usize, name: u64) -> usize
     ensures { result ≡ spec.place_of instances.now name }
 {
-    let expected = expected_place(instances, from, name);
+    let expected = expected_place(instances.as_slice(), from, name);
     if stands_at(instances, expected, name) {
         return expected;
     }
-    let between = place_between(instances, from, expected, name);
+    let between = place_between(instances.as_slice(), from, expected, name);
     if stands_at(instances, between, name) {
         return between;
     }

@@ -9,15 +9,42 @@ ghost use Rattle.rp_group_domain.specs.Models as spec;
 use crate::models::PlacedInstance;
 use plain_data::Items;
 use rp_content::Link;
+use rp_population::Place;
+use sorted_tables::{Row, Sought, search};
 use std::alloc::{AllocError, Global};
 use std::cmp::Ordering;
 
-/// The order of an instance's place and a link's target.
-fn order_to_target(instance: &PlacedInstance<'_>, link: &Link) -> Ordering
-    ensures { result ≡ spec.place_cmp instance.now.place (target_of link.now) }
-{
-    let order = instance.model.order_to(&link.owner, &link.model);
-    order.then(instance.instance.name.cmp(&link.target))
+impl<'a> Row for PlacedInstance<'a> {
+    ghost use Rattle.std.specs.Prelude.{ℕ};
+    ghost use Rattle.std.proofs.lemmas.Cmp.{nat_cmp_total, on_total, then_total};
+    ghost use Rattle.rp_rows.proofs.Keys.{key_total};
+    ghost use Rattle.rp_population.specs.declared.place.Place.{Place};
+    ghost use Rattle.rp_group_domain.specs.Models as spec;
+
+    type Key = Place;
+
+    ghost key = { spec.own_place };
+
+    ghost cmp = { spec.place_cmp };
+
+    fn order(&self, other: &PlacedInstance<'a>) -> Ordering {
+        let order = self.model.order(other.model);
+        order.then(self.instance.name.cmp(&other.instance.name))
+    }
+
+    ghost total = { then_total (on_total (λ (p : Place). p.model) key_total) (on_total (λ (p : Place). p.instance) nat_cmp_total) };
+}
+
+/// An instance is looked for by a link that leads to it.
+impl<'a> Sought<PlacedInstance<'a>> for Link {
+    ghost use Rattle.rp_population.specs.Populations.{target_of};
+
+    ghost sought = { target_of };
+
+    fn order_of(&self, instance: &PlacedInstance<'a>) -> Ordering {
+        let order = instance.model.order_to(&self.owner, &self.model);
+        order.then(instance.instance.name.cmp(&self.target))
+    }
 }
 
 /// Whether a link leads to the instance.
@@ -35,7 +62,7 @@ fn searched(population: &[PlacedInstance<'_>], link: &Link) -> usize
     requires { IsAscending spec.place_cmp spec.own_place population.now }
     ensures { result ≡ place_position population.now (target_of link.now) }
 {
-    match population.binary_search_by(|instance| order_to_target(instance, link)) {
+    match search(population, link) {
         Ok(place) => place,
         Err(_) => population.len(),
     }

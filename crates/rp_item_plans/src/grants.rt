@@ -5,9 +5,9 @@ ghost use Rattle.rp_plans.specs.Plans.{Plans};
 
 use crate::models::own;
 use plain_data::Text;
-use rp_access::Altered;
+use rp_access::Change;
 use rp_plain::messages::{Refusal, Reply, Request};
-use rp_plans::{Edits, Plan, first, is_no_partner, names_fault, unseen};
+use rp_plans::{Edit, Plan, first, is_no_partner, names_fault, unseen};
 use rp_readers::Readers;
 use rp_rows::rows::Level;
 use std::alloc::Global;
@@ -30,16 +30,9 @@ pub fn plan_grant(
     if let Some(refusal) = first(&tests) {
         return Err(refusal);
     }
-    let edits = if to.is(asked.caller) {
-        Edits::Nothing
-    } else {
-        let key = own(alloc, asked, name)?;
-        Edits::OfModel(key, Altered::Grants(to, Some(level)))
-    };
-    Ok(Plan {
-        reply: Reply::Done,
-        edits,
-    })
+    let key = own(alloc, asked, name)?;
+    let edit = Edit::OfRights(Change::GrantModel(key, to, level));
+    Ok(Plan::of(alloc, Reply::Done, edit)?)
 }
 
 /// No level of a partner on a model of the caller's.
@@ -60,8 +53,6 @@ pub fn plan_revoke(
         return Err(refusal);
     }
     let key = own(alloc, asked, name)?;
-    Ok(Plan {
-        reply: Reply::Done,
-        edits: Edits::OfModel(key, Altered::Grants(to, None)),
-    })
+    let edit = Edit::OfRights(Change::RevokeModel(key, to));
+    Ok(Plan::of(alloc, Reply::Done, edit)?)
 }

@@ -4,14 +4,11 @@ ghost use Rattle.rp_readers.specs.Told.{told};
 ghost use Rattle.rp_plans.specs.Plans.{Plans};
 
 use crate::models::own;
-use plain_data::{Rows, Text};
-use rp_access::Altered;
+use plain_data::Text;
+use rp_access::Change;
 use rp_plain::messages::{Refusal, Reply, Request};
-use rp_plans::{Edits, Plan, first, is_no_partner, name_fault, names_fault, unseen, when};
+use rp_plans::{Edit, Plan, first, is_no_partner, name_fault, names_fault, unseen, when};
 use rp_readers::Readers;
-use rp_rows::limits::MAX_GROUPS;
-use rp_rows::rows::{Level, Listing, Right};
-use rp_sight::at_least;
 use std::alloc::Global;
 
 /// A group of the caller's, without members.
@@ -27,21 +24,13 @@ pub fn plan_create_group(
     let tests = [
         name_fault(&name),
         when(!asked.has_schema(&schema), Refusal::UnknownSchema),
-        when(
-            at_least(Right::Reads, asked.own_group_right(&name)),
-            Refusal::Exists,
-        ),
-        when(asked.group_count() >= MAX_GROUPS, Refusal::TooMany),
     ];
     if let Some(refusal) = first(&tests) {
         return Err(refusal);
     }
     let key = own(alloc, asked, name)?;
-    let members = Rows::new(alloc);
-    Ok(Plan {
-        reply: Reply::Done,
-        edits: Edits::OfGroup(key, Altered::Hold(Listing { schema, members })),
-    })
+    let edit = Edit::OfRights(Change::CreateGroup(key, schema));
+    Ok(Plan::of(alloc, Reply::Done, edit)?)
 }
 
 /// A group of the caller's is gone, with its grants.
@@ -57,10 +46,8 @@ pub fn plan_delete_group(
         return Err(refusal);
     }
     let key = own(alloc, asked, name)?;
-    Ok(Plan {
-        reply: Reply::Done,
-        edits: Edits::OfGroup(key, Altered::Remove),
-    })
+    let edit = Edit::OfRights(Change::RemoveGroup(key));
+    Ok(Plan::of(alloc, Reply::Done, edit)?)
 }
 
 /// A partner may read a group of the caller's.
@@ -80,16 +67,9 @@ pub fn plan_grant_group(
     if let Some(refusal) = first(&tests) {
         return Err(refusal);
     }
-    let edits = if to.is(asked.caller) {
-        Edits::Nothing
-    } else {
-        let key = own(alloc, asked, name)?;
-        Edits::OfGroup(key, Altered::Grants(to, Some(Level::Read)))
-    };
-    Ok(Plan {
-        reply: Reply::Done,
-        edits,
-    })
+    let key = own(alloc, asked, name)?;
+    let edit = Edit::OfRights(Change::GrantGroup(key, to));
+    Ok(Plan::of(alloc, Reply::Done, edit)?)
 }
 
 /// A partner may not read a group of the caller's.
@@ -110,8 +90,6 @@ pub fn plan_revoke_group(
         return Err(refusal);
     }
     let key = own(alloc, asked, name)?;
-    Ok(Plan {
-        reply: Reply::Done,
-        edits: Edits::OfGroup(key, Altered::Grants(to, None)),
-    })
+    let edit = Edit::OfRights(Change::RevokeGroup(key, to));
+    Ok(Plan::of(alloc, Reply::Done, edit)?)
 }

@@ -4,7 +4,7 @@ ghost use Rattle.rp_readers.specs.Told.{told};
 ghost use Rattle.rp_plans.specs.Plans.{Plans};
 
 use rp_plain::messages::{Refusal, Reply, Request};
-use rp_plans::{Edits, Plan, first, is_no_partner, key_fault, unseen};
+use rp_plans::{Plan, first, is_no_partner, key_fault, unseen};
 use rp_readers::Readers;
 use rp_readers::contents::names_of;
 use rp_rows::rows::Key;
@@ -22,10 +22,7 @@ pub fn plan_names(alloc: Global, asked: &Readers<'_, '_>, key: &Key) -> Result<P
     if let Some(refusal) = first(&tests) {
         return Err(refusal);
     }
-    Ok(Plan {
-        reply: Reply::Names(names_of(alloc, asked, key)?),
-        edits: Edits::Nothing,
-    })
+    Ok(Plan::told(alloc, Reply::Names(names_of(alloc, asked, key)?)))
 }
 
 /// The groups and the models that the caller sees.
@@ -33,21 +30,15 @@ pub fn plan_list(alloc: Global, asked: &Readers<'_, '_>) -> Result<Plan, Refusal
     ensures { Plans (told asked.now) asked.now.caller.now Request.ListItems result }
 {
     let groups = asked.group_items(alloc)?;
-    Ok(Plan {
-        reply: Reply::Listed {
+    Ok(Plan::told(alloc, Reply::Listed {
             groups,
             models: asked.model_items(alloc)?,
-        },
-        edits: Edits::Nothing,
-    })
+        }))
 }
 
 /// The names of the schemas.
 pub fn plan_schemas(alloc: Global, asked: &Readers<'_, '_>) -> Result<Plan, Refusal>
     ensures { Plans (told asked.now) asked.now.caller.now Request.Schemas result }
 {
-    Ok(Plan {
-        reply: Reply::Schemas(asked.schema_names(alloc)?),
-        edits: Edits::Nothing,
-    })
+    Ok(Plan::told(alloc, Reply::Schemas(asked.schema_names(alloc)?)))
 }

@@ -5,17 +5,16 @@ ghost use Rattle.rp_plain.specs.Meaning.{first_some};
 ghost use Rattle.rp_plain.specs.Groups as of_groups;
 ghost use Rattle.rp_readers.specs.Told.{told};
 ghost use Rattle.rp_plans.specs.Plans.{Plans};
+ghost use Rattle.rp_item_plans.specs.Members.{include_tests};
 
 use crate::models::own;
 use plain_data::Text;
-use rp_access::{Altered, excluding, including};
+use rp_access::Change;
 use rp_plain::messages::{Refusal, Reply, Request};
-use rp_plans::{Edits, Plan, first, is_no_partner, key_fault, lacks, unseen, when};
+use rp_plans::{Edit, Plan, first, is_no_partner, key_fault, lacks, unseen, when};
 use rp_readers::Readers;
-use rp_rows::limits::MAX_MEMBERS;
 use rp_rows::names::is_valid_name;
 use rp_rows::rows::{Key, Listing, ModelContent, Right};
-use rp_sight::has_key;
 use std::alloc::Global;
 
 // ---- tests
@@ -28,22 +27,6 @@ fn member_fault(group: &Text, model: &Key) -> Option<Refusal>
     when(!valid, Refusal::BadName)
 }
 
-/// The models that the group lists, if it is seen.
-fn members_of<'a>(listing: Option<&'a Listing>) -> &'a [Key]
-    ensures { result.now ≡ of_groups.members_of (option_copied listing.entry) }
-{
-    match listing {
-        Some(listing) => listing.members.as_slice(),
-        None => &[],
-    }
-}
-
-fn is_member(model: &Key, listing: Option<&Listing>) -> bool
-    ensures { result ≡ of_groups.is_member model.now (option_copied listing.entry) }
-{
-    has_key(model, members_of(listing))
-}
-
 /// Of a model of another schema than the group.
 fn is_of_other(model: Option<&ModelContent>, group: Option<&Listing>) -> Option<Refusal>
     ensures { result ≡ of_groups.is_of_other (option_copied model.entry) (option_copied group.entry) }
@@ -54,19 +37,16 @@ fn is_of_other(model: Option<&ModelContent>, group: Option<&Listing>) -> Option<
     }
 }
 
-/// Why a model isn't included in a group of the caller's.
+/// Why a model isn't included in a group of the caller's, apart from what the group lists.
 fn include_fault(asked: &Readers<'_, '_>, group: &Text, model: &Key) -> Option<Refusal>
-    ensures { result ≡ first_some (of_groups.include (told asked.now) asked.now.caller.now group.now model.now).tests }
+    ensures { result ≡ first_some (include_tests (told asked.now) asked.now.caller.now group.now model.now) }
 {
-    let listing = asked.own_listing(group);
     first(&[
         member_fault(group, model),
         is_no_partner(asked, &model.owner),
         unseen(asked.own_group_right(group)),
         lacks(Right::Groups, asked.model_right(model)),
-        is_of_other(asked.content(model), listing),
-        when(is_member(model, listing), Refusal::Membership),
-        when(members_of(listing).len() >= MAX_MEMBERS, Refusal::TooMany),
+        is_of_other(asked.content(model), asked.own_listing(group)),
     ])
 }
 
@@ -84,17 +64,9 @@ pub fn plan_include(
     if let Some(refusal) = include_fault(asked, &group, &model) {
         return Err(refusal);
     }
-    let edits = match asked.own_listing(&group) {
-        None => Edits::Nothing,
-        Some(listing) => {
-            let listing = including(alloc, listing, model)?;
-            Edits::OfGroup(own(alloc, asked, group)?, Altered::Hold(listing))
-        }
-    };
-    Ok(Plan {
-        reply: Reply::Done,
-        edits,
-    })
+    let group = own(alloc, asked, group)?;
+    let edit = Edit::OfRights(Change::Include(group, model));
+    Ok(Plan::of(alloc, Reply::Done, edit)?)
 }
 
 /// A group of the caller's doesn't list a model.
@@ -102,31 +74,21 @@ pub fn plan_exclude(
     alloc: Global,
     asked: &Readers<'_, '_>,
     group: Text,
-    model: &Key,
+    model: Key,
 ) -> Result<Plan, Refusal>
-    ensures { Plans (told asked.now) asked.now.caller.now (Request.Exclude group model.now) result }
+    ensures { Plans (told asked.now) asked.now.caller.now (Request.Exclude group model) result }
 {
-    let listing = asked.own_listing(&group);
     let tests = [
-        member_fault(&group, model),
+        member_fault(&group, &model),
         is_no_partner(asked, &model.owner),
         unseen(asked.own_group_right(&group)),
-        when(!is_member(model, listing), Refusal::Membership),
     ];
     if let Some(refusal) = first(&tests) {
         return Err(refusal);
     }
-    let edits = match listing {
-        None => Edits::Nothing,
-        Some(listing) => {
-            let listing = excluding(alloc, listing, model)?;
-            Edits::OfGroup(own(alloc, asked, group)?, Altered::Hold(listing))
-        }
-    };
-    Ok(Plan {
-        reply: Reply::Done,
-        edits,
-    })
+    let group = own(alloc, asked, group)?;
+    let edit = Edit::OfRights(Change::Exclude(group, model));
+    Ok(Plan::of(alloc, Reply::Done, edit)?)
 }
 
 /// The models that a group lists, and which of them count.
@@ -142,7 +104,5 @@ pub fn plan_members(alloc: Global, asked: &Readers<'_, '_>, group: &Key) -> Resu
         return Err(refusal);
     }
     Ok(Plan {
-        reply: Reply::Members(asked.members(alloc, group)?),
-        edits: Edits::Nothing,
-    })
+        reply: Reply::Members(asked.members(alloc, group)?)))
 }

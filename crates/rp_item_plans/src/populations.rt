@@ -6,7 +6,7 @@ ghost use Rattle.rp_plans.specs.Plans.{Plans};
 
 use plain_data::Text;
 use rp_plain::messages::{Refusal, Reply, Request};
-use rp_plans::{Edits, Plan, first, is_no_partner, key_fault, unseen, when};
+use rp_plans::{Plan, first, is_no_partner, key_fault, unseen, when};
 use rp_population::Place;
 use rp_readers::Readers;
 use rp_readers::populations::{extent_by, group_schema, has_place, users_by};
@@ -33,10 +33,7 @@ pub fn plan_extent(
     }
     let counted = asked.counted(alloc, group)?;
     let places = extent_by(alloc, group_schema(asked, group), entity, &counted)?;
-    Ok(Plan {
-        reply: Reply::Extent(places),
-        edits: Edits::Nothing,
-    })
+    Ok(Plan::told(alloc, Reply::Extent(places)))
 }
 
 /// The instances of a group's population that use one of them.
@@ -61,8 +58,5 @@ pub fn plan_users(
     }
     let counted = asked.counted(alloc, group)?;
     let places = users_by(alloc, group_schema(asked, group), role, place, &counted)?;
-    Ok(Plan {
-        reply: Reply::Users(places),
-        edits: Edits::Nothing,
-    })
+    Ok(Plan::told(alloc, Reply::Users(places)))
 }

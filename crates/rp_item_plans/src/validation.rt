@@ -11,11 +11,11 @@ use plain_data::Rows;
 use rp_group_domain::CountedModel;
 use rp_plain::messages::{Refusal, Reply, Request};
 use rp_plain::reports::ToldReport;
-use rp_plans::{Edits, Plan, first, is_no_partner, key_fault, unseen};
+use rp_plans::{Plan, first, is_no_partner, key_fault, unseen};
 use rp_readers::Readers;
 use rp_reports::SchemaRules;
 use rp_rows::rows::{Key, ModelContent};
-use rp_tables::RowRef;
+use rp_sight::RowRef;
 use std::alloc::{AllocError, Global};
 
 /// The models, as their population is made of them.
@@ -79,8 +79,5 @@ pub fn plan_validate(
         return Err(refusal);
     }
     let report = validated(alloc, asked, rules, group)?;
-    Ok(Plan {
-        reply: Reply::Validated(report),
-        edits: Edits::Nothing,
-    })
+    Ok(Plan::told(alloc, Reply::Validated(report)))
 }

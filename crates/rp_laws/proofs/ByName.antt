@@ -6,8 +6,8 @@ use Rattle.std.specs.Ordering.{is_gt, nat_cmp}
 use Rattle.std.proofs.lemmas.Bool.{or_parts}
 use Rattle.std.proofs.lemmas.Bool.Decides.{nat_tests}
 use Rattle.plain_data.specs.Numbers.{is_among}
-use Rattle.p21_instances.specs.Instances.{in_order}
-use Rattle.p21_instances.proofs.ByName.{below, AreOnce}
+use Rattle.p21_instances.specs.Instances.{in_order, AreOnce}
+use Rattle.p21_instances.proofs.ByName.{below}
 use Rattle.p21_instances.proofs.SortedBy.{Rises, rises_in_order}
 use Rattle.sorted_tables.specs.Table.{is_after, IsAscending}
 

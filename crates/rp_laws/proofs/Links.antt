@@ -26,7 +26,8 @@ use Rattle.rp_plain.specs.Readers.{Readers, asked, held}
 use Rattle.rp_plain.specs.Meaning.{has_text}
 use Rattle.rp_plain.specs.Links.{max_links, target_model, links_in_order, linking, has_names, no_request, target_fault, fault_of, told_first, first_fault, told, link_refusal}
 use Rattle.rp_plain.specs.Valid.{IsValidModel, IsValidLink, IsValid}
-use Rattle.p21_instances.proofs.ByName.{AreOnce, all-in_order, length-in_order}
+use Rattle.p21_instances.specs.Instances.{AreOnce}
+use Rattle.p21_instances.proofs.ByName.{all-in_order, length-in_order}
 use Rattle.rp_laws.proofs.ByName.{AreWithin, ordered}
 use Rattle.rp_laws.proofs.Passed.{is_so, no_more}
 use Rattle.rp_laws.proofs.ValidTables.{all_each, all_found}

@@ -1,41 +1,34 @@
 -- What a plan keeps, and what it is to give.
-use Rattle.std.specs.Prelude.{◌≡◌, ◌≢◌, true, List, [], ◌∷◌, Some, None, is_some, Result, Ok, MatchResult}
-use Rattle.rp_rows.specs.Rows.{Text}
+use Rattle.std.specs.Prelude.{◌≡◌, ◌≢◌, List, [], ◌∷◌, map, Some, None, Result, MatchResult, false}
+use Rattle.std.specs.List.{flat_map, AllByRecursion}
+use Rattle.rp_rows.specs.Rows.{Text, same_key}
 use Rattle.rp_plain.specs.declared.messages.Request.{Request}
 use Rattle.rp_plain.specs.declared.messages.Refusal.{Refusal}
 use Rattle.rp_plain.specs.declared.messages.Refusal.TheVariants.{NoMemory}
-use Rattle.rp_plain.specs.Edits.{Edit, EditModel, EditGroup}
 use Rattle.rp_plain.specs.Readers.{Readers}
 use Rattle.rp_plain.specs.Meaning.{first_some}
-use Rattle.rp_plain.specs.Instances.{placing, dropping}
 use Rattle.rp_plain.specs.Step.{meaning}
-use Rattle.rp_access.specs.Steps.{alteration_of}
-use Rattle.rp_plans.specs.declared.edits.Edits.{Edits}
-use Rattle.rp_plans.specs.declared.edits.Edits.TheVariants.{Nothing, OfModel, OfGroup, Place, DropInstance}
+use Rattle.rp_plans.specs.declared.edits.Edit.{Edit}
+use Rattle.rp_plans.specs.declared.edits.Edit.TheVariants.{OfModel, OfRights}
 use Rattle.rp_plans.specs.declared.edits.Plan.{Plan}
+use Rattle.rp_plans.specs.Edits.{edits_of, fault_of, Sees, key_of}
 
--- the edits that these are, where a partner is told this
-abbrev pub edits_of : Readers → Edits → List Edit
-edits_of a Nothing = []
-edits_of a (OfModel k change) = EditModel k (alteration_of change) ∷ []
-edits_of a (OfGroup k change) = EditGroup k (alteration_of change) ∷ []
-edits_of a (Place k i) = placing k (a.content k) (Ok i)
-edits_of a (DropInstance k n) = dropping k n (a.content k)
+abbrev pub IsApartFrom : Edit → Edit → Type 0
+IsApartFrom (OfModel change) (OfModel other) = same_key (key_of change) (key_of other) ≡ false
+IsApartFrom _ _ = ⊥
 
--- he sees the model in which one instance is changed
-abbrev pub IsSeen : Readers → Edits → Type 0
-IsSeen a Nothing = Unit {0}
-IsSeen a (OfModel k change) = Unit {0}
-IsSeen a (OfGroup k change) = Unit {0}
-IsSeen a (Place k i) = is_some (a.content k) ≡ true
-IsSeen a (DropInstance k n) = is_some (a.content k) ≡ true
+-- each changes a model of its own, or it is the only one
+abbrev pub AreApart : List Edit → Type 0
+AreApart [] = Unit {0}
+AreApart (e ∷ es) = AllByRecursion (IsApartFrom e) es × AreApart es
 
--- c's request is not refused, and this is its reply and its edits
+-- c's request is refused as its edits are, and where nothing speaks against these, this is its reply and they are its edits
 pub record IsAnswer (a : Readers) (c : Text) (q : Request) (plan : Plan) : Type 0 where
-  pub passes : first_some (meaning a c q).tests ≡ None
+  pub decides : first_some (map (fault_of a) plan.edits) ≡ first_some (meaning a c q).tests
   pub replies : plan.reply ≡ (meaning a c q).reply
-  pub edits : edits_of a plan.edits ≡ (meaning a c q).edits
-  pub seen : IsSeen a plan.edits
+  pub edits : flat_map (edits_of a) plan.edits ≡ (meaning a c q).edits
+  pub seen : AllByRecursion (Sees a c) plan.edits
+  pub apart : AreApart plan.edits
 
 -- c's request is refused so, or memory is wanting
 abbrev pub IsRefusal : Readers → Text → Request → Refusal → Type 0

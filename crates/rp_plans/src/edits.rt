@@ -1,25 +1,44 @@
 //! What a plan keeps of a change.
 
-use rp_access::Altered;
-use rp_content::Instance;
+use plain_data::Rows;
 use rp_plain::messages::Reply;
-use rp_rows::rows::{Key, Listing, ModelContent};
+use std::alloc::{AllocError, Global};
 
-/// What a request changes.
+/// A change of one row.
 #[derive(Drop)]
-pub enum Edits {
-    Nothing,
-    OfModel(Key, Altered<ModelContent>),
-    OfGroup(Key, Altered<Listing>),
-    /// The instance stands in the model under its name.
-    Place(Key, Instance),
-    /// No instance stands in the model under the name.
-    DropInstance(Key, u64),
+pub enum Edit {
+    /// Of what models hold. One that is created has no grants, and one that is removed takes its grants with it.
+    OfModel(rp_store::Change),
+    /// Of who may do what, and of groups.
+    OfRights(rp_access::Change),
 }
 
-/// A request's reply, and what it changes.
+/// A request's reply, and what it changes, of which the store and the rights may know a reason against.
 #[derive(Drop)]
 pub struct Plan {
     pub reply: Reply,
-    pub edits: Edits,
+    pub edits: Rows<Edit>,
+}
+
+impl Plan {
+    ghost use Rattle.std.specs.Prelude.{◌≡◌, [], ◌∷◌, IfOk};
+
+    /// That of a request which changes nothing.
+    pub fn told(alloc: Global, reply: Reply) -> Plan
+        ensures { result ≡ record { reply = reply; edits = [] } }
+    {
+        Plan {
+            reply,
+            edits: Rows::new(alloc),
+        }
+    }
+
+    /// That of a request which changes one row.
+    pub fn of(alloc: Global, reply: Reply, edit: Edit) -> Result<Plan, AllocError>
+        ensures { IfOk result (λ plan. plan ≡ record { reply = reply; edits = edit ∷ [] }) }
+    {
+        let mut edits = Rows::new(alloc);
+        edits.push(edit)?;
+        Ok(Plan { reply, edits })
+    }
 }

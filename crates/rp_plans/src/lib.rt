@@ -12,7 +12,7 @@
 mod edits;
 mod faults;
 
-pub use edits::{Edits, Plan};
+pub use edits::{Edit, Plan};
 pub use faults::{
     first, is_no_partner, key_fault, lacks, name_fault, names_fault, too_large, unseen, when,
 };

@@ -1,5 +1,6 @@
 -- What is found under a key, if it is seen.
 use Rattle.std.proofs.Common.{◌≡◌, Bool, ◌&&◌, true, false, List, Option, Some, None, refl, sym, ◌∙◌, ap}
+use Rattle.std.specs.Prelude.{if◌then◌else◌}
 use Rattle.std.specs.List.{find}
 use Rattle.sorted_tables.specs.Table.{IsAscending}
 use Rattle.sorted_tables.proofs.Searching.{found_passing, chosen}
@@ -36,3 +37,16 @@ right_there gs c m = by (sees gs c m) refl
     by : (t : Bool) → sees gs c m ≡ t → right_at gs c (chosen (sees gs c) (Some m)) ≡ level gs c m
     by true e = rw e refl
     by false e = rw e (too_low (level gs c m) e)
+
+-- what is found and chosen is what was found
+chosen_found : {X : Type 0} (p : X → Bool) (x : X) (o : Option X) → chosen p o ≡ Some x → o ≡ Some x
+chosen_found p x None e = cc
+chosen_found p x (Some y) e = by (p y) e
+  where
+    by : (t : Bool) → (if t then Some y else None) ≡ Some x → Some y ≡ Some x
+    by true f = f
+    by false f = cc
+
+-- what is seen at a key is what stands there
+pub found_seen : {A : Type 0} (k : Key) (p : Row A → Bool) (rows : List (Row A)) (x : Row A) → IsAscending key_cmp row_key rows → find (λ y. is_row k y && p y) rows ≡ Some x → find (is_row k) rows ≡ Some x
+found_seen k p rows x order seen = chosen_found p x (find (is_row k) rows) (seen_found k p rows (find (is_row k) rows) order refl ∙ seen)

@@ -19,21 +19,9 @@ use Rattle.rp_positions.specs.Positions.{AreInOrder, IsSearchable}
 use Rattle.rp_plain.specs.Plain.{Plain, model_at, group_at}
 use Rattle.rp_plain.specs.Readers.{asked, counted_in, held}
 use Rattle.rp_plain.proofs.Counted.{all_counted, counted_ascending}
-use Rattle.rp_tables.specs.Named.{IsNamed, HoldsNamed}
-use Rattle.rp_readers.specs.Named.{AreNamed, TellsNamed}
+use Rattle.rp_readers.specs.Named.{IsNamed, HoldsNamed, AreNamed, TellsNamed}
 use Rattle.rp_rows.specs.Listings.{IsListed}
 use Rattle.rp_readers.specs.Listed.{HoldsListed, AreListed, TellsListed, TellsPopulations}
-
--- what is read at a place stands there
-pub got : {X : Type 0} (xs : List X) (i : ℕ) (x : X) → i < length xs → x ≡ get_or xs i x → Some x ≡ slice_get xs i
-got xs i x within read = sym (slice_get_read xs (length xs) i x refl within read)
-
-module _ {X : Type 0} (named : X → ℕ) where
-  -- what stands at the place of a name, if it has that name
-  pub found_named : (name : ℕ) (xs : List X) (i : ℕ) (o : Option X) → IsAscending nat_cmp named xs → i ≡ length (filter (is_before nat_cmp named name) xs) → o ≡ slice_get xs i
-      → chosen (is_at nat_cmp named name) o ≡ find (is_at nat_cmp named name) xs
-  found_named name xs i o order is got =
-      ap (chosen (is_at nat_cmp named name)) (got ∙ ap (slice_get xs) is) ∙ sym (at_place nat_cmp named nat_cmp_total name xs order)
 
 pub all_found : {X : Type 0} (P : X → Type 0) (q : X → Bool) (xs : List X) (x : X) → find q xs ≡ Some x → AllByRecursion P xs → P x
 all_found P q [] x found all = cc
@@ -92,13 +80,3 @@ module _ {X : Type 0} (named : X → ℕ) where
 
 pub among_names : (n : ℕ) (xs : List Instance) → is_some (instance_of n xs) ≡ is_among (names xs) n
 among_names = among_named instance_name
-
--- whether what was found at the place of a name has it
-pub found_is : {X : Type 0} (named : X → ℕ) (n : ℕ) (x : X) → is_some (chosen (is_at nat_cmp named n) (Some x)) ≡ (named x == n)
-found_is named n x = by (is_at nat_cmp named n x) (named x == n) (same_test (named x) n)
-  where
-    by : (t u : Bool) → t ≡ u → is_some (if t then Some x else None) ≡ u
-    by true true e = refl
-    by true false e = cc
-    by false true e = cc
-    by false false e = refl

@@ -6,8 +6,8 @@ use Rattle.sorted_tables.specs.Table.{IsAscending}
 use Rattle.rp_rows.specs.declared.rows.Key.{Key}
 use Rattle.rp_rows.specs.Rows.{key_cmp, row_key, is_row, Model, GroupRow}
 use Rattle.rp_rows.specs.declared.rows.ModelContent.{ModelContent}
-use Rattle.rp_tables.specs.declared.table.RowRef.{RowRef}
-use Rattle.rp_tables.specs.Stored.{row_of}
+use Rattle.rp_sight.specs.declared.rows.RowRef.{RowRef}
+use Rattle.rp_sight.specs.Stored.{row_of}
 use Rattle.rp_readers.specs.Listed.{counted_of}
 use Rattle.rp_plain.specs.Readers.{as_counted, counted_in}
 use Rattle.rp_plain.specs.Populations.{member, counts_among}

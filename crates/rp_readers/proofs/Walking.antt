@@ -15,7 +15,7 @@ use Rattle.rp_population.specs.Populations.{Counted, Placed, placed, placed_all,
 use Rattle.rp_population.specs.Entities.{is_of, extent_of}
 use Rattle.rp_population.specs.Uses.{as_user, users_in}
 use Rattle.rp_rows.specs.declared.rows.ModelContent.{ModelContent}
-use Rattle.rp_tables.specs.declared.table.RowRef.{RowRef}
+use Rattle.rp_sight.specs.declared.rows.RowRef.{RowRef}
 use Rattle.rp_readers.specs.Listed.{counted_of}
 
 -- what is told of a list in parts is told of a population model by model

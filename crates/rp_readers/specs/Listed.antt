@@ -10,8 +10,8 @@ use Rattle.rp_positions.specs.Positions.{AreInOrder}
 use Rattle.rp_plain.specs.Plain.{Plain}
 use Rattle.rp_plain.specs.Readers.{Readers, as_counted}
 use Rattle.rp_rows.specs.declared.rows.ModelContent.{ModelContent}
-use Rattle.rp_tables.specs.declared.table.RowRef.{RowRef}
-use Rattle.rp_tables.specs.Stored.{row_of}
+use Rattle.rp_sight.specs.declared.rows.RowRef.{RowRef}
+use Rattle.rp_sight.specs.Stored.{row_of}
 
 -- the members of the group stand in the order of owner and name, each once
 abbrev pub HoldsListed : GroupRow → Type 0

@@ -10,7 +10,7 @@ use Rattle.rp_plain.specs.Readers.{Readers, asked}
 use Rattle.rp_readers.specs.declared.readers.Readers.{Readers as HeldReaders}
 
 abbrev pub plain_of : HeldReaders → Plain
-plain_of s = record { schemas = s.schemas.now; partners = s.partners.now; models = s.models.now.rows; groups = s.groups.now.rows }
+plain_of s = record { schemas = s.schemas.now; partners = s.partners.now; models = s.models.now.rows; groups = s.access.now.groups.rows }
 
 unfoldable pub told : HeldReaders → Readers
 told s = asked (plain_of s) s.caller.now

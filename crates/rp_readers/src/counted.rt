@@ -8,7 +8,7 @@ ghost use Rattle.rp_readers.specs.Told.{told};
 use crate::readers::Readers;
 use rp_rows::rows::{Key, ModelContent};
 use rp_sight::counted_models;
-use rp_tables::RowRef;
+use rp_sight::RowRef;
 use std::alloc::{AllocError, Global};
 
 impl<'a, 's> Readers<'a, 's> {

@@ -11,7 +11,7 @@ use crate::schemas::sorted_names;
 use plain_data::{Rows, Text};
 use rp_plain::lists::Item;
 use rp_rows::rows::{Key, Listing, ModelContent, Right};
-use rp_sight::{Seen, visible_groups, visible_models};
+use rp_sight::Seen;
 use std::alloc::{AllocError, Global};
 
 fn item(alloc: Global, key: &Key, schema: &Text, right: Right) -> Result<Item, AllocError>
@@ -64,7 +64,7 @@ impl<'a, 's> Readers<'a, 's> {
     pub fn model_items(&self, alloc: Global) -> Result<Rows<Item>, AllocError>
         ensures { IfOk result (λ rows. rows ≡ (told self.now).models) }
     {
-        let seen = visible_models(alloc, self.models, self.groups, self.caller)?;
+        let seen = self.access.visible_models(alloc, self.models, self.caller)?;
         model_rows(alloc, &seen)
     }
 
@@ -72,7 +72,7 @@ impl<'a, 's> Readers<'a, 's> {
     pub fn group_items(&self, alloc: Global) -> Result<Rows<Item>, AllocError>
         ensures { IfOk result (λ rows. rows ≡ (told self.now).groups) }
     {
-        let seen = visible_groups(alloc, self.groups, self.caller)?;
+        let seen = self.access.visible_groups(alloc, self.caller)?;
         group_rows(alloc, &seen)
     }
 }

@@ -7,15 +7,14 @@ ghost use Rattle.rp_plain.specs.Plain.{group_at};
 ghost use Rattle.rp_plain.specs.Groups.{members_of as MembersOf};
 ghost use Rattle.rp_plain.specs.Populations.{member};
 ghost use Rattle.rp_sight.specs.Listed.{member_of};
-ghost use Rattle.rp_tables.specs.Stored.{row_of};
+ghost use Rattle.rp_sight.specs.Stored.{row_of};
 ghost use Rattle.rp_readers.specs.Told.{plain_of, told, member_told};
 
 use crate::readers::Readers;
 use plain_data::{Rows, Text};
 use rp_plain::lists::Member;
 use rp_rows::rows::{Key, Listing, Right};
-use rp_sight::{Member as Listed, group_right, members_of, sees_group};
-use rp_tables::RowRef;
+use rp_sight::{Member as Listed, RowRef, group_right, sees_group};
 use std::alloc::{AllocError, Global};
 
 /// The members of a group as they are told.
@@ -38,7 +37,7 @@ impl<'a, 's> Readers<'a, 's> {
     fn group_of(&self, owner: &Text, name: &Text) -> Option<RowRef<'a, Listing>>
         ensures { option_map row_of result ≡ group_at (plain_of self.now) self.now.caller.now (key_of owner.now name.now) }
     {
-        let group = self.groups.table().find_for(owner, name)?;
+        let group = self.access.groups().table().find_for(owner, name)?;
         if sees_group(self.caller, &group) {
             Some(group)
         } else {
@@ -101,7 +100,7 @@ impl<'a, 's> Readers<'a, 's> {
     pub fn group_count(&self) -> usize
         ensures { result ≡ (told self.now).group_count }
     {
-        self.groups.table().count_of(self.caller)
+        self.access.groups().table().count_of(self.caller)
     }
 
     /// The members of the group, and whether each counts, if the partner sees it.
@@ -109,10 +108,10 @@ impl<'a, 's> Readers<'a, 's> {
         ensures { IfOk result (λ rows. rows ≡ map (member ((told self.now).counted key.now)) (MembersOf ((told self.now).listing key.now))) }
     {
         match self.group(key) {
-            Some(group) => {
+            Some(_) => {
                 // (The table tells that its rows stand in order.)
                 let _count = self.models.len();
-                let members = members_of(alloc, self.models, &group)?;
+                let members = self.access.members(alloc, self.models, key)?;
                 told_members(alloc, &members)
             }
             None => Ok(Rows::new(alloc)),

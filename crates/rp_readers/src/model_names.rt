@@ -1,16 +1,15 @@
 //! The names that a reference in a model may have.
 
-ghost use Rattle.std.specs.Prelude.{◌≡◌, filter, length};
-ghost use Rattle.std.specs.Ordering.{is_lt, nat_cmp};
+ghost use Rattle.std.specs.Prelude.{◌≡◌};
+ghost use Rattle.std.specs.Ordering.{nat_cmp};
 ghost use Rattle.plain_data.specs.Numbers.{is_among};
-ghost use Rattle.sorted_tables.specs.Table.{is_before, IsAscending};
+ghost use Rattle.sorted_tables.specs.Table.{IsAscending};
 ghost use Rattle.rp_rows.specs.Contents.{names, link_name, link_names};
-ghost use Rattle.rp_rows.specs.Instances.{IsInOrder};
 ghost use Rattle.rp_readers.specs.Named.{IsSearchable};
 
-use crate::instances::instance_named;
 use p21_bind::DefinedNames;
-use rp_content::{Content, Instance, Link};
+use rp_content::{Content, Instances, Link};
+use sorted_tables::find;
 use std::marker::Model;
 
 /// The names of the instances and the links that a model holds.
@@ -36,25 +35,10 @@ impl<'a> Model for ModelNames<'a> {
 }
 
 /// Whether an instance has this name. The others aren't walked over.
-fn has_instance(instances: &[Instance], name: u64) -> bool
-    requires { IsInOrder instances.now }
+fn has_instance(instances: &Instances, name: u64) -> bool
     ensures { result ≡ is_among (names instances.now) name }
 {
-    instance_named(instances, name).is_some()
-}
-
-fn is_before_name(name: u64, link: &Link) -> bool
-    ensures { result ≡ is_lt (nat_cmp link.now.name name) }
-{
-    link.name.cmp(&name).is_lt()
-}
-
-/// How many links have a name before this one.
-fn link_place(links: &[Link], name: u64) -> usize
-    requires { IsAscending nat_cmp link_name links.now }
-    ensures { result ≡ length (filter (is_before nat_cmp link_name name) links.now) }
-{
-    links.partition_point(|link| is_before_name(name, link))
+    instances.get(name).is_some()
 }
 
 /// Whether a link has this name. The others aren't walked over.
@@ -62,10 +46,7 @@ fn has_link(links: &[Link], name: u64) -> bool
     requires { IsAscending nat_cmp link_name links.now }
     ensures { result ≡ is_among (link_names links.now) name }
 {
-    match links.get(link_place(links, name)) {
-        Some(link) => link.name == name,
-        None => false,
-    }
+    find(links, &name).is_some()
 }
 
 impl<'a> ModelNames<'a> {
@@ -83,7 +64,7 @@ impl<'a> DefinedNames for ModelNames<'a> {
     ghost is_defined = { of_instances.is_defined };
 
     fn has(&self, name: u64) -> bool {
-        has_instance(self.content.instances.as_slice(), name)
+        has_instance(&self.content.instances, name)
             || has_link(self.content.links.as_slice(), name)
     }
 }

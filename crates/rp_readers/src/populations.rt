@@ -7,7 +7,7 @@ ghost use Rattle.rp_population.specs.Populations.{population, places, has_place 
 ghost use Rattle.rp_population.specs.Entities as entities;
 ghost use Rattle.rp_population.specs.Uses as uses;
 ghost use Rattle.rp_plain.specs.Populations as of_populations;
-ghost use Rattle.rp_tables.specs.Stored.{row_of};
+ghost use Rattle.rp_sight.specs.Stored.{row_of};
 ghost use Rattle.rp_readers.specs.Listed.{counted_of};
 ghost use Rattle.rp_readers.specs.Told.{told};
 
@@ -18,7 +18,7 @@ use rp_content::Instance;
 use rp_population::{Extent, Place, Users};
 use rp_rows::rows::{Key, Listing, ModelContent};
 use rp_sight::counts;
-use rp_tables::RowRef;
+use rp_sight::RowRef;
 use std::alloc::{AllocError, Global};
 
 /// The schema of the group, if the partner sees it.

@@ -5,22 +5,22 @@ ghost use Rattle.std.specs.Prelude.{◌≡◌, ◌<◌, [], false, slice_index_o
 ghost use Rattle.rp_rows.specs.Rows.{key_of};
 ghost use Rattle.rp_plain.specs.Plain.{model_at};
 ghost use Rattle.rp_plain.specs.Meaning.{has_text, has_schema as HasSchema, schema_named as SchemaNamed};
-ghost use Rattle.rp_tables.specs.Stored.{row_of};
+ghost use Rattle.rp_sight.specs.Stored.{row_of};
 ghost use Rattle.rp_readers.specs.Told.{plain_of, told};
 
 use ex_loaded::LoadedSchema;
 use plain_data::Text;
+use rp_access::Access;
 use rp_rows::rows::{Key, ModelContent, Right};
-use rp_sight::{Groups, at_least, level};
-use rp_tables::{RowRef, Table};
+use rp_sight::{RowRef, Table, at_least, level};
 
 /// What a repository holds, as one partner asks it.
 #[derive(Clone, Copy)]
 pub struct Readers<'a, 's> {
     pub schemas: &'s [LoadedSchema<'s>],
     pub partners: &'a [Text],
-    pub models: &'a Table<ModelContent>,
-    pub groups: &'a Groups,
+    pub models: &'a Table<'a, ModelContent>,
+    pub access: &'a Access,
     pub caller: &'a Text,
 }
 
@@ -86,7 +86,7 @@ impl<'a, 's> Readers<'a, 's> {
         ensures { option_map row_of result ≡ model_at (plain_of self.now) self.now.caller.now (key_of owner.now name.now) }
     {
         let model = self.models.find_for(owner, name)?;
-        if at_least(Right::Reads, level(self.groups, self.caller, &model)) {
+        if at_least(Right::Reads, level(self.access.groups(), self.caller, &model)) {
             Some(model)
         } else {
             None
@@ -97,10 +97,8 @@ impl<'a, 's> Readers<'a, 's> {
     fn right_on_model(&self, owner: &Text, name: &Text) -> Right
         ensures { result ≡ (told self.now).model_right (key_of owner.now name.now) }
     {
-        match self.models.find_for(owner, name) {
-            Some(model) => level(self.groups, self.caller, &model),
-            None => Right::Unseen,
-        }
+        self.access
+            .right_on_model(self.models, self.caller, owner, name)
     }
 
     /// What the partner may do with the model.

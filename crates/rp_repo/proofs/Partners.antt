@@ -16,7 +16,7 @@ use Rattle.rp_plain.specs.Runs.{Effect, is_no_memory, left_by}
 use Rattle.rp_plain.specs.Turns.{after}
 use Rattle.rp_plain.specs.Valid.{IsValidModel, IsValidGroup, IsValid}
 use Rattle.rp_laws.specs.Laws.{KeepsValid}
-use Rattle.rp_tables.specs.Named.{HoldsNamed}
+use Rattle.rp_readers.specs.Named.{HoldsNamed}
 use Rattle.rp_readers.specs.Named.{AreNamed}
 use Rattle.rp_readers.specs.Listed.{HoldsListed, AreListed}
 use Rattle.rp_core.specs.Held.{Kept, partner_at, turn, made, Fits, IsPrepared}

@@ -1,3 +1,5 @@
+pub mod Joining
+pub mod Changed
 pub mod Names
 pub mod Seeing
 pub mod Counted

@@ -1,16 +1,14 @@
 -- Marks beside models.
-use Rattle.std.proofs.Common.{◌≡◌, ℕ, zero, suc, ◌<◌, Bool, true, false, ◌&&◌, ◌||◌, List, [], ◌∷◌, ◌+◌, ◌≤◌, length, set, get_or, drop, map, replicate, Option, Some, None, is_some, Result, Ok, Err, OnOk, refl, sym, ◌∙◌, ap, arith}
-use Rattle.std.specs.Prelude.{filter, slice_get, if◌then◌else◌}
+use Rattle.std.proofs.Common.{◌≡◌, ℕ, zero, suc, ◌<◌, Bool, true, false, ◌&&◌, ◌||◌, List, [], ◌∷◌, ◌+◌, ◌≤◌, length, set, get_or, drop, map, replicate, Option, Some, None, Result, Ok, Err, OnOk, refl, sym, ◌∙◌, ap, arith}
+use Rattle.std.specs.Prelude.{filter, if◌then◌else◌}
 use Rattle.std.specs.List.{find, list_any, AllByRecursion}
 use Rattle.std.specs.declared.cmp.Ordering.{Ordering}
 use Rattle.std.specs.declared.cmp.Ordering.TheVariants.{Less, Equal, Greater}
 use Rattle.std.specs.Ordering.{is_lt, is_eq, is_gt}
-use Rattle.std.proofs.lemmas.Bool.{false≢true}
 use Rattle.sorted_tables.specs.Table.{is_before, IsAscending}
 use Rattle.sorted_tables.proofs.Ascending.{follows_all, none_before, none_there}
-use Rattle.sorted_tables.proofs.Searching.{at_place, chosen}
-use Rattle.std.proofs.lemmas.Option.{slice_get-get_or}
-use Rattle.rp_tables.specs.Stored.{IsRowThere}
+use Rattle.sorted_tables.specs.Places.{IsThere}
+use Rattle.sorted_tables.proofs.Finding.{found_is}
 use Rattle.rp_rows.specs.declared.rows.Key.{Key}
 use Rattle.rp_rows.specs.Rows.{key_cmp, row_key, is_row, Model, GroupRow}
 use Rattle.rp_rows.specs.Sight.{counts}
@@ -121,25 +119,13 @@ unmarked k b ts ms order fails = sym (marked_none (at_key k b) ts ms (all_unmark
 
 -- ---- the same, where this is its place
 
-there_is : (k : Key) (ms : List Model) (i : ℕ) (x : Model) → IsRowThere k ms i → get_or ms i x ≡ x → find (is_row k) ms ≡ Some x
-there_is k ms i x there here = by (is_row k x) refl
-  where
-    found : find (is_row k) ms ≡ chosen (is_row k) (Some x)
-    found =
-        at_place key_cmp row_key key_total k ms there.order
-        ∙ ap (λ n. chosen (is_row k) (slice_get ms n)) (sym there.is)
-        ∙ ap (chosen (is_row k)) (slice_get-get_or ms i x there.within ∙ ap Some here)
+there_is : (k : Key) (ms : List Model) (i : ℕ) (x : Model) → IsThere key_cmp row_key k ms i → get_or ms i x ≡ x → find (is_row k) ms ≡ Some x
+there_is k ms i x there here = found_is key_cmp row_key key_total k ms i x there here
 
-    by : (t : Bool) → is_row k x ≡ t → find (is_row k) ms ≡ Some x
-    by true e = found ∙ rw e refl
-    by false e =
-        let none : find (is_row k) ms ≡ None = found ∙ rw e refl in
-        absurd (false≢true (sym (ap is_some none) ∙ there.found))
-
-pub marked_at : (k : Key) (b : Model → Bool) (ts : List Bool) (ms : List Model) (i : ℕ) (x : Model) → length ts ≡ length ms → IsRowThere k ms i → get_or ms i x ≡ x → b x ≡ true → set ts i true ≡ marked (at_key k b) ts ms
+pub marked_at : (k : Key) (b : Model → Bool) (ts : List Bool) (ms : List Model) (i : ℕ) (x : Model) → length ts ≡ length ms → IsThere key_cmp row_key k ms i → get_or ms i x ≡ x → b x ≡ true → set ts i true ≡ marked (at_key k b) ts ms
 marked_at k b ts ms i x same there here holds = ap (λ n. set ts n true) there.is ∙ marked_there k b ts ms x same there.order (there_is k ms i x there here) holds
 
-pub unmarked_at : (k : Key) (b : Model → Bool) (ts : List Bool) (ms : List Model) (i : ℕ) (x : Model) → IsRowThere k ms i → get_or ms i x ≡ x → b x ≡ false → ts ≡ marked (at_key k b) ts ms
+pub unmarked_at : (k : Key) (b : Model → Bool) (ts : List Bool) (ms : List Model) (i : ℕ) (x : Model) → IsThere key_cmp row_key k ms i → get_or ms i x ≡ x → b x ≡ false → ts ≡ marked (at_key k b) ts ms
 unmarked_at k b ts ms i x there here fails =
     unmarked k b ts ms there.order (λ y found. let same : x ≡ y = some_is x y (sym (there_is k ms i x there here) ∙ found) in ap b (sym same) ∙ fails)
   where

@@ -22,10 +22,10 @@ use Rattle.rp_rows.specs.Rows.{Text, text_cmp, grant_key, key_cmp, same_key, Row
 use Rattle.rp_rows.specs.Sight.{is_grant_to}
 use Rattle.rp_rows.specs.Alterations.{Holds, altered, grants_of, grant_for}
 use Rattle.rp_rows.proofs.Keys.{key_total, key_at, found_at}
-use Rattle.rp_tables.specs.Entries.{entry_key, is_entry, revalued, without_name}
-use Rattle.rp_tables.specs.Stored.{rewritten}
-use Rattle.rp_tables.proofs.Finding.{entry_at}
-use Rattle.rp_tables.proofs.Changed.{find-kept, find_other, find_same}
+use Rattle.rp_store.specs.Entries.{entry_key, is_entry, revalued, without_name}
+use Rattle.rp_sight.specs.Stored.{rewritten}
+use Rattle.rp_store.proofs.Finding.{entry_at}
+use Rattle.rp_sight.proofs.Changed.{find-kept, find_other, find_same}
 use Rattle.rp_sight.specs.Granted.{Names, has_name, value_of, names_at, relisted, is_granted_at, KeepsGranted, granted_of, tells, TellsGranted}
 
 -- ---- names

@@ -6,8 +6,8 @@ use Rattle.rp_rows.specs.declared.rows.Level.{Level}
 use Rattle.rp_rows.specs.declared.rows.Key.{Key}
 use Rattle.rp_rows.specs.Rows.{Text, is_row, Model, GroupRow, key_of}
 use Rattle.rp_rows.specs.Sight.{is_granted, counts}
-use Rattle.rp_tables.specs.declared.keyed.Entry.{Entry}
-use Rattle.rp_tables.specs.Entries.{is_entry, without_name}
+use Rattle.rp_store.specs.declared.keyed.Entry.{Entry}
+use Rattle.rp_store.specs.Entries.{is_entry, without_name}
 
 -- names, under a key whose owner is the partner, and whose name is that of the groups' owner
 abbrev pub Names : Type 0

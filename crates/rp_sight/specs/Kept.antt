@@ -1,7 +1,11 @@
 -- What is kept of groups, and marks beside models.
 use Rattle.std.specs.Prelude.{ℕ, zero, suc, Bool, false, ◌||◌, List, [], ◌∷◌}
 use Rattle.rp_rows.specs.Rows.{Model, GroupRow}
-use Rattle.rp_sight.specs.Granted.{Names}
+use Rattle.rp_rows.specs.declared.rows.Grant.{Grant}
+use Rattle.rp_rows.specs.declared.rows.Listing.{Listing}
+use Rattle.rp_store.specs.declared.keyed.Entry.{Entry}
+use Rattle.rp_sight.specs.Granted.{Names, KeepsGranted}
+use Rattle.rp_sight.specs.Stored.{joined, IsTable}
 
 -- groups, the names of those that partners are granted, and room for more of each
 pub record KeptGroups : Type 0 where
@@ -10,6 +14,11 @@ pub record KeptGroups : Type 0 where
   pub right_room : ℕ
   pub names : List Names
   pub name_room : ℕ
+
+-- two halves with the same keys, and no name missing of what partners are granted
+pub record AreGroups (listings : List (Entry Listing)) (rights : List (Entry (List Grant))) (names : List Names) : Type 0 where
+  pub table : IsTable listings rights
+  pub granted : KeepsGranted names (joined listings rights)
 
 -- the marks from a place on, of so many, where those at some places are set
 abbrev pub marks_from : (ℕ → Bool) → ℕ → ℕ → List Bool

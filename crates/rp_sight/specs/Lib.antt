@@ -1,3 +1,4 @@
+pub mod Stored
 pub mod Granted
 pub mod Kept
 pub mod Regrants

@@ -5,7 +5,7 @@ use Rattle.rp_rows.specs.declared.rows.Right.{Right}
 use Rattle.rp_rows.specs.declared.rows.Right.TheVariants.{Owns}
 use Rattle.rp_rows.specs.Rows.{Text, Row, Model, GroupRow}
 use Rattle.rp_rows.specs.Sight.{owns, is_grant_to, granted_right, level, group_right}
-use Rattle.rp_tables.specs.Stored.{row_of}
+use Rattle.rp_sight.specs.Stored.{row_of}
 use Rattle.rp_sight.specs.declared.visible.Seen.{Seen}
 
 -- where a model counts so in the groups that he is granted

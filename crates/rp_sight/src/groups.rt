@@ -6,22 +6,24 @@ ghost use Rattle.rp_rows.specs.declared.rows.Key.{Key as RowKey};
 ghost use Rattle.rp_rows.specs.Rows.{Text as Bytes, is_row, same_key, key_of};
 ghost use Rattle.rp_rows.specs.Alterations.{Holds, altered, grant_for};
 ghost use Rattle.rp_rows.specs.Sight.{is_grant_to};
-ghost use Rattle.rp_tables.specs.Stored.{rewritten};
+ghost use Rattle.rp_sight.specs.Stored.{rewritten};
 ghost use Rattle.rp_sight.specs.Granted.{granted_of, names_at, has_name, TellsGranted};
 ghost use Rattle.rp_sight.specs.Regrants.{RegrantFits};
 
 use plain_data::{Rows, Text};
 use rp_rows::rows::{Grant, Key, Level, Listing};
-use rp_tables::{Entry, Keyed, Table};
+use rp_store::{Entry, Keyed};
+use crate::rows::Table;
 use std::alloc::{AllocError, Global};
 use std::marker::Model;
 
-/// Groups with their grants, and under each partner and each owner the names of the owner's groups that the partner is
-/// granted.
+/// What groups list, beside it the grants on them, and under each partner and each owner the names of the owner's groups that
+/// the partner is granted.
 #[derive(Drop)]
 pub struct Groups {
     alloc: Global,
-    table: Table<Listing>,
+    listings: Keyed<Listing>,
+    rights: Keyed<Rows<Grant>>,
     granted: Keyed<Rows<Text>>,
 }
 
@@ -38,20 +40,20 @@ pub struct Regrant {
 }
 
 impl Model for Groups {
-    ghost use Rattle.rp_sight.specs.Kept.{KeptGroups};
-    ghost use Rattle.rp_sight.specs.Granted.{KeepsGranted};
+    ghost use Rattle.rp_sight.specs.Kept.{KeptGroups, AreGroups};
+    ghost use Rattle.rp_sight.specs.Stored.{joined};
 
     ghost Value = { KeptGroups };
 
     ghost view = { λ g. record {
-      rows = g.table.rows;
-      room = g.table.room;
-      right_room = g.table.right_room;
+      rows = joined g.listings.entries g.rights.entries;
+      room = g.listings.room;
+      right_room = g.rights.room;
       names = g.granted.entries;
       name_room = g.granted.room;
     } };
 
-    ghost invariant = { λ g. KeepsGranted g.granted.entries g.table.rows };
+    ghost invariant = { λ g. AreGroups g.listings.entries g.rights.entries g.granted.entries };
 }
 
 /// The name of the group is forgotten under all partners who have these grants.
@@ -71,16 +73,17 @@ impl Groups {
     {
         Groups {
             alloc,
-            table: Table::new(alloc),
+            listings: Keyed::new(alloc),
+            rights: Keyed::new(alloc),
             granted: Keyed::new(alloc),
         }
     }
 
     /// The groups in the order of owner and name.
-    pub fn table(&self) -> &Table<Listing>
-        ensures { result.now.rows ≡ self.now.rows }
+    pub fn table(&self) -> Table<'_, Listing>
+        ensures { result.rows ≡ self.now.rows }
     {
-        &self.table
+        Table::of(&self.listings, &self.rights)
     }
 
     /// The owners who grant groups to the partner, each with the names of those.
@@ -108,7 +111,8 @@ impl Groups {
         ensures room { OnOk result (0 < self.new.room) }
         ensures right_room { OnOk result (0 < self.new.right_room) }
     {
-        self.table.reserve()
+        self.listings.reserve()?;
+        self.rights.reserve()
     }
 
     /// Makes room for the names of one more partner and owner.
@@ -127,20 +131,18 @@ impl Groups {
         requires right_room { 0 < self.old.right_room }
         ensures { self.new.rows ≡ altered key (Holds (Some listing)) self.old.rows }
     {
-        self.table.put(key, again, listing);
+        self.rights.add(again, Rows::new(self.alloc));
+        self.listings.put(key, listing);
     }
 
     /// No group stands under the key from now on. It takes no memory.
     pub fn remove(&mut self, key: &Key)
         ensures { self.new.rows ≡ altered key.now (Holds None) self.old.rows }
     {
-        forget(
-            self.alloc,
-            &mut self.granted,
-            self.table.grants_at(key),
-            key,
-        );
-        self.table.remove(key);
+        let grants = Table::of(&self.listings, &self.rights).grants_at(key);
+        forget(self.alloc, &mut self.granted, grants, key);
+        self.listings.remove(key);
+        self.rights.remove(key);
     }
 
     /// One partner's grant on the group of the key is this from now on. It takes no memory.
@@ -154,9 +156,9 @@ impl Groups {
             under,
             names,
         } = regrant;
-        if self.table.find(key).is_some() {
+        if Table::of(&self.listings, &self.rights).find(key).is_some() {
             self.granted.put(under, names);
         }
-        self.table.regrant(key, grants);
+        self.rights.replace(key, grants);
     }
 }

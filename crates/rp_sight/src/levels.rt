@@ -6,7 +6,7 @@ ghost use Rattle.std.specs.List.{find, list_any};
 ghost use Rattle.sorted_tables.specs.Table.{IsAscending};
 ghost use Rattle.rp_rows.specs.Rows.{key_cmp, row_key, is_row, key_of};
 ghost use Rattle.rp_rows.specs.Sight as sight;
-ghost use Rattle.rp_tables.specs.Stored.{row_of};
+ghost use Rattle.rp_sight.specs.Stored.{row_of};
 ghost use Rattle.rp_sight.specs.Seen.{level_by};
 ghost use Rattle.rp_sight.specs.Granted.{granted_of, TellsGranted, shows, counts_under, counts_in_any};
 
@@ -14,11 +14,12 @@ use crate::groups::Groups;
 use crate::sight::{counts, grant_to, is_granted, owns, right_of};
 use plain_data::{Rows, Text};
 use rp_rows::rows::{Listing, ModelContent, Right};
-use rp_tables::{Entry, RowRef, Table};
+use rp_store::Entry;
+use crate::rows::{RowRef, Table};
 
 /// Whether the model counts in the group of this owner and name, and the partner is granted the group.
 fn counts_at(
-    groups: &Table<Listing>,
+    groups: &Table<'_, Listing>,
     caller: &Text,
     model: &RowRef<'_, ModelContent>,
     owner: &Text,
@@ -33,7 +34,7 @@ fn counts_at(
 }
 
 fn counts_among(
-    groups: &Table<Listing>,
+    groups: &Table<'_, Listing>,
     caller: &Text,
     model: &RowRef<'_, ModelContent>,
     names: &Entry<Rows<Text>>,

@@ -8,11 +8,13 @@ mod groups;
 mod levels;
 mod marks;
 mod members;
+mod rows;
 mod sight;
 mod visible;
 
 pub use groups::{Groups, Regrant};
 pub use levels::level;
+pub use rows::{RowRef, Table};
 pub use members::{Member, counted_models, members_of};
 pub use sight::{at_least, counts, group_right, has_key, sees_group};
 pub use visible::{Seen, visible_groups, visible_models};

@@ -5,7 +5,7 @@ ghost use Rattle.std.specs.List.{find};
 ghost use Rattle.sorted_tables.specs.Table.{IsAscending};
 ghost use Rattle.rp_rows.specs.Rows.{key_cmp, row_key, is_row, key_of};
 ghost use Rattle.rp_rows.specs.Sight as sight;
-ghost use Rattle.rp_tables.specs.Stored.{row_of};
+ghost use Rattle.rp_sight.specs.Stored.{row_of};
 ghost use Rattle.rp_sight.specs.Granted.{granted_of, TellsGranted, shows, counts_under, counts_in_any};
 ghost use Rattle.rp_sight.specs.Kept.{marked};
 
@@ -13,7 +13,8 @@ use crate::groups::Groups;
 use crate::sight::{counts, is_granted};
 use plain_data::{Rows, Text};
 use rp_rows::rows::{Key, Listing, ModelContent};
-use rp_tables::{Entry, RowRef, Table};
+use rp_store::Entry;
+use crate::rows::{RowRef, Table};
 use std::alloc::{AllocError, Global};
 use std::collections::BTreeSet;
 use std::marker::Model;
@@ -69,7 +70,7 @@ impl Marks {
 
 /// Marks the model of the key, if it counts in the group.
 fn mark(
-    models: &Table<ModelContent>,
+    models: &Table<'_, ModelContent>,
     group: &RowRef<'_, Listing>,
     key: &Key,
     marks: &mut Marks,
@@ -89,7 +90,7 @@ fn mark(
 
 /// Marks the models that count in the group.
 fn mark_members(
-    models: &Table<ModelContent>,
+    models: &Table<'_, ModelContent>,
     group: &RowRef<'_, Listing>,
     marks: &mut Marks,
 ) -> Result<(), AllocError>
@@ -104,8 +105,8 @@ fn mark_members(
 
 /// Marks the models that count in the group of this owner and name, if the partner is granted the group.
 fn mark_at(
-    models: &Table<ModelContent>,
-    groups: &Table<Listing>,
+    models: &Table<'_, ModelContent>,
+    groups: &Table<'_, Listing>,
     caller: &Text,
     owner: &Text,
     name: &Text,
@@ -125,8 +126,8 @@ fn mark_at(
 }
 
 fn mark_names(
-    models: &Table<ModelContent>,
-    groups: &Table<Listing>,
+    models: &Table<'_, ModelContent>,
+    groups: &Table<'_, Listing>,
     caller: &Text,
     names: &Entry<Rows<Text>>,
     marks: &mut Marks,
@@ -143,7 +144,7 @@ fn mark_names(
 /// Of each model whether it counts in a group that the partner is granted.
 pub fn counted_marks(
     alloc: Global,
-    models: &Table<ModelContent>,
+    models: &Table<'_, ModelContent>,
     groups: &Groups,
     caller: &Text,
 ) -> Result<Marks, AllocError>

@@ -5,17 +5,17 @@ ghost use Rattle.std.specs.List.{find, flat_map};
 ghost use Rattle.rp_rows.specs.Rows.{is_row};
 ghost use Rattle.rp_rows.specs.Listings.{IsListed};
 ghost use Rattle.rp_rows.specs.Sight as sight;
-ghost use Rattle.rp_tables.specs.Stored.{row_of};
+ghost use Rattle.rp_sight.specs.Stored.{row_of};
 ghost use Rattle.rp_sight.specs.Listed.{counted_at, is_counting, member_in, member_of};
 
 use crate::sight::counts;
 use rp_rows::rows::{Key, Listing, ModelContent};
-use rp_tables::{RowRef, Table};
+use crate::rows::{RowRef, Table};
 use std::alloc::{AllocError, Global};
 
 /// Adds the model of a key, if it counts in the group. Other models aren't walked over.
 fn push_counted<'a>(
-    models: &'a Table<ModelContent>,
+    models: &Table<'a, ModelContent>,
     group: &RowRef<'_, Listing>,
     key: &Key,
     out: &mut Vec<RowRef<'a, ModelContent>>,
@@ -34,7 +34,7 @@ fn push_counted<'a>(
 /// The models of some keys that count in the group.
 fn counted_among<'a>(
     alloc: Global,
-    models: &'a Table<ModelContent>,
+    models: &Table<'a, ModelContent>,
     group: &RowRef<'_, Listing>,
     keys: &[Key],
 ) -> Result<Vec<RowRef<'a, ModelContent>>, AllocError>
@@ -50,7 +50,7 @@ fn counted_among<'a>(
 /// The models that count in the group, in the order of owner and name.
 pub fn counted_models<'a>(
     alloc: Global,
-    models: &'a Table<ModelContent>,
+    models: &Table<'a, ModelContent>,
     group: &RowRef<'_, Listing>,
 ) -> Result<Vec<RowRef<'a, ModelContent>>, AllocError>
     requires { IsListed group.now.holds.now }
@@ -70,7 +70,7 @@ pub struct Member<'a> {
 }
 
 /// Whether the model of the key counts in the group. Other models aren't walked over.
-fn counts_at(models: &Table<ModelContent>, group: &RowRef<'_, Listing>, key: &Key) -> bool
+fn counts_at(models: &Table<'_, ModelContent>, group: &RowRef<'_, Listing>, key: &Key) -> bool
     ensures { result ≡ is_counting (row_of group.now) (find (is_row key.now) models.now.rows) }
 {
     match models.find(key) {
@@ -82,7 +82,7 @@ fn counts_at(models: &Table<ModelContent>, group: &RowRef<'_, Listing>, key: &Ke
 /// The models that the group lists, in its order, and which of them count.
 pub fn members_of<'a>(
     alloc: Global,
-    models: &Table<ModelContent>,
+    models: &Table<'_, ModelContent>,
     group: &RowRef<'a, Listing>,
 ) -> Result<Vec<Member<'a>>, AllocError>
     ensures { IfOk result (λ out. map member_of out.items ≡ map (member_in models.now.rows (row_of group.now)) group.now.holds.now.members) }

@@ -4,11 +4,11 @@ ghost use Rattle.std.specs.Prelude.{◌≡◌, option_copied};
 ghost use Rattle.std.specs.List.{list_any, find};
 ghost use Rattle.rp_rows.specs.Sight as sight;
 ghost use Rattle.rp_rows.specs.Listings.{lists_key};
-ghost use Rattle.rp_tables.specs.Stored.{row_of};
+ghost use Rattle.rp_sight.specs.Stored.{row_of};
 
 use plain_data::Text;
 use rp_rows::rows::{Grant, Key, Level, Listing, ModelContent, Right};
-use rp_tables::RowRef;
+use crate::rows::RowRef;
 
 pub fn owns<A>(caller: &Text, row: &RowRef<'_, A>) -> bool
     ensures { result ≡ sight.owns caller.now (row_of row.now) }

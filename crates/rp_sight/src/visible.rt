@@ -2,7 +2,7 @@
 
 ghost use Rattle.std.specs.Prelude.{◌≡◌, ◌++◌, ◌∷◌, [], map, filter, if◌then◌else◌, OnOk, IfOk};
 ghost use Rattle.rp_rows.specs.Sight as sight;
-ghost use Rattle.rp_tables.specs.Stored.{row_of};
+ghost use Rattle.rp_sight.specs.Stored.{row_of};
 ghost use Rattle.rp_sight.specs.Seen.{level_by, seen_model, seen_group};
 ghost use Rattle.rp_sight.specs.Seen.{seen_of};
 
@@ -12,7 +12,7 @@ use crate::marks::counted_marks;
 use crate::sight::{at_least, group_right, sees_group};
 use plain_data::Text;
 use rp_rows::rows::{Listing, ModelContent, Right};
-use rp_tables::{RowRef, Table};
+use crate::rows::{RowRef, Table};
 use std::alloc::{AllocError, Global};
 
 /// A row that a partner sees, and what he may do with it.
@@ -42,7 +42,7 @@ fn push_model<'a>(
 /// with the members of the groups that he is granted.
 pub fn visible_models<'a>(
     alloc: Global,
-    models: &'a Table<ModelContent>,
+    models: &Table<'a, ModelContent>,
     groups: &Groups,
     caller: &Text,
 ) -> Result<Vec<Seen<'a, ModelContent>>, AllocError>

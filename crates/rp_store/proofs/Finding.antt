@@ -1,97 +1,77 @@
--- What a binary search finds in a list in the order of its keys, and what is done at its place.
-use Rattle.std.proofs.Common.{◌≡◌, ℕ, ◌<◌, ◌≤◌, Bool, true, false, List, length, set, get_or, Some, None, is_some, refl, sym, ◌∙◌, ap, arith}
-use Rattle.std.specs.Prelude.{◌≢◌, not, slice_get}
-use Rattle.std.specs.List.{find, insert, remove}
-use Rattle.std.specs.declared.cmp.Ordering.{Ordering}
-use Rattle.std.specs.Ordering.{is_eq, nat_cmp}
-use Rattle.std.specs.Cmp.{IsTotalOrder}
-use Rattle.std.proofs.lemmas.List.Filters.{length-filter_both}
-use Rattle.std.proofs.lemmas.Option.{slice_get-get_or, slice_get_past}
-use Rattle.sorted_tables.specs.Table.{is_at, is_before, with_row, IsAscending}
-use Rattle.sorted_tables.proofs.Searching.{at_place, chosen, replaced, absent_stays}
-use Rattle.sorted_tables.proofs.Ascending.{inserted, removed, with_row_ascends, with_none_ascends}
-use Rattle.rp_store.specs.Places.{place_of, IsThere, IsAbsent}
+-- What is done to entries at the place of a key.
+use Rattle.std.proofs.Common.{◌≡◌, ℕ, Bool, true, false, List, [], set, get_or, Option, Some, None, is_some, refl, sym, ◌∙◌, ap, subst}
+use Rattle.std.specs.Prelude.{option_map}
+use Rattle.std.specs.List.{find}
+use Rattle.sorted_tables.specs.Table.{with_row, IsAscending}
+use Rattle.sorted_tables.specs.Places.{IsThere, IsAbsent}
+use Rattle.sorted_tables.proofs.Ascending.{with_row_ascends, with_none_ascends}
+use Rattle.sorted_tables.proofs.Finding.{Becomes, found_is, put_there, taken_absent, stays}
+use Rattle.rp_rows.specs.declared.rows.Key.{Key}
+use Rattle.rp_rows.specs.Rows.{key_cmp, Row}
+use Rattle.rp_rows.proofs.Keys.{key_total, key_at, found_at}
+use Rattle.rp_store.specs.declared.keyed.Entry.{Entry}
+use Rattle.rp_rows.specs.declared.rows.ModelContent.{ModelContent}
+use Rattle.rp_store.specs.Entries.{entry_key, is_entry, revalued, standing}
+use Rattle.rp_store.specs.Models.{Held, model, edited}
 
--- this list is that one, and in order
-pub record Becomes {K X : Type 0} (cmp : K → K → Ordering) (key : X → K) (xs ys : List X) : Type 0 where
-  pub are : xs ≡ ys
-  pub ascends : IsAscending cmp key xs
+-- an entry at a key has that key
+pub entry_at : {B : Type 0} (k : Key) (x : Entry B) → is_entry k x ≡ true → entry_key x ≡ k
+entry_at {B = B} k x h = let row : Row B = record { owner = x.key.owner; name = x.key.name; holds = x.value; grants = [] } in key_at k row h
 
-pub is_named : (a n : ℕ) → a ≡ n → is_eq (nat_cmp a n) ≡ true
-is_named a n h = grind arith
+-- ---- the order stays
 
-pub is_not_named : (a n : ℕ) → a ≢ n → is_eq (nat_cmp a n) ≡ false
-is_not_named a n h = grind arith
+pub keyed_ascends : {B : Type 0} (k : Key) (x : Entry B) (xs : List (Entry B)) → entry_key x ≡ k → IsAscending key_cmp entry_key xs → IsAscending key_cmp entry_key (with_row key_cmp entry_key k (Some x) xs)
+keyed_ascends k x xs at order = rw (← at) (with_row_ascends key_cmp entry_key key_total x xs order)
 
-module _ {K X : Type 0} (cmp : K → K → Ordering) (key : X → K) (total : IsTotalOrder cmp) where
-  -- ---- what a search finds
+pub none_ascends : {B : Type 0} (k : Key) (xs : List (Entry B)) → IsAscending key_cmp entry_key xs → IsAscending key_cmp entry_key (with_row key_cmp entry_key k None xs)
+none_ascends k xs order = with_none_ascends key_cmp entry_key key_total k xs order
 
-  stands : (k : K) (xs : List X) (i : ℕ) (x : X) → IsAscending cmp key xs → i ≡ place_of cmp key k xs → i < length xs → get_or xs i x ≡ x → find (is_at cmp key k) xs ≡ chosen (is_at cmp key k) (Some x)
-  stands k xs i x order is within here =
-      at_place cmp key total k xs order
-      ∙ ap (λ n. chosen (is_at cmp key k) (slice_get xs n)) (sym is)
-      ∙ ap (chosen (is_at cmp key k)) (slice_get-get_or xs i x within ∙ ap Some here)
+pub standing_key : {B : Type 0} (k : Key) (b : B) (xs : List (Entry B)) → entry_key (standing k b (find (is_entry k) xs)) ≡ k
+standing_key {B = B} k b xs = by (find (is_entry k) xs) refl
+  where
+    by : (o : Option (Entry B)) → find (is_entry k) xs ≡ o → entry_key (standing k b o) ≡ k
+    by None e = refl
+    by (Some x) e = entry_at k x (found_at (is_entry k) xs x e)
 
-  pub there_at : (k : K) (xs : List X) (i : ℕ) (x : X) → IsAscending cmp key xs → i ≡ place_of cmp key k xs → i < length xs → get_or xs i x ≡ x → is_at cmp key k x ≡ true → IsThere cmp key k xs i
-  there_at k xs i x order is within here at =
-      record { order = order; is = is; within = within; found = rw (stands k xs i x order is within here, at) refl }
+pub changed_ascends : {B : Type 0} (k : Key) (f : Entry B → Entry B) → ((x : Entry B) → entry_key (f x) ≡ entry_key x) → (xs : List (Entry B)) → IsAscending key_cmp entry_key xs
+    → IsAscending key_cmp entry_key (with_row key_cmp entry_key k (option_map f (find (is_entry k) xs)) xs)
+changed_ascends {B = B} k f same_key xs order = by (find (is_entry k) xs) refl
+  where
+    by : (o : Option (Entry B)) → find (is_entry k) xs ≡ o → IsAscending key_cmp entry_key (with_row key_cmp entry_key k (option_map f o) xs)
+    by None e = none_ascends k xs order
+    by (Some x) e = keyed_ascends k (f x) xs (same_key x ∙ entry_at k x (found_at (is_entry k) xs x e)) order
 
-  pub absent_at : (k : K) (xs : List X) (i : ℕ) (x : X) → IsAscending cmp key xs → i ≡ place_of cmp key k xs → i < length xs → get_or xs i x ≡ x → is_at cmp key k x ≡ false → IsAbsent cmp key k xs i
-  absent_at k xs i x order is within here at =
-      record { order = order; is = is; within = omega arith; none = rw (stands k xs i x order is within here, at) refl }
+-- ---- an entry is changed in what is not its key
 
-  pub absent_past : (k : K) (xs : List X) (i : ℕ) → IsAscending cmp key xs → i ≡ place_of cmp key k xs → length xs ≤ i → IsAbsent cmp key k xs i
-  absent_past k xs i order is past =
-      let before : X → Bool = is_before cmp key k in
-      record {
-        order = order;
-        is = is;
-        within = omega (arith, length-filter_both before (λ x. not (before x)) (λ x. refl) xs);
-        none =
-            at_place cmp key total k xs order
-            ∙ ap (λ n. chosen (is_at cmp key k) (slice_get xs n)) (sym is)
-            ∙ ap (chosen (is_at cmp key k)) (slice_get_past xs i past);
-      }
+pub changed_there : {B : Type 0} (k : Key) (f : Entry B → Entry B) → ((x : Entry B) → entry_key (f x) ≡ entry_key x) → (xs ys : List (Entry B)) (i : ℕ) (x y : Entry B)
+    → xs ≡ ys → IsThere key_cmp entry_key k ys i → get_or ys i x ≡ x → y ≡ f x
+    → Becomes key_cmp entry_key (set xs i y) (with_row key_cmp entry_key k (option_map f (find (is_entry k) ys)) ys)
+changed_there {B = B} k f same_key xs ys i x y same there here is =
+    let found : find (is_entry k) ys ≡ Some x = found_is key_cmp entry_key key_total k ys i x there here in
+    let at : entry_key y ≡ k = ap entry_key is ∙ same_key x ∙ entry_at k x (found_at (is_entry k) ys x found) in
+    let there' : IsThere key_cmp entry_key (entry_key y) ys i = subst (λ j. IsThere key_cmp entry_key j ys i) (sym at) there in
+    let row : with_row key_cmp entry_key (entry_key y) (Some y) ys ≡ with_row key_cmp entry_key k (option_map f (find (is_entry k) ys)) ys =
+    (λ j. with_row key_cmp entry_key (at j) (Some (is j)) ys) ∙ ap (λ o. with_row key_cmp entry_key k (option_map f o) ys) (sym found) in
+    subst (λ zs. Becomes key_cmp entry_key (set xs i y) zs) row (put_there key_cmp entry_key key_total y xs ys i same there')
 
-  -- what is found under a key is what stands at its place
-  pub found_is : (k : K) (xs : List X) (i : ℕ) (x : X) → IsThere cmp key k xs i → get_or xs i x ≡ x → find (is_at cmp key k) xs ≡ Some x
-  found_is k xs i x there here = by (is_at cmp key k x) refl
-    where
-      at : find (is_at cmp key k) xs ≡ chosen (is_at cmp key k) (Some x)
-      at = stands k xs i x there.order there.is there.within here
+pub changed_absent : {B : Type 0} (k : Key) (f : Entry B → Entry B) (xs : List (Entry B)) (i : ℕ) → IsAbsent key_cmp entry_key k xs i → xs ≡ with_row key_cmp entry_key k (option_map f (find (is_entry k) xs)) xs
+changed_absent k f xs i absent =
+    taken_absent key_cmp entry_key key_total k xs i absent ∙ ap (λ o. with_row key_cmp entry_key k (option_map f o) xs) (sym absent.none)
 
-      by : (t : Bool) → is_at cmp key k x ≡ t → find (is_at cmp key k) xs ≡ Some x
-      by true e = at ∙ rw e refl
-      by false e =
-          let none : find (is_at cmp key k) xs ≡ None = at ∙ rw e refl in
-          let wrong : true ≡ false = sym there.found ∙ ap is_some none in
-          cc
+-- ---- one more, unless one stands there
 
-  -- ---- what is done there
+pub added_old : {B : Type 0} (k : Key) (b : B) (xs : List (Entry B)) → IsAscending key_cmp entry_key xs → is_some (find (is_entry k) xs) ≡ true → xs ≡ with_row key_cmp entry_key k (Some (standing k b (find (is_entry k) xs))) xs
+added_old {B = B} k b xs order there = by (find (is_entry k) xs) refl
+  where
+    by : (o : Option (Entry B)) → find (is_entry k) xs ≡ o → xs ≡ with_row key_cmp entry_key k (Some (standing k b o)) xs
+    by None e = let wrong : true ≡ false = sym there ∙ ap is_some e in cc
+    by (Some x) e = sym (ap (λ o. with_row key_cmp entry_key k o xs) (sym e) ∙ stays key_cmp entry_key key_total k xs order)
 
-  becomes : (xs ys : List X) → xs ≡ ys → IsAscending cmp key ys → Becomes cmp key xs ys
-  becomes xs ys are order = record { are = are; ascends = rw are order }
+-- ---- what a model holds is changed
 
-  set_there : (x : X) (xs : List X) (i : ℕ) → IsThere cmp key (key x) xs i → set xs i x ≡ with_row cmp key (key x) (Some x) xs
-  set_there x xs i there = ap (λ n. set xs n x) there.is ∙ replaced cmp key total (key x) x xs there.order there.found
-
-  insert_absent : (x : X) (xs : List X) (i : ℕ) → IsAbsent cmp key (key x) xs i → insert xs i x ≡ with_row cmp key (key x) (Some x) xs
-  insert_absent x xs i absent = ap (λ n. insert xs n x) absent.is ∙ inserted cmp key total (key x) x xs absent.order (ap is_some absent.none)
-
-  remove_there : (k : K) (xs : List X) (i : ℕ) → IsThere cmp key k xs i → remove xs i ≡ with_row cmp key k None xs
-  remove_there k xs i there = ap (remove xs) there.is ∙ removed cmp key total k xs there.order there.found
-
-  pub put_there : (x : X) (xs ys : List X) (i : ℕ) → xs ≡ ys → IsThere cmp key (key x) ys i → Becomes cmp key (set xs i x) (with_row cmp key (key x) (Some x) ys)
-  put_there x xs ys i same there =
-      becomes (set xs i x) (with_row cmp key (key x) (Some x) ys) (ap (λ zs. set zs i x) same ∙ set_there x ys i there) (with_row_ascends cmp key total x ys there.order)
-
-  pub put_absent : (x : X) (xs ys : List X) (i : ℕ) → xs ≡ ys → IsAbsent cmp key (key x) ys i → Becomes cmp key (insert xs i x) (with_row cmp key (key x) (Some x) ys)
-  put_absent x xs ys i same absent =
-      becomes (insert xs i x) (with_row cmp key (key x) (Some x) ys) (ap (λ zs. insert zs i x) same ∙ insert_absent x ys i absent) (with_row_ascends cmp key total x ys absent.order)
-
-  pub taken_there : (k : K) (xs ys : List X) (i : ℕ) → xs ≡ ys → IsThere cmp key k ys i → Becomes cmp key (remove xs i) (with_row cmp key k None ys)
-  taken_there k xs ys i same there =
-      becomes (remove xs i) (with_row cmp key k None ys) (ap (λ zs. remove zs i) same ∙ remove_there k ys i there) (with_none_ascends cmp key total k ys there.order)
-
-  pub taken_absent : (k : K) (xs : List X) (i : ℕ) → IsAbsent cmp key k xs i → xs ≡ with_row cmp key k None xs
-  taken_absent k xs i absent = sym (absent_stays cmp key total k xs absent.order absent.none)
+pub edited_rows : (k : Key) (f : ModelContent → ModelContent) (ms : List Held) → with_row key_cmp entry_key k (option_map (revalued f) (find (is_entry k) ms)) ms ≡ edited k f ms
+edited_rows k f ms = by (find (is_entry k) ms) refl
+  where
+    by : (o : Option Held) → find (is_entry k) ms ≡ o → with_row key_cmp entry_key k (option_map (revalued f) o) ms ≡ with_row key_cmp entry_key k (option_map (model k) (option_map f (option_map (λ m. m.value) o))) ms
+    by None e = refl
+    by (Some x) e = ap (λ j. with_row key_cmp entry_key k (Some (record { key = j; value = f x.value })) ms) (entry_at k x (found_at (is_entry k) ms x e))

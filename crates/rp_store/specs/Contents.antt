@@ -1,12 +1,15 @@
 -- Edits of what a model holds.
-use Rattle.std.specs.Prelude.{ℕ, List, []}
+use Rattle.std.specs.Prelude.{ℕ, ◌<◌, List, [], length}
 use Rattle.rp_value.specs.declared.value.Value.{Value}
 use Rattle.rp_content.specs.declared.content.Content.{Content}
 use Rattle.rp_content.specs.declared.instance.Entities.{Entities}
 use Rattle.rp_content.specs.Headers.{default_header}
+use Rattle.rp_content.specs.Names.{Takes}
 use Rattle.rp_rows.specs.declared.rows.ModelContent.{ModelContent}
 use Rattle.rp_rows.specs.Contents.{greatest_of}
-use Rattle.rp_rows.specs.Instances.{next_name, with_instance}
+use Rattle.rp_rows.specs.Instances.{next_name, with_instance, without_instance}
+use Rattle.rp_store.specs.declared.changes.Edit.{Edit}
+use Rattle.rp_store.specs.declared.changes.Edit.TheVariants.{Refill, Place, Drop}
 
 -- nothing, by this schema
 abbrev pub new_model : List ℕ → ModelContent
@@ -19,3 +22,18 @@ refilled content h = record h { greatest = greatest_of h.greatest content; conte
 -- one instance more, under the greatest name and one
 abbrev pub added : Entities → List Value → ModelContent → ModelContent
 added entities values h = with_instance (record { name = next_name h; entities = entities; values = values }) h
+
+abbrev pub edited_by : Edit → ModelContent → ModelContent
+edited_by (Refill content) = refilled content
+edited_by (Place i spare) = with_instance i
+edited_by (Drop n) = without_instance n
+
+-- there is room in so much memory for one more instance
+abbrev pub HasRoomIn : ℕ → ModelContent → Type 0
+HasRoomIn room h = length h.content.instances < room
+
+-- it has the room that it takes
+abbrev pub EditFits : Edit → ModelContent → Type 0
+EditFits (Refill content) h = Unit {0}
+EditFits (Place i spare) h = Takes spare i.name h.content.instances
+EditFits (Drop n) h = Unit {0}

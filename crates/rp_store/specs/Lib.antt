@@ -1,8 +1,5 @@
-pub mod Places
-pub mod Instances
-pub mod Marks
+pub mod Entries
 pub mod Models
 pub mod Contents
 pub mod Changes
-pub mod Stocks
 pub mod Kept

@@ -1,9 +1,8 @@
 //! Changes, and why they are refused.
 
-use crate::model::{KeptContent, KeptModel};
 use plain_data::{Items, Text};
-use rp_content::{Entities, Instance};
-use rp_rows::rows::Key;
+use rp_content::{Content, Entities, Instance, Spare};
+use rp_rows::rows::{Key, ModelContent};
 use rp_value::Value;
 use std::alloc::AllocError;
 
@@ -14,7 +13,7 @@ pub enum Change {
     Create(Key, Text),
     Remove(Key),
     /// Another content in place of the former.
-    Put(Key, KeptContent),
+    Put(Key, Content),
     /// One instance more, under the greatest name and one.
     Add(Key, Entities, Items<Value>),
     /// Another instance in place of the one of its name.
@@ -22,15 +21,23 @@ pub enum Change {
     DropInstance(Key, u64),
 }
 
+/// What is done to what a model holds, with all the memory that it takes.
+#[derive(Drop)]
+pub enum Edit {
+    /// Another content in place of the former.
+    Refill(Content),
+    /// The instance stands under its name. Where it is one more and there is no room for it, all move into the spare.
+    Place(Instance, Spare),
+    Drop(u64),
+}
+
 /// A change that nothing refuses, with all the memory that it takes. Dropped, it changes nothing.
 #[derive(Drop)]
 pub enum Prepared {
-    /// The model stands under its key from now on.
-    Hold(KeptModel),
+    /// The model stands under the key from now on.
+    Hold(Key, ModelContent),
     Remove(Key),
-    /// The instance stands under its name from now on.
-    Place(Key, Instance),
-    Drop(Key, u64),
+    Alter(Key, Edit),
 }
 
 /// Why a change is refused.
@@ -40,7 +47,7 @@ pub enum StoreFault {
     Exists,
     /// The key has none.
     Absent,
-    /// The model has all instances that it may, or its last name is used.
+    /// The content has more instances or links than a model may, or the model all instances that it may, or its last name is used.
     TooMany,
     NoSuchInstance,
     /// Another instance of the model refers to the instance.

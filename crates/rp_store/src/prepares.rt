@@ -1,44 +1,55 @@
 //! How changes are prepared.
 #![tactic(auto, unfolding(crate::specs::Kept::Fits))]
 
-ghost use Rattle.std.specs.Prelude.{◌≡◌, ◌+◌, Some, None, MatchResult, option_map};
+ghost use Rattle.std.specs.Prelude.{◌≡◌, ◌+◌, ◌<◌, Some, None, MatchResult, IfOk, length, nat_lt, ◌||◌, option_map};
 ghost use Rattle.rp_store.specs.declared.changes.Change.TheVariants as c;
+ghost use Rattle.rp_store.specs.Entries.{HasAt};
 ghost use Rattle.rp_store.specs.Models.{held_at};
-ghost use Rattle.rp_store.specs.Changes.{tested, is_full, is_missing, is_needed};
+ghost use Rattle.rp_store.specs.Changes.{tested, holds_too_many, is_full};
+ghost use Rattle.rp_store.specs.Contents.{HasRoomIn};
 ghost use Rattle.rp_store.specs.Kept.{Prepares};
 
-use crate::changes::{Change, Prepared, StoreFault};
-use crate::model::{KeptContent, KeptModel};
+use crate::changes::{Change, Edit, Prepared, StoreFault};
 use crate::store::Store;
+use crate::uses::is_used;
 use plain_data::{Items, Text};
-use rp_content::{Entities, Instance};
-use rp_rows::limits::{MAX_INSTANCES, MAX_NAME};
-use rp_rows::rows::Key;
+use rp_content::{Content, Entities, Instance, Instances, Spare};
+use rp_rows::limits::{MAX_INSTANCES, MAX_LINKS, MAX_NAME};
+use rp_rows::rows::{Key, ModelContent};
 use rp_value::Value;
-use std::alloc::Global;
+use std::alloc::{AllocError, Global};
+
+/// Whether it is more than a model may hold.
+fn is_too_much(content: &Content) -> bool
+    ensures { result ≡ holds_too_many content.now }
+{
+    content.instances.len() > MAX_INSTANCES || content.links.len() > MAX_LINKS
+}
 
 impl Store {
     /// A model that nothing was put into. Its schema's name is in upper case.
-    pub fn create(&mut self, alloc: Global, key: Key, schema: Text) -> Result<Prepared, StoreFault>
-        ensures models { self.new.models ≡ self.old.models }
-        ensures prepares { Prepares (c.Create key schema) self.old.models self.new result }
+    fn create(&mut self, alloc: Global, key: Key, schema: Text) -> Result<Prepared, StoreFault>
+        ensures models { self.new.entries ≡ self.old.entries }
+        ensures prepares { Prepares (c.Create key schema) self.old.entries self.new result }
     {
         if self.find(&key).is_some() {
             return Err(StoreFault::Exists);
         }
-        let content = KeptContent::new(alloc)?;
-        self.reserve()?;
-        Ok(Prepared::Hold(KeptModel {
+        let content = Content::new(alloc)?;
+        self.models.reserve()?;
+        Ok(Prepared::Hold(
             key,
-            schema,
-            greatest: 0,
-            content,
-        }))
+            ModelContent {
+                schema,
+                greatest: 0,
+                content,
+            },
+        ))
     }
 
     /// Without the model of this key.
-    pub fn remove(&self, key: Key) -> Result<Prepared, StoreFault>
-        ensures { Prepares (c.Remove key) self.now.models self.now result }
+    fn remove(&self, key: Key) -> Result<Prepared, StoreFault>
+        ensures { Prepares (c.Remove key) self.now.entries self.now result }
     {
         match self.find(&key) {
             Some(_) => Ok(Prepared::Remove(key)),
@@ -47,89 +58,92 @@ impl Store {
     }
 
     /// Another content in place of that of the model.
-    pub fn put(&self, alloc: Global, key: Key, content: KeptContent) -> Result<Prepared, StoreFault>
-        ensures { Prepares (c.Put key content) self.now.models self.now result }
+    fn put(&self, key: Key, content: Content) -> Result<Prepared, StoreFault>
+        ensures { Prepares (c.Put key content) self.now.entries self.now result }
     {
-        let Some(model) = self.find(&key) else {
+        if self.find(&key).is_none() {
             return Err(StoreFault::Absent);
-        };
-        let greatest = content.greatest_of(model.greatest);
-        let schema = model.schema.copy(alloc)?;
-        Ok(Prepared::Hold(KeptModel {
-            key,
-            schema,
-            greatest,
-            content,
-        }))
+        }
+        if is_too_much(&content) {
+            return Err(StoreFault::TooMany);
+        }
+        Ok(Prepared::Alter(key, Edit::Refill(content)))
     }
 
     /// The name of the next instance of the model.
     fn next_name(&self, key: &Key) -> Result<u64, StoreFault>
-        ensures { MatchResult result (λ name. (tested is_full (held_at key.now self.now.models) ≡ None) × (option_map (λ h. h.greatest + 1) (held_at key.now self.now.models) ≡ Some name)) (λ why. tested is_full (held_at key.now self.now.models) ≡ Some why) }
+        ensures { MatchResult result (λ name. (tested is_full (held_at key.now self.now.entries) ≡ None) × (option_map (λ h. h.greatest + 1) (held_at key.now self.now.entries) ≡ Some name)) (λ why. tested is_full (held_at key.now self.now.entries) ≡ Some why) }
     {
         let Some(model) = self.find(key) else {
             return Err(StoreFault::Absent);
         };
-        if model.greatest >= MAX_NAME || model.content.instances.len() >= MAX_INSTANCES {
+        if model.value.greatest >= MAX_NAME
+            || model.value.content.instances.len() >= MAX_INSTANCES
+        {
             return Err(StoreFault::TooMany);
         }
-        Ok(model.greatest + 1)
+        Ok(model.value.greatest + 1)
+    }
+
+    /// Room for one instance more of the model of this key.
+    fn spare_in(&self, alloc: Global, key: &Key) -> Result<Spare, AllocError>
+        ensures { IfOk result (λ spare. HasAt (HasRoomIn spare) key.now self.now.entries) }
+    {
+        match self.find(key) {
+            Some(model) => model.value.content.instances.spare(alloc),
+            None => Ok(Spare::none(alloc)),
+        }
     }
 
     /// One instance more of the model, under its greatest name and one.
-    pub fn add(
-        &mut self,
+    fn add(
+        &self,
+        alloc: Global,
         key: Key,
         entities: Entities,
         values: Items<Value>,
     ) -> Result<Prepared, StoreFault>
-        ensures models { self.new.models ≡ self.old.models }
-        ensures prepares { Prepares (c.Add key entities values) self.old.models self.new result }
+        ensures { Prepares (c.Add key entities values) self.now.entries self.now result }
     {
         let name = self.next_name(&key)?;
-        self.reserve_in(&key)?;
+        let spare = self.spare_in(alloc, &key)?;
         let instance = Instance {
             name,
             entities,
             values,
         };
-        Ok(Prepared::Place(key, instance))
+        Ok(Prepared::Alter(key, Edit::Place(instance, spare)))
     }
 
     /// Another instance in place of the one of its name.
-    pub fn set(&self, key: Key, instance: Instance) -> Result<Prepared, StoreFault>
-        ensures { Prepares (c.Set key instance) self.now.models self.now result }
+    fn set(&self, alloc: Global, key: Key, instance: Instance) -> Result<Prepared, StoreFault>
+        ensures { Prepares (c.Set key instance) self.now.entries self.now result }
     {
-        let Some(model) = self.find(&key) else {
+        if self.find(&key).is_none() {
             return Err(StoreFault::Absent);
-        };
-        match model.content.instances.get(instance.name) {
-            Some(_) => Ok(Prepared::Place(key, instance)),
-            None => Err(StoreFault::NoSuchInstance),
         }
+        if self.get(&key, instance.name).is_none() {
+            return Err(StoreFault::NoSuchInstance);
+        }
+        let spare = Spare::none(alloc);
+        Ok(Prepared::Alter(key, Edit::Place(instance, spare)))
     }
 
     /// Without the instance of this name.
-    pub fn drop_instance(
-        &mut self,
-        alloc: Global,
-        key: Key,
-        name: u64,
-    ) -> Result<Prepared, StoreFault>
-        ensures models { self.new.models ≡ self.old.models }
-        ensures prepares { Prepares (c.DropInstance key name) self.old.models self.new result }
+    fn drop_instance(&self, key: Key, name: u64) -> Result<Prepared, StoreFault>
+        ensures { Prepares (c.DropInstance key name) self.now.entries self.now result }
     {
-        self.mark_in(alloc, &key)?;
         let Some(model) = self.find(&key) else {
             return Err(StoreFault::Absent);
         };
-        if model.content.instances.get(name).is_none() {
+        let instances = &model.value.content.instances;
+        if instances.get(name).is_none() {
             return Err(StoreFault::NoSuchInstance);
         }
-        if model.content.instances.is_used(name) {
+        if is_used(name, instances.as_slice()) {
             return Err(StoreFault::InUse);
         }
-        Ok(Prepared::Drop(key, name))
+        Ok(Prepared::Alter(key, Edit::Drop(name)))
     }
 
     /// Makes all the room that a change takes, and changes nothing that is seen.
@@ -138,16 +152,16 @@ impl Store {
     ///
     /// The first that holds of why it is refused; or `NoMemory`.
     pub fn prepare(&mut self, alloc: Global, change: Change) -> Result<Prepared, StoreFault>
-        ensures models { self.new.models ≡ self.old.models }
-        ensures prepares { Prepares change self.old.models self.new result }
+        ensures models { self.new.entries ≡ self.old.entries }
+        ensures prepares { Prepares change self.old.entries self.new result }
     {
         match change {
             Change::Create(key, schema) => self.create(alloc, key, schema),
             Change::Remove(key) => self.remove(key),
-            Change::Put(key, content) => self.put(alloc, key, content),
-            Change::Add(key, entities, values) => self.add(key, entities, values),
-            Change::Set(key, instance) => self.set(key, instance),
-            Change::DropInstance(key, name) => self.drop_instance(alloc, key, name),
+            Change::Put(key, content) => self.put(key, content),
+            Change::Add(key, entities, values) => self.add(alloc, key, entities, values),
+            Change::Set(key, instance) => self.set(alloc, key, instance),
+            Change::DropInstance(key, name) => self.drop_instance(key, name),
         }
     }
 }

@@ -7,8 +7,22 @@ use Rattle.p21_grammar.specs.File.{file_of}
 use Rattle.p21_grammar.specs.Visited.{ShownAll}
 use Rattle.p21_bind.specs.OnePass.{Becomes, loaded}
 use Rattle.p21_mappings.specs.Contents.{content}
-use Rattle.p21_bind.proofs.WholeFiles.{loaded_whole, of_found}
+use Rattle.p21_bind.proofs.WholeFiles.{loaded_whole, loaded_named, of_found}
 use Rattle.p21_bind.proofs.loading.load.Goals as goal
+
+pub into_content-requires : goal.into_content-requires
+into_content-requires c =
+    let first = c.in_ok-loading.loading in
+    let now = c.read_visited.new.visitor in
+    let start : Becomes first [] first = record {
+      layouts = refl;
+      names = sym c.in_ok-loading.ensures.names;
+      references = sym c.in_ok-loading.ensures.references;
+      instances = ap Ok (sym c.in_ok-loading.ensures.instances);
+    } in
+    let given : IfSome c.in_ok-raw.field-0 (λ rest. ShownAll (Becomes first) rest now (file_of c.args.text.now)) = c.in_ok-raw.ensures first start in
+    let shown = subst (λ o. IfSome o (λ rest. ShownAll (Becomes first) rest now (file_of c.args.text.now))) c.in-Some.is given in
+    loaded_named first now c.in-Some.raw (file_of c.args.text.now) shown
 
 pub returns : goal.returns
 returns c =

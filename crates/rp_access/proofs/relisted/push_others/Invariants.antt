@@ -1,5 +1,5 @@
 use Rattle.std.proofs.Common.{◌≡◌, ◌++◌, take}
-use Rattle.rp_tables.specs.Entries.{without_name}
+use Rattle.rp_store.specs.Entries.{without_name}
 use Rattle.rp_access.proofs.relisted.push_others.Given as goal
 
 abbrev pub invariant-loop-other : goal.invariant-loop-other

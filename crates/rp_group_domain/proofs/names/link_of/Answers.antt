@@ -1,17 +1,15 @@
-use Rattle.std.proofs.Common.{Ok, Err, rules, sym}
+use Rattle.std.proofs.Common.{sym}
 use Rattle.std.specs.Ordering.{nat_cmp}
 use Rattle.std.proofs.lemmas.Cmp.{nat_cmp_total}
+use Rattle.sorted_tables.proofs.Positions.{there_first, absent_last}
 use Rattle.rp_rows.specs.Contents.{link_name}
 use Rattle.rp_group_domain.specs.Models.{link_of}
-use Rattle.rp_group_domain.proofs.Searching.{searched_by_key}
 use Rattle.rp_group_domain.proofs.names.link_of.Goals as goal
 
 pub returns-in-Ok : goal.returns-in-Ok
 unfolding link_of
-returns-in-Ok c =
-    sym (searched_by_key nat_cmp link_name nat_cmp_total c.args.name c.args.links.now c.requires (Ok c.in-Ok.place) c.in-Ok.ensures.bound c.in-Ok.ensures.position (λ q a j r called. search rules))
+returns-in-Ok c = sym (there_first nat_cmp link_name nat_cmp_total c.args.name c.args.links.now c.in-Ok.place c.in-Ok.ensures)
 
 pub returns-in-Err : goal.returns-in-Err
 unfolding link_of
-returns-in-Err c =
-    sym (searched_by_key nat_cmp link_name nat_cmp_total c.args.name c.args.links.now c.requires (Err c.in-Err.field-0) c.in-Err.ensures.bound c.in-Err.ensures.position (λ q a j r called. search rules))
+returns-in-Err c = sym (absent_last nat_cmp link_name nat_cmp_total c.args.name c.args.links.now c.in-Err.field-0 c.in-Err.ensures)

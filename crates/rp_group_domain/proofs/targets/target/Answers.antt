@@ -1,9 +1,9 @@
 use Rattle.std.proofs.Common.{sym, ◌∙◌, ap}
 use Rattle.sorted_tables.specs.Table.{is_at}
+use Rattle.sorted_tables.proofs.Positions.{found}
 use Rattle.rp_population.specs.Populations.{target_of}
 use Rattle.rp_group_domain.specs.Models.{own_place, place_cmp}
 use Rattle.rp_group_domain.proofs.PlaceOrder.{place_position-is, place_total, tied_places}
-use Rattle.rp_group_domain.proofs.Searching.{found}
 use Rattle.rp_group_domain.proofs.targets.target.Goals as goal
 
 pub returns-in-Some : goal.returns-in-Some

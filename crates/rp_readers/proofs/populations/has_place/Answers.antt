@@ -1,7 +1,7 @@
 use Rattle.std.proofs.Common.{◌≡◌, Some, ◌∙◌, ap}
 use Rattle.rp_population.specs.Populations.{population, has_place}
 use Rattle.rp_plain.specs.Readers.{counted_in}
-use Rattle.rp_tables.specs.Stored.{row_of}
+use Rattle.rp_sight.specs.Stored.{row_of}
 use Rattle.rp_readers.specs.Told.{told}
 use Rattle.rp_readers.proofs.Standing.{stands_there, stands_nowhere}
 use Rattle.rp_readers.proofs.populations.has_place.Goals as goal

@@ -3,7 +3,7 @@ use Rattle.rp_rows.specs.declared.rows.Right.TheVariants.{Owns}
 use Rattle.std.specs.Prelude.{if◌then◌else◌}
 use Rattle.rp_rows.specs.Rows.{Model}
 use Rattle.rp_rows.specs.Sight.{granted_right}
-use Rattle.rp_tables.specs.Stored.{row_of}
+use Rattle.rp_sight.specs.Stored.{row_of}
 use Rattle.rp_sight.specs.Granted.{granted_of}
 use Rattle.rp_sight.proofs.Seeing.{level_known}
 use Rattle.rp_sight.proofs.levels.level.Goals as goal

@@ -1,6 +1,6 @@
 use Rattle.std.proofs.Common.{sym, ◌∙◌}
 use Rattle.rp_rows.specs.Sight.{counts}
-use Rattle.rp_tables.specs.Stored.{row_of}
+use Rattle.rp_sight.specs.Stored.{row_of}
 use Rattle.rp_sight.proofs.Marking.{marked_at, unmarked_at, unmarked_none, on_ok}
 use Rattle.rp_sight.proofs.marks.mark.Goals as goal
 

@@ -1,7 +1,7 @@
 use Rattle.std.proofs.Common.{true, false, sym, ◌∙◌}
 use Rattle.std.specs.List.{find}
 use Rattle.rp_rows.specs.Rows.{is_row, key_of}
-use Rattle.rp_tables.specs.Stored.{row_of}
+use Rattle.rp_sight.specs.Stored.{row_of}
 use Rattle.rp_sight.proofs.Marking.{shown_marks, no_marks, false_marks, on_ok}
 use Rattle.rp_sight.proofs.marks.mark_at.Goals as goal
 

@@ -1,6 +1,6 @@
 use Rattle.std.proofs.Common.{sym, ◌∙◌, ap}
 use Rattle.rp_rows.specs.Sight.{counts}
-use Rattle.rp_tables.specs.Stored.{row_of}
+use Rattle.rp_sight.specs.Stored.{row_of}
 use Rattle.rp_sight.specs.Kept.{marked}
 use Rattle.rp_sight.proofs.Marking.{at_key, any_of, turn, done, marks_members}
 use Rattle.rp_sight.proofs.marks.mark_members.Goals as goal

@@ -1,6 +1,6 @@
 use Rattle.std.proofs.Common.{drop}
 use Rattle.rp_rows.specs.Sight.{counts}
-use Rattle.rp_tables.specs.Stored.{row_of}
+use Rattle.rp_sight.specs.Stored.{row_of}
 use Rattle.rp_sight.proofs.Marking.{IsMarking, at_key}
 use Rattle.rp_sight.proofs.marks.mark_members.Given as goal
 

@@ -2,7 +2,7 @@ use Rattle.std.proofs.Common.{◌≡◌, ◌∙◌, ap, map, subst}
 use Rattle.std.specs.Prelude.{IfOk}
 use Rattle.std.specs.List.{flat_map}
 use Rattle.rp_sight.specs.Listed.{counted_at}
-use Rattle.rp_tables.specs.Stored.{row_of}
+use Rattle.rp_sight.specs.Stored.{row_of}
 use Rattle.rp_sight.proofs.Counted.{counted_walk}
 use Rattle.rp_sight.proofs.members.counted_models.Goals as goal
 

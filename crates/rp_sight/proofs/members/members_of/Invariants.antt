@@ -1,5 +1,5 @@
 use Rattle.std.proofs.Common.{◌≡◌, take, map}
-use Rattle.rp_tables.specs.Stored.{row_of}
+use Rattle.rp_sight.specs.Stored.{row_of}
 use Rattle.rp_sight.specs.Listed.{member_in, member_of}
 use Rattle.rp_sight.proofs.members.members_of.Given as goal
 

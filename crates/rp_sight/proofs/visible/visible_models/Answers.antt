@@ -1,6 +1,6 @@
 use Rattle.std.proofs.Common.{◌<◌, false, length, arith, sym, ◌∙◌, ap, subst}
 use Rattle.std.proofs.lemmas.List.{get_or_default, length-map}
-use Rattle.rp_tables.specs.Stored.{row_of}
+use Rattle.rp_sight.specs.Stored.{row_of}
 use Rattle.rp_sight.specs.Seen.{level_by}
 use Rattle.rp_sight.specs.Granted.{granted_of, counts_in_any}
 use Rattle.rp_sight.specs.Seen.{seen_of}

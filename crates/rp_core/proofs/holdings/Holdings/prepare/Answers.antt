@@ -5,7 +5,7 @@ use Rattle.sorted_tables.specs.Table.{IsAscending}
 use Rattle.rp_rows.specs.Rows.{key_cmp, row_key, Model, GroupRow}
 use Rattle.rp_plain.specs.Plain.{Plain}
 use Rattle.rp_core.specs.Held.{partner_at, turn, made_models, made_groups, models_by, groups_by}
-use Rattle.rp_tables.specs.Named.{HoldsNamed}
+use Rattle.rp_readers.specs.Named.{HoldsNamed}
 use Rattle.rp_readers.specs.Listed.{HoldsListed}
 use Rattle.rp_readers.specs.Told.{told}
 use Rattle.rp_core.proofs.Preparing.{prepared_from, refused_from, wanting}
@@ -42,11 +42,6 @@ plan-requires-clause-populations c =
     let models : c.models.result.now.rows ≡ c.args.self.now.content.models = ap (λ t. t.rows) c.models.ensures ∙ ap (λ h. h.content.models) c.self.view_is in
     told_populations read c.index.result.now (subst (λ (ms : List Model). IsAscending key_cmp row_key ms) (sym models) c.requires.order.models)
     (subst (λ (ms : List Model). AllByRecursion HoldsNamed ms) (sym models) c.requires.named)
-
-pub of_plan-requires : goal.of_plan-requires
-of_plan-requires c =
-    let models : c.self.inside.access.models.rows ≡ c.args.self.now.content.models = ap (λ h. h.content.models) c.self.view_is in
-    subst (λ (ms : List Model). AllByRecursion HoldsNamed ms) (sym models) c.requires.named
 
 pub returns-in-Err-clause-prepared : goal.returns-in-Err-clause-prepared
 unfolding told

@@ -1,7 +1,7 @@
 use Rattle.std.proofs.Common.{◌≡◌, ap, map, sym, subst}
 use Rattle.std.specs.Prelude.{filter, Some, IfOk}
 use Rattle.rp_rows.specs.Sight.{counts}
-use Rattle.rp_tables.specs.Stored.{row_of}
+use Rattle.rp_sight.specs.Stored.{row_of}
 use Rattle.rp_plain.specs.Readers.{held, counted_in}
 use Rattle.rp_readers.specs.Listed.{counted_of}
 use Rattle.rp_readers.specs.Told.{told}

@@ -11,7 +11,7 @@ pub returns : goal.returns
 unfolding told
 returns c =
     let who = c.args.self.now.caller.now in
-    let gs = c.args.self.now.groups.now.rows in
+    let gs = c.args.self.now.access.now.groups.rows in
     let seen = filter (sees_group who) gs in
     let are = told_by group_told seen_of (seen_group who) c.deref.result.now seen (ap (map seen_of) c.deref.ensures.value ∙ c.in_ok-seen.ensures) in
     subst (λ items. IfOk c.group_rows.result (λ rows. rows ≡ items)) are c.group_rows.ensures

@@ -5,8 +5,8 @@ use Rattle.sorted_tables.specs.Table.{with_row}
 use Rattle.rp_rows.specs.declared.rows.Key.{Key}
 use Rattle.rp_rows.specs.Rows.{text_cmp, grant_key, key_cmp, is_row, GroupRow, key_of}
 use Rattle.rp_rows.specs.Alterations.{grants_of, grant_for}
-use Rattle.rp_tables.specs.Entries.{entry_key}
-use Rattle.rp_tables.specs.Stored.{row_of}
+use Rattle.rp_store.specs.Entries.{entry_key}
+use Rattle.rp_sight.specs.Stored.{row_of}
 use Rattle.rp_sight.specs.declared.groups.Groups.TheInside.{Inside}
 use Rattle.rp_sight.specs.Granted.{Names, KeepsGranted, names_at, relisted}
 use Rattle.rp_sight.proofs.Names.{regrant_keeps, none_regranted, regranted_rows}

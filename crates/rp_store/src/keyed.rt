@@ -1,0 +1,281 @@
+//! What stands under keys, in the order of owner and name.
+
+ghost use Rattle.std.specs.Prelude.{◌≡◌, ◌<◌, ◌≤◌, ◌+◌, [], Some, None, length, take, drop, filter, not, is_some, get_or, OnOk, IfOk, MatchResult, option_copied, option_map};
+ghost use Rattle.std.specs.List.{find};
+ghost use Rattle.std.specs.Ordering.{is_lt, is_gt};
+ghost use Rattle.std.specs.Str.{bytes_eq};
+ghost use Rattle.sorted_tables.specs.Table.{with_row, IsAscending};
+ghost use Rattle.sorted_tables.specs.Places.{IsThere, IsAbsent};
+ghost use Rattle.rp_rows.specs.Rows.{text_cmp, key_cmp, key_of};
+ghost use Rattle.rp_store.specs.Entries.{entry_key, is_entry, with_value, revalued, standing, without_name};
+
+use plain_data::{Rows, Text};
+use rp_rows::rows::Key;
+use sorted_tables::{Row, Sought};
+use std::alloc::{AllocError, Global};
+use std::cmp::Ordering;
+use std::marker::Model;
+use std::mem::replace;
+
+/// What stands under a key.
+#[derive(Drop)]
+pub struct Entry<B> {
+    pub key: Key,
+    pub value: B,
+}
+
+/// Entries in the order of their keys, each key once.
+#[derive(Drop)]
+pub struct Keyed<B> {
+    pub(crate) entries: Vec<Entry<B>>,
+}
+
+impl<B> Model for Keyed<B> {
+    ghost use Rattle.std.specs.Prelude.{◌-◌, vec_len};
+    ghost use Rattle.std.specs.Vec.{vec_capacity};
+    ghost use Rattle.sorted_tables.specs.Table.{IsAscending};
+    ghost use Rattle.rp_rows.specs.Rows.{key_cmp};
+    ghost use Rattle.rp_store.specs.Entries.{Entries, entry_key};
+
+    ghost Value = { Entries B };
+
+    ghost view = { λ k. record {
+      entries = k.entries.items;
+      room = vec_capacity k.entries - vec_len k.entries;
+    } };
+
+    ghost invariant = { λ k. IsAscending key_cmp entry_key k.entries.items };
+}
+
+impl<B> Row for Entry<B> {
+    ghost use Rattle.rp_rows.specs.Rows.{key_cmp};
+    ghost use Rattle.rp_rows.proofs.Keys.{key_total};
+    ghost use Rattle.rp_store.specs.Entries.{entry_key};
+
+    type Key = Key;
+
+    ghost key = { entry_key };
+
+    ghost cmp = { key_cmp };
+
+    fn order(&self, other: &Entry<B>) -> Ordering {
+        self.key.order(&other.key)
+    }
+
+    ghost total = { key_total };
+}
+
+/// The key of this owner and name.
+#[derive(Clone, Copy)]
+struct Parts<'a> {
+    owner: &'a Text,
+    name: &'a Text,
+}
+
+impl<'a, B> Sought<Entry<B>> for Parts<'a> {
+    ghost use Rattle.rp_rows.specs.Rows.{key_of};
+
+    ghost sought = { λ p. key_of p.owner.now p.name.now };
+
+    fn order_of(&self, entry: &Entry<B>) -> Ordering {
+        entry.key.order_to(self.owner, self.name)
+    }
+}
+
+impl<B> Sought<Entry<B>> for Key {
+    ghost sought = { λ k. k };
+
+    fn order_of(&self, entry: &Entry<B>) -> Ordering {
+        entry.key.order(self)
+    }
+}
+
+fn is_of_earlier(owner: &Text, key: &Key) -> bool
+    ensures { result ≡ is_lt (text_cmp key.now.owner owner.now) }
+{
+    key.owner.order(owner).is_lt()
+}
+
+fn is_not_of_later(owner: &Text, key: &Key) -> bool
+    ensures { result ≡ not (is_gt (text_cmp key.now.owner owner.now)) }
+{
+    key.owner.order(owner).is_le()
+}
+
+fn front<B>(entries: &[Entry<B>], count: usize) -> &[Entry<B>]
+    requires { count ≤ length entries.now }
+    ensures { result.now ≡ take count entries.now }
+{
+    &entries[..count]
+}
+
+fn behind<B>(entries: &[Entry<B>], count: usize) -> &[Entry<B>]
+    requires { count ≤ length entries.now }
+    ensures { result.now ≡ drop count entries.now }
+{
+    &entries[count..]
+}
+
+impl<B> Keyed<B> {
+    pub fn new(alloc: Global) -> Keyed<B>
+        ensures { result.entries ≡ [] }
+    {
+        Keyed {
+            entries: Vec::new(alloc),
+        }
+    }
+
+    pub fn len(&self) -> usize
+        ensures { result ≡ length self.now.entries }
+    {
+        self.entries.len()
+    }
+
+    /// All of them, whose keys ascend.
+    pub fn entries(&self) -> &[Entry<B>]
+        ensures are { result.now ≡ self.now.entries }
+        ensures order { IsAscending key_cmp entry_key self.now.entries }
+    {
+        self.entries.as_slice()
+    }
+
+    pub fn entry(&self, place: usize) -> &Entry<B>
+        requires { place < length self.now.entries }
+        ensures { result.now ≡ get_or self.now.entries place result.now }
+    {
+        &self.entries[place]
+    }
+
+    /// Where the key of this owner and name stands, or where it is to stand.
+    fn search_for(&self, owner: &Text, name: &Text) -> Result<usize, usize>
+        ensures { MatchResult result (IsThere key_cmp entry_key (key_of owner.now name.now) self.now.entries) (IsAbsent key_cmp entry_key (key_of owner.now name.now) self.now.entries) }
+    {
+        sorted_tables::search(&self.entries, &Parts { owner, name })
+    }
+
+    /// Where the key stands, or where it is to stand.
+    pub fn search(&self, key: &Key) -> Result<usize, usize>
+        ensures { MatchResult result (IsThere key_cmp entry_key key.now self.now.entries) (IsAbsent key_cmp entry_key key.now self.now.entries) }
+    {
+        sorted_tables::search(&self.entries, key)
+    }
+
+    /// What stands under the key of this owner and name.
+    pub fn find_for(&self, owner: &Text, name: &Text) -> Option<&Entry<B>>
+        ensures { option_copied result ≡ find (is_entry (key_of owner.now name.now)) self.now.entries }
+    {
+        sorted_tables::find(&self.entries, &Parts { owner, name })
+    }
+
+    /// What stands under the key.
+    pub fn find(&self, key: &Key) -> Option<&Entry<B>>
+        ensures { option_copied result ≡ find (is_entry key.now) self.now.entries }
+    {
+        sorted_tables::find(&self.entries, key)
+    }
+
+    /// How many keys are of owners before this one.
+    fn first_place(&self, owner: &Text) -> usize
+        ensures { result ≡ length (filter (λ x. is_lt (text_cmp x.key.owner owner.now)) self.now.entries) }
+    {
+        self.entries
+            .partition_point(|entry| is_of_earlier(owner, &entry.key))
+    }
+
+    /// How many keys are of owners before this one, or his own.
+    fn last_place(&self, owner: &Text) -> usize
+        ensures { result ≡ length (filter (λ x. not (is_gt (text_cmp x.key.owner owner.now))) self.now.entries) }
+    {
+        self.entries
+            .partition_point(|entry| is_not_of_later(owner, &entry.key))
+    }
+
+    /// How many keys are the owner's. Those of others aren't walked over.
+    pub fn count_of(&self, owner: &Text) -> usize
+        ensures { result ≡ length (filter (λ x. bytes_eq x.key.owner owner.now) self.now.entries) }
+    {
+        self.last_place(owner) - self.first_place(owner)
+    }
+
+    /// What stands under the keys of the owner. Those of others aren't walked over.
+    pub fn of_owner(&self, owner: &Text) -> &[Entry<B>]
+        ensures { result.now ≡ filter (λ x. bytes_eq x.key.owner owner.now) self.now.entries }
+    {
+        let first = self.first_place(owner);
+        let last = self.last_place(owner);
+        behind(front(&self.entries, last), first)
+    }
+}
+
+impl<B: Drop> Keyed<B> {
+    /// Makes room for one more entry.
+    pub fn reserve(&mut self) -> Result<(), AllocError>
+        ensures entries { self.new.entries ≡ self.old.entries }
+        ensures room { OnOk result (0 < self.new.room) }
+    {
+        self.entries.reserve(1)
+    }
+
+    /// This stands under the key from now on.
+    pub fn put(&mut self, key: Key, value: B)
+        requires { 0 < self.old.room }
+        ensures { self.new.entries ≡ with_row key_cmp entry_key key (Some (record { key = key; value = value })) self.old.entries }
+    {
+        sorted_tables::put(&mut self.entries, Entry { key, value });
+    }
+
+    /// This stands under the key from now on, unless something stands there.
+    pub fn add(&mut self, key: Key, value: B)
+        requires { 0 < self.old.room }
+        ensures { self.new.entries ≡ with_row key_cmp entry_key key (Some (standing key value (find (is_entry key) self.old.entries))) self.old.entries }
+    {
+        if self.find(&key).is_some() {
+            return;
+        }
+        sorted_tables::put(&mut self.entries, Entry { key, value });
+    }
+
+    /// This stands under the key from now on, if something stands there.
+    pub fn replace(&mut self, key: &Key, value: B)
+        ensures { self.new.entries ≡ with_row key_cmp entry_key key.now (option_map (with_value value) (find (is_entry key.now) self.old.entries)) self.old.entries }
+    {
+        if let Ok(place) = self.search(key) {
+            self.entries[place].value = value;
+        }
+    }
+
+    /// Nothing stands under the key from now on.
+    pub fn remove(&mut self, key: &Key)
+        ensures { self.new.entries ≡ with_row key_cmp entry_key key.now None self.old.entries }
+    {
+        sorted_tables::remove(&mut self.entries, key);
+    }
+}
+
+/// The names without this one. It takes no memory.
+fn others(names: Rows<Text>, name: &Text) -> Rows<Text>
+    ensures { result ≡ without_name name.now names }
+{
+    let mut names = names.into_vec();
+    names.retain(|other| !other.is(name));
+    Rows::from_vec(names)
+}
+
+/// The names of the entry without this one. It takes no memory.
+fn drop_name(alloc: Global, entry: &mut Entry<Rows<Text>>, name: &Text)
+    ensures { entry.new ≡ revalued (without_name name.now) entry.old }
+{
+    let names = replace(&mut entry.value, Rows::new(alloc));
+    entry.value = others(names, name);
+}
+
+impl Keyed<Rows<Text>> {
+    /// The name isn't among those under the key of this owner and name from now on. It takes no memory.
+    pub fn drop_name(&mut self, alloc: Global, owner: &Text, other: &Text, name: &Text)
+        ensures { self.new.entries ≡ with_row key_cmp entry_key (key_of owner.now other.now) (option_map (revalued (without_name name.now)) (find (is_entry (key_of owner.now other.now)) self.old.entries)) self.old.entries }
+    {
+        if let Ok(place) = self.search_for(owner, other) {
+            drop_name(alloc, &mut self.entries[place], name);
+        }
+    }
+}
