@@ -103,6 +103,6 @@ pub fn plan_members(alloc: Global, asked: &Readers<'_, '_>, group: &Key) -> Resu
     if let Some(refusal) = first(&tests) {
         return Err(refusal);
     }
-    Ok(Plan {
-        reply: Reply::Members(asked.members(alloc, group)?)))
+    let members = asked.members(alloc, group)?;
+    Ok(Plan::told(alloc, Reply::Members(members)))
 }

@@ -62,7 +62,7 @@ fn is_counted(groups: &Groups, caller: &Text, model: &RowRef<'_, ModelContent>) 
     groups
         .granted_to(caller)
         .iter()
-        .any(|names| counts_among(table, caller, model, names))
+        .any(|names| counts_among(&table, caller, model, names))
 }
 
 /// What the partner may do with the model, where it counts so in groups that he is granted.

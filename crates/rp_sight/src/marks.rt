@@ -153,11 +153,12 @@ pub fn counted_marks(
     ensures order { IsAscending key_cmp row_key groups.now.rows }
 {
     // (The table tells that its rows stand in order, and the names that they are whole, however this ends.)
-    let _count = groups.table().len();
+    let table = groups.table();
+    let _count = table.len();
     let granted = groups.granted_to(caller);
     let mut marks = Marks::none(alloc, models.len());
     for names in granted {
-        mark_names(models, groups.table(), caller, names, &mut marks)?;
+        mark_names(models, &table, caller, names, &mut marks)?;
     }
     Ok(marks)
 }
