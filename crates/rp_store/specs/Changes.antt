@@ -1,6 +1,7 @@
 -- What a change makes of the models, and why it is refused.
 use Rattle.std.specs.Prelude.{ℕ, Bool, ◌||◌, nat_le, nat_lt, List, length, Option, Some, None, is_some, if◌then◌else◌}
 use Rattle.rp_content.specs.declared.content.Content.{Content}
+use Rattle.rp_rows.specs.declared.rows.Key.{Key}
 use Rattle.rp_rows.specs.declared.rows.ModelContent.{ModelContent}
 use Rattle.rp_store.specs.declared.changes.Change.{Change}
 use Rattle.rp_store.specs.declared.changes.Change.TheVariants.{Create, Remove, Put, Add, Set, DropInstance}
@@ -12,6 +13,15 @@ use Rattle.rp_store.specs.Contents.{new_model, refilled, added}
 
 abbrev pub when : Bool → StoreFault → Option StoreFault
 when holds why = if holds then Some why else None
+
+-- the model that it changes
+abbrev pub key_of : Change → Key
+key_of (Create k schema) = k
+key_of (Remove k) = k
+key_of (Put k content) = k
+key_of (Add k entities values) = k
+key_of (Set k i) = k
+key_of (DropInstance k n) = k
 
 -- why it is refused in the model, or that there is none
 abbrev pub tested : (ModelContent → Option StoreFault) → Option ModelContent → Option StoreFault

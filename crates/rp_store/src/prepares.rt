@@ -7,7 +7,7 @@ ghost use Rattle.rp_store.specs.Entries.{HasAt};
 ghost use Rattle.rp_store.specs.Models.{held_at};
 ghost use Rattle.rp_store.specs.Changes.{tested, holds_too_many, is_full};
 ghost use Rattle.rp_store.specs.Contents.{HasRoomIn};
-ghost use Rattle.rp_store.specs.Kept.{Prepares};
+ghost use Rattle.rp_store.specs.Kept.{HasRoomFor, Prepares};
 
 use crate::changes::{Change, Edit, Prepared, StoreFault};
 use crate::store::Store;
@@ -30,7 +30,8 @@ impl Store {
     /// A model that nothing was put into. Its schema's name is in upper case.
     fn create(&mut self, alloc: Global, key: Key, schema: Text) -> Result<Prepared, StoreFault>
         ensures models { self.new.entries ≡ self.old.entries }
-        ensures prepares { Prepares (c.Create key schema) self.old.entries self.new result }
+        ensures prepares { Prepares (c.Create key schema) self.old.entries result }
+        ensures room { IfOk result (λ _. 0 < self.new.room) }
     {
         if self.find(&key).is_some() {
             return Err(StoreFault::Exists);
@@ -49,7 +50,7 @@ impl Store {
 
     /// Without the model of this key.
     fn remove(&self, key: Key) -> Result<Prepared, StoreFault>
-        ensures { Prepares (c.Remove key) self.now.entries self.now result }
+        ensures { Prepares (c.Remove key) self.now.entries result }
     {
         match self.find(&key) {
             Some(_) => Ok(Prepared::Remove(key)),
@@ -59,7 +60,7 @@ impl Store {
 
     /// Another content in place of that of the model.
     fn put(&self, key: Key, content: Content) -> Result<Prepared, StoreFault>
-        ensures { Prepares (c.Put key content) self.now.entries self.now result }
+        ensures { Prepares (c.Put key content) self.now.entries result }
     {
         if self.find(&key).is_none() {
             return Err(StoreFault::Absent);
@@ -103,7 +104,7 @@ impl Store {
         entities: Entities,
         values: Items<Value>,
     ) -> Result<Prepared, StoreFault>
-        ensures { Prepares (c.Add key entities values) self.now.entries self.now result }
+        ensures { Prepares (c.Add key entities values) self.now.entries result }
     {
         let name = self.next_name(&key)?;
         let spare = self.spare_in(alloc, &key)?;
@@ -117,7 +118,7 @@ impl Store {
 
     /// Another instance in place of the one of its name.
     fn set(&self, alloc: Global, key: Key, instance: Instance) -> Result<Prepared, StoreFault>
-        ensures { Prepares (c.Set key instance) self.now.entries self.now result }
+        ensures { Prepares (c.Set key instance) self.now.entries result }
     {
         if self.find(&key).is_none() {
             return Err(StoreFault::Absent);
@@ -131,7 +132,7 @@ impl Store {
 
     /// Without the instance of this name.
     fn drop_instance(&self, key: Key, name: u64) -> Result<Prepared, StoreFault>
-        ensures { Prepares (c.DropInstance key name) self.now.entries self.now result }
+        ensures { Prepares (c.DropInstance key name) self.now.entries result }
     {
         let Some(model) = self.find(&key) else {
             return Err(StoreFault::Absent);
@@ -153,7 +154,8 @@ impl Store {
     /// The first that holds of why it is refused; or `NoMemory`.
     pub fn prepare(&mut self, alloc: Global, change: Change) -> Result<Prepared, StoreFault>
         ensures models { self.new.entries ≡ self.old.entries }
-        ensures prepares { Prepares change self.old.entries self.new result }
+        ensures prepares { Prepares change self.old.entries result }
+        ensures room { IfOk result (λ _. HasRoomFor change self.new.room) }
     {
         match change {
             Change::Create(key, schema) => self.create(alloc, key, schema),
