@@ -1,5 +1,5 @@
 -- A table of what is held, and beside it one of the grants under the same keys: the rows that the two make.
-use Rattle.std.specs.Prelude.{◌≡◌, ℕ, ◌<◌, List, [], ◌∷◌, map, Some, option_map}
+use Rattle.std.specs.Prelude.{◌≡◌, List, [], ◌∷◌, map, Some, option_map}
 use Rattle.std.specs.List.{find}
 use Rattle.sorted_tables.specs.Table.{with_row, IsAscending}
 use Rattle.rp_rows.specs.declared.rows.Grant.{Grant}

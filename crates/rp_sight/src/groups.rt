@@ -10,10 +10,10 @@ ghost use Rattle.rp_sight.specs.Stored.{rewritten};
 ghost use Rattle.rp_sight.specs.Granted.{granted_of, names_at, has_name, TellsGranted};
 ghost use Rattle.rp_sight.specs.Regrants.{RegrantFits};
 
+use crate::rows::Table;
 use plain_data::{Rows, Text};
 use rp_rows::rows::{Grant, Key, Level, Listing};
 use rp_store::{Entry, Keyed};
-use crate::rows::Table;
 use std::alloc::{AllocError, Global};
 use std::marker::Model;
 

@@ -11,11 +11,11 @@ ghost use Rattle.rp_sight.specs.Seen.{level_by};
 ghost use Rattle.rp_sight.specs.Granted.{granted_of, TellsGranted, shows, counts_under, counts_in_any};
 
 use crate::groups::Groups;
+use crate::rows::{RowRef, Table};
 use crate::sight::{counts, grant_to, is_granted, owns, right_of};
 use plain_data::{Rows, Text};
 use rp_rows::rows::{Listing, ModelContent, Right};
 use rp_store::Entry;
-use crate::rows::{RowRef, Table};
 
 /// Whether the model counts in the group of this owner and name, and the partner is granted the group.
 fn counts_at(

@@ -14,7 +14,7 @@ mod visible;
 
 pub use groups::{Groups, Regrant};
 pub use levels::level;
-pub use rows::{RowRef, Table};
 pub use members::{Member, counted_models, members_of};
+pub use rows::{RowRef, Table};
 pub use sight::{at_least, counts, group_right, has_key, sees_group};
 pub use visible::{Seen, visible_groups, visible_models};

@@ -10,11 +10,11 @@ ghost use Rattle.rp_sight.specs.Granted.{granted_of, TellsGranted, shows, counts
 ghost use Rattle.rp_sight.specs.Kept.{marked};
 
 use crate::groups::Groups;
+use crate::rows::{RowRef, Table};
 use crate::sight::{counts, is_granted};
 use plain_data::{Rows, Text};
 use rp_rows::rows::{Key, Listing, ModelContent};
 use rp_store::Entry;
-use crate::rows::{RowRef, Table};
 use std::alloc::{AllocError, Global};
 use std::collections::BTreeSet;
 use std::marker::Model;

@@ -8,9 +8,9 @@ ghost use Rattle.rp_rows.specs.Sight as sight;
 ghost use Rattle.rp_sight.specs.Stored.{row_of};
 ghost use Rattle.rp_sight.specs.Listed.{counted_at, is_counting, member_in, member_of};
 
+use crate::rows::{RowRef, Table};
 use crate::sight::counts;
 use rp_rows::rows::{Key, Listing, ModelContent};
-use crate::rows::{RowRef, Table};
 use std::alloc::{AllocError, Global};
 
 /// Adds the model of a key, if it counts in the group. Other models aren't walked over.

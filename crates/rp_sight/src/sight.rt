@@ -6,9 +6,9 @@ ghost use Rattle.rp_rows.specs.Sight as sight;
 ghost use Rattle.rp_rows.specs.Listings.{lists_key};
 ghost use Rattle.rp_sight.specs.Stored.{row_of};
 
+use crate::rows::RowRef;
 use plain_data::Text;
 use rp_rows::rows::{Grant, Key, Level, Listing, ModelContent, Right};
-use crate::rows::RowRef;
 
 pub fn owns<A>(caller: &Text, row: &RowRef<'_, A>) -> bool
     ensures { result ≡ sight.owns caller.now (row_of row.now) }

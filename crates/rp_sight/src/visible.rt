@@ -9,10 +9,10 @@ ghost use Rattle.rp_sight.specs.Seen.{seen_of};
 use crate::groups::Groups;
 use crate::levels::level_where;
 use crate::marks::counted_marks;
+use crate::rows::{RowRef, Table};
 use crate::sight::{at_least, group_right, sees_group};
 use plain_data::Text;
 use rp_rows::rows::{Listing, ModelContent, Right};
-use crate::rows::{RowRef, Table};
 use std::alloc::{AllocError, Global};
 
 /// A row that a partner sees, and what he may do with it.

@@ -16,7 +16,7 @@ pub loop-names-preserved : goal.loop-names-preserved
 loop-names-preserved c =
     let t : Names → Model → Bool = λ e m. counts_under c.args.caller.now c.args.groups.now.rows e m in
     let ms = c.args.models.now.rows in
-    turn t ms (unmarked ms) c.loop-names.marks c.mark_names.new.marks c.granted_to-granted.result.now c.loop-names.names-index c.names-item.result c.loop-names.invariant c.loop-names-test.true (sym c.names-item.is) (c.in_ok-mark_names.ensures ∙ ap (λ gs. marked (counts_under c.args.caller.now gs c.names-item.result) c.loop-names.marks ms) c.table-in-loop-names.ensures)
+    turn t ms (unmarked ms) c.loop-names.marks c.mark_names.new.marks c.granted_to-granted.result.now c.loop-names.names-index c.names-item.result c.loop-names.invariant c.loop-names-test.true (sym c.names-item.is) (c.in_ok-mark_names.ensures ∙ ap (λ gs. marked (counts_under c.args.caller.now gs c.names-item.result) c.loop-names.marks ms) c.table-table.ensures)
 
 pub returns-clause-marks : goal.returns-clause-marks
 returns-clause-marks c =

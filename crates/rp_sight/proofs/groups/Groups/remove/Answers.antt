@@ -15,7 +15,7 @@ invariant_of-self c =
     let k = c.args.key.now in
     let rows = joined g.listings.entries g.rights.entries in
     let made = remove_rows k g.listings.entries g.rights.entries rows c.self.invariant.table refl in
-    let grants = c.grants_at-grants.ensures ∙ ap (λ t. grants_of (find (is_row k) t.rows)) c.of.ensures in
+    let grants = c.grants_at-grants.ensures ∙ ap (λ rs. grants_of (find (is_row k) rs)) c.of.ensures in
     rw (c.remove.ensures, c.remove-2.ensures)
     (record {
       table = made.table;
