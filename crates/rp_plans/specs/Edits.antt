@@ -107,13 +107,3 @@ SeesRights a c (r.Exclude k m) = is_some (a.listing k) ≡ true
 abbrev pub Sees : Readers → Text → Edit → Type 0
 Sees a c (OfModel change) = SeesModel a c change
 Sees a c (OfRights change) = SeesRights a c change
-
--- ---- no edit has to do with what another one changes: each model once, and of rights and groups one at most
-
-abbrev pub key_of : store.Change → Key
-key_of (s.Create k schema) = k
-key_of (s.Remove k) = k
-key_of (s.Put k content) = k
-key_of (s.Add k entities values) = k
-key_of (s.Set k i) = k
-key_of (s.DropInstance k n) = k

@@ -8,16 +8,25 @@ use Rattle.rp_plain.specs.declared.messages.Refusal.TheVariants.{NoMemory}
 use Rattle.rp_plain.specs.Readers.{Readers}
 use Rattle.rp_plain.specs.Meaning.{first_some}
 use Rattle.rp_plain.specs.Step.{meaning}
+use Rattle.rp_store.specs.declared.changes.Change.{Change}
+use Rattle.rp_store.specs.declared.changes.Change.TheVariants.{Create, Remove}
+use Rattle.rp_store.specs.Changes.{key_of}
 use Rattle.rp_plans.specs.declared.edits.Edit.{Edit}
 use Rattle.rp_plans.specs.declared.edits.Edit.TheVariants.{OfModel, OfRights}
 use Rattle.rp_plans.specs.declared.edits.Plan.{Plan}
-use Rattle.rp_plans.specs.Edits.{edits_of, fault_of, Sees, key_of}
+use Rattle.rp_plans.specs.Edits.{edits_of, fault_of, Sees}
+
+-- the change is of what a model holds, and not of whether there is one
+abbrev pub IsOfContent : Change → Type 0
+IsOfContent (Create k schema) = ⊥
+IsOfContent (Remove k) = ⊥
+IsOfContent _ = Unit {0}
 
 abbrev pub IsApartFrom : Edit → Edit → Type 0
-IsApartFrom (OfModel change) (OfModel other) = same_key (key_of change) (key_of other) ≡ false
+IsApartFrom (OfModel change) (OfModel other) = IsOfContent change × IsOfContent other × (same_key (key_of change) (key_of other) ≡ false)
 IsApartFrom _ _ = ⊥
 
--- each changes a model of its own, or it is the only one
+-- each changes what a model of its own holds, or it is the only one
 abbrev pub AreApart : List Edit → Type 0
 AreApart [] = Unit {0}
 AreApart (e ∷ es) = AllByRecursion (IsApartFrom e) es × AreApart es
