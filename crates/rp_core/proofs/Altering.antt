@@ -1,19 +1,21 @@
 -- What is done to entries, and what that makes of the rows of models.
-use Rattle.std.proofs.Common.{◌≡◌, Bool, true, false, List, [], ◌∷◌, map, Option, Some, None, is_some, refl, sym, ◌∙◌, ap, subst}
+use Rattle.std.proofs.Common.{◌≡◌, Bool, ◌&&◌, true, false, List, [], ◌∷◌, map, Option, Some, None, is_some, refl, sym, ◌∙◌, ap, subst}
 use Rattle.std.specs.Prelude.{option_map, if◌then◌else◌}
 use Rattle.std.specs.List.{find}
+use Rattle.std.specs.Cmp.{tied_then}
 use Rattle.std.specs.Ordering.{is_eq}
+use Rattle.std.proofs.lemmas.Map.Text.{is_eq-slice_cmp}
 use Rattle.sorted_tables.specs.Table.{with_row}
 use Rattle.rp_rows.specs.declared.rows.Grant.{Grant}
 use Rattle.rp_rows.specs.declared.rows.Level.{Level}
 use Rattle.rp_rows.specs.declared.rows.Key.{Key}
 use Rattle.rp_rows.specs.declared.rows.ModelContent.{ModelContent}
-use Rattle.rp_rows.specs.Rows.{Text, key_cmp, row_key, is_row, Row, Model}
+use Rattle.rp_rows.specs.Rows.{Text, text_cmp, key_cmp, same_key, row_key, is_row, Row, Model}
 use Rattle.rp_rows.specs.Alterations.{Holds, Grants, altered, granting, grants_of}
 use Rattle.rp_rows.proofs.Keys.{key_total, key_at, found_at}
 use Rattle.rp_store.specs.declared.keyed.Entry.{Entry}
 use Rattle.rp_store.specs.Entries.{entry_key, is_entry, with_value, revalued}
-use Rattle.rp_store.specs.Models.{Held, held_at, edited}
+use Rattle.rp_store.specs.Models.{Held, held_at, model, edited}
 use Rattle.rp_store.proofs.Finding.{edited_rows}
 use Rattle.rp_sight.specs.Stored.{joined_row, joined, IsTable, rewritten, reheld}
 use Rattle.rp_sight.proofs.Joining.{both, find-joined, Makes, rehold_rows, regrant_rows}
@@ -75,15 +77,36 @@ content_rows k f x ms es table there =
       table = subst (λ ns. IsTable ns es) (edited_rows k f ms) made.table;
     }
 
+-- keys that aren't the same differ in their order
+pub other_key : (j k : Key) → same_key k j ≡ false → is_eq (key_cmp j k) ≡ false
+other_key j k apart =
+    sym (tied_then (text_cmp j.owner k.owner) (text_cmp j.name k.name))
+    ∙ (λ i. is_eq-slice_cmp j.owner k.owner i && is_eq-slice_cmp j.name k.name i)
+    ∙ apart
+
+key_or : Key → Option Held → Key
+key_or k None = k
+key_or k (Some x) = entry_key x
+
 -- another model's row stays
-pub other_row : (j k : Key) (h : ModelContent) (rows : List Model) → is_eq (key_cmp j k) ≡ false → find (is_row j) (altered k (Holds (Some h)) rows) ≡ find (is_row j) rows
-other_row j k h rows other =
+pub other_row : (j k : Key) (h : ModelContent) (rows : List Model) → same_key k j ≡ false → find (is_row j) (altered k (Holds (Some h)) rows) ≡ find (is_row j) rows
+other_row j k h rows apart =
     let row : Model = record { owner = k.owner; name = k.name; holds = h; grants = grants_of (find (is_row k) rows) } in
-    find_other key_cmp row_key key_total j k (Some row) rows (λ x e. ap row_key_or (sym e)) other
+    find_other key_cmp row_key key_total j k (Some row) rows (λ x e. ap row_key_or (sym e)) (other_key j k apart)
   where
     row_key_or : Option Model → Key
     row_key_or None = k
     row_key_or (Some x) = row_key x
+
+-- what another model holds stays
+pub other_held : (j k : Key) (f : ModelContent → ModelContent) (ms : List Held) → same_key k j ≡ false → held_at j (edited k f ms) ≡ held_at j ms
+other_held j k f ms apart =
+    ap (option_map (λ (m : Held). m.value))
+    (find_other key_cmp entry_key key_total j k (option_map (model k) (option_map f (held_at k ms))) ms (keyed (option_map f (held_at k ms))) (other_key j k apart))
+  where
+    keyed : (o : Option ModelContent) → (x : Held) → option_map (model k) o ≡ Some x → entry_key x ≡ k
+    keyed None x e = cc
+    keyed (Some h) x e = ap (key_or k) (sym e)
 
 -- ---- a grant on a model
 

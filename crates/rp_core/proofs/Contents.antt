@@ -1,12 +1,11 @@
 -- Changes of what models hold: whatever stands elsewhere, each step makes what its edit says.
 use Rattle.std.proofs.Common.{◌≡◌, ℕ, Bool, true, false, List, [], ◌∷◌, ◌++◌, map, Option, Some, None, Ok, is_some, refl, sym, ◌∙◌, ap, subst}
 use Rattle.std.specs.List.{find, flat_map, AllByRecursion}
-use Rattle.std.specs.Ordering.{is_eq}
 use Rattle.rp_content.specs.declared.content.Content.{Content}
 use Rattle.rp_content.specs.declared.instance.Instance.{Instance}
 use Rattle.rp_rows.specs.declared.rows.Key.{Key}
 use Rattle.rp_rows.specs.declared.rows.ModelContent.{ModelContent}
-use Rattle.rp_rows.specs.Rows.{key_cmp, same_key, is_row, Model, GroupRow}
+use Rattle.rp_rows.specs.Rows.{is_row, Model, GroupRow}
 use Rattle.rp_rows.specs.Instances.{with_instance, without_instance}
 use Rattle.rp_rows.specs.Alterations.{Holds, altered}
 use Rattle.rp_plain.specs.Plain.{Plain}
@@ -31,7 +30,6 @@ use Rattle.rp_plans.specs.declared.edits.Edit.{Edit}
 use Rattle.rp_plans.specs.declared.edits.Edit.TheVariants.{OfModel, OfRights}
 use Rattle.rp_plans.specs.Edits.{refilling, of_model, edits_of}
 use Rattle.rp_plans.specs.Plans.{IsOfContent, IsApartFrom, AreApart}
-use Rattle.rp_readers.proofs.Counts.{same_at}
 use Rattle.rp_core.specs.declared.steps.Step.{Step}
 use Rattle.rp_core.specs.Faults.{with_rights}
 use Rattle.rp_core.specs.Held.{made_by, made_entries, made_rights, made_groups, IsRightsOf, IsModelStep, IsStepOf, AreStepsOf}
@@ -85,9 +83,6 @@ abbrev pub EditStands : Readers → List Held → List Model → Edit → Type 0
 EditStands a ms rows (OfModel change) = IsOfContent change × Stands a ms rows (key_of change)
 EditStands a ms rows (OfRights change) = ⊥
 
-other_key : (j k : Key) (h : ModelContent) → same_key k j ≡ false → is_eq (key_cmp j k) ≡ false
-other_key j k h apart = let row : Model = record { owner = j.owner; name = j.name; holds = h; grants = [] } in sym (same_at k row) ∙ apart
-
 -- the models of the other edits stand as before
 others_stand : (a : Readers) (ms : List Held) (rows : List Model) (change : Change) (h : ModelContent) (edits : List Edit) → AllByRecursion (IsApartFrom (OfModel change)) edits → AllByRecursion (EditStands a ms rows) edits
     → AllByRecursion (EditStands a ms (altered (key_of change) (Holds (Some h)) rows)) edits
@@ -97,7 +92,7 @@ others_stand a ms rows change h (OfModel other ∷ edits) apart stand =
     let k = key_of change in
     let j = key_of other in
     let at = stand.0.1 in
-    ((stand.0.0, record { row = at.row; there = other_row j k h rows (other_key j k h apart.0.1.1) ∙ at.there; seen = at.seen; was = at.was }), others_stand a ms rows change h edits apart.1 stand.1)
+    ((stand.0.0, record { row = at.row; there = other_row j k h rows apart.0.1.1 ∙ at.there; seen = at.seen; was = at.was }), others_stand a ms rows change h edits apart.1 stand.1)
 
 -- ---- what the steps make
 

@@ -108,9 +108,9 @@ AreStepsOf ms es gs (e ∷ edits) (s ∷ steps) = IsStepOf ms es gs e s × AreSt
 AreStepsOf ms es gs [] (s ∷ steps) = ⊥
 AreStepsOf ms es gs (e ∷ edits) [] = ⊥
 
--- what is pending was prepared for what is held: its steps take no memory
+-- what is pending was prepared for what is held: its steps take no memory, and leave rights on the same models
 unfoldable pub Fits : Kept → Pending → Type 0
-Fits kept pending = StepsFit kept.both pending.steps
+Fits kept pending = StepsFit kept.both pending.steps × (map entry_key (made_entries pending.steps kept.both.models.entries) ≡ map entry_key (made_rights pending.steps kept.both.access.models.entries))
 
 -- ---- prepared requests
 
