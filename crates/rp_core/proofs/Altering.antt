@@ -84,7 +84,7 @@ other_key j k apart =
     ∙ (λ i. is_eq-slice_cmp j.owner k.owner i && is_eq-slice_cmp j.name k.name i)
     ∙ apart
 
-key_or : Key → Option Held → Key
+abbrev key_or : Key → Option Held → Key
 key_or k None = k
 key_or k (Some x) = entry_key x
 

@@ -67,8 +67,8 @@ no_rights (c.Add k entities values) is = refl
 no_rights (c.Set k i) is = refl
 no_rights (c.DropInstance k n) is = refl
 
-pub still : {es : List Rights} {gs : List GroupRow} (change : Change) (p : rights.Prepared) → IsOfContent change → IsRightsOf (with_rights change) es gs p → p ≡ Nothing
-still {es = es} {gs = gs} change p is made = subst (λ o. IsRightsOf o es gs p) (no_rights change is) made
+pub still : (es : List Rights) (gs : List GroupRow) (change : Change) (p : rights.Prepared) → IsOfContent change → IsRightsOf (with_rights change) es gs p → p ≡ Nothing
+still es gs change p is rights = subst (λ o. IsRightsOf o es gs p) (no_rights change is) rights
 
 -- ---- the model that an edit changes
 
@@ -92,7 +92,7 @@ others_stand a ms rows change h (OfModel other ∷ edits) apart stand =
     let k = key_of change in
     let j = key_of other in
     let at = stand.0.1 in
-    ((stand.0.0, record { row = at.row; there = other_row j k h rows apart.0.1.1 ∙ at.there; seen = at.seen; was = at.was }), others_stand a ms rows change h edits apart.1 stand.1)
+    ((stand.0.0, record { row = at.row; there = other_row j k h rows apart.0.2 ∙ at.there; seen = at.seen; was = at.was }), others_stand a ms rows change h edits apart.1 stand.1)
 
 -- ---- what the steps make
 
@@ -119,7 +119,7 @@ contents_made a ms es gs (OfModel change ∷ edits) (s ∷ steps) are apart ns r
     let there : find (is_row k) (joined ns es) ≡ Some at.row = ap (find (is_row k)) rows ∙ at.there in
     let now : held_at k ns ≡ held_at k ms = held_row k ns es at.row table.same there ∙ sym at.was in
     let entries : made_by s.store ns ≡ edited k (content_by change) ns = ap (λ o. made_by o ns) step.is ∙ step.makes.makes ns now ∙ changed_content change ns is in
-    let nothing : s.rights ≡ Nothing = still {es = es} {gs = gs} change s.rights is step.rights in
+    let nothing : s.rights ≡ Nothing = still es gs change s.rights is step.rights in
     let makes : Makes (edited k (content_by change) ns) es (altered k (Holds (Some h)) (joined ns es)) = content_rows k (content_by change) at.row ns es table there in
     let rest : Leaves (made_entries steps (edited k (content_by change) ns)) (made_rights steps es) (made_groups steps r.groups) left (changed (flat_map (edits_of a) edits) left) =
     contents_made a ms es gs edits steps are.1 apart.1 (edited k (content_by change) ns) left makes.table (makes.rows_are ∙ ap (altered k (Holds (Some h))) rows) (others_stand a ms r.models change h edits apart.0 stand.1) in

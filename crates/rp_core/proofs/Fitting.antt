@@ -35,7 +35,7 @@ steps_more ms es gs [] (t ∷ steps) e s are is = absurd are
 steps_more ms es gs (d ∷ edits) [] e s are is = absurd are
 steps_more ms es gs (d ∷ edits) (t ∷ steps) e s are is = (are.0, steps_more ms es gs edits steps e s are.1 is)
 
-rights_pass : (es : List Rights) (gs : List GroupRow) (change : Option access.Change) (p : rights.Prepared) → IsRightsOf change es gs p → rights_fault es gs change ≡ None
+pub rights_pass : (es : List Rights) (gs : List GroupRow) (change : Option access.Change) (p : rights.Prepared) → IsRightsOf change es gs p → rights_fault es gs change ≡ None
 rights_pass es gs None p is = refl
 rights_pass es gs (Some change) p is = rw is.passes refl
 
@@ -67,7 +67,7 @@ IsContentEdit (OfRights change) = ⊥
 apart_contents : (change : Change) (edits : List Edit) → AllByRecursion (IsApartFrom (OfModel change)) edits → AllByRecursion IsContentEdit edits
 apart_contents change [] apart = tt
 apart_contents change (OfRights other ∷ edits) apart = absurd apart.0
-apart_contents change (OfModel other ∷ edits) apart = (apart.0.1.0, apart_contents change edits apart.1)
+apart_contents change (OfModel other ∷ edits) apart = (apart.0.1, apart_contents change edits apart.1)
 
 -- of two edits and more, each changes what a model holds
 pub several_contents : (e d : Edit) (edits : List Edit) → AreApart (e ∷ d ∷ edits) → AllByRecursion IsContentEdit (e ∷ d ∷ edits)
@@ -92,7 +92,7 @@ others_as_before : (ms ns : List Held) (change : Change) (f : ModelContent → M
 others_as_before ms ns change f [] apart are = tt
 others_as_before ms ns change f (OfRights other ∷ edits) apart are = absurd apart.0
 others_as_before ms ns change f (OfModel other ∷ edits) apart are =
-    (other_held (key_of other) (key_of change) f ns apart.0.1.1 ∙ are.0, others_as_before ms ns change f edits apart.1 are.1)
+    (other_held (key_of other) (key_of change) f ns apart.0.2 ∙ are.0, others_as_before ms ns change f edits apart.1 are.1)
 
 contents_fit : (ms : List Held) (es : List Rights) (gs : List GroupRow) (edits : List Edit) (steps : List Step) → AreStepsOf ms es gs edits steps → AreApart edits → AllByRecursion IsContentEdit edits
     → (b : Both) → AllByRecursion (IsAsBefore ms b.models.entries) edits → StepsFit b steps
@@ -104,7 +104,7 @@ contents_fit ms es gs (OfModel change ∷ edits) (s ∷ steps) are apart content
     let step = are.0 in
     let k = key_of change in
     let f = content_by change in
-    let nothing = still {es = es} {gs = gs} change s.rights contents.0 step.rights in
+    let nothing = still es gs change s.rights contents.0 step.rights in
     let fits : store_fits b.models s.store = subst (store_fits b.models) (sym step.is) (step.makes.fits b.models before.0 (room_for change b.models.room contents.0)) in
     let rights : PreparedFits b.access s.rights = subst (PreparedFits b.access) (sym nothing) tt in
     ((fits, rights), λ next after.
@@ -118,6 +118,11 @@ contents_fit ms es gs (OfModel change ∷ edits) (s ∷ steps) are apart content
 abbrev pub AloneFits : Both → List Step → Type 0
 AloneFits b (s ∷ []) = StepFits b s
 AloneFits b _ = Unit {0}
+
+pub alone_more : (b : Both) (steps : List Step) (s : Step) → StepFits b s → AloneFits b (steps ++ s ∷ [])
+alone_more b [] s fits = fits
+alone_more b (t ∷ []) s fits = tt
+alone_more b (t ∷ u ∷ steps) s fits = tt
 
 as_before : (ms ns : List Held) (edits : List Edit) → ns ≡ ms → AllByRecursion (IsAsBefore ms ns) edits
 as_before ms ns [] same = tt

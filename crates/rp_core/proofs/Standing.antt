@@ -1,6 +1,6 @@
 -- What a partner sees of a model or a group stands where it is kept.
 use Rattle.std.proofs.Common.{◌≡◌, suc, Bool, true, false, List, [], ◌∷◌, map, length, Option, Some, None, is_some, refl, sym, ◌∙◌, ap}
-use Rattle.std.specs.Prelude.{filter, option_map, if◌then◌else◌}
+use Rattle.std.specs.Prelude.{filter, option_map, ◌||◌, if◌then◌else◌}
 use Rattle.std.specs.List.{find}
 use Rattle.std.specs.Str.{bytes_eq}
 use Rattle.std.proofs.lemmas.Slice.Eq.{bytes_eq-Decides}
@@ -9,9 +9,9 @@ use Rattle.sorted_tables.proofs.Searching.{chosen}
 use Rattle.rp_rows.specs.declared.rows.Grant.{Grant}
 use Rattle.rp_rows.specs.declared.rows.Key.{Key}
 use Rattle.rp_rows.specs.declared.rows.ModelContent.{ModelContent}
-use Rattle.rp_rows.specs.declared.rows.Right.TheVariants.{Reads}
+use Rattle.rp_rows.specs.declared.rows.Right.TheVariants.{Unseen, Reads, Owns}
 use Rattle.rp_rows.specs.Rows.{Text, key_cmp, row_key, is_row, Model, GroupRow}
-use Rattle.rp_rows.specs.Sight.{owns, at_least, sees, sees_group, group_right, level}
+use Rattle.rp_rows.specs.Sight.{owns, is_granted, at_least, sees, sees_group, group_right, level}
 use Rattle.rp_rows.proofs.Keys.{found_at, owner_at}
 use Rattle.rp_plain.specs.Plain.{Plain, model_at, group_at}
 use Rattle.rp_plain.specs.Readers.{asked, held, right_at, group_right_at}
@@ -117,4 +117,5 @@ own_group r c k order own =
     by None e = refl
     by (Some g) e =
         let owned : owns c g ≡ true = (bytes_eq-Decides g.owner c).1 (owner_at k g (found_at (is_row k) r.groups g e) ∙ own) in
-        rw owned refl
+        ap (λ t. at_least Reads (group_right_at c (if t then Some g else None))) (ap (λ t. t || is_granted c g) owned)
+        ∙ ap (λ t. at_least Reads (if t then Owns else (if is_granted c g then Reads else Unseen))) owned

@@ -160,7 +160,10 @@ fn steps_of(
 {
     let mut steps = Vec::with_capacity(alloc, edits.len())?;
     for edit in edits.into_vec() {
-        steps.push(step_of(alloc, store, access, edit)?)?;
+        match step_of(alloc, store, access, edit) {
+            Ok(step) => steps.push(step)?,
+            Err(refusal) => return Err(refusal),
+        }
     }
     Ok(Rows::from_vec(steps))
 }

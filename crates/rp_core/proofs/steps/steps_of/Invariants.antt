@@ -1,4 +1,4 @@
-use Rattle.std.proofs.Common.{◌≡◌}
+use Rattle.std.proofs.Common.{◌≡◌, ◌++◌}
 use Rattle.rp_core.specs.Held.{AreStepsOf}
 use Rattle.rp_core.proofs.Fitting.{AloneFits}
 use Rattle.rp_core.proofs.steps.steps_of.Given as goal
@@ -9,5 +9,6 @@ invariant-loop-edit l = record {
   rights : l.access.models.entries ≡ l.initial.access.models.entries;
   groups : l.access.groups.rows ≡ l.initial.access.groups.rows;
   made : AreStepsOf l.initial.store.entries l.initial.access.models.entries l.initial.access.groups.rows l.yielded l.steps.items;
+  whole : l.yielded ++ l.edit-iterator.rest.items ≡ l.fn.edits;
   fits : AloneFits (record { models = l.store; access = l.access }) l.steps.items;
 }
