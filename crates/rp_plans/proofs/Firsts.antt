@@ -51,3 +51,7 @@ none_here (Some x) xs none = cc
 pub none_behind : {A : Type 0} (o : Option A) (xs : List (Option A)) → first_some (o ∷ xs) ≡ None → first_some xs ≡ None
 none_behind None xs none = none
 none_behind (Some x) xs none = cc
+
+pub none_last : {A : Type 0} (xs : List (Option A)) (o : Option A) → first_some (xs ++ o ∷ []) ≡ None → o ≡ None
+none_last [] o none = none_here o [] none
+none_last (x ∷ xs) o none = none_last xs o (none_behind x (xs ++ o ∷ []) none)

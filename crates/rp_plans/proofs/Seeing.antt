@@ -11,6 +11,8 @@ use Rattle.rp_plain.specs.declared.messages.Refusal.TheVariants.{NoSuchItem, NoR
 use Rattle.rp_plain.specs.Plain.{Plain, model_at, group_at}
 use Rattle.rp_plain.specs.Readers.{asked, right_at, group_right_at, held}
 use Rattle.rp_plain.specs.Meaning.{when, unseen, lacks}
+use Rattle.rp_readers.specs.declared.readers.Readers.{Readers as HeldReaders}
+use Rattle.rp_readers.specs.Told.{plain_of, told}
 
 pub seen_enough : (needed right : Right) → lacks needed right ≡ None → unseen right ≡ None
 seen_enough needed right none = by (at_least Reads right) none
@@ -33,3 +35,12 @@ module _ (r : Plain) (c : Text) (k : Key) where
       by : (o : Option GroupRow) → unseen (group_right_at c o) ≡ None → is_some (held o) ≡ true
       by None none = cc
       by (Some g) none = refl
+
+module _ (s : HeldReaders) (k : Key) where
+  pub model_told : unseen ((told s).model_right k) ≡ None → is_some ((told s).content k) ≡ true
+  unfolding told
+  model_told = model_seen (plain_of s) s.caller.now k
+
+  pub group_told : unseen ((told s).group_right k) ≡ None → is_some ((told s).listing k) ≡ true
+  unfolding told
+  group_told = group_seen (plain_of s) s.caller.now k
