@@ -16,7 +16,7 @@ use Rattle.rp_access.specs.declared.steps.Altered.TheVariants as altered_to
 use Rattle.rp_access.specs.declared.steps.GroupStep.{GroupStep}
 use Rattle.rp_access.specs.declared.steps.GroupStep.TheVariants as group
 use Rattle.rp_access.specs.declared.access.Prepared.{Prepared}
-use Rattle.rp_access.specs.declared.access.Prepared.TheVariants.{Nothing, Open, Close, Regrant, OfGroup}
+use Rattle.rp_access.specs.declared.access.Prepared.TheVariants.{Open, Close, Regrant, OfGroup}
 
 -- a change of what stands under a key, as definitions have it
 abbrev pub alteration_of : {A : Type 0} → Altered A → Alteration A

@@ -44,10 +44,19 @@ pub enum Prepared {
     OfGroup(Key, GroupStep),
 }
 
-/// The reason, and the change is let go.
-fn refused(_change: Change, reason: AccessFault) -> AccessFault
+/// The reason, and the change is let go: those with the same parts in one arm, which is half of what each in its own takes.
+fn refused(change: Change, reason: AccessFault) -> AccessFault
     ensures { result ≡ reason }
 {
+    match change {
+        Change::CreateModel(_key) | Change::RemoveModel(_key) | Change::RemoveGroup(_key) => {}
+        Change::CreateGroup(_key, _text)
+        | Change::GrantModel(_key, _text, _)
+        | Change::GrantGroup(_key, _text)
+        | Change::RevokeModel(_key, _text)
+        | Change::RevokeGroup(_key, _text) => {}
+        Change::Include(_key, _model) | Change::Exclude(_key, _model) => {}
+    }
     reason
 }
 

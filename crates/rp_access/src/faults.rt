@@ -26,7 +26,11 @@ pub fn is_new(there: bool, count: usize, most: usize) -> Option<AccessFault>
 pub fn is_there(there: bool) -> Option<AccessFault>
     ensures { result ≡ changes.is_there there }
 {
-    if there { None } else { Some(AccessFault::Absent) }
+    if there {
+        None
+    } else {
+        Some(AccessFault::Absent)
+    }
 }
 
 /// Of a group that isn't there, or can't list the model more.

@@ -1,36 +1,44 @@
 -- A plan gives the reply of the turn, and its steps what the turn leaves.
-use Rattle.std.proofs.Common.{◌≡◌, true, false, Bool, List, Result, Ok, Err, refl, sym, ◌∙◌, ap, subst}
+use Rattle.std.proofs.Common.{◌≡◌, ◌≢◌, true, false, Bool, List, [], ◌∷◌, map, Some, None, Result, Ok, Err, refl, sym, ◌∙◌, ap}
 use Rattle.std.proofs.lemmas.Bool.{false≢true}
+use Rattle.std.specs.List.{AllByRecursion}
 use Rattle.ex_types.specs.Checked.{Checked}
 use Rattle.ex_check.specs.declared.fault.SchemaFault.{SchemaFault}
 use Rattle.ex_check.specs.Check.{schema as schema_of}
 use Rattle.p21_grammar.specs.File.{file_of}
-use Rattle.sorted_tables.specs.Table.{IsAscending}
 use Rattle.rp_content.specs.declared.link.Link.{Link}
-use Rattle.rp_rows.specs.Rows.{Text, key_cmp, row_key}
+use Rattle.rp_rows.specs.Rows.{Text}
 use Rattle.rp_rows.specs.Contents.{link_names}
 use Rattle.rp_plain.specs.declared.messages.Request.{Request}
 use Rattle.rp_plain.specs.declared.messages.Request.TheVariants.{CreateModel, DeleteModel, Put, Export, Names, Get, Add, Set, DropInstance, ListItems, GrantModel, RevokeModel, CreateGroup, DeleteGroup, GrantGroup, RevokeGroup, Include, Exclude, Members, Extent, Users, Validate, Schemas, CheckSchema}
 use Rattle.rp_plain.specs.declared.messages.Refusal.{Refusal}
 use Rattle.rp_plain.specs.declared.messages.Refusal.TheVariants.{NoMemory}
-use Rattle.rp_plain.specs.declared.messages.Reply.{Reply}
 use Rattle.rp_plain.specs.declared.messages.Reply.TheVariants.{Refused}
 use Rattle.rp_plain.specs.Plain.{Plain}
 use Rattle.rp_plain.specs.Edits.{changed}
 use Rattle.rp_plain.specs.Readers.{Readers, asked}
 use Rattle.rp_plain.specs.Files.{BoundFile, read_content, stored, text_by, links_of, exported}
-use Rattle.rp_plain.specs.Meaning.{schema_of as of_schema}
+use Rattle.rp_plain.specs.Meaning.{first_some, schema_of as of_schema}
 use Rattle.rp_plain.specs.Checks as checks
 use Rattle.rp_plain.specs.Step.{meaning, outcome}
 use Rattle.rp_plain.specs.Runs.{is_no_memory}
 use Rattle.rp_plain.specs.Turns.{Turn}
+use Rattle.rp_store.specs.Entries.{entry_key}
+use Rattle.rp_store.specs.Models.{Held}
+use Rattle.rp_access.specs.Kept.{Rights}
+use Rattle.rp_sight.specs.Stored.{joined}
+use Rattle.rp_plans.specs.declared.edits.Edit.{Edit}
 use Rattle.rp_plans.specs.declared.edits.Plan.{Plan}
-use Rattle.rp_core.specs.declared.steps.Pending.{Pending}
-use Rattle.rp_core.specs.declared.steps.Steps.{Steps}
-use Rattle.rp_core.specs.declared.steps.Steps.TheVariants.{Nothing}
+use Rattle.rp_plans.specs.Edits.{fault_of, Sees}
 use Rattle.rp_plans.specs.Plans.{IsAnswer, IsRefusal}
-use Rattle.rp_core.specs.Held.{made_models, made_groups, models_by, groups_by, IsPrepared}
-use Rattle.rp_core.proofs.Making.{made_changed}
+use Rattle.rp_core.specs.declared.steps.Step.{Step}
+use Rattle.rp_core.specs.declared.steps.Pending.{Pending}
+use Rattle.rp_core.specs.Faults.{edit_fault}
+use Rattle.rp_core.specs.Held.{Both, made_entries, made_rights, made_of, AreStepsOf, IsPrepared}
+use Rattle.rp_core.proofs.Standing.{IsKept}
+use Rattle.rp_core.proofs.Fitting.{all_pass}
+use Rattle.rp_core.proofs.Refusing.{fault_is}
+use Rattle.rp_core.proofs.Making.{all_made}
 
 stored_told : (read : BoundFile) → is_no_memory (stored read) ≡ false
 stored_told (Ok content) = refl
@@ -71,54 +79,59 @@ told a c (Validate group) = refl
 told a c Schemas = refl
 told a c (CheckSchema text) = check_told (schema_of text)
 
-prepared_answer : (r : Plain) (c : Text) (q : Request) (plan : Plan) (steps : Steps) → IsAscending key_cmp row_key r.models → IsAnswer (asked r c) c q plan → made_models steps r.models ≡ models_by plan.edits r.models → made_groups steps r.groups ≡ groups_by plan.edits r.groups
-    → IsPrepared r (record { caller = c; request = q }) (record { reply = plan.reply; steps = steps })
-prepared_answer r c q plan steps order is models groups =
+-- what a prepared answer is: its reply, what its steps leave, and that both halves go on alike
+pub record IsDone (r : Plain) (b : Both) (t : Turn) (pending : Pending) : Type 0 where
+  pub prepared : IsPrepared r b t pending
+  pub alike : map entry_key (made_entries pending.steps b.models.entries) ≡ map entry_key (made_rights pending.steps b.access.models.entries)
+
+-- each edit of what is seen is told against as the plain repository has it
+faults_are : (r : Plain) (c : Text) (ms : List Held) (es : List Rights) → IsKept ms es r → (edits : List Edit) → AllByRecursion (Sees (asked r c) c) edits → map (edit_fault ms es r.groups) edits ≡ map (fault_of (asked r c)) edits
+faults_are r c ms es kept [] seen = refl
+faults_are r c ms es kept (e ∷ edits) seen = λ i. fault_is ms es r c kept e seen.0 i ∷ faults_are r c ms es kept edits seen.1 i
+
+pub answered : (r : Plain) (c : Text) (q : Request) (b : Both) (plan : Plan) (steps : List Step) → IsKept b.models.entries b.access.models.entries r → IsAnswer (asked r c) c q plan → AreStepsOf b.models.entries b.access.models.entries r.groups plan.edits steps
+    → IsDone r b (record { caller = c; request = q }) (record { reply = plan.reply; steps = steps })
+answered r c q b plan steps kept is are =
     let a = asked r c in
+    let ms = b.models.entries in
+    let es = b.access.models.entries in
     let no : is_no_memory plan.reply ≡ false = ap is_no_memory is.replies ∙ told a c q in
-    let is_answer = sym (ap (outcome (meaning a c q)) is.passes) in
+    let passes : first_some (meaning a c q).tests ≡ None = sym is.decides ∙ ap first_some (sym (faults_are r c ms es kept plan.edits is.seen)) ∙ all_pass ms es r.groups plan.edits steps are in
+    let is_answer = sym (ap (outcome (meaning a c q)) passes) in
+    let made = all_made ms es r c kept plan.edits steps are is.apart is.seen in
     record {
-      replies = λ _. is.replies ∙ ap (λ o. o.reply) is_answer;
-      changes =
-          rw no
-          ((λ i. record r { models = models i; groups = groups i })
-          ∙ made_changed r c plan.edits order is.seen
-          ∙ ap (λ es. changed es r) is.edits
-          ∙ ap (λ o. changed o.edits r) is_answer);
+      prepared = record {
+        replies = λ _. is.replies ∙ ap (λ o. o.reply) is_answer;
+        changes =
+            rw no
+            (made.content
+            ∙ ap (λ es. changed es r) is.edits
+            ∙ ap (λ o. changed o.edits r) is_answer);
+      };
+      alike = made.table.same;
     }
 
-prepared_refusal : (r : Plain) (c : Text) (q : Request) (refusal : Refusal) → IsRefusal (asked r c) c q refusal → IsPrepared r (record { caller = c; request = q }) (record { reply = Refused refusal; steps = Nothing })
-prepared_refusal r c q refusal refused = by (is_no_memory (Refused refusal)) refl
+-- what the store or the rights say against an edit is why the request is refused
+pub refused_so : (r : Plain) (c : Text) (q : Request) (b : Both) (plan : Plan) (refusal : Refusal) → IsKept b.models.entries b.access.models.entries r → IsAnswer (asked r c) c q plan
+    → (refusal ≢ NoMemory → first_some (map (edit_fault b.models.entries b.access.models.entries r.groups) plan.edits) ≡ Some refusal) → IsRefusal (asked r c) c q refusal
+refused_so r c q b plan refusal kept is refused = λ not.
+    sym is.decides ∙ ap first_some (sym (faults_are r c b.models.entries b.access.models.entries kept plan.edits is.seen)) ∙ refused not
+
+nothing_done : (r : Plain) (b : Both) → joined b.models.entries b.access.models.entries ≡ r.models → made_of [] b r ≡ r
+nothing_done r b rows = λ i. record r { models = rows i }
+
+pub refused_done : (r : Plain) (c : Text) (q : Request) (b : Both) (refusal : Refusal) → IsKept b.models.entries b.access.models.entries r → IsRefusal (asked r c) c q refusal → IsDone r b (record { caller = c; request = q }) (record { reply = Refused refusal; steps = [] })
+refused_done r c q b refusal kept refused = record { prepared = by (is_no_memory (Refused refusal)) refl; alike = kept.table.same }
   where
-    by : (t : Bool) → is_no_memory (Refused refusal) ≡ t → IsPrepared r (record { caller = c; request = q }) (record { reply = Refused refusal; steps = Nothing })
+    by : (t : Bool) → is_no_memory (Refused refusal) ≡ t → IsPrepared r b (record { caller = c; request = q }) (record { reply = Refused refusal; steps = [] })
     by true is =
         record {
           replies = λ no. absurd (false≢true (sym no ∙ is));
-          changes = rw is refl;
+          changes = rw is (nothing_done r b kept.rows);
         }
     by false is =
         let is_answer = sym (ap (outcome (meaning (asked r c) c q)) (refused (λ e. false≢true (sym is ∙ ap (λ f. is_no_memory (Refused f)) e)))) in
         record {
           replies = λ _. ap (λ o. o.reply) is_answer;
-          changes = rw is (ap (λ o. changed o.edits r) is_answer);
+          changes = rw is (nothing_done r b kept.rows ∙ ap (λ o. changed o.edits r) is_answer);
         }
-
--- the same, where content and partner were read
-pub prepared_from : (r : Plain) (c : Text) (s : Plain) (d : Text) (q : Request) (plan : Plan) (pending : Pending) → s ≡ r → d ≡ c → IsAscending key_cmp row_key s.models → IsAnswer (asked s d) d q plan → pending.reply ≡ plan.reply
-    → made_models pending.steps s.models ≡ models_by plan.edits s.models → made_groups pending.steps s.groups ≡ groups_by plan.edits s.groups → IsPrepared r (record { caller = c; request = q }) pending
-prepared_from r c s d q plan pending same who order is reply models groups =
-    subst (λ (p : Plain). IsPrepared p (record { caller = c; request = q }) pending) same
-    (subst (λ (e : Text). IsPrepared s (record { caller = e; request = q }) pending) who
-    (subst (λ (told : Reply). IsPrepared s (record { caller = d; request = q }) (record { reply = told; steps = pending.steps })) (sym reply) (prepared_answer s d q plan pending.steps order is models groups)))
-
-pub refused_from : (r : Plain) (c : Text) (s : Plain) (d : Text) (q : Request) (refusal : Refusal) (pending : Pending) → s ≡ r → d ≡ c → IsRefusal (asked s d) d q refusal → pending ≡ record { reply = Refused refusal; steps = Nothing } → IsPrepared r (record { caller = c; request = q }) pending
-refused_from r c s d q refusal pending same who refused are =
-    subst (λ (p : Plain). IsPrepared p (record { caller = c; request = q }) pending) same
-    (subst (λ (e : Text). IsPrepared s (record { caller = e; request = q }) pending) who
-    (subst (λ (p : Pending). IsPrepared s (record { caller = d; request = q }) p) (sym are) (prepared_refusal s d q refusal refused)))
-
--- want of memory leaves all as it is
-pub wanting : (r : Plain) (t : Turn) (refusal : Refusal) (pending : Pending) → refusal ≡ NoMemory → pending ≡ record { reply = Refused refusal; steps = Nothing } → IsPrepared r t pending
-wanting r t refusal pending is are =
-    let left : pending ≡ record { reply = Refused NoMemory; steps = Nothing } = are ∙ ap (λ f. record { reply = Refused f; steps = Nothing }) is in
-    subst (λ (p : Pending). IsPrepared r t p) (sym left) (record { replies = λ no. absurd (false≢true (sym no)); changes = refl })

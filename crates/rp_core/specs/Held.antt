@@ -1,24 +1,26 @@
 -- What a repository in memory holds, and what a prepared request is.
-use Rattle.std.specs.Prelude.{◌≡◌, ◌≤◌, ◌+◌, ℕ, List, [], ◌∷◌, map, slice_index_or, Option, Some, None}
+use Rattle.std.specs.Prelude.{◌≡◌, ℕ, List, [], ◌∷◌, map, slice_index_or, Option, Some, None}
 use Rattle.rp_rows.specs.declared.rows.ModelContent.{ModelContent}
 use Rattle.rp_rows.specs.Rows.{Text, GroupRow}
 use Rattle.rp_plain.specs.declared.messages.Request.{Request}
 use Rattle.rp_plain.specs.Plain.{Plain}
 use Rattle.rp_plain.specs.Runs.{MayReply}
 use Rattle.rp_plain.specs.Turns.{Turn, effect, after}
+use Rattle.rp_store.specs.declared.changes.Change as store_change
 use Rattle.rp_store.specs.declared.changes.Prepared as store
 use Rattle.rp_store.specs.Entries.{Entries, entry_key}
 use Rattle.rp_store.specs.Models.{Held}
-use Rattle.rp_store.specs.Kept.{made, Fits as StoreFits}
+use Rattle.rp_store.specs.Kept.{made, Fits as StoreFits, IsPrepared as IsPreparedFor}
 use Rattle.rp_access.specs.Kept.{Rights, KeptAccess}
 use Rattle.rp_access.specs.Steps.{prepared_models, prepared_groups, PreparedFits}
-use Rattle.rp_sight.specs.Stored.{joined}
 use Rattle.rp_access.specs.declared.changes.Change as access
+use Rattle.rp_access.specs.declared.access.Prepared as rights
+use Rattle.rp_access.specs.declared.access.Prepared.TheVariants.{Nothing}
 use Rattle.rp_access.specs.Changes as access_changes
-use Rattle.rp_store.specs.Changes as store_changes
+use Rattle.rp_sight.specs.Stored.{joined}
 use Rattle.rp_plans.specs.declared.edits.Edit.{Edit}
 use Rattle.rp_plans.specs.declared.edits.Edit.TheVariants.{OfModel, OfRights}
-use Rattle.rp_core.specs.Faults.{with_rights, edit_fault}
+use Rattle.rp_core.specs.Faults.{with_rights}
 use Rattle.rp_core.specs.declared.steps.Step.{Step}
 use Rattle.rp_core.specs.declared.steps.Pending.{Pending}
 
@@ -35,24 +37,6 @@ AreAlike b = map entry_key b.models.entries ≡ map entry_key b.access.models.en
 pub record Kept : Type 0 where
   pub content : Plain
   pub both : Both
-
--- ---- what edits make of what is kept
-
-abbrev pub entries_after : Edit → List Held → List Held
-entries_after (OfModel change) ms = store_changes.changed change ms
-entries_after (OfRights change) ms = ms
-
-abbrev pub rights_by : Option access.Change → List Rights → List Rights
-rights_by None es = es
-rights_by (Some change) es = access_changes.models_after change es
-
-abbrev pub rights_after : Edit → List Rights → List Rights
-rights_after (OfModel change) es = rights_by (with_rights change) es
-rights_after (OfRights change) es = rights_by (Some change) es
-
-abbrev pub groups_of : Edit → List GroupRow → List GroupRow
-groups_of (OfModel change) gs = gs
-groups_of (OfRights change) gs = access_changes.groups_after change gs
 
 -- ---- what steps do
 
@@ -84,32 +68,49 @@ store_fits s (Some prepared) = StoreFits s prepared
 abbrev pub StepFits : Both → Step → Type 0
 StepFits b s = store_fits b.models s.store × PreparedFits b.access s.rights
 
--- nothing speaks against the edit, this step makes it, and there is room for it in what is kept from then on
-pub record IsMadeOf (edit : Edit) (b : Both) (s : Step) : Type 0 where
-  pub passes : edit_fault b.models.entries b.access.models.entries b.access.groups.rows edit ≡ None
-  pub models : made_by s.store b.models.entries ≡ entries_after edit b.models.entries
-  pub rights : prepared_models s.rights b.access.models.entries ≡ rights_after edit b.access.models.entries
-  pub groups : prepared_groups s.rights b.access.groups.rows ≡ groups_of edit b.access.groups.rows
-
-abbrev pub IsStepOf : Edit → Both → Both → Step → Type 0
-IsStepOf edit old new s = IsMadeOf edit old s × StepFits new s
-
--- what is kept after a step: what it makes, and no more room than that of one row less
+-- what is kept after a step
 pub record After (s : Step) (b next : Both) : Type 0 where
   pub models : next.models.entries ≡ made_by s.store b.models.entries
   pub rights : next.access.models.entries ≡ prepared_models s.rights b.access.models.entries
   pub groups : next.access.groups.rows ≡ prepared_groups s.rights b.access.groups.rows
-  pub room : b.models.room ≤ next.models.room + 1
-  pub right_room : b.access.models.room ≤ next.access.models.room + 1
 
 -- each fits what those before it leave
 abbrev pub StepsFit : Both → List Step → Type 0
 StepsFit b [] = Unit {0}
 StepsFit b (s ∷ steps) = StepFits b s × ((next : Both) → After s b next → StepsFit next steps)
 
--- what is pending was prepared for what is held: its steps take no memory
+-- ---- which steps edits come to
+
+-- nothing speaks against the change of rights, and this makes it
+pub record IsRightsMade (change : access.Change) (es : List Rights) (gs : List GroupRow) (prepared : rights.Prepared) : Type 0 where
+  pub passes : access_changes.fault es gs change ≡ None
+  pub models : prepared_models prepared es ≡ access_changes.models_after change es
+  pub groups : prepared_groups prepared gs ≡ access_changes.groups_after change gs
+
+abbrev pub IsRightsOf : Option access.Change → List Rights → List GroupRow → rights.Prepared → Type 0
+IsRightsOf None es gs prepared = prepared ≡ Nothing
+IsRightsOf (Some change) es gs prepared = IsRightsMade change es gs prepared
+
+pub record IsModelStep (change : store_change.Change) (ms : List Held) (es : List Rights) (gs : List GroupRow) (s : Step) : Type 0 where
+  pub prepared : store.Prepared
+  pub is : s.store ≡ Some prepared
+  pub makes : IsPreparedFor change ms prepared
+  pub rights : IsRightsOf (with_rights change) es gs s.rights
+
+-- nothing speaks against the edit of these, and this step makes it
+abbrev pub IsStepOf : List Held → List Rights → List GroupRow → Edit → Step → Type 0
+IsStepOf ms es gs (OfModel change) s = IsModelStep change ms es gs s
+IsStepOf ms es gs (OfRights change) s = (s.store ≡ None) × IsRightsMade change es gs s.rights
+
+abbrev pub AreStepsOf : List Held → List Rights → List GroupRow → List Edit → List Step → Type 0
+AreStepsOf ms es gs [] [] = Unit {0}
+AreStepsOf ms es gs (e ∷ edits) (s ∷ steps) = IsStepOf ms es gs e s × AreStepsOf ms es gs edits steps
+AreStepsOf ms es gs [] (s ∷ steps) = ⊥
+AreStepsOf ms es gs (e ∷ edits) [] = ⊥
+
+-- what is pending was prepared for what is held: its steps take no memory, and leave rights on the same models
 unfoldable pub Fits : Kept → Pending → Type 0
-Fits kept pending = StepsFit kept.both pending.steps
+Fits kept pending = StepsFit kept.both pending.steps × (map entry_key (made_entries pending.steps kept.both.models.entries) ≡ map entry_key (made_rights pending.steps kept.both.access.models.entries))
 
 -- ---- prepared requests
 

@@ -1,8 +1,11 @@
 //! What a prepared request is still to do. No step takes memory.
 
-ghost use Rattle.std.specs.Prelude.{◌≡◌, ◌≢◌, [], Some, None, MatchResult, IfOk, IfErr, option_map};
-ghost use Rattle.rp_core.specs.Held.{StepsFit, IsStepOf, made_entries, made_rights, made_groups};
-ghost use Rattle.rp_core.specs.Faults.{store_refusal, access_refusal, with_rights, edit_fault};
+ghost use Rattle.std.specs.Prelude.{◌≡◌, ◌≢◌, [], Some, None, map, MatchResult, IfOk};
+ghost use Rattle.rp_plain.specs.Meaning.{first_some};
+ghost use Rattle.rp_access.specs.Steps.{PreparedFits};
+ghost use Rattle.rp_plans.specs.Plans.{AreApart};
+ghost use Rattle.rp_core.specs.Held.{After, StepFits, StepsFit, IsRightsOf, IsModelStep, IsStepOf, AreStepsOf, made_entries, made_rights, made_groups};
+ghost use Rattle.rp_core.specs.Faults.{store_refusal, access_refusal, with_rights, rights_fault, edit_fault};
 
 use plain_data::Rows;
 use rp_access::{Access, AccessFault};
@@ -72,6 +75,50 @@ fn rights_with(
     }
 }
 
+/// What happens to rights where what models hold changes so, with room for it, or what the rights say against it. Nothing that
+/// is held changes.
+fn rights_step(
+    alloc: Global,
+    access: &mut Access,
+    change: &rp_store::Change,
+) -> Result<rp_access::Prepared, Refusal>
+    ensures rights { access.new.models.entries ≡ access.old.models.entries }
+    ensures groups { access.new.groups.rows ≡ access.old.groups.rows }
+    ensures made { MatchResult result (IsRightsOf (with_rights change.now) access.old.models.entries access.old.groups.rows) (λ refusal. refusal ≢ Refusal.NoMemory → rights_fault access.old.models.entries access.old.groups.rows (with_rights change.now) ≡ Some refusal) }
+    ensures fits { IfOk result (PreparedFits access.new) }
+{
+    let Some(rights) = rights_with(alloc, change)? else {
+        return Ok(rp_access::Prepared::Nothing);
+    };
+    match access.prepare(alloc, rights) {
+        Ok(prepared) => Ok(prepared),
+        Err(fault) => Err(of_access(fault)),
+    }
+}
+
+/// The step that a change of what models hold comes to, as [`step_of`] has it.
+fn model_step(
+    alloc: Global,
+    store: &mut Store,
+    access: &mut Access,
+    change: rp_store::Change,
+) -> Result<Step, Refusal>
+    ensures models { store.new.entries ≡ store.old.entries }
+    ensures rights { access.new.models.entries ≡ access.old.models.entries }
+    ensures groups { access.new.groups.rows ≡ access.old.groups.rows }
+    ensures made { MatchResult result (IsModelStep change store.old.entries access.old.models.entries access.old.groups.rows) (λ refusal. refusal ≢ Refusal.NoMemory → edit_fault store.old.entries access.old.models.entries access.old.groups.rows (Edit.OfModel change) ≡ Some refusal) }
+    ensures fits { IfOk result (StepFits (record { models = store.new; access = access.new })) }
+{
+    let rights = rights_step(alloc, access, &change)?;
+    match store.prepare(alloc, change) {
+        Ok(prepared) => Ok(Step {
+            store: Some(prepared),
+            rights,
+        }),
+        Err(fault) => Err(of_store(fault)),
+    }
+}
+
 /// The step that an edit comes to, with room for it, or what the store or the rights say against it. Nothing that is held changes.
 fn step_of(
     alloc: Global,
@@ -82,25 +129,11 @@ fn step_of(
     ensures models { store.new.entries ≡ store.old.entries }
     ensures rights { access.new.models.entries ≡ access.old.models.entries }
     ensures groups { access.new.groups.rows ≡ access.old.groups.rows }
-    ensures prepared { MatchResult result (IsStepOf edit (record { models = store.old; access = access.old }) (record { models = store.new; access = access.new })) (λ refusal. refusal ≢ Refusal.NoMemory → edit_fault store.old.entries access.old.models.entries access.old.groups.rows edit ≡ Some refusal) }
+    ensures made { MatchResult result (IsStepOf store.old.entries access.old.models.entries access.old.groups.rows edit) (λ refusal. refusal ≢ Refusal.NoMemory → edit_fault store.old.entries access.old.models.entries access.old.groups.rows edit ≡ Some refusal) }
+    ensures fits { IfOk result (StepFits (record { models = store.new; access = access.new })) }
 {
     match edit {
-        Edit::OfModel(change) => {
-            let rights = match rights_with(alloc, &change)? {
-                Some(rights) => match access.prepare(alloc, rights) {
-                    Ok(rights) => rights,
-                    Err(fault) => return Err(of_access(fault)),
-                },
-                None => rp_access::Prepared::Nothing,
-            };
-            match store.prepare(alloc, change) {
-                Ok(prepared) => Ok(Step {
-                    store: Some(prepared),
-                    rights,
-                }),
-                Err(fault) => Err(of_store(fault)),
-            }
-        }
+        Edit::OfModel(change) => model_step(alloc, store, access, change),
         Edit::OfRights(change) => match access.prepare(alloc, change) {
             Ok(rights) => Ok(Step {
                 store: None,
@@ -111,19 +144,40 @@ fn step_of(
     }
 }
 
-/// The steps that edits come to, with room for all of them, or the first that is said against one.
+/// The steps that edits come to, with room for all of them, or the first that is said against one. Nothing that is held changes.
 fn steps_of(
     alloc: Global,
     store: &mut Store,
     access: &mut Access,
     edits: Rows<Edit>,
 ) -> Result<Rows<Step>, Refusal>
+    requires { AreApart edits }
+    ensures models { store.new.entries ≡ store.old.entries }
+    ensures rights { access.new.models.entries ≡ access.old.models.entries }
+    ensures groups { access.new.groups.rows ≡ access.old.groups.rows }
+    ensures made { MatchResult result (AreStepsOf store.old.entries access.old.models.entries access.old.groups.rows edits) (λ refusal. refusal ≢ Refusal.NoMemory → first_some (map (edit_fault store.old.entries access.old.models.entries access.old.groups.rows) edits) ≡ Some refusal) }
+    ensures fits { IfOk result (StepsFit (record { models = store.new; access = access.new })) }
 {
     let mut steps = Vec::with_capacity(alloc, edits.len())?;
     for edit in edits.into_vec() {
         steps.push(step_of(alloc, store, access, edit)?)?;
     }
     Ok(Rows::from_vec(steps))
+}
+
+/// Makes a step. It takes no memory.
+fn make_step(store: &mut Store, access: &mut Access, step: Step)
+    requires { StepFits (record { models = store.old; access = access.old }) step }
+    ensures { After step (record { models = store.old; access = access.old }) (record { models = store.new; access = access.new }) }
+{
+    let Step {
+        store: prepared,
+        rights,
+    } = step;
+    if let Some(prepared) = prepared {
+        store.commit(prepared);
+    }
+    access.commit(rights);
 }
 
 /// Makes the steps. It takes no memory.
@@ -134,14 +188,7 @@ pub fn make_steps(store: &mut Store, access: &mut Access, steps: Rows<Step>)
     ensures groups { access.new.groups.rows ≡ made_groups steps access.old.groups.rows }
 {
     for step in steps.into_vec() {
-        let Step {
-            store: prepared,
-            rights,
-        } = step;
-        if let Some(prepared) = prepared {
-            store.commit(prepared);
-        }
-        access.commit(rights);
+        make_step(store, access, step);
     }
 }
 
@@ -163,6 +210,13 @@ impl Pending {
         access: &mut Access,
         plan: Plan,
     ) -> Result<Pending, Refusal>
+        requires { AreApart plan.edits }
+        ensures models { store.new.entries ≡ store.old.entries }
+        ensures rights { access.new.models.entries ≡ access.old.models.entries }
+        ensures groups { access.new.groups.rows ≡ access.old.groups.rows }
+        ensures reply { IfOk result (λ pending. pending.reply ≡ plan.reply) }
+        ensures made { MatchResult result (λ pending. AreStepsOf store.old.entries access.old.models.entries access.old.groups.rows plan.edits pending.steps) (λ refusal. refusal ≢ Refusal.NoMemory → first_some (map (edit_fault store.old.entries access.old.models.entries access.old.groups.rows) plan.edits) ≡ Some refusal) }
+        ensures fits { IfOk result (λ pending. StepsFit (record { models = store.new; access = access.new }) pending.steps) }
     {
         let Plan { reply, edits } = plan;
         let steps = steps_of(alloc, store, access, edits)?;
