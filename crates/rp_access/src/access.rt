@@ -118,11 +118,12 @@ impl Access {
         }
     }
 
-    /// What the partner may do with the group of the key.
-    pub fn right_on_group(&self, partner: &Text, key: &Key) -> Right
-        ensures { result ≡ right_on_group partner.now (find (is_row key.now) self.now.groups.rows) }
+    /// What the partner may do with the group of this owner and name.
+    pub fn right_on_group(&self, partner: &Text, owner: &Text, name: &Text) -> Right
+        ensures right { result ≡ right_on_group partner.now (find (is_row (key_of owner.now name.now)) self.now.groups.rows) }
+        ensures order { IsAscending key_cmp row_key self.now.groups.rows }
     {
-        match self.groups.table().find(key) {
+        match self.groups.table().find_for(owner, name) {
             Some(group) => group_right(partner, &group),
             None => Right::Unseen,
         }

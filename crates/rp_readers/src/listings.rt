@@ -14,7 +14,7 @@ use crate::readers::Readers;
 use plain_data::{Rows, Text};
 use rp_plain::lists::Member;
 use rp_rows::rows::{Key, Listing, Right};
-use rp_sight::{Member as Listed, RowRef, group_right, sees_group};
+use rp_sight::{Member as Listed, RowRef, sees_group};
 use std::alloc::{AllocError, Global};
 
 /// The members of a group as they are told.
@@ -56,10 +56,7 @@ impl<'a, 's> Readers<'a, 's> {
     fn right_on_group(&self, owner: &Text, name: &Text) -> Right
         ensures { result ≡ (told self.now).group_right (key_of owner.now name.now) }
     {
-        match self.group_of(owner, name) {
-            Some(group) => group_right(self.caller, &group),
-            None => Right::Unseen,
-        }
+        self.access.right_on_group(self.caller, owner, name)
     }
 
     /// What the partner may do with the group.
@@ -94,13 +91,6 @@ impl<'a, 's> Readers<'a, 's> {
             Some(group) => Some(group.holds),
             None => None,
         }
-    }
-
-    /// How many groups are the partner's own.
-    pub fn group_count(&self) -> usize
-        ensures { result ≡ (told self.now).group_count }
-    {
-        self.access.groups().table().count_of(self.caller)
     }
 
     /// The members of the group, and whether each counts, if the partner sees it.

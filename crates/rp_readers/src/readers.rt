@@ -131,11 +131,4 @@ impl<'a, 's> Readers<'a, 's> {
     {
         self.content_of(&key.owner, &key.name)
     }
-
-    /// How many models are the partner's own.
-    pub fn model_count(&self) -> usize
-        ensures { result ≡ (told self.now).model_count }
-    {
-        self.models.count_of(self.caller)
-    }
 }

@@ -61,7 +61,7 @@ fn alter(model: &mut ModelContent, change: Edit)
 
 impl Keyed<ModelContent> {
     /// What the model of the key holds is changed so, if there is one.
-    pub fn alter(&mut self, key: &Key, change: Edit)
+    pub(crate) fn alter(&mut self, key: &Key, change: Edit)
         requires { HasAt (EditFits change) key.now self.old.entries }
         ensures { self.new.entries ≡ with_row key_cmp entry_key key.now (option_map (revalued (edited_by change)) (find (is_entry key.now) self.old.entries)) self.old.entries }
     {

@@ -15,4 +15,3 @@ mod uses;
 pub use changes::{Change, Edit, Prepared, StoreFault};
 pub use keyed::{Entry, Keyed};
 pub use store::Store;
-pub use uses::is_used;

@@ -58,7 +58,7 @@ impl Store {
     }
 
     /// The instance of this name in the model of this key.
-    pub fn get(&self, key: &Key, name: u64) -> Option<&Instance>
+    pub(crate) fn get(&self, key: &Key, name: u64) -> Option<&Instance>
         ensures { option_copied result ≡ instance_at key.now name self.now.entries }
     {
         match self.find(key) {

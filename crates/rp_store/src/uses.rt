@@ -64,7 +64,7 @@ fn is_user(name: u64, instance: &Instance) -> bool
 }
 
 /// Whether another instance refers to it.
-pub fn is_used(name: u64, instances: &[Instance]) -> bool
+pub(crate) fn is_used(name: u64, instances: &[Instance]) -> bool
     ensures { result ≡ spec.is_used name instances.now }
 {
     instances.iter().any(|instance| is_user(name, instance))
