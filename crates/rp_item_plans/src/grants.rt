@@ -16,12 +16,7 @@ use rp_rows::rows::{Level, Right};
 use std::alloc::Global;
 
 /// Why a partner's grant on an item of the caller's isn't changed, on which the caller has this right.
-pub fn grant_fault(
-    asked: &Readers<'_, '_>,
-    name: &Text,
-    to: &Text,
-    right: Right,
-) -> Option<Refusal>
+pub fn grant_fault(asked: &Readers<'_, '_>, name: &Text, to: &Text, right: Right) -> Option<Refusal>
     ensures { result ≡ first_some (grant_tests (told asked.now) name.now to.now right) }
 {
     first(&[

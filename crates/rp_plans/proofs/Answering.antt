@@ -31,9 +31,9 @@ module _ (a : Readers) (c : Text) (q : Request) where
       → reply ≡ (meaning a c q).reply → edits_of a e ≡ (meaning a c q).edits → Sees a c e → IsAnswer a c q plan
   of_one plan reply e made behind is passes tests faults replies edits seen =
       subst (IsAnswer a c q) (sym is) (record {
-      decides = ap (λ o. first_some (o ∷ [])) faults ∙ first_later made behind passes ∙ tests;
-      replies = replies;
-      edits = none_more (edits_of a e) ∙ edits;
-      seen = (seen, tt);
-      apart = (tt, tt);
+        decides = ap (λ o. first_some (o ∷ [])) faults ∙ first_later made behind passes ∙ tests;
+        replies = replies;
+        edits = none_more (edits_of a e) ∙ edits;
+        seen = (seen, tt);
+        apart = (tt, tt);
       })
