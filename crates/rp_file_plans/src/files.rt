@@ -1,6 +1,6 @@
 //! Files that are put into models with their links, and exported.
 
-ghost use Rattle.std.specs.Prelude.{◌≡◌, ◌∷◌, List, Ok, IfOk, IfSome, option_copied, fold, length, max};
+ghost use Rattle.std.specs.Prelude.{◌≡◌, ◌∷◌, Ok, IfOk, IfSome, option_copied};
 ghost use Rattle.p21_grammar.specs.File.{file_of};
 ghost use Rattle.rp_rows.specs.Contents as contents;
 ghost use Rattle.rp_plain.specs.Meaning.{first_some};

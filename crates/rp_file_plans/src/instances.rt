@@ -42,5 +42,8 @@ pub fn plan_get(
     if let Some(refusal) = first(&tests) {
         return Err(refusal);
     }
-    Ok(Plan::told(alloc, Reply::Line(line_of(alloc, asked, layouts, key, found)?)))
+    Ok(Plan::told(
+        alloc,
+        Reply::Line(line_of(alloc, asked, layouts, key, found)?),
+    ))
 }

@@ -1,1 +1,1 @@
-pub mod Members
+pub mod Tests

@@ -3,11 +3,12 @@
 ghost use Rattle.rp_readers.specs.Told.{told};
 ghost use Rattle.rp_plans.specs.Plans.{Plans};
 
-use crate::models::own;
+use crate::grants::grant_fault;
+use crate::models::{new_fault, own, own_fault};
 use plain_data::Text;
 use rp_access::Change;
 use rp_plain::messages::{Refusal, Reply, Request};
-use rp_plans::{Edit, Plan, first, is_no_partner, name_fault, names_fault, unseen, when};
+use rp_plans::{Edit, Plan};
 use rp_readers::Readers;
 use std::alloc::Global;
 
@@ -21,11 +22,7 @@ pub fn plan_create_group(
     ensures { Plans (told asked.now) asked.now.caller.now (Request.CreateGroup name schema) result }
 {
     schema.make_ascii_uppercase();
-    let tests = [
-        name_fault(&name),
-        when(!asked.has_schema(&schema), Refusal::UnknownSchema),
-    ];
-    if let Some(refusal) = first(&tests) {
+    if let Some(refusal) = new_fault(asked, &name, &schema) {
         return Err(refusal);
     }
     let key = own(alloc, asked, name)?;
@@ -41,8 +38,7 @@ pub fn plan_delete_group(
 ) -> Result<Plan, Refusal>
     ensures { Plans (told asked.now) asked.now.caller.now (Request.DeleteGroup name) result }
 {
-    let tests = [name_fault(&name), unseen(asked.own_group_right(&name))];
-    if let Some(refusal) = first(&tests) {
+    if let Some(refusal) = own_fault(&name, asked.own_group_right(&name)) {
         return Err(refusal);
     }
     let key = own(alloc, asked, name)?;
@@ -59,12 +55,7 @@ pub fn plan_grant_group(
 ) -> Result<Plan, Refusal>
     ensures { Plans (told asked.now) asked.now.caller.now (Request.GrantGroup name to) result }
 {
-    let tests = [
-        names_fault(&name, &to),
-        is_no_partner(asked, &to),
-        unseen(asked.own_group_right(&name)),
-    ];
-    if let Some(refusal) = first(&tests) {
+    if let Some(refusal) = grant_fault(asked, &name, &to, asked.own_group_right(&name)) {
         return Err(refusal);
     }
     let key = own(alloc, asked, name)?;
@@ -81,12 +72,7 @@ pub fn plan_revoke_group(
 ) -> Result<Plan, Refusal>
     ensures { Plans (told asked.now) asked.now.caller.now (Request.RevokeGroup name to) result }
 {
-    let tests = [
-        names_fault(&name, &to),
-        is_no_partner(asked, &to),
-        unseen(asked.own_group_right(&name)),
-    ];
-    if let Some(refusal) = first(&tests) {
+    if let Some(refusal) = grant_fault(asked, &name, &to, asked.own_group_right(&name)) {
         return Err(refusal);
     }
     let key = own(alloc, asked, name)?;

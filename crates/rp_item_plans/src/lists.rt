@@ -30,10 +30,13 @@ pub fn plan_list(alloc: Global, asked: &Readers<'_, '_>) -> Result<Plan, Refusal
     ensures { Plans (told asked.now) asked.now.caller.now Request.ListItems result }
 {
     let groups = asked.group_items(alloc)?;
-    Ok(Plan::told(alloc, Reply::Listed {
+    Ok(Plan::told(
+        alloc,
+        Reply::Listed {
             groups,
             models: asked.model_items(alloc)?,
-        }))
+        },
+    ))
 }
 
 /// The names of the schemas.

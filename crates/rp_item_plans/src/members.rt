@@ -5,7 +5,7 @@ ghost use Rattle.rp_plain.specs.Meaning.{first_some};
 ghost use Rattle.rp_plain.specs.Groups as of_groups;
 ghost use Rattle.rp_readers.specs.Told.{told};
 ghost use Rattle.rp_plans.specs.Plans.{Plans};
-ghost use Rattle.rp_item_plans.specs.Members.{include_tests};
+ghost use Rattle.rp_item_plans.specs.Tests.{member_tests, include_tests};
 
 use crate::models::own;
 use plain_data::Text;
@@ -50,6 +50,17 @@ fn include_fault(asked: &Readers<'_, '_>, group: &Text, model: &Key) -> Option<R
     ])
 }
 
+/// Why a model isn't excluded from a group of the caller's, apart from what the group lists.
+fn exclude_fault(asked: &Readers<'_, '_>, group: &Text, model: &Key) -> Option<Refusal>
+    ensures { result ≡ first_some (member_tests (told asked.now) asked.now.caller.now group.now model.now) }
+{
+    first(&[
+        member_fault(group, model),
+        is_no_partner(asked, &model.owner),
+        unseen(asked.own_group_right(group)),
+    ])
+}
+
 // ---- plans
 
 /// A group of the caller's lists a model.
@@ -78,12 +89,7 @@ pub fn plan_exclude(
 ) -> Result<Plan, Refusal>
     ensures { Plans (told asked.now) asked.now.caller.now (Request.Exclude group model) result }
 {
-    let tests = [
-        member_fault(&group, &model),
-        is_no_partner(asked, &model.owner),
-        unseen(asked.own_group_right(&group)),
-    ];
-    if let Some(refusal) = first(&tests) {
+    if let Some(refusal) = exclude_fault(asked, &group, &model) {
         return Err(refusal);
     }
     let group = own(alloc, asked, group)?;

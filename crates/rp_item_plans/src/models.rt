@@ -2,14 +2,16 @@
 
 ghost use Rattle.std.specs.Prelude.{◌≡◌, IfOk};
 ghost use Rattle.rp_rows.specs.Rows.{key_of};
+ghost use Rattle.rp_plain.specs.Meaning.{first_some};
 ghost use Rattle.rp_readers.specs.Told.{told};
 ghost use Rattle.rp_plans.specs.Plans.{Plans};
+ghost use Rattle.rp_item_plans.specs.Tests.{new_tests, own_tests};
 
 use plain_data::Text;
 use rp_plain::messages::{Refusal, Reply, Request};
 use rp_plans::{Edit, Plan, first, name_fault, unseen, when};
 use rp_readers::Readers;
-use rp_rows::rows::Key;
+use rp_rows::rows::{Key, Right};
 use rp_store::Change;
 use std::alloc::{AllocError, Global};
 
@@ -19,6 +21,23 @@ pub fn own(alloc: Global, asked: &Readers<'_, '_>, name: Text) -> Result<Key, Al
 {
     let owner = asked.caller.copy(alloc)?;
     Ok(Key { owner, name })
+}
+
+/// Why an item of the caller's isn't created, of a schema whose name is in upper case.
+pub fn new_fault(asked: &Readers<'_, '_>, name: &Text, schema: &Text) -> Option<Refusal>
+    ensures { result ≡ first_some (new_tests (told asked.now) name.now schema.now) }
+{
+    first(&[
+        name_fault(name),
+        when(!asked.has_schema(schema), Refusal::UnknownSchema),
+    ])
+}
+
+/// Why an item of the caller's isn't changed, on which he has this right.
+pub fn own_fault(name: &Text, right: Right) -> Option<Refusal>
+    ensures { result ≡ first_some (own_tests name.now right) }
+{
+    first(&[name_fault(name), unseen(right)])
 }
 
 /// An empty model of the caller's.
@@ -31,11 +50,7 @@ pub fn plan_create(
     ensures { Plans (told asked.now) asked.now.caller.now (Request.CreateModel name schema) result }
 {
     schema.make_ascii_uppercase();
-    let tests = [
-        name_fault(&name),
-        when(!asked.has_schema(&schema), Refusal::UnknownSchema),
-    ];
-    if let Some(refusal) = first(&tests) {
+    if let Some(refusal) = new_fault(asked, &name, &schema) {
         return Err(refusal);
     }
     let key = own(alloc, asked, name)?;
@@ -47,8 +62,7 @@ pub fn plan_create(
 pub fn plan_delete(alloc: Global, asked: &Readers<'_, '_>, name: Text) -> Result<Plan, Refusal>
     ensures { Plans (told asked.now) asked.now.caller.now (Request.DeleteModel name) result }
 {
-    let tests = [name_fault(&name), unseen(asked.own_model_right(&name))];
-    if let Some(refusal) = first(&tests) {
+    if let Some(refusal) = own_fault(&name, asked.own_model_right(&name)) {
         return Err(refusal);
     }
     let key = own(alloc, asked, name)?;

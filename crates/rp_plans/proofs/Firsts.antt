@@ -1,5 +1,5 @@
 -- The first test that holds.
-use Rattle.std.proofs.Common.{◌≡◌, ℕ, zero, suc, ◌<◌, true, false, List, [], ◌∷◌, ◌++◌, length, take, get_or, Option, Some, None, is_some, refl, sym, arith}
+use Rattle.std.proofs.Common.{◌≡◌, ℕ, zero, suc, ◌<◌, true, false, List, [], ◌∷◌, ◌++◌, length, take, get_or, Option, Some, None, is_some, refl, sym, ◌∙◌, arith}
 use Rattle.rp_plain.specs.Meaning.{first_some}
 
 pub first_none : {A : Type 0} (xs : List (Option A)) (i : ℕ) (d : Option A) → i < length xs → first_some (take i xs) ≡ None → get_or xs i d ≡ None → first_some (take (suc i) xs) ≡ None
@@ -34,10 +34,24 @@ first_behind [] ys none = refl
 first_behind (None ∷ xs) ys none = first_behind xs ys none
 first_behind (Some y ∷ xs) ys none = cc
 
--- where none of four tests holds, the last doesn't
-pub fourth_none : {A : Type 0} (p q r s : Option A) → first_some (p ∷ q ∷ r ∷ s ∷ []) ≡ None → s ≡ None
-fourth_none None None None None none = refl
-fourth_none None None None (Some x) none = cc
-fourth_none None None (Some x) s none = cc
-fourth_none None (Some x) r s none = cc
-fourth_none (Some x) q r s none = cc
+pub first_alone : {A : Type 0} (o : Option A) → first_some (o ∷ []) ≡ o
+first_alone None = refl
+first_alone (Some x) = refl
+
+-- the later tests by one, once none of those before holds
+pub first_later : {A : Type 0} (xs ys : List (Option A)) → first_some xs ≡ None → first_some (first_some ys ∷ []) ≡ first_some (xs ++ ys)
+first_later xs ys none = first_alone (first_some ys) ∙ sym (first_behind xs ys none)
+
+-- ---- where none holds
+
+pub none_here : {A : Type 0} (o : Option A) (xs : List (Option A)) → first_some (o ∷ xs) ≡ None → o ≡ None
+none_here None xs none = refl
+none_here (Some x) xs none = cc
+
+pub none_behind : {A : Type 0} (o : Option A) (xs : List (Option A)) → first_some (o ∷ xs) ≡ None → first_some xs ≡ None
+none_behind None xs none = none
+none_behind (Some x) xs none = cc
+
+pub none_last : {A : Type 0} (xs : List (Option A)) (o : Option A) → first_some (xs ++ o ∷ []) ≡ None → o ≡ None
+none_last [] o none = none_here o [] none
+none_last (x ∷ xs) o none = none_last xs o (none_behind x (xs ++ o ∷ []) none)

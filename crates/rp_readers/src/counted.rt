@@ -7,8 +7,7 @@ ghost use Rattle.rp_readers.specs.Told.{told};
 
 use crate::readers::Readers;
 use rp_rows::rows::{Key, ModelContent};
-use rp_sight::counted_models;
-use rp_sight::RowRef;
+use rp_sight::{RowRef, counted_models};
 use std::alloc::{AllocError, Global};
 
 impl<'a, 's> Readers<'a, 's> {

@@ -64,7 +64,6 @@ impl<'a> DefinedNames for ModelNames<'a> {
     ghost is_defined = { of_instances.is_defined };
 
     fn has(&self, name: u64) -> bool {
-        has_instance(&self.content.instances, name)
-            || has_link(self.content.links.as_slice(), name)
+        has_instance(&self.content.instances, name) || has_link(self.content.links.as_slice(), name)
     }
 }

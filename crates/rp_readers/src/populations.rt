@@ -17,8 +17,7 @@ use plain_data::{Rows, Text};
 use rp_content::Instance;
 use rp_population::{Extent, Place, Users};
 use rp_rows::rows::{Key, Listing, ModelContent};
-use rp_sight::counts;
-use rp_sight::RowRef;
+use rp_sight::{RowRef, counts};
 use std::alloc::{AllocError, Global};
 
 /// The schema of the group, if the partner sees it.

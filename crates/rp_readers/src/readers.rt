@@ -86,7 +86,10 @@ impl<'a, 's> Readers<'a, 's> {
         ensures { option_map row_of result ≡ model_at (plain_of self.now) self.now.caller.now (key_of owner.now name.now) }
     {
         let model = self.models.find_for(owner, name)?;
-        if at_least(Right::Reads, level(self.access.groups(), self.caller, &model)) {
+        if at_least(
+            Right::Reads,
+            level(self.access.groups(), self.caller, &model),
+        ) {
             Some(model)
         } else {
             None

@@ -16,8 +16,8 @@ invariant_of-result c =
     let m = c.index-models-at.result in
     let is : slice_get ms c.args.at ≡ Some m = slice_get_read ms (length ms) c.args.at m refl c.requires.at c.index-models-at.is in
     let all : c.model.inside.content.now.instances ≡ m.content.instances = ap (λ (n : Counted). n.content.instances) c.model.view_is in
-    let linked : c.as_slice.result.now ≡ m.content.links = c.as_slice.ensures ∙ ap (λ (n : Counted). n.content.links) c.model.view_is in
-    let same = made_are ms xs c.args.at m c.model.inside.content.now.instances c.args.start c.as_slice.result.now c.in_ok-targets.targets all c.requires.start linked c.in_ok-targets.ensures in
+    let linked : c.as_slice-links.result.now ≡ m.content.links = c.as_slice-links.ensures ∙ ap (λ (n : Counted). n.content.links) c.model.view_is in
+    let same = made_are ms xs c.args.at m c.model.inside.content.now.instances c.args.start c.as_slice-links.result.now c.in_ok-targets.targets all c.requires.start linked c.in_ok-targets.ensures in
     subst CanName (sym same) (can_name ms xs c.requires.population c.args.at m is)
 
 pub returns : goal.returns
@@ -27,7 +27,7 @@ returns c =
     let m = c.index-models-at.result in
     let is : slice_get ms c.args.at ≡ Some m = slice_get_read ms (length ms) c.args.at m refl c.requires.at c.index-models-at.is in
     let all : c.model.inside.content.now.instances ≡ m.content.instances = ap (λ (n : Counted). n.content.instances) c.model.view_is in
-    let linked : c.as_slice.result.now ≡ m.content.links = c.as_slice.ensures ∙ ap (λ (n : Counted). n.content.links) c.model.view_is in
-    let same = made_are ms xs c.args.at m c.model.inside.content.now.instances c.args.start c.as_slice.result.now c.in_ok-targets.targets all c.requires.start linked c.in_ok-targets.ensures in
+    let linked : c.as_slice-links.result.now ≡ m.content.links = c.as_slice-links.ensures ∙ ap (λ (n : Counted). n.content.links) c.model.view_is in
+    let same = made_are ms xs c.args.at m c.model.inside.content.now.instances c.args.start c.as_slice-links.result.now c.in_ok-targets.targets all c.requires.start linked c.in_ok-targets.ensures in
     let named = subst (λ (n : Names). AreNamesOf xs m n) (sym same) (all_named ms xs c.requires.population c.args.at m is) in
-    subst (λ (o : Option Counted). IfSome o (λ n. AreNamesOf xs n (made_of xs c.model.inside.content.now.instances c.args.start c.as_slice.result.now c.in_ok-targets.targets))) (sym is) named
+    subst (λ (o : Option Counted). IfSome o (λ n. AreNamesOf xs n (made_of xs c.model.inside.content.now.instances c.args.start c.as_slice-links.result.now c.in_ok-targets.targets))) (sym is) named

@@ -17,10 +17,10 @@ pub returns-in_ok-members-in-Some : goal.returns-in_ok-members-in-Some
 unfolding told
 returns-in_ok-members-in-Some c =
     let ms = c.args.self.now.models.now.rows in
-    let g = row_of c.in-Some.group in
+    let g = row_of c.in-Some.field-0 in
     let ks = g.holds.members in
     let there : find (is_row c.args.key.now) c.args.self.now.access.now.groups.rows ≡ Some g =
     found_seen c.args.key.now (sees_group c.args.self.now.caller.now) c.args.self.now.access.now.groups.rows g c.members.ensures.order (sym c.in-Some.ensures) in
-    let are = told_by member_told member_of (member_in ms g) c.deref.result.now ks (ap (map member_of) c.deref.ensures.value ∙ c.in_ok-members-in-Some.ensures ∙ ap (members_in ms) there) ∙ members_told ms g ks c.len-count.ensures.ascending in
+    let are = told_by member_told member_of (member_in ms g) c.deref.result.now ks (ap (map member_of) c.deref.ensures.value ∙ c.in_ok-members-in-Some.ensures.members ∙ ap (members_in ms) there) ∙ members_told ms g ks c.len-count.ensures.ascending in
     subst (λ o. IfOk c.told_members.result (λ rows. rows ≡ map (member (counted_in ms o)) (members_of (held o)))) c.in-Some.ensures
     (subst (λ items. IfOk c.told_members.result (λ rows. rows ≡ items)) are c.told_members.ensures)

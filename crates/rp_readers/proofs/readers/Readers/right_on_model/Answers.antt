@@ -1,4 +1,4 @@
-use Rattle.std.proofs.Common.{◌≡◌, Option, Some, None, refl, ◌∙◌, ap, sym}
+use Rattle.std.proofs.Common.{◌≡◌, List, Option, Some, None, refl, ◌∙◌, ap, sym}
 use Rattle.std.specs.List.{find}
 use Rattle.rp_rows.specs.Rows.{Text, Model, GroupRow, is_row, key_of}
 use Rattle.rp_rows.specs.Sight.{sees}

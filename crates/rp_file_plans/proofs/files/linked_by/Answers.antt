@@ -1,11 +1,11 @@
-use Rattle.std.proofs.Common.{sym, ◌∙◌, ap}
+use Rattle.std.proofs.Common.{[], ◌∷◌, sym, ◌∙◌, ap}
 use Rattle.p21_grammar.specs.File.{file_of}
 use Rattle.rp_rows.specs.Contents.{link_names}
 use Rattle.rp_plain.specs.Meaning.{first_some}
-use Rattle.rp_plain.specs.Files.{read_for, refilled}
+use Rattle.rp_plain.specs.Files.{read_for}
 use Rattle.rp_readers.specs.Told.{told}
 use Rattle.rp_file_plans.specs.Files.{read_tests}
-use Rattle.rp_file_plans.proofs.files.refilled_by.Goals as goal
+use Rattle.rp_file_plans.proofs.files.linked_by.Goals as goal
 
 pub returns-in-Err : goal.returns-in-Err
 returns-in-Err c = λ unlike.
@@ -19,10 +19,10 @@ returns-in-Err-fit_links c = λ unlike.
     let a = told c.args.asked.now in
     let h = c.args.model.now in
     let says = ap (λ ls. read_for a.schemas h (link_names ls) (file_of c.args.file.now)) (sym c.as_slice.ensures) ∙ c.in-Ok.ensures in
-    ap (λ read. first_some (read_tests a c.args.key.now h c.args.links read)) says ∙ c.in-Err-fit_links.ensures unlike
+    ap (λ read. first_some (read_tests a c.args.key.now h c.args.links read)) says ∙ ap (λ o. first_some (o ∷ [])) (c.in-Err-fit_links.ensures unlike)
 
-pub returns-in_ok-refilled-in-Ok-fit_links : goal.returns-in_ok-refilled-in-Ok-fit_links
-returns-in_ok-refilled-in-Ok-fit_links c =
+pub returns-in-Ok-fit_links : goal.returns-in-Ok-fit_links
+returns-in-Ok-fit_links c =
     let a = told c.args.asked.now in
     let h = c.args.model.now in
     let x = c.in-Ok.content in
@@ -31,5 +31,5 @@ returns-in_ok-refilled-in-Ok-fit_links c =
       content = x;
       says = ap (λ ls. read_for a.schemas h (link_names ls) (file_of c.args.file.now)) (sym c.as_slice.ensures) ∙ c.in-Ok.ensures;
       passes = fit.1;
-      is = c.in_ok-refilled-in-Ok-fit_links.ensures ∙ ap (λ ls. refilled h (record x { links = ls })) fit.0;
+      is = ap (λ ls. record x { links = ls }) fit.0;
     }
