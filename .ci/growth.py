@@ -11,20 +11,23 @@ crates that are read another name for a Global is refused. So is a growth each c
     another         function of these crates grows nothing in front of its last look at sight; and none looks into a table itself, by
                     `.models`, `.groups`, `.partners` or `.schemas`: what a plan knows is what readers tell
     the readers     what is called in front of these tests, and what that calls, grows nothing at all: functions of plans,
-                    rp_readers, rp_sight, rp_access and rp_tables, by their names
+                    rp_readers, rp_sight, rp_access and rp_store, by their names; one that has a Global among its parameters is none
+                    of them, since who calls it hands on an allocator, which is a growth there
     the body        `prepare` of rp_core grows nothing in front of its call of `plan`
-    sizes           in rp_readers, rp_sight and rp_access nothing is made for a number of things at once: no `with_capacity`, `reserve`,
-                    `resize`, `from_elem` and `vec![in ..]`
+    sizes           in rp_readers, rp_sight, rp_access and rp_store nothing is made for a number of things at once: no
+                    `with_capacity`, `reserve`, `resize`, `from_elem` and `vec![in ..]`
 
-LISTED has the places that stand all the same, each with its reason: what is read of a text, or counted, once the tests of sight
-have passed; plans of what everyone may ask; sizes of what the caller sees. The code of one has the tests in front of it too.
+LISTED has the places that stand all the same, each with its reason: plans of what everyone may ask, sizes of what the caller
+sees, and room for one row more.
 
 Not read is whether the tests are those of the request, and what readers take one by one: contracts say which rows an answer
-has, and nothing says that none is taken for others beside. Nor are functions read that are called under no name.
+has, and nothing says that none is taken for others beside. Nor are functions read that are called under no name. The last tests
+of a request, which the store and the rights make once a plan has passed its own, come behind growths: they are of rows that the
+caller sees.
 """
 import re
 
-from sources import Fault, Listed, Token, functions_of, missed, planted, tokens_of, without_listed
+from sources import Fault, Listed, Token, flat, functions_of, missed, planted, tokens_of, without_listed
 
 FILE_PLANS = "crates/rp_file_plans/src/"
 ITEM_PLANS = "crates/rp_item_plans/src/"
@@ -32,8 +35,9 @@ PLANS = ("crates/rp_plans/src/", FILE_PLANS, ITEM_PLANS, "crates/rp_core/src/pla
 READERS = "crates/rp_readers/src/"
 SIGHT_OF = "crates/rp_sight/src/"
 ACCESS = "crates/rp_access/src/"
+STORE = "crates/rp_store/src/"
 BODY = "crates/rp_core/src/"
-READ = (*PLANS, READERS, SIGHT_OF, ACCESS, BODY, "crates/rp_tables/src/")
+READ = (*PLANS, READERS, SIGHT_OF, ACCESS, STORE, BODY)
 
 PLAN = re.compile(r"plan|plan_\w+")
 GROWS = re.compile(r"(try_)?(with_capacity|reserve|push|insert|append|extend|resize|copy|clone|collect|sort|split_off|from_elem|from_slice|"
@@ -43,20 +47,14 @@ SIZES = re.compile(r"with_capacity|(try_)?reserve(_\w+)?|resize(_\w+)?|from_elem
 SIGHT = re.compile(r"unseen|lacks|(own_)?(model|group)_right")
 TABLES = ("models", "groups", "partners", "schemas")
 
-SEEN = "if let Some(refusal) = cheap_fault(asked, &key, text) { return Err(refusal); } " \
-       "let Some(model) = asked.content(&key) else { return Err(Refusal::NoSuchItem); }; "
-HIS_OWN = "the caller may write the model, and what is wrong with his own text is looked for"
 ONE_MORE = "room for one row more, once a plan has passed its tests"
 
 LISTED = [
-    # what is read once the tests of sight have passed
-    Listed(f"{FILE_PLANS}single.rt", "plan_add",
-           SEEN + "let name = model.greatest + 1; let instance = said_by(alloc, layouts, model, name, text)?", HIS_OWN),
-    Listed(f"{FILE_PLANS}single.rt", "plan_set", SEEN + "let instance = said_by(alloc, layouts, model, name, text)?", HIS_OWN),
     # what everyone may ask
     Listed(f"{ITEM_PLANS}lists.rt", "plan_list", "let groups = asked.group_items(alloc)?", "the groups that the caller sees are listed"),
-    Listed(f"{ITEM_PLANS}lists.rt", "plan_list", "models: asked.model_items(alloc)?", "the models that the caller sees are listed"),
-    Listed(f"{ITEM_PLANS}lists.rt", "plan_schemas", "Reply::Schemas(asked.schema_names(alloc)?)", "everyone is told all schemas"),
+    Listed(f"{ITEM_PLANS}lists.rt", "plan_list", "Plan::told(alloc, Reply::Listed { groups, models: asked.model_items(alloc)? })",
+           "the models that the caller sees are listed"),
+    Listed(f"{ITEM_PLANS}lists.rt", "plan_schemas", "Plan::told(alloc, Reply::Schemas(asked.schema_names(alloc)?))", "everyone is told all schemas"),
     # sizes
     Listed(f"{READERS}items.rt", "model_rows", "Vec::with_capacity(alloc, seen.len())?", "the models that the caller sees"),
     Listed(f"{READERS}items.rt", "group_rows", "Vec::with_capacity(alloc, seen.len())?", "the groups that the caller sees"),
@@ -65,11 +63,13 @@ LISTED = [
     Listed(f"{READERS}schemas.rt", "names_of", "Vec::with_capacity(alloc, schemas.len())?", "everyone is told all schemas"),
     Listed(f"{READERS}kept.rt", "of", "Vec::with_capacity(alloc, schemas.len())?", "all schemas, at the opening"),
     Listed(f"{SIGHT_OF}members.rt", "members_of", "Vec::with_capacity(alloc, keys.len())?", "what a group lists that the caller sees"),
-    Listed(f"{SIGHT_OF}groups.rt", "reserve", "self.table.reserve()", ONE_MORE),
+    Listed(f"{SIGHT_OF}groups.rt", "reserve", "self.listings.reserve()?; self.rights.reserve()", ONE_MORE),
     Listed(f"{SIGHT_OF}groups.rt", "reserve_names", "self.granted.reserve()", ONE_MORE),
     Listed(f"{ACCESS}steps.rt", "regrant_for", "groups.reserve_names()?", ONE_MORE),
     Listed(f"{ACCESS}steps.rt", "group_step", "groups.reserve()?", ONE_MORE),
-    Listed(f"{ACCESS}steps.rt", "model_step", "models.reserve()?", ONE_MORE),
+    Listed(f"{ACCESS}access.rt", "open", "self.models.reserve()?", ONE_MORE),
+    Listed(f"{STORE}keyed.rt", "reserve", "self.entries.reserve(1)", ONE_MORE),
+    Listed(f"{STORE}prepares.rt", "create", "self.models.reserve()?", ONE_MORE),
 ]
 
 
@@ -101,6 +101,11 @@ def is_growth(tokens, at):
     if tokens[at].text in ALLOCATORS:
         return not (text_at(tokens, at - 1) == "(" and PLAN.fullmatch(text_at(tokens, at - 2)))
     return is_call(tokens, at) and bool(GROWS.fullmatch(tokens[at].text))
+
+
+def takes_allocator(function):
+    """Whether one of its parameters is a Global."""
+    return any(it.text == "Global" for it in flat(function.head))
 
 
 def makes_room(tokens, at):
@@ -164,7 +169,7 @@ class Crates:
                 self.read_tables(file, function)
             if file.startswith(BODY) and function.name == "prepare":
                 asked |= self.read_body(file, function)
-            if file.startswith((READERS, SIGHT_OF, ACCESS)):
+            if file.startswith((READERS, SIGHT_OF, ACCESS, STORE)):
                 self.read_sizes(file, function)
         self.read_asked(asked)
         for file, text in self.texts.items():
@@ -197,8 +202,9 @@ class Crates:
         return self.read_front(file, function, end, "in front of the plan")
 
     def meant_by(self, name, crate):
-        """The functions that a call may mean: those of its crate, where it has such and nothing comes before the name."""
-        there = [it for it in self.functions if it[1].name == name]
+        """The functions that a call may mean: those of its crate, where it has such and nothing comes before the name. None that
+        is handed an allocator: where one is handed on, the word for it is a growth already."""
+        there = [it for it in self.functions if it[1].name == name and not takes_allocator(it[1])]
         return [it for it in there if crate_of(it[0]) == crate] or there
 
     def read_asked(self, calls):
@@ -263,13 +269,13 @@ STATEMENTS = [
     ("room for each group of all", READERS, "group_items", """
     let mut all: Vec<u64> = Vec::with_capacity(alloc, self.groups.table().len())?; // found"""),
     ("room before the plan", BODY, "prepare", """
-    let _room: Vec<u64> = Vec::with_capacity(alloc, self.access.models().len())?; // found // found"""),
+    let _room: Vec<u64> = Vec::with_capacity(alloc, self.store.models().len())?; // found // found"""),
 ]
 
 # Items that are planted behind all others of the file of `plan_names`.
 ITEMS = {
     "a plan without tests": """
-pub fn plan_told(asked: &Readers<'_>) -> Result<Plan, Refusal> { Ok(Plan { reply: asked.told(), edits: Edits::Nothing }) } // found""",
+pub fn plan_told(asked: &Readers<'_>) -> Result<Plan, Refusal> { Ok(Plan { reply: asked.told(), edits: asked.none() }) } // found""",
     "a plan that grows and tests nothing": """
 pub fn plan_told(alloc: Global, asked: &Readers<'_>) -> Result<Plan, Refusal> { Ok(told(alloc, asked)?) } // found""",
     "a plan that hands its request to another function": """
@@ -325,7 +331,7 @@ pub fn plan_told(alloc: Global, asked: &Readers<'_>, key: &Key) -> Result<Plan, 
     }
     let mut names = Vec::new(alloc);
     names.push(key.1.copy(alloc)?)?;
-    Ok(Plan { reply: Reply::Names(names_of(alloc, asked, key)?), edits: Edits::Nothing })
+    Ok(Plan::told(alloc, Reply::Names(names_of(alloc, asked, key)?)))
 }""",
 }
 

@@ -180,7 +180,7 @@ def places_listed(text, entry):
         if function.name == entry.function:
             there = [it.text for it in function.tokens]
             found += [function.tokens[at:at + len(wanted)] for at in range(len(there)) if there[at:at + len(wanted)] == wanted]
-    return {it.place for it in found[0]} if len(found) == 1 else None
+    return {it.place for it in found[0] if it.place >= 0} if len(found) == 1 else None
 
 
 def without_listed(faults, texts, listed):
