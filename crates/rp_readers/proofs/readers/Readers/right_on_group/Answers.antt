@@ -8,7 +8,7 @@ use Rattle.sorted_tables.proofs.Searching.{chosen}
 use Rattle.rp_access.specs.Changes.{right_on_group}
 use Rattle.rp_readers.specs.Told.{told}
 use Rattle.rp_readers.proofs.Looking.{seen_found}
-use Rattle.rp_readers.proofs.listings.Readers.right_on_group.Goals as goal
+use Rattle.rp_readers.proofs.readers.Readers.right_on_group.Goals as goal
 
 right_told : (who : Text) (o : Option GroupRow) → right_on_group who o ≡ group_right_at who (chosen (sees_group who) o)
 right_told who None = refl
