@@ -21,8 +21,8 @@ none_more (x ∷ xs) = ap (λ ys. x ∷ ys) (none_more xs)
 
 module _ (a : Readers) (c : Text) (q : Request) where
   -- of a request that changes nothing
-  pub told : (plan : Plan) (reply : Reply) → plan ≡ record { reply = reply; edits = [] } → first_some (meaning a c q).tests ≡ None → reply ≡ (meaning a c q).reply → [] ≡ (meaning a c q).edits → IsAnswer a c q plan
-  told plan reply is passes replies edits =
+  pub of_none : (plan : Plan) (reply : Reply) → plan ≡ record { reply = reply; edits = [] } → first_some (meaning a c q).tests ≡ None → reply ≡ (meaning a c q).reply → [] ≡ (meaning a c q).edits → IsAnswer a c q plan
+  of_none plan reply is passes replies edits =
       subst (IsAnswer a c q) (sym is) (record { decides = sym passes; replies = replies; edits = edits; seen = tt; apart = tt })
 
   -- of one that changes one row. Some of its tests are made, and the row's own are behind them

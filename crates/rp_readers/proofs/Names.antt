@@ -1,14 +1,11 @@
 -- What a binary search finds among a model's instances.
-use Rattle.std.proofs.Common.{◌≡◌, ℕ, ◌<◌, get_or, Bool, ◌&&◌, ◌||◌, ◌==◌, true, false, is_some, arith, List, [], ◌∷◌, length, Option, Some, None, refl, sym, ◌∙◌, ap, subst}
-use Rattle.std.specs.Prelude.{filter, map, slice_get, if◌then◌else◌}
+use Rattle.std.proofs.Common.{◌≡◌, ℕ, Bool, ◌&&◌, ◌||◌, ◌==◌, true, false, is_some, arith, List, [], ◌∷◌, Option, Some, None, refl, subst}
+use Rattle.std.specs.Prelude.{map, if◌then◌else◌}
 use Rattle.std.specs.List.{find, AllByRecursion}
 use Rattle.std.specs.Ordering.{is_eq, nat_cmp}
 use Rattle.std.proofs.lemmas.Bool.Decides.{nat_tests}
-use Rattle.std.proofs.lemmas.Cmp.{nat_cmp_total}
-use Rattle.std.proofs.lemmas.Option.{slice_get_read}
 use Rattle.plain_data.specs.Numbers.{is_among}
-use Rattle.sorted_tables.specs.Table.{is_at, is_before, IsAscending}
-use Rattle.sorted_tables.proofs.Searching.{at_place, chosen}
+use Rattle.sorted_tables.specs.Table.{is_at, IsAscending}
 use Rattle.rp_content.specs.declared.instance.Instance.{Instance}
 use Rattle.rp_rows.specs.Rows.{Text, is_row, key_cmp, row_key, Model, GroupRow}
 use Rattle.rp_rows.specs.Contents.{instance_name, names}

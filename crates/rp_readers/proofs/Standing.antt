@@ -6,7 +6,6 @@ use Rattle.std.proofs.lemmas.Bool.Decides.{nat_tests}
 use Rattle.sorted_tables.specs.Table.{IsAscending}
 use Rattle.sorted_tables.proofs.Searching.{chosen}
 use Rattle.rp_content.specs.declared.instance.Instance.{Instance}
-use Rattle.rp_rows.specs.declared.rows.Key.{Key}
 use Rattle.rp_rows.specs.Rows.{key_cmp, same_key, row_key, is_row, Model, GroupRow}
 use Rattle.rp_rows.specs.Sight.{counts}
 use Rattle.rp_population.specs.declared.place.Place.{Place}

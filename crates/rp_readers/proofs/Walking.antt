@@ -1,17 +1,14 @@
 -- Populations that are walked over one model after another.
-use Rattle.std.proofs.Common.{◌≡◌, ℕ, Bool, ◌&&◌, ◌||◌, ◌==◌, true, false, List, [], ◌∷◌, ◌++◌, map, Option, Some, None, refl, sym, ◌∙◌, ap, arith}
+use Rattle.std.proofs.Common.{◌≡◌, ℕ, Bool, List, [], ◌∷◌, ◌++◌, map, Option, Some, None, refl, sym, ◌∙◌, ap}
 use Rattle.std.specs.Prelude.{filter}
-use Rattle.std.specs.List.{list_any, flat_map}
-use Rattle.std.proofs.lemmas.Bool.Decides.{nat_tests}
+use Rattle.std.specs.List.{flat_map}
 use Rattle.std.proofs.lemmas.List.Elements.{filter-append}
 use Rattle.std.proofs.lemmas.Grind.{flat_map-append}
 use Rattle.sorted_tables.proofs.Tables.{map-append}
 use Rattle.ex_types.specs.Checked.{Checked}
-use Rattle.rp_content.specs.declared.instance.Instance.{Instance}
-use Rattle.rp_rows.specs.Rows.{same_key}
 use Rattle.rp_population.specs.declared.place.Place.{Place}
 use Rattle.rp_population.specs.declared.roles.Role.{Role}
-use Rattle.rp_population.specs.Populations.{Counted, Placed, placed, placed_all, population, has_place, is_at, places}
+use Rattle.rp_population.specs.Populations.{Placed, placed_all, population, places}
 use Rattle.rp_population.specs.Entities.{is_of, extent_of}
 use Rattle.rp_population.specs.Uses.{as_user, users_in}
 use Rattle.rp_rows.specs.declared.rows.ModelContent.{ModelContent}

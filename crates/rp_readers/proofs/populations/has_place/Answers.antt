@@ -1,4 +1,4 @@
-use Rattle.std.proofs.Common.{◌≡◌, Some, ◌∙◌, ap}
+use Rattle.std.proofs.Common.{◌∙◌, ap}
 use Rattle.rp_population.specs.Populations.{population, has_place}
 use Rattle.rp_plain.specs.Readers.{counted_in}
 use Rattle.rp_sight.specs.Stored.{row_of}
