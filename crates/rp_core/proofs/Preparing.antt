@@ -1,5 +1,5 @@
 -- A plan gives the reply of the turn, and its steps what the turn leaves.
-use Rattle.std.proofs.Common.{◌≡◌, ◌≢◌, true, false, Bool, List, [], ◌∷◌, map, Some, None, Result, Ok, Err, refl, sym, ◌∙◌, ap}
+use Rattle.std.proofs.Common.{◌≡◌, ◌≢◌, true, false, Bool, List, [], ◌∷◌, map, Some, None, Result, Ok, Err, refl, sym, ◌∙◌, ap, subst}
 use Rattle.std.proofs.lemmas.Bool.{false≢true}
 use Rattle.std.specs.List.{AllByRecursion}
 use Rattle.ex_types.specs.Checked.{Checked}
@@ -7,12 +7,13 @@ use Rattle.ex_check.specs.declared.fault.SchemaFault.{SchemaFault}
 use Rattle.ex_check.specs.Check.{schema as schema_of}
 use Rattle.p21_grammar.specs.File.{file_of}
 use Rattle.rp_content.specs.declared.link.Link.{Link}
-use Rattle.rp_rows.specs.Rows.{Text}
+use Rattle.rp_rows.specs.Rows.{Text, GroupRow}
 use Rattle.rp_rows.specs.Contents.{link_names}
 use Rattle.rp_plain.specs.declared.messages.Request.{Request}
 use Rattle.rp_plain.specs.declared.messages.Request.TheVariants.{CreateModel, DeleteModel, Put, Export, Names, Get, Add, Set, DropInstance, ListItems, GrantModel, RevokeModel, CreateGroup, DeleteGroup, GrantGroup, RevokeGroup, Include, Exclude, Members, Extent, Users, Validate, Schemas, CheckSchema}
 use Rattle.rp_plain.specs.declared.messages.Refusal.{Refusal}
 use Rattle.rp_plain.specs.declared.messages.Refusal.TheVariants.{NoMemory}
+use Rattle.rp_plain.specs.declared.messages.Reply.{Reply}
 use Rattle.rp_plain.specs.declared.messages.Reply.TheVariants.{Refused}
 use Rattle.rp_plain.specs.Plain.{Plain}
 use Rattle.rp_plain.specs.Edits.{changed}
@@ -111,12 +112,6 @@ answered r c q b plan steps kept is are =
       alike = made.table.same;
     }
 
--- what the store or the rights say against an edit is why the request is refused
-pub refused_so : (r : Plain) (c : Text) (q : Request) (b : Both) (plan : Plan) (refusal : Refusal) → IsKept b.models.entries b.access.models.entries r → IsAnswer (asked r c) c q plan
-    → (refusal ≢ NoMemory → first_some (map (edit_fault b.models.entries b.access.models.entries r.groups) plan.edits) ≡ Some refusal) → IsRefusal (asked r c) c q refusal
-refused_so r c q b plan refusal kept is refused = λ not.
-    sym is.decides ∙ ap first_some (sym (faults_are r c b.models.entries b.access.models.entries kept plan.edits is.seen)) ∙ refused not
-
 nothing_done : (r : Plain) (b : Both) → joined b.models.entries b.access.models.entries ≡ r.models → made_of [] b r ≡ r
 nothing_done r b rows = λ i. record r { models = rows i }
 
@@ -135,3 +130,33 @@ refused_done r c q b refusal kept refused = record { prepared = by (is_no_memory
           replies = λ _. ap (λ o. o.reply) is_answer;
           changes = rw is (nothing_done r b kept.rows ∙ ap (λ o. changed o.edits r) is_answer);
         }
+
+-- ---- the same, of what was read
+
+pub at_home : (P : Readers → Text → Type 0) (read r : Plain) (d c : Text) → read ≡ r → d ≡ c → P (asked read d) d → P (asked r c) c
+at_home P read r d c same who p = subst (λ (s : Plain). P (asked s c) c) same (subst (λ (e : Text). P (asked read e) e) who p)
+
+-- what was kept when steps were prepared is kept still
+pub kept_still : (ms : List Held) (es : List Rights) (r : Plain) (b : Both) → IsKept ms es r → b.models.entries ≡ ms → b.access.models.entries ≡ es → IsKept b.models.entries b.access.models.entries r
+kept_still ms es r b kept models rights = subst (λ (xs : List Held). IsKept xs b.access.models.entries r) (sym models) (subst (λ (ys : List Rights). IsKept ms ys r) (sym rights) kept)
+
+pub answered_still : (r : Plain) (c : Text) (q : Request) (ms : List Held) (es : List Rights) (gs : List GroupRow) (b : Both) (plan : Plan) (pending : Pending) → IsKept ms es r → b.models.entries ≡ ms → b.access.models.entries ≡ es → gs ≡ r.groups
+    → IsAnswer (asked r c) c q plan → pending.reply ≡ plan.reply → AreStepsOf ms es gs plan.edits pending.steps → IsDone r b (record { caller = c; request = q }) pending
+answered_still r c q ms es gs b plan pending kept models rights groups is reply are =
+    let steps : AreStepsOf b.models.entries b.access.models.entries r.groups plan.edits pending.steps =
+        subst (λ (xs : List Held). AreStepsOf xs b.access.models.entries r.groups plan.edits pending.steps) (sym models)
+        (subst (λ (ys : List Rights). AreStepsOf ms ys r.groups plan.edits pending.steps) (sym rights)
+        (subst (λ (hs : List GroupRow). AreStepsOf ms es hs plan.edits pending.steps) groups are)) in
+    subst (λ (told : Reply). IsDone r b (record { caller = c; request = q }) (record { reply = told; steps = pending.steps })) (sym reply)
+    (answered r c q b plan pending.steps (kept_still ms es r b kept models rights) is steps)
+
+pub refused_still : (r : Plain) (c : Text) (q : Request) (ms : List Held) (es : List Rights) (b : Both) (refusal : Refusal) (pending : Pending) → IsKept ms es r → b.models.entries ≡ ms → b.access.models.entries ≡ es
+    → IsRefusal (asked r c) c q refusal → pending ≡ record { reply = Refused refusal; steps = [] } → IsDone r b (record { caller = c; request = q }) pending
+refused_still r c q ms es b refusal pending kept models rights refused are =
+    subst (λ (p : Pending). IsDone r b (record { caller = c; request = q }) p) (sym are) (refused_done r c q b refusal (kept_still ms es r b kept models rights) refused)
+
+-- what the store or the rights say against an edit is why the request is refused
+pub faulted_still : (r : Plain) (c : Text) (q : Request) (ms : List Held) (es : List Rights) (gs : List GroupRow) (plan : Plan) (refusal : Refusal) → IsKept ms es r → gs ≡ r.groups → IsAnswer (asked r c) c q plan
+    → (refusal ≢ NoMemory → first_some (map (edit_fault ms es gs) plan.edits) ≡ Some refusal) → IsRefusal (asked r c) c q refusal
+faulted_still r c q ms es gs plan refusal kept groups is refused = λ not.
+    sym is.decides ∙ ap first_some (sym (faults_are r c ms es kept plan.edits is.seen)) ∙ ap (λ hs. first_some (map (edit_fault ms es hs) plan.edits)) (sym groups) ∙ refused not

@@ -1,7 +1,8 @@
 -- What a partner sees of a model or a group stands where it is kept.
-use Rattle.std.proofs.Common.{◌≡◌, suc, Bool, true, false, List, [], ◌∷◌, map, length, Option, Some, None, is_some, refl, sym, ◌∙◌, ap}
+use Rattle.std.proofs.Common.{◌≡◌, suc, Bool, true, false, List, [], ◌∷◌, map, length, Option, Some, None, is_some, refl, sym, ◌∙◌, ap, subst}
 use Rattle.std.specs.Prelude.{filter, option_map, ◌||◌, if◌then◌else◌}
-use Rattle.std.specs.List.{find}
+use Rattle.std.specs.List.{find, AllByRecursion}
+use Rattle.std.specs.Ordering.{is_gt}
 use Rattle.std.specs.Str.{bytes_eq}
 use Rattle.std.proofs.lemmas.Slice.Eq.{bytes_eq-Decides}
 use Rattle.sorted_tables.specs.Table.{IsAscending}
@@ -10,7 +11,7 @@ use Rattle.rp_rows.specs.declared.rows.Grant.{Grant}
 use Rattle.rp_rows.specs.declared.rows.Key.{Key}
 use Rattle.rp_rows.specs.declared.rows.ModelContent.{ModelContent}
 use Rattle.rp_rows.specs.declared.rows.Right.TheVariants.{Unseen, Reads, Owns}
-use Rattle.rp_rows.specs.Rows.{Text, key_cmp, row_key, is_row, Model, GroupRow}
+use Rattle.rp_rows.specs.Rows.{Text, key_cmp, Row, row_key, is_row, Model, GroupRow}
 use Rattle.rp_rows.specs.Sight.{owns, is_granted, at_least, sees, sees_group, group_right, level}
 use Rattle.rp_rows.proofs.Keys.{found_at, owner_at}
 use Rattle.rp_plain.specs.Plain.{Plain, model_at, group_at}
@@ -119,3 +120,39 @@ own_group r c k order own =
         let owned : owns c g ≡ true = (bytes_eq-Decides g.owner c).1 (owner_at k g (found_at (is_row k) r.groups g e) ∙ own) in
         ap (λ t. at_least Reads (group_right_at c (if t then Some g else None))) (ap (λ t. t || is_granted c g) owned)
         ∙ ap (λ t. at_least Reads (if t then Owns else (if is_granted c g then Reads else Unseen))) owned
+
+-- ---- a repository in order
+
+module _ {A B : Type 0} (P : Key → Type 0) where
+  all_left : (xs : List (Entry A)) (ys : List (Entry (List Grant))) → map entry_key xs ≡ map entry_key ys → AllByRecursion (λ (x : Row A). P (row_key x)) (joined xs ys) → AllByRecursion (λ x. P (entry_key x)) xs
+  all_left [] ys same all = tt
+  all_left (x ∷ xs) [] same all = cc
+  all_left (x ∷ xs) (y ∷ ys) same all = let rest : map entry_key xs ≡ map entry_key ys = cc in (all.0, all_left xs ys rest all.1)
+
+  all_same : (xs : List (Entry A)) (ys : List (Entry B)) → map entry_key xs ≡ map entry_key ys → AllByRecursion (λ x. P (entry_key x)) xs → AllByRecursion (λ y. P (entry_key y)) ys
+  all_same xs [] same all = tt
+  all_same [] (y ∷ ys) same all = cc
+  all_same (x ∷ xs) (y ∷ ys) same all =
+      let one : entry_key x ≡ entry_key y = cc in
+      let rest : map entry_key xs ≡ map entry_key ys = cc in
+      (subst P one all.0, all_same xs ys rest all.1)
+
+left_ascends : (ms : List Held) (es : List Rights) → map entry_key ms ≡ map entry_key es → IsAscending key_cmp row_key (joined ms es) → IsAscending key_cmp entry_key ms
+left_ascends [] es same order = tt
+left_ascends (x ∷ ms) [] same order = cc
+left_ascends (x ∷ ms) (y ∷ es) same order =
+    let rest : map entry_key ms ≡ map entry_key es = cc in
+    (all_left {B = ModelContent} (λ j. is_gt (key_cmp j x.key) ≡ true) ms es rest order.0, left_ascends ms es rest order.1)
+
+right_ascends : (ms : List Held) (es : List Rights) → map entry_key ms ≡ map entry_key es → IsAscending key_cmp entry_key ms → IsAscending key_cmp entry_key es
+right_ascends ms [] same order = tt
+right_ascends [] (y ∷ es) same order = cc
+right_ascends (x ∷ ms) (y ∷ es) same order =
+    let one : entry_key x ≡ entry_key y = cc in
+    let rest : map entry_key ms ≡ map entry_key es = cc in
+    (all_same (λ j. is_gt (key_cmp j y.key) ≡ true) ms es rest (subst (λ k. AllByRecursion (λ (z : Held). is_gt (key_cmp z.key k) ≡ true) ms) one order.0), right_ascends ms es rest order.1)
+
+pub kept_of : (ms : List Held) (es : List Rights) (r : Plain) → map entry_key ms ≡ map entry_key es → joined ms es ≡ r.models → IsAscending key_cmp row_key r.models → IsAscending key_cmp row_key r.groups → IsKept ms es r
+kept_of ms es r same rows models groups =
+    let order = left_ascends ms es same (subst (λ (ns : List Model). IsAscending key_cmp row_key ns) (sym rows) models) in
+    record { table = record { same = same; order = order; right_order = right_ascends ms es same order }; rows = rows; models = models; groups = groups }
