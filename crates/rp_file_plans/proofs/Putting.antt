@@ -19,7 +19,7 @@ use Rattle.rp_plain.specs.declared.messages.Request.TheVariants.{Put}
 use Rattle.rp_plain.specs.Readers.{Readers}
 use Rattle.rp_plain.specs.Meaning.{first_some, when}
 use Rattle.rp_plain.specs.Links.{max_links, linking, links_in_order, no_request, link_refusal}
-use Rattle.rp_plain.specs.Files.{BoundFile, read_for, read_content, refused, stored, ill_linked, too_many, refilled, filled}
+use Rattle.rp_plain.specs.Files.{BoundFile, read_for, read_content, refused, stored, ill_linked, too_many, filled}
 use Rattle.rp_plain.specs.Step.{meaning}
 use Rattle.rp_store.specs.declared.changes.Change.TheVariants as s
 use Rattle.rp_plans.specs.declared.edits.Edit.TheVariants.{OfModel}

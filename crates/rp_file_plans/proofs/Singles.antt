@@ -1,5 +1,5 @@
 -- What a request is answered that adds an instance or sets one, once the names and the caller's right are tested.
-use Rattle.std.proofs.Common.{◌≡◌, ℕ, Bool, List, [], ◌∷◌, ◌++◌, Option, Some, None, is_some, Result, Ok, Err, refl, sym, ◌∙◌, ap, subst}
+use Rattle.std.proofs.Common.{◌≡◌, ℕ, List, [], ◌∷◌, ◌++◌, Option, Some, None, is_some, Result, Ok, Err, refl, sym, ◌∙◌, ap, subst}
 use Rattle.ex_types.specs.Checked.{Checked}
 use Rattle.p21_tree.specs.declared.fault.FileFault.{FileFault}
 use Rattle.p21_tree.specs.declared.fault.InstanceFault.{InstanceFault}
@@ -13,7 +13,6 @@ use Rattle.rp_rows.specs.Rows.{Text}
 use Rattle.rp_rows.specs.Instances.{next_name}
 use Rattle.rp_plain.specs.declared.messages.Refusal.{Refusal}
 use Rattle.rp_plain.specs.declared.messages.Refusal.TheVariants.{NoSuchItem}
-use Rattle.rp_plain.specs.declared.messages.Reply.{Reply}
 use Rattle.rp_plain.specs.declared.messages.Reply.TheVariants.{Done, Added}
 use Rattle.rp_plain.specs.declared.messages.Request.TheVariants.{Add, Set}
 use Rattle.rp_plain.specs.Readers.{Readers}
@@ -24,7 +23,7 @@ use Rattle.rp_store.specs.declared.changes.Change.TheVariants as s
 use Rattle.rp_plans.specs.declared.edits.Edit.TheVariants.{OfModel}
 use Rattle.rp_plans.specs.declared.edits.Plan.{Plan}
 use Rattle.rp_plans.specs.Plans.{IsAnswer}
-use Rattle.rp_plans.proofs.Firsts.{first_front, first_behind}
+use Rattle.rp_plans.proofs.Firsts.{first_behind}
 use Rattle.rp_plans.proofs.Answering.{of_one}
 use Rattle.rp_file_plans.specs.Files.{cheap_tests}
 use Rattle.rp_file_plans.proofs.Named.{bound_named}

@@ -1,11 +1,9 @@
 -- When a plan is the answer to a request.
 use Rattle.std.proofs.Common.{◌≡◌, List, [], ◌∷◌, ◌++◌, Option, None, refl, sym, ◌∙◌, ap, subst}
-use Rattle.std.specs.List.{flat_map}
 use Rattle.rp_rows.specs.Rows.{Text}
 use Rattle.rp_plain.specs.declared.messages.Refusal.{Refusal}
 use Rattle.rp_plain.specs.declared.messages.Reply.{Reply}
 use Rattle.rp_plain.specs.declared.messages.Request.{Request}
-use Rattle.rp_plain.specs.Edits as plain
 use Rattle.rp_plain.specs.Readers.{Readers}
 use Rattle.rp_plain.specs.Meaning.{first_some}
 use Rattle.rp_plain.specs.Step.{meaning}

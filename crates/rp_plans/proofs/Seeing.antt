@@ -1,12 +1,11 @@
 -- Who may do something with an item sees it.
-use Rattle.std.proofs.Common.{◌≡◌, Bool, true, false, Option, Some, None, is_some, refl, ap}
+use Rattle.std.proofs.Common.{◌≡◌, Bool, true, false, Option, Some, None, is_some, refl}
 use Rattle.std.specs.Prelude.{not, if◌then◌else◌}
 use Rattle.rp_rows.specs.declared.rows.Key.{Key}
 use Rattle.rp_rows.specs.declared.rows.Right.{Right}
 use Rattle.rp_rows.specs.declared.rows.Right.TheVariants.{Reads}
 use Rattle.rp_rows.specs.Rows.{Text, Model, GroupRow}
 use Rattle.rp_rows.specs.Sight.{at_least}
-use Rattle.rp_plain.specs.declared.messages.Refusal.{Refusal}
 use Rattle.rp_plain.specs.declared.messages.Refusal.TheVariants.{NoSuchItem, NoRight}
 use Rattle.rp_plain.specs.Plain.{Plain, model_at, group_at}
 use Rattle.rp_plain.specs.Readers.{asked, right_at, group_right_at, held}

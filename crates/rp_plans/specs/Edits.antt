@@ -1,5 +1,5 @@
 -- What the edits of a plan are in the plain repository, where a partner is told this, and what speaks against them.
-use Rattle.std.specs.Prelude.{◌≡◌, Bool, not, nat_le, true, List, [], ◌∷◌, length, Option, Some, None, is_some, Ok, if◌then◌else◌}
+use Rattle.std.specs.Prelude.{◌≡◌, not, nat_le, true, List, [], ◌∷◌, length, Option, Some, None, is_some, Ok, if◌then◌else◌}
 use Rattle.std.specs.Str.{bytes_eq}
 use Rattle.rp_content.specs.declared.content.Content.{Content}
 use Rattle.rp_rows.specs.declared.rows.ModelContent.{ModelContent}
@@ -9,7 +9,7 @@ use Rattle.rp_rows.specs.declared.rows.Key.{Key}
 use Rattle.rp_rows.specs.Rows.{Text}
 use Rattle.rp_rows.specs.Listings.{max_models, max_groups, max_members, with_member, without_member}
 use Rattle.rp_rows.specs.Sight.{at_least}
-use Rattle.rp_rows.specs.Alterations.{Alteration, Holds, Grants}
+use Rattle.rp_rows.specs.Alterations.{Holds, Grants}
 use Rattle.rp_plain.specs.declared.messages.Refusal.{Refusal}
 use Rattle.rp_plain.specs.declared.messages.Refusal.TheVariants as refusal
 use Rattle.rp_plain.specs.Edits as plain

@@ -1,5 +1,5 @@
 -- What a plan keeps, and what it is to give.
-use Rattle.std.specs.Prelude.{◌≡◌, ◌≢◌, List, [], ◌∷◌, map, Some, None, Result, MatchResult, false}
+use Rattle.std.specs.Prelude.{◌≡◌, ◌≢◌, List, [], ◌∷◌, map, Some, Result, MatchResult, false}
 use Rattle.std.specs.List.{flat_map, AllByRecursion}
 use Rattle.rp_rows.specs.Rows.{Text, same_key}
 use Rattle.rp_plain.specs.declared.messages.Request.{Request}
@@ -12,7 +12,7 @@ use Rattle.rp_store.specs.declared.changes.Change.{Change}
 use Rattle.rp_store.specs.declared.changes.Change.TheVariants.{Create, Remove}
 use Rattle.rp_store.specs.Changes.{key_of}
 use Rattle.rp_plans.specs.declared.edits.Edit.{Edit}
-use Rattle.rp_plans.specs.declared.edits.Edit.TheVariants.{OfModel, OfRights}
+use Rattle.rp_plans.specs.declared.edits.Edit.TheVariants.{OfModel}
 use Rattle.rp_plans.specs.declared.edits.Plan.{Plan}
 use Rattle.rp_plans.specs.Edits.{edits_of, fault_of, Sees}
 
