@@ -10,14 +10,14 @@ use Rattle.rp_rows.specs.declared.rows.Grant.{Grant}
 use Rattle.rp_rows.specs.declared.rows.Level.{Level}
 use Rattle.rp_rows.specs.declared.rows.Key.{Key}
 use Rattle.rp_rows.specs.declared.rows.ModelContent.{ModelContent}
-use Rattle.rp_rows.specs.Rows.{Text, text_cmp, key_cmp, same_key, row_key, is_row, Row, Model}
+use Rattle.rp_rows.specs.Rows.{Text, text_cmp, key_cmp, same_key, row_key, is_row, Model}
 use Rattle.rp_rows.specs.Alterations.{Holds, Grants, altered, granting, grants_of}
 use Rattle.rp_rows.proofs.Keys.{key_total, key_at, found_at}
 use Rattle.rp_store.specs.declared.keyed.Entry.{Entry}
 use Rattle.rp_store.specs.Entries.{entry_key, is_entry, with_value, revalued}
 use Rattle.rp_store.specs.Models.{Held, held_at, model, edited}
 use Rattle.rp_store.proofs.Finding.{edited_rows}
-use Rattle.rp_sight.specs.Stored.{joined_row, joined, IsTable, rewritten, reheld}
+use Rattle.rp_sight.specs.Stored.{joined, IsTable, rewritten, reheld}
 use Rattle.rp_sight.proofs.Joining.{both, find-joined, Makes, rehold_rows, regrant_rows}
 use Rattle.rp_sight.proofs.Changed.{find_other}
 use Rattle.rp_access.specs.Kept.{Rights}

@@ -1,25 +1,21 @@
 -- Changes of what models hold: whatever stands elsewhere, each step makes what its edit says.
-use Rattle.std.proofs.Common.{◌≡◌, ℕ, Bool, true, false, List, [], ◌∷◌, ◌++◌, map, Option, Some, None, Ok, is_some, refl, sym, ◌∙◌, ap, subst}
+use Rattle.std.proofs.Common.{◌≡◌, List, [], ◌∷◌, ◌++◌, Some, None, Ok, refl, sym, ◌∙◌, ap, subst}
 use Rattle.std.specs.List.{find, flat_map, AllByRecursion}
-use Rattle.rp_content.specs.declared.content.Content.{Content}
-use Rattle.rp_content.specs.declared.instance.Instance.{Instance}
 use Rattle.rp_rows.specs.declared.rows.Key.{Key}
 use Rattle.rp_rows.specs.declared.rows.ModelContent.{ModelContent}
 use Rattle.rp_rows.specs.Rows.{is_row, Model, GroupRow}
 use Rattle.rp_rows.specs.Instances.{with_instance, without_instance}
 use Rattle.rp_rows.specs.Alterations.{Holds, altered}
 use Rattle.rp_plain.specs.Plain.{Plain}
-use Rattle.rp_plain.specs.Edits.{Edit as PlainEdit, EditModel, changed}
+use Rattle.rp_plain.specs.Edits.{EditModel, changed}
 use Rattle.rp_plain.specs.Readers.{Readers}
 use Rattle.rp_plain.specs.Instances.{placing, dropping, next_in}
 use Rattle.rp_store.specs.declared.changes.Change.{Change}
 use Rattle.rp_store.specs.declared.changes.Change.TheVariants as c
-use Rattle.rp_store.specs.declared.changes.Prepared.{Prepared}
 use Rattle.rp_store.specs.Models.{Held, held_at, edited}
 use Rattle.rp_store.specs.Contents.{refilled, added}
 use Rattle.rp_store.specs.Changes as store
 use Rattle.rp_store.specs.Changes.{key_of}
-use Rattle.rp_store.specs.Kept.{made, IsPrepared}
 use Rattle.rp_access.specs.Kept.{Rights}
 use Rattle.rp_access.specs.declared.access.Prepared as rights
 use Rattle.rp_access.specs.declared.access.Prepared.TheVariants.{Nothing}
@@ -32,7 +28,7 @@ use Rattle.rp_plans.specs.Edits.{refilling, of_model, edits_of}
 use Rattle.rp_plans.specs.Plans.{IsOfContent, IsApartFrom, AreApart}
 use Rattle.rp_core.specs.declared.steps.Step.{Step}
 use Rattle.rp_core.specs.Faults.{with_rights}
-use Rattle.rp_core.specs.Held.{made_by, made_entries, made_rights, made_groups, IsRightsOf, IsModelStep, IsStepOf, AreStepsOf}
+use Rattle.rp_core.specs.Held.{made_by, made_entries, made_rights, made_groups, IsRightsOf, AreStepsOf}
 use Rattle.rp_core.proofs.Altering.{held_row, content_rows, other_row}
 
 -- what such a change makes of what a model holds

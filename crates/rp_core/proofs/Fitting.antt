@@ -1,21 +1,17 @@
 -- The steps of edits fit one another, and steps that were found are those of the edits before.
-use Rattle.std.proofs.Common.{◌≡◌, ℕ, Bool, true, false, List, [], ◌∷◌, ◌++◌, map, Option, Some, None, refl, sym, ◌∙◌, ap, subst}
-use Rattle.std.specs.List.{find, AllByRecursion}
-use Rattle.rp_rows.specs.declared.rows.Key.{Key}
+use Rattle.std.proofs.Common.{◌≡◌, ℕ, List, [], ◌∷◌, ◌++◌, map, Option, Some, None, refl, sym, ◌∙◌, ap, subst}
+use Rattle.std.specs.List.{AllByRecursion}
 use Rattle.rp_rows.specs.declared.rows.ModelContent.{ModelContent}
-use Rattle.rp_rows.specs.Rows.{same_key, GroupRow}
+use Rattle.rp_rows.specs.Rows.{GroupRow}
 use Rattle.rp_plain.specs.declared.messages.Refusal.{Refusal}
 use Rattle.rp_plain.specs.Meaning.{first_some}
 use Rattle.rp_store.specs.declared.changes.Change.{Change}
 use Rattle.rp_store.specs.declared.changes.Change.TheVariants as c
-use Rattle.rp_store.specs.declared.changes.Prepared as store
-use Rattle.rp_store.specs.Entries.{Entries}
 use Rattle.rp_store.specs.Models.{Held, held_at, edited}
 use Rattle.rp_store.specs.Changes.{key_of}
-use Rattle.rp_store.specs.Kept.{made, HasRoomFor}
+use Rattle.rp_store.specs.Kept.{HasRoomFor}
 use Rattle.rp_access.specs.Kept.{Rights}
 use Rattle.rp_access.specs.declared.access.Prepared as rights
-use Rattle.rp_access.specs.declared.access.Prepared.TheVariants.{Nothing}
 use Rattle.rp_access.specs.declared.changes.Change as access
 use Rattle.rp_access.specs.Steps.{PreparedFits}
 use Rattle.rp_plans.specs.declared.edits.Edit.{Edit}
@@ -23,7 +19,7 @@ use Rattle.rp_plans.specs.declared.edits.Edit.TheVariants.{OfModel, OfRights}
 use Rattle.rp_plans.specs.Plans.{IsOfContent, IsApartFrom, AreApart}
 use Rattle.rp_core.specs.declared.steps.Step.{Step}
 use Rattle.rp_core.specs.Faults.{with_rights, rights_fault, edit_fault}
-use Rattle.rp_core.specs.Held.{Both, made_by, After, store_fits, StepFits, StepsFit, IsRightsOf, IsStepOf, AreStepsOf}
+use Rattle.rp_core.specs.Held.{Both, made_by, store_fits, StepFits, StepsFit, IsRightsOf, IsStepOf, AreStepsOf}
 use Rattle.rp_core.proofs.Altering.{other_held}
 use Rattle.rp_core.proofs.Contents.{content_by, changed_content, still}
 
@@ -106,11 +102,13 @@ contents_fit ms es gs (OfModel change ∷ edits) (s ∷ steps) are apart content
     let f = content_by change in
     let nothing = still es gs change s.rights contents.0 step.rights in
     let fits : store_fits b.models s.store = subst (store_fits b.models) (sym step.is) (step.makes.fits b.models before.0 (room_for change b.models.room contents.0)) in
-    let rights : PreparedFits b.access s.rights = subst (PreparedFits b.access) (sym nothing) tt in
-    ((fits, rights), λ next after.
-        let entries : edited k f b.models.entries ≡ next.models.entries = sym (after.models ∙ ap (λ o. made_by o b.models.entries) step.is ∙ step.makes.makes b.models.entries before.0 ∙ changed_content change b.models.entries contents.0) in
-        contents_fit ms es gs edits steps are.1 apart.1 contents.1 next
-        (subst (λ (ns : List Held). AllByRecursion (IsAsBefore ms ns) edits) entries (others_as_before ms b.models.entries change f edits apart.0 before.1)))
+    let rights : PreparedFits b.access s.rights = subst (PreparedFits b.access) (sym nothing) tt in (
+      (fits, rights),
+      λ next after.
+          let entries : edited k f b.models.entries ≡ next.models.entries = sym (after.models ∙ ap (λ o. made_by o b.models.entries) step.is ∙ step.makes.makes b.models.entries before.0 ∙ changed_content change b.models.entries contents.0) in
+          contents_fit ms es gs edits steps are.1 apart.1 contents.1 next
+          (subst (λ (ns : List Held). AllByRecursion (IsAsBefore ms ns) edits) entries (others_as_before ms b.models.entries change f edits apart.0 before.1)),
+    )
 
 -- ---- all steps
 

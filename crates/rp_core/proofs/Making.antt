@@ -1,5 +1,5 @@
 -- The steps of a plan make of a repository what its edits say.
-use Rattle.std.proofs.Common.{◌≡◌, Bool, true, false, List, [], ◌∷◌, ◌++◌, Option, Some, None, is_some, refl, sym, ◌∙◌, ap, subst}
+use Rattle.std.proofs.Common.{◌≡◌, Bool, true, false, List, [], ◌∷◌, Option, Some, None, is_some, refl, sym, ◌∙◌, ap, subst}
 use Rattle.std.proofs.lemmas.List.{append-nil}
 use Rattle.std.specs.Prelude.{if◌then◌else◌}
 use Rattle.std.specs.List.{find, flat_map, AllByRecursion}
@@ -21,7 +21,6 @@ use Rattle.rp_store.specs.Models.{Held}
 use Rattle.rp_store.specs.Contents.{new_model}
 use Rattle.rp_store.specs.Changes.{key_of}
 use Rattle.rp_access.specs.Kept.{Rights}
-use Rattle.rp_access.specs.declared.changes.Change as access
 use Rattle.rp_access.specs.declared.changes.Change.TheVariants as r
 use Rattle.rp_access.specs.Changes.{relisted_at, granted, granted_on, regranted_on}
 use Rattle.rp_access.specs.Steps.{prepared_models, prepared_groups}
@@ -29,10 +28,10 @@ use Rattle.rp_sight.specs.Stored.{joined, IsTable}
 use Rattle.rp_sight.proofs.Joining.{Makes, put_rows, remove_rows}
 use Rattle.rp_plans.specs.declared.edits.Edit.{Edit}
 use Rattle.rp_plans.specs.declared.edits.Edit.TheVariants.{OfModel, OfRights}
-use Rattle.rp_plans.specs.Edits.{unless_own, of_model, edits_of, Sees}
+use Rattle.rp_plans.specs.Edits.{of_model, edits_of, Sees}
 use Rattle.rp_plans.specs.Plans.{IsOfContent, AreApart}
 use Rattle.rp_core.specs.declared.steps.Step.{Step}
-use Rattle.rp_core.specs.Held.{made_by, made_entries, made_rights, made_groups, IsRightsMade, IsModelStep, IsStepOf, AreStepsOf}
+use Rattle.rp_core.specs.Held.{made_by, made_entries, made_rights, made_groups, IsModelStep, IsStepOf, AreStepsOf}
 use Rattle.rp_core.proofs.Altering.{regranted_rows}
 use Rattle.rp_core.proofs.Contents.{Stands, EditStands, Leaves, contents_made}
 use Rattle.rp_core.proofs.Standing.{IsKept, stands, GroupStands, group_stands}

@@ -144,9 +144,9 @@ pub answered_still : (r : Plain) (c : Text) (q : Request) (ms : List Held) (es :
     → IsAnswer (asked r c) c q plan → pending.reply ≡ plan.reply → AreStepsOf ms es gs plan.edits pending.steps → IsDone r b (record { caller = c; request = q }) pending
 answered_still r c q ms es gs b plan pending kept models rights groups is reply are =
     let steps : AreStepsOf b.models.entries b.access.models.entries r.groups plan.edits pending.steps =
-        subst (λ (xs : List Held). AreStepsOf xs b.access.models.entries r.groups plan.edits pending.steps) (sym models)
-        (subst (λ (ys : List Rights). AreStepsOf ms ys r.groups plan.edits pending.steps) (sym rights)
-        (subst (λ (hs : List GroupRow). AreStepsOf ms es hs plan.edits pending.steps) groups are)) in
+    subst (λ (xs : List Held). AreStepsOf xs b.access.models.entries r.groups plan.edits pending.steps) (sym models)
+    (subst (λ (ys : List Rights). AreStepsOf ms ys r.groups plan.edits pending.steps) (sym rights)
+    (subst (λ (hs : List GroupRow). AreStepsOf ms es hs plan.edits pending.steps) groups are)) in
     subst (λ (told : Reply). IsDone r b (record { caller = c; request = q }) (record { reply = told; steps = pending.steps })) (sym reply)
     (answered r c q b plan pending.steps (kept_still ms es r b kept models rights) is steps)
 

@@ -1,13 +1,13 @@
 -- What the store and the rights say against an edit is what the plain repository says against it.
-use Rattle.std.proofs.Common.{◌≡◌, ℕ, Bool, true, false, List, [], ◌∷◌, map, length, Option, Some, None, Ok, is_some, refl, sym, ◌∙◌, ap}
-use Rattle.std.specs.Prelude.{filter, option_map, nat_le, nat_lt, not, ◌||◌, if◌then◌else◌}
+use Rattle.std.proofs.Common.{◌≡◌, ℕ, Bool, true, false, List, [], ◌∷◌, length, Option, Some, None, is_some, refl, sym, ◌∙◌, ap}
+use Rattle.std.specs.Prelude.{filter, option_map, nat_le, not, ◌||◌, if◌then◌else◌}
 use Rattle.std.specs.List.{find}
 use Rattle.std.specs.Str.{bytes_eq}
 use Rattle.rp_rows.specs.declared.rows.Key.{Key}
 use Rattle.rp_rows.specs.declared.rows.Listing.{Listing}
 use Rattle.rp_rows.specs.declared.rows.ModelContent.{ModelContent}
 use Rattle.rp_rows.specs.declared.rows.Right.TheVariants.{Reads}
-use Rattle.rp_rows.specs.Rows.{Text, is_row, GroupRow}
+use Rattle.rp_rows.specs.Rows.{Text, is_row}
 use Rattle.rp_rows.specs.Sight.{owns, at_least}
 use Rattle.rp_rows.specs.Instances.{max_instances, max_name, instance_of, is_used}
 use Rattle.rp_rows.specs.Listings.{max_models, max_groups, max_members, lists_key}
@@ -16,7 +16,6 @@ use Rattle.rp_plain.specs.declared.messages.Refusal.TheVariants as refusal
 use Rattle.rp_plain.specs.Plain.{Plain}
 use Rattle.rp_plain.specs.Readers.{asked}
 use Rattle.rp_plain.specs.Meaning.{first_some, when}
-use Rattle.rp_plain.specs.Files.{too_many}
 use Rattle.rp_plain.specs.Groups.{is_member, members_of}
 use Rattle.rp_plain.specs.Instances.{instance_in, is_absent, is_full, is_needed}
 use Rattle.rp_store.specs.declared.changes.Change.TheVariants as s
@@ -33,7 +32,6 @@ use Rattle.rp_plans.specs.declared.edits.Edit.{Edit}
 use Rattle.rp_plans.specs.declared.edits.Edit.TheVariants.{OfModel, OfRights}
 use Rattle.rp_plans.specs.Edits.{fault_of, Sees}
 use Rattle.rp_core.specs.Faults.{store_refusal, access_refusal, edit_fault}
-use Rattle.rp_core.proofs.Contents.{Stands}
 use Rattle.rp_core.proofs.Standing.{IsKept, stands, has_rights_where, some_value, own_model, model_count_is, GroupStands, group_stands, own_group}
 use Rattle.rp_core.proofs.Altering.{both_have}
 

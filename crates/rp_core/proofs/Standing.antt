@@ -12,7 +12,7 @@ use Rattle.rp_rows.specs.declared.rows.Key.{Key}
 use Rattle.rp_rows.specs.declared.rows.ModelContent.{ModelContent}
 use Rattle.rp_rows.specs.declared.rows.Right.TheVariants.{Unseen, Reads, Owns}
 use Rattle.rp_rows.specs.Rows.{Text, key_cmp, Row, row_key, is_row, Model, GroupRow}
-use Rattle.rp_rows.specs.Sight.{owns, is_granted, at_least, sees, sees_group, group_right, level}
+use Rattle.rp_rows.specs.Sight.{owns, is_granted, at_least, sees, sees_group}
 use Rattle.rp_rows.proofs.Keys.{found_at, owner_at}
 use Rattle.rp_plain.specs.Plain.{Plain, model_at, group_at}
 use Rattle.rp_plain.specs.Readers.{asked, held, right_at, group_right_at}
@@ -123,26 +123,25 @@ own_group r c k order own =
 
 -- ---- a repository in order
 
-module _ {A B : Type 0} (P : Key → Type 0) where
-  all_left : (xs : List (Entry A)) (ys : List (Entry (List Grant))) → map entry_key xs ≡ map entry_key ys → AllByRecursion (λ (x : Row A). P (row_key x)) (joined xs ys) → AllByRecursion (λ x. P (entry_key x)) xs
-  all_left [] ys same all = tt
-  all_left (x ∷ xs) [] same all = cc
-  all_left (x ∷ xs) (y ∷ ys) same all = let rest : map entry_key xs ≡ map entry_key ys = cc in (all.0, all_left xs ys rest all.1)
+all_left : {A : Type 0} (P : Key → Type 0) (xs : List (Entry A)) (ys : List (Entry (List Grant))) → map entry_key xs ≡ map entry_key ys → AllByRecursion (λ (x : Row A). P (row_key x)) (joined xs ys) → AllByRecursion (λ x. P (entry_key x)) xs
+all_left P [] ys same all = tt
+all_left P (x ∷ xs) [] same all = cc
+all_left P (x ∷ xs) (y ∷ ys) same all = let rest : map entry_key xs ≡ map entry_key ys = cc in (all.0, all_left P xs ys rest all.1)
 
-  all_same : (xs : List (Entry A)) (ys : List (Entry B)) → map entry_key xs ≡ map entry_key ys → AllByRecursion (λ x. P (entry_key x)) xs → AllByRecursion (λ y. P (entry_key y)) ys
-  all_same xs [] same all = tt
-  all_same [] (y ∷ ys) same all = cc
-  all_same (x ∷ xs) (y ∷ ys) same all =
-      let one : entry_key x ≡ entry_key y = cc in
-      let rest : map entry_key xs ≡ map entry_key ys = cc in
-      (subst P one all.0, all_same xs ys rest all.1)
+all_same : {A B : Type 0} (P : Key → Type 0) (xs : List (Entry A)) (ys : List (Entry B)) → map entry_key xs ≡ map entry_key ys → AllByRecursion (λ x. P (entry_key x)) xs → AllByRecursion (λ y. P (entry_key y)) ys
+all_same P xs [] same all = tt
+all_same P [] (y ∷ ys) same all = cc
+all_same P (x ∷ xs) (y ∷ ys) same all =
+    let one : entry_key x ≡ entry_key y = cc in
+    let rest : map entry_key xs ≡ map entry_key ys = cc in
+    (subst P one all.0, all_same P xs ys rest all.1)
 
 left_ascends : (ms : List Held) (es : List Rights) → map entry_key ms ≡ map entry_key es → IsAscending key_cmp row_key (joined ms es) → IsAscending key_cmp entry_key ms
 left_ascends [] es same order = tt
 left_ascends (x ∷ ms) [] same order = cc
 left_ascends (x ∷ ms) (y ∷ es) same order =
     let rest : map entry_key ms ≡ map entry_key es = cc in
-    (all_left {B = ModelContent} (λ j. is_gt (key_cmp j x.key) ≡ true) ms es rest order.0, left_ascends ms es rest order.1)
+    (all_left (λ j. is_gt (key_cmp j x.key) ≡ true) ms es rest order.0, left_ascends ms es rest order.1)
 
 right_ascends : (ms : List Held) (es : List Rights) → map entry_key ms ≡ map entry_key es → IsAscending key_cmp entry_key ms → IsAscending key_cmp entry_key es
 right_ascends ms [] same order = tt

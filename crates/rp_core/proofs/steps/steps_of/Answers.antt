@@ -17,9 +17,9 @@ loop-edit-preserved c =
     let e = c.in-Some.edit in
     let s = c.in-Ok.step in
     let is : IsStepOf ms es gs e s =
-        subst (λ xs. IsStepOf xs es gs e s) held.models
-        (subst (λ xs. IsStepOf c.loop-edit.store.entries xs gs e s) held.rights
-        (subst (λ xs. IsStepOf c.loop-edit.store.entries c.loop-edit.access.models.entries xs e s) held.groups c.in-Ok.ensures.made)) in
+    subst (λ xs. IsStepOf xs es gs e s) held.models
+    (subst (λ xs. IsStepOf c.loop-edit.store.entries xs gs e s) held.rights
+    (subst (λ xs. IsStepOf c.loop-edit.store.entries c.loop-edit.access.models.entries xs e s) held.groups c.in-Ok.ensures.made)) in
     let turn : c.loop-edit.edit-iterator.rest.items ≡ e ∷ c.next.new.self.rest.items = search rules in
     let items = c.in_ok-push-in-Ok.ensures.items in
     record {
