@@ -59,6 +59,10 @@ made_groups (s ∷ steps) gs = made_groups steps (prepared_groups s.rights gs)
 abbrev pub made_of : List Step → Both → Plain → Plain
 made_of steps b r = record r { models = joined (made_entries steps b.models.entries) (made_rights steps b.access.models.entries); groups = made_groups steps r.groups }
 
+-- what steps leave of what is kept
+abbrev pub made : List Step → Kept → Plain
+made steps kept = made_of steps kept.both kept.content
+
 -- ---- what steps ask
 
 abbrev pub store_fits : Entries ModelContent → Option store.Prepared → Type 0

@@ -12,7 +12,7 @@ use Rattle.rp_plain.specs.Turns.{Turn, effect}
 use Rattle.rp_io.specs.declared.chunk.Room.{Room}
 use Rattle.rp_io.specs.declared.chunk.Room.TheVariants as room
 use Rattle.rp_io.specs.Lines.{Holds}
-use Rattle.rp_core.specs.Held.{made, IsPrepared}
+use Rattle.rp_core.specs.Held.{Kept, made_of, made, IsPrepared}
 use Rattle.rp_core.specs.declared.steps.Pending.{Pending}
 use Rattle.rp_requests.specs.Asks.{asked_of}
 use Rattle.rp_replies.specs.Replies.{line_of_reply}
@@ -71,12 +71,12 @@ if_partner partners name None unknown = ap (λ t. if t then Some name else None)
 if_partner partners name (Some place) there = (there.0, ap (λ t. if t then Some name else None) (is_among partners place name there.0 there.1) ∙ ap Some (sym there.1))
 
 -- what was prepared, and then committed
-pub if_prepared : {V E : Type 0} (items : V → List ℕ) (r mid new : Plain) (t : Turn) (pending : Pending) (o : Result V E) → IsPrepared r t pending → mid ≡ r
+pub if_prepared : {V E : Type 0} (items : V → List ℕ) (r : Plain) (mid : Kept) (new : Plain) (t : Turn) (pending : Pending) (o : Result V E) → IsPrepared r mid.both t pending → mid.content ≡ r
     → IfOk o (λ v. items v ≡ line_of_reply pending.reply) → OnOk o (new ≡ made pending.steps mid) → IfOk o (λ v. Answers r new (effect r t) (items v))
 if_prepared items r mid new t pending (Err e) prepared same said changed = tt
 if_prepared items r mid new t pending (Ok v) prepared same said changed = record {
   reply = pending.reply;
   may = prepared.replies;
-  content = changed ∙ ap (made pending.steps) same ∙ prepared.changes;
+  content = changed ∙ ap (made_of pending.steps mid.both) same ∙ prepared.changes;
   is = said;
 }

@@ -19,7 +19,7 @@ use Rattle.rp_laws.specs.Laws.{KeepsValid}
 use Rattle.rp_readers.specs.Named.{HoldsNamed}
 use Rattle.rp_readers.specs.Named.{AreNamed}
 use Rattle.rp_readers.specs.Listed.{HoldsListed, AreListed}
-use Rattle.rp_core.specs.Held.{Kept, partner_at, turn, made, Fits, IsPrepared}
+use Rattle.rp_core.specs.Held.{Kept, partner_at, turn, made_of, Fits, IsPrepared}
 use Rattle.rp_core.specs.declared.steps.Pending.{Pending}
 use Rattle.rp_repo.specs.Ready.{IsReady}
 
@@ -51,15 +51,15 @@ valid_after keeps r place q reply within valid =
 
 -- what was prepared of a valid repository may be committed to one that holds the same
 pub ready : KeepsValid → (old new : Kept) (place : ℕ) (q : Request) (pending : Pending) → place < length old.content.partners → IsValid old.content
-    → new.content ≡ old.content → IsPrepared old.content (turn old.content place q) pending → Fits new pending → IsReady new pending
+    → new.content ≡ old.content → IsPrepared old.content new.both (turn old.content place q) pending → Fits new pending → IsReady new pending
 ready keeps old new place q pending within valid same prepared fits = record {
   fits = fits;
-  valid = subst IsValid (sym (ap (made pending.steps) same ∙ prepared.changes)) (valid_after keeps old.content place q pending.reply within valid);
+  valid = subst IsValid (sym (ap (made_of pending.steps new.both) same ∙ prepared.changes)) (valid_after keeps old.content place q pending.reply within valid);
 }
 
 all_named : (r : Plain) (ms : List Model) → AllByRecursion (IsValidModel r.schemas r.partners) ms → AllByRecursion HoldsNamed ms
 all_named r [] all = tt
-all_named r (m ∷ ms) all = (record { order = all.0.content.instances; few = all.0.content.few; greatest = all.0.content.greatest; links = all.0.content.links }, all_named r ms all.1)
+all_named r (m ∷ ms) all = (record { order = all.0.content.instances; greatest = all.0.content.greatest; links = all.0.content.links }, all_named r ms all.1)
 
 -- in a valid repository the instances and links of each model can be found by their names
 pub valid_named : (r : Plain) → IsValid r → AreNamed r

@@ -137,7 +137,7 @@ fn answer_prepared(
 ) -> Result<Vec<u8>, AllocError>
     requires { IsReady repository.old pending }
     ensures made { IfOk result (λ bytes. bytes.items ≡ line_of_reply pending.reply) }
-    ensures changed { OnOk result (repository.new.content ≡ made pending.steps repository.old.content) }
+    ensures changed { OnOk result (repository.new.content ≡ made pending.steps repository.old) }
     ensures refused { OnErr result (repository.new.content ≡ repository.old.content) }
 {
     match reply_line(alloc, pending.reply()) {

@@ -116,7 +116,7 @@ impl<'s> Repository<'s> {
     pub fn prepare(&mut self, alloc: Global, caller: Caller, request: Request) -> Pending
         requires { caller < length self.old.content.partners }
         ensures content { self.new.content ≡ self.old.content }
-        ensures prepared { IsPrepared self.old.content (turn self.old.content caller request) result }
+        ensures prepared { IsPrepared self.old.content self.new.both (turn self.old.content caller request) result }
         ensures ready { IsReady self.new result }
     {
         step_keeps_validity();
@@ -127,7 +127,7 @@ impl<'s> Repository<'s> {
     pub fn commit(&mut self, pending: Pending) -> Reply
         requires { IsReady self.old pending }
         ensures reply { result ≡ pending.reply }
-        ensures content { self.new.content ≡ made pending.steps self.old.content }
+        ensures content { self.new.content ≡ made pending.steps self.old }
         ensures valid { IsValid self.new.content }
     {
         self.holdings.commit(pending)

@@ -10,6 +10,6 @@ commit-requires c = subst (λ (k : Kept). Fits k c.args.pending) (sym c.self.vie
 
 pub invariant_of-self : goal.invariant_of-self
 invariant_of-self c = (
-  subst IsValid (sym c.commit.ensures.content) (subst (λ (k : Kept). IsValid (made c.args.pending.steps k.content)) (sym c.self.view_is) c.requires.valid),
+  subst IsValid (sym c.commit.ensures.content) (subst (λ (k : Kept). IsValid (made c.args.pending.steps k)) (sym c.self.view_is) c.requires.valid),
   subst (λ (r : Plain). TextAgain r.schemas) (sym c.commit.ensures.content) c.self.invariant.1,
 )
