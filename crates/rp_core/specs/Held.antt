@@ -10,7 +10,7 @@ use Rattle.rp_store.specs.declared.changes.Change as store_change
 use Rattle.rp_store.specs.declared.changes.Prepared as store
 use Rattle.rp_store.specs.Entries.{Entries, entry_key}
 use Rattle.rp_store.specs.Models.{Held}
-use Rattle.rp_store.specs.Kept.{made, Fits as StoreFits, IsPrepared as IsPreparedFor}
+use Rattle.rp_store.specs.Kept.{made as made_in_store, Fits as StoreFits, IsPrepared as IsPreparedFor}
 use Rattle.rp_access.specs.Kept.{Rights, KeptAccess}
 use Rattle.rp_access.specs.Steps.{prepared_models, prepared_groups, PreparedFits}
 use Rattle.rp_access.specs.declared.changes.Change as access
@@ -42,7 +42,7 @@ pub record Kept : Type 0 where
 
 abbrev pub made_by : Option store.Prepared → List Held → List Held
 made_by None ms = ms
-made_by (Some prepared) ms = made prepared ms
+made_by (Some prepared) ms = made_in_store prepared ms
 
 abbrev pub made_entries : List Step → List Held → List Held
 made_entries [] ms = ms
