@@ -68,7 +68,7 @@ fn named_indeterminates_add_nothing(alloc: Global) -> Result<bool, AllocError> {
     let bag = of_one(alloc, AggregateKind::Bag, Value::Int(1))?;
     let sum = aggregate_union(alloc, &set, &x)?;
     let difference = minus(alloc, &list, &x)?;
-    let is_unknown = matches!(is_in(&x, &bag), Value::Log(Logical::Unknown));
+    let is_unknown = matches!(&is_in(&x, &bag), Value::Log(Logical::Unknown));
     Ok(is_unknown && is_indeterminate(&sum) && is_indeterminate(&difference))
 }
 
