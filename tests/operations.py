@@ -22,16 +22,17 @@ LITERAL = "LITERAL"
 
 # ---- values
 
-TYPES = {"seven": "INTEGER", "eight": "NUMBER", "sevens": "LIST OF INTEGER", "eights": "LIST OF INTEGER", "seven_set": "SET OF INTEGER",
-         "eight_set": "SET OF INTEGER", "colour": "ENUMERATION OF (red, green)", "extent": "ENUMERATION OF (small)", "shade": "colour",
-         "some": "SELECT (seven, sevens)"}
+# The types under whose names values stand, and the others.
+NAMED = {"seven": "INTEGER", "eight": "NUMBER", "sevens": "LIST OF INTEGER", "eights": "LIST OF INTEGER", "seven_set": "SET OF INTEGER",
+         "eight_set": "SET OF INTEGER", "shade": "colour"}
+OTHERS = {"colour": "ENUMERATION OF (red, green)", "extent": "ENUMERATION OF (small)", "some": "SELECT (seven, sevens)"}
 
 # What no literal and no initialiser makes is an attribute of SELF: by the value its name, its type, and how a file has it.
 ATTRIBUTES = {"#1": ("one", "thing", "#1"), "#2": ("two", "thing", "#2"), "#3": ("three", "thing", "#3"), "%": ("no_bits", "BINARY", '"0"'),
               "-9223372036854775808": ("least", "INTEGER", "-9223372036854775808"),
               "SET[1: 1, 1]": ("ones", "SET OF INTEGER", "(1,1)"), "SET[1: 2, 2]": ("twos", "SET OF INTEGER", "(2,2)")}
 
-# What makes an aggregate of an initialiser, by its kind and its first index: a parameter of this type. Under a type's name it is the type.
+# What makes an aggregate of an initialiser, by its kind and its first index: a parameter of this type.
 AGGREGATES = {("LIST", 1): "LIST", ("ARRAY", 1): "ARRAY [1:1]", ("ARRAY", 0): "ARRAY [0:1]", ("BAG", 1): "BAG", ("SET", 1): "SET"}
 
 
@@ -139,9 +140,9 @@ def function_of(name, takes, gives):
 
 def schema_of(expressions):
     """A schema in which each is a condition of E."""
-    types = [f"TYPE {name} = {underlying}; END_TYPE;" for name, underlying in TYPES.items()]
+    types = [f"TYPE {name} = {underlying}; END_TYPE;" for name, underlying in {**NAMED, **OTHERS}.items()]
     makers = [function_of(f"make_{kind}_{low}", f"{form} OF GENERIC", "x") for (kind, low), form in AGGREGATES.items()]
-    makers += [function_of(f"make_{name}", name, "x") for name in TYPES]
+    makers += [function_of(f"make_{name}", name, "x") for name in NAMED]
     operators = [function_of(NAMES[operator], "LIST OF some", form) for operator, form in FORMS.items()]
     attributes = [f"{name} : {of};" for name, of, _ in ATTRIBUTES.values()]
     conditions = [f"w{number} : {text};" for number, text in enumerate(expressions)]
