@@ -3,4 +3,3 @@
 mod decimals;
 mod operations;
 mod values;
-mod words;
