@@ -41,10 +41,8 @@ pub(crate) fn heading_of(verdict: Verdict) -> &'static str {
 /// What a verdict says of a rule over all instances.
 pub(crate) fn together_of(verdict: Verdict) -> &'static str {
     match verdict {
-        Verdict::True => "kept",
         Verdict::False => "violated by all files together",
         Verdict::Unknown => "can't be told of all files together",
-        Verdict::Limit => "not decided within the limit of steps",
-        Verdict::NotRun => "not begun for want of steps",
+        _ => heading_of(verdict),
     }
 }

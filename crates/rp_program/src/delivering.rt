@@ -22,7 +22,7 @@ use rp_delivery_words::{
 use rp_files::Folder;
 use rp_io::{Sink, write_all};
 use rp_plain::messages::{Refusal, Reply};
-use rp_replies::reply_line;
+use rp_replies::{no_memory_line, reply_line};
 use rp_repo::Repository;
 use std::alloc::{AllocError, Global};
 use std::mem;
@@ -95,6 +95,7 @@ fn tell<W: Sink, P: Pages>(
 {
     let schema = source_of(schemas, texts, delivered.schema);
     match &delivered.reply {
+        Reply::Refused(Refusal::NoMemory) => tell_no_memory(asked, writer),
         Reply::Refused(refusal) => {
             let place = place_of_refusal(
                 alloc,
@@ -102,17 +103,10 @@ fn tell<W: Sink, P: Pages>(
                 delivered.refused.as_str(),
                 *refusal,
             )?;
-            tell_refused(
-                alloc,
-                schema,
-                asked,
-                delivered,
-                *refusal,
-                place.as_ref(),
-                writer,
-                pages,
-            )
-        },
+            let file = refused_file(alloc, asked, delivered, *refusal, place.as_ref())?;
+            write_refused(alloc, schema, asked, delivered, &file, pages);
+            tell_refused(alloc, schema, asked, delivered, file, writer)
+        }
         reply => {
             let told = told_of(alloc, schema, asked, delivered)?;
             write(writer, &told)?;
@@ -186,80 +180,117 @@ fn write_report<P: Pages>(
     }
 }
 
-/// Writes the page of files of which the last one is refused, if a page is wanted.
+/// Says that memory is wanting, which takes none.
+fn tell_no_memory<W: Sink>(asked: &Asked<'_>, writer: &mut W) -> Result<Done, Fault>
+    ensures refused { OnOk result ⊥ }
+    ensures other { (path words : List ℕ) → IsErrOf result (Fault.Refused path words) → ⊥ }
+{
+    if asked.form == Form::Json {
+        write(writer, no_memory_line())?;
+    }
+    Err(Fault::Start(Failure::NoMemory))
+}
+
+/// A file that is refused: its path, what is said of it, and the lines that show where its fault lies.
+#[derive(Drop)]
+struct RefusedFile<'d> {
+    path: &'d str,
+    words: String,
+    lines: &'d str,
+}
+
+fn refused_file<'d>(
+    alloc: Global,
+    asked: &Asked<'d>,
+    delivered: &Delivered<'_>,
+    refusal: Refusal,
+    place: Option<&'d FaultPlace>,
+) -> Result<RefusedFile<'d>, AllocError> {
+    let reply = reply_line(alloc, &delivered.reply)?;
+    let words = words_of_refusal(alloc, place, refusal, &reply)?;
+    Ok(RefusedFile {
+        path: match asked.files.get(delivered.files.len()) {
+            Some(path) => path,
+            None => "",
+        },
+        words,
+        lines: match place {
+            Some(place) => place.lines.as_str(),
+            None => "",
+        },
+    })
+}
+
+/// Writes the page of files of which the last one is refused, if a page is wanted. What is wrong with the file comes before what
+/// is wrong with the page, so nothing is said of that.
 fn write_refused<P: Pages>(
     alloc: Global,
     schema: SchemaText<'_>,
     asked: &Asked<'_>,
     delivered: &Delivered<'_>,
-    path: &str,
-    words: &str,
-    lines: &str,
+    file: &RefusedFile<'_>,
     pages: &mut P,
-) -> Result<(), AllocError> {
-    if let Some(file) = asked.page {
-        let page = refused_page(alloc, schema.name, &delivered.files, path, words, lines)?;
-        let _ = pages.write(file, page);
+) {
+    let Some(path) = asked.page else {
+        return;
+    };
+    if let Ok(page) = refused_page(
+        alloc,
+        schema.name,
+        &delivered.files,
+        file.path,
+        file.words.as_str(),
+        file.lines,
+    ) {
+        let _ = pages.write(path, page);
     }
-    Ok(())
 }
 
-/// Writes what is told where a file is refused, and answers why.
-fn tell_refused<W: Sink, P: Pages>(
+/// What is told of a file that is refused.
+fn told_of_refusal(
     alloc: Global,
     schema: SchemaText<'_>,
     asked: &Asked<'_>,
     delivered: &Delivered<'_>,
-    refusal: Refusal,
-    place: Option<&FaultPlace>,
+    file: &RefusedFile<'_>,
+) -> Result<Vec<u8>, AllocError>
+    ensures { asked.now.form ≡ Form.Json → IfOk result (λ told. told.items ≡ line_of_reply delivered.now.reply) }
+{
+    match asked.form {
+        Form::Json => reply_line(alloc, &delivered.reply),
+        Form::Quiet => Ok(refused_line(alloc, file.path)?.into_bytes()),
+        Form::Text(_) => Ok(refused_text(
+            alloc,
+            schema.name,
+            &delivered.files,
+            file.path,
+            file.words.as_str(),
+            file.lines,
+        )?
+        .into_bytes()),
+    }
+}
+
+/// Writes what is told where a file is refused, and answers why.
+fn tell_refused<W: Sink>(
+    alloc: Global,
+    schema: SchemaText<'_>,
+    asked: &Asked<'_>,
+    delivered: &Delivered<'_>,
+    file: RefusedFile<'_>,
     writer: &mut W,
-    pages: &mut P,
 ) -> Result<Done, Fault>
     ensures refused { OnOk result ⊥ }
     ensures json { asked.now.form ≡ Form.Json → (path words : List ℕ) → IsErrOf result (Fault.Refused path words) →
         Appends (W.contents writer.old) (W.contents writer.new) (line_of_reply delivered.now.reply) }
 {
-    let reply = reply_line(alloc, &delivered.reply)?;
-    if let Refusal::NoMemory = refusal {
-        if asked.form == Form::Json {
-            write(writer, &reply)?;
-        }
-        return Err(Fault::Start(Failure::NoMemory));
-    }
-    let words = words_of_refusal(alloc, place, refusal, &reply)?;
-    let path = match asked.files.get(delivered.files.len()) {
-        Some(path) => path,
-        None => "",
-    };
-    let lines = match place {
-        Some(place) => place.lines.as_str(),
-        None => "",
-    };
-    let told = match asked.form {
-        Form::Json => reply,
-        Form::Quiet => refused_line(alloc, path)?.into_bytes(),
-        Form::Text(_) => refused_text(
-            alloc,
-            schema.name,
-            &delivered.files,
-            path,
-            words.as_str(),
-            lines,
-        )?
-        .into_bytes(),
-    };
-    // What is wrong with the file comes before what is wrong with the page.
-    let _ = write_refused(
-        alloc,
-        schema,
-        asked,
-        delivered,
+    let told = told_of_refusal(alloc, schema, asked, delivered, &file)?;
+    let RefusedFile {
         path,
-        words.as_str(),
-        lines,
-        pages,
-    );
-    let fault = Fault::Refused(Text::from_str(alloc, path)?, Text::new(words));
+        words,
+        lines: _,
+    } = file;
+    let path = Text::from_str(alloc, path)?;
     write(writer, &told)?;
-    Err(fault)
+    Err(Fault::Refused(path, Text::new(words)))
 }
