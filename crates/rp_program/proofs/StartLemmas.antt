@@ -1,5 +1,5 @@
 -- Why a batch of what was loaded doesn't start is why there is no repository of the configuration at its path.
-use Rattle.std.proofs.Common.{◌≡◌, ℕ, List, Option, Some, None, IfSome, Result, Ok, ap, subst, sym}
+use Rattle.std.proofs.Common.{◌≡◌, ℕ, List, Option, Some, None, IfSome, Ok, ap, subst, sym}
 use Rattle.plain_data.specs.declared.failure.Failure.{Failure}
 use Rattle.plain_data.specs.Gives.{Fails}
 use Rattle.rp_files.specs.Files.{Held}

@@ -193,19 +193,19 @@ fn tell_no_memory<W: Sink>(asked: &Asked<'_>, writer: &mut W) -> Result<Done, Fa
 
 /// A file that is refused: its path, what is said of it, and the lines that show where its fault lies.
 #[derive(Drop)]
-struct RefusedFile<'d> {
-    path: &'d str,
+struct RefusedFile<'p, 'l> {
+    path: &'p str,
     words: String,
-    lines: &'d str,
+    lines: &'l str,
 }
 
-fn refused_file<'d>(
+fn refused_file<'p, 'l>(
     alloc: Global,
-    asked: &Asked<'d>,
+    asked: &Asked<'p>,
     delivered: &Delivered<'_>,
     refusal: Refusal,
-    place: Option<&'d FaultPlace>,
-) -> Result<RefusedFile<'d>, AllocError> {
+    place: Option<&'l FaultPlace>,
+) -> Result<RefusedFile<'p, 'l>, AllocError> {
     let reply = reply_line(alloc, &delivered.reply)?;
     let words = words_of_refusal(alloc, place, refusal, &reply)?;
     Ok(RefusedFile {
@@ -228,7 +228,7 @@ fn write_refused<P: Pages>(
     schema: SchemaText<'_>,
     asked: &Asked<'_>,
     delivered: &Delivered<'_>,
-    file: &RefusedFile<'_>,
+    file: &RefusedFile<'_, '_>,
     pages: &mut P,
 ) {
     let Some(path) = asked.page else {
@@ -252,7 +252,7 @@ fn told_of_refusal(
     schema: SchemaText<'_>,
     asked: &Asked<'_>,
     delivered: &Delivered<'_>,
-    file: &RefusedFile<'_>,
+    file: &RefusedFile<'_, '_>,
 ) -> Result<Vec<u8>, AllocError>
     ensures { asked.now.form ≡ Form.Json → IfOk result (λ told. told.items ≡ line_of_reply delivered.now.reply) }
 {
@@ -277,7 +277,7 @@ fn tell_refused<W: Sink>(
     schema: SchemaText<'_>,
     asked: &Asked<'_>,
     delivered: &Delivered<'_>,
-    file: RefusedFile<'_>,
+    file: RefusedFile<'_, '_>,
     writer: &mut W,
 ) -> Result<Done, Fault>
     ensures refused { OnOk result ⊥ }
