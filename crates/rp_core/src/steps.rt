@@ -96,6 +96,13 @@ fn rights_step(
     }
 }
 
+/// The refusal that a reason of the store is. What was prepared of rights is let go.
+fn without(_rights: rp_access::Prepared, fault: StoreFault) -> Refusal
+    ensures { result ≡ store_refusal fault }
+{
+    of_store(fault)
+}
+
 /// The step that a change of what models hold comes to, as [`step_of`] has it.
 fn model_step(
     alloc: Global,
@@ -115,7 +122,7 @@ fn model_step(
             store: Some(prepared),
             rights,
         }),
-        Err(fault) => Err(of_store(fault)),
+        Err(fault) => Err(without(rights, fault)),
     }
 }
 
