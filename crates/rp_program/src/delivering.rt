@@ -95,7 +95,12 @@ fn tell<W: Sink, P: Pages>(
 {
     let schema = source_of(schemas, texts, delivered.schema);
     match &delivered.reply {
-        Reply::Refused(Refusal::NoMemory) => tell_no_memory(asked, writer),
+        Reply::Refused(Refusal::NoMemory) => {
+            if asked.form == Form::Json {
+                write(writer, no_memory_line())?;
+            }
+            Err(Fault::Start(Failure::NoMemory))
+        }
         Reply::Refused(refusal) => {
             let place = place_of_refusal(
                 alloc,
@@ -178,17 +183,6 @@ fn write_report<P: Pages>(
         Ok(()) => Ok(()),
         Err(error) => Err(Fault::Page(Text::from_str(alloc, path)?, error)),
     }
-}
-
-/// Says that memory is wanting, which takes none.
-fn tell_no_memory<W: Sink>(asked: &Asked<'_>, writer: &mut W) -> Result<Done, Fault>
-    ensures refused { OnOk result ⊥ }
-    ensures other { (path words : List ℕ) → IsErrOf result (Fault.Refused path words) → ⊥ }
-{
-    if asked.form == Form::Json {
-        write(writer, no_memory_line())?;
-    }
-    Err(Fault::Start(Failure::NoMemory))
 }
 
 /// A file that is refused: its path, what is said of it, and the lines that show where its fault lies.
