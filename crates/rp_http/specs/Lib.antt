@@ -1,0 +1,5 @@
+pub mod Bytes
+pub mod Runs
+pub mod Inboxes
+pub mod Turns
+pub mod Serving
