@@ -1,0 +1,5 @@
+pub mod Routing
+pub mod Answers
+pub mod Meaning
+pub mod Runs
+pub mod Laws
