@@ -1,5 +1,4 @@
-pub mod Routing
-pub mod Answers
-pub mod Meaning
 pub mod Runs
-pub mod Laws
+pub mod Inboxes
+pub mod Turns
+pub mod Serving

@@ -6,8 +6,8 @@ use Rattle.rp_plain.specs.Plain.{Plain}
 use Rattle.http_messages.specs.declared.message.Fault.{Fault}
 use Rattle.http_messages.specs.Next.{Parts, Call, IsCall, IsBegun, IsAwaited, FailsBy}
 use Rattle.http_routes.specs.Answers.{bare_text, fault_status}
-use Rattle.rp_http.specs.Answers.{Answer, answer_bytes}
-use Rattle.rp_http.specs.Meaning.{MessageRun}
+use Rattle.rp_messages.specs.Answers.{Answer, answer_bytes}
+use Rattle.rp_messages.specs.Meaning.{MessageRun}
 
 -- ---- how an input is cut into messages
 

@@ -1,12 +1,20 @@
-//! The repository over HTTP: which request a message is, and the bytes of its answer.
+//! The repository over HTTP: one connection, whose messages are answered one by one, in order.
 #![tactic(auto)]
 
 mod answers;
-mod laws;
-mod routing;
+mod connection;
+mod inbox;
+mod outbox;
+mod serve;
+mod turn;
+mod workspace;
 
-pub use answers::{answer_bytes, reply_status};
+pub use answers::{AnswerBytes, answer_bytes};
+pub use connection::{Connection, Stage, Stepped, StreamFault};
 pub use http_messages::{Fault, Head, Message, Next, Scratch, next_message};
 pub use http_routes::{Bare, TokenFault, Tokens};
-pub use laws::{heads_decide, messages_are_turns, others_are_fixed, two_connections};
-pub use routing::{Asked, Unrouted, route, route_head};
+pub use inbox::{Dropped, Inbox};
+pub use rp_messages::{Asked, Unrouted, route};
+pub use serve::{ServeFault, serve_connection};
+pub use turn::{Turn, take_turn};
+pub use workspace::Workspace;

@@ -17,7 +17,7 @@ use rp_replies::reply_line;
 use rp_requests::{RequestLine, Unread, request_of};
 use std::alloc::{AllocError, Global};
 
-/// The bytes that a line is let go of with.
+/// The bytes of the block that is freed in place of a large one.
 const SMALL: usize = 4096;
 
 /// The reply line of a line, of which this was kept, unless memory is wanting.
@@ -47,11 +47,11 @@ fn refused(alloc: Global, refusal: Refusal) -> Result<Vec<u8>, AllocError>
     reply_line(alloc, &Reply::Refused(refusal))
 }
 
-/// Lets go of a line. Its block is made small before it is freed: whoever frees a large one has the C library take later ones
+/// Lets go of bytes. Their block is made small before it is freed: whoever frees a large one has the C library take later ones
 /// of that size from its heap, which gives nothing back to the system.
-fn release(mut line: Vec<u8>) {
-    line.clear();
-    line.shrink_to(SMALL);
+pub fn release(mut bytes: Vec<u8>) {
+    bytes.clear();
+    bytes.shrink_to(SMALL);
 }
 
 /// The request of a line, which is let go of: the texts of the request are its own.

@@ -7,6 +7,7 @@ pub mod laws;
 pub mod repository;
 pub mod run;
 
+pub use answer::release;
 pub use ex_check::SchemaFault;
 pub use ex_compiled::Compiled;
 pub use ex_loaded::LoadedSchema;

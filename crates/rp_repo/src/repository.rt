@@ -111,6 +111,14 @@ impl<'s> Repository<'s> {
         }
     }
 
+    /// The partner at this place of the partner table.
+    pub fn caller_at(&self, place: usize) -> Caller
+        requires { place < length self.now.content.partners }
+        ensures { result ≡ place }
+    {
+        Caller { place }
+    }
+
     /// The reply to a request, and what is still to be done. Nothing that is seen is changed, and
     /// room is made. Where memory is wanting, the reply is that, with nothing to be done.
     pub fn prepare(&mut self, alloc: Global, caller: Caller, request: Request) -> Pending

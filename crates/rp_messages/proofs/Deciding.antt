@@ -2,9 +2,9 @@
 use Rattle.std.proofs.Common.{◌≡◌, None, true≢false, refl, ap}
 use Rattle.std.specs.Prelude.{is_some}
 use Rattle.rp_plain.specs.Plain.{Plain}
-use Rattle.rp_http.specs.Laws.{turn_in, HeadDecides, OthersAreFixed}
-use Rattle.rp_http.specs.Routing.{Routed, Asks, Unreadable, Unasked, by_head, routed}
-use Rattle.rp_http.specs.Meaning.{meant_by}
+use Rattle.rp_messages.specs.Laws.{turn_in, HeadDecides, OthersAreFixed}
+use Rattle.rp_messages.specs.Routing.{Routed, Asks, Unreadable, Unasked, by_head, routed}
+use Rattle.rp_messages.specs.Meaning.{meant_by}
 
 pub head_decides : HeadDecides
 head_decides tokens call bare stops = ap (λ h. by_head h call.body) stops

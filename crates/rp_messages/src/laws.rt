@@ -1,5 +1,5 @@
 //! What holds of messages, whatever connections they come by.
-ghost use Rattle.rp_http.specs.Laws.{HeadDecides, OthersAreFixed, MessagesAreTurns, TwoConnections};
+ghost use Rattle.rp_messages.specs.Laws.{HeadDecides, OthersAreFixed, MessagesAreTurns, TwoConnections};
 
 use rp_laws::two_runs;
 

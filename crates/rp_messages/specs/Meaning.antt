@@ -6,8 +6,8 @@ use Rattle.rp_plain.specs.Plain.{Plain}
 use Rattle.rp_plain.specs.Runs.{is_no_memory}
 use Rattle.rp_plain.specs.Turns.{Turn, effect}
 use Rattle.http_messages.specs.Next.{Call}
-use Rattle.rp_http.specs.Routing.{Routed, Asks, Unreadable, Unasked, routed}
-use Rattle.rp_http.specs.Answers.{Answer, Told, Barely}
+use Rattle.rp_messages.specs.Routing.{Routed, Asks, Unreadable, Unasked, routed}
+use Rattle.rp_messages.specs.Answers.{Answer, Told, Barely}
 
 -- what a message means: its answer, want of memory aside, and the repository after it
 pub record Effect : Type 0 where

@@ -6,9 +6,9 @@ use Rattle.rp_plain.specs.Valid.{IsOrdered}
 use Rattle.rp_plain.specs.declared.messages.Reply.{Reply}
 use Rattle.http_messages.specs.Next.{Call}
 use Rattle.http_routes.specs.declared.answers.Bare.{Bare}
-use Rattle.rp_http.specs.Routing.{Stops, headed, Routed, Asks, Unreadable, Unasked, routed}
-use Rattle.rp_http.specs.Answers.{Answer, Told, Barely, answer_of_reply}
-use Rattle.rp_http.specs.Meaning.{meant, MessageRun}
+use Rattle.rp_messages.specs.Routing.{Stops, headed, Routed, Asks, Unreadable, Unasked, routed}
+use Rattle.rp_messages.specs.Answers.{Answer, Told, Barely, answer_of_reply}
+use Rattle.rp_messages.specs.Meaning.{meant, MessageRun}
 
 -- the turn that a message asks for; one that is no partner's request asks for none
 abbrev pub turn_in : List (List ℕ) → Routed → Option Turn

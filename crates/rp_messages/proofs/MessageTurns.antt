@@ -10,10 +10,10 @@ use Rattle.rp_plain.specs.Readers.{asked}
 use Rattle.rp_plain.specs.Step.{answer, next}
 use Rattle.rp_plain.specs.Turns.{Turn, Run}
 use Rattle.rp_laws.specs.Laws.{TwoRuns}
-use Rattle.rp_http.specs.Routing.{Routed, Asks, Unreadable, Unasked, routed}
-use Rattle.rp_http.specs.Answers.{Answer, Told, Barely, answer_of_reply}
-use Rattle.rp_http.specs.Meaning.{Effect, meant_by, is_no_memory_answer, MayAnswer, left_by}
-use Rattle.rp_http.specs.Laws.{turn_in, with_turn, with_reply, turns_of, replies_of, MessagesAreTurns, TwoConnections}
+use Rattle.rp_messages.specs.Routing.{Routed, Asks, Unreadable, Unasked, routed}
+use Rattle.rp_messages.specs.Answers.{Answer, Told, Barely, answer_of_reply}
+use Rattle.rp_messages.specs.Meaning.{Effect, meant_by, is_no_memory_answer, MayAnswer, left_by}
+use Rattle.rp_messages.specs.Laws.{turn_in, with_turn, with_reply, turns_of, replies_of, MessagesAreTurns, TwoConnections}
 
 -- ---- the partners stay
 

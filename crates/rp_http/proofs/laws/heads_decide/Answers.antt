@@ -1,5 +1,0 @@
-use Rattle.rp_http.proofs.Deciding.{head_decides}
-use Rattle.rp_http.proofs.laws.heads_decide.Goals as goal
-
-pub returns : goal.returns
-returns c = head_decides

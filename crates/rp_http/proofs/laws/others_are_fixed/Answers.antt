@@ -1,5 +1,0 @@
-use Rattle.rp_http.proofs.Deciding.{others_are_fixed}
-use Rattle.rp_http.proofs.laws.others_are_fixed.Goals as goal
-
-pub returns : goal.returns
-returns c = others_are_fixed

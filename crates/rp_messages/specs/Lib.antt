@@ -1,0 +1,4 @@
+pub mod Routing
+pub mod Answers
+pub mod Meaning
+pub mod Laws
