@@ -1,0 +1,7 @@
+pub mod Blocks
+pub mod Inboxes
+pub mod Answering
+pub mod Looking
+pub mod Leaving
+pub mod Serving
+pub mod Feeding

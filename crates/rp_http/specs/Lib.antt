@@ -1,3 +1,4 @@
+pub mod Bytes
 pub mod Runs
 pub mod Inboxes
 pub mod Turns

@@ -7,6 +7,7 @@ use Rattle.http_messages.specs.Next.{Call, FailsBy}
 use Rattle.rp_http.specs.declared.connection.Phase.{Phase}
 use Rattle.rp_http.specs.declared.connection.Phase.TheVariants.{Turns, Wants, Sends, Refuses}
 use Rattle.rp_http.specs.declared.connection.Connection.{Connection}
+use Rattle.rp_http.specs.Bytes.{owed_in}
 use Rattle.rp_http.specs.Inboxes.{State, Holds, room_of}
 use Rattle.rp_http.specs.Runs.{TakesCalls, AllStay, OnKnown, IsUnfinished, AnsweredInPart, IsFirstRun, fault_text}
 
@@ -55,7 +56,7 @@ IsAt tokens start now input known before after inbox owed Refuses = IsRefusing t
 -- A connection whose reader began with this input, and whose writer held those bytes, is served so far: the repository was the one
 -- then and is the other now.
 abbrev pub IsServed : List (List ℕ) → Plain → Plain → Option (List ℕ) → Option (List ℕ) → Option (List ℕ) → Option (List ℕ) → Connection → Type 0
-IsServed tokens start now input known before after c = IsAt tokens start now input known before after c.inbox c.outbox c.phase
+IsServed tokens start now input known before after c = IsAt tokens start now input known before after c.inbox (owed_in c.outbox) c.phase
 
 -- the connection ends once all is sent
 abbrev pub IsLast : Phase → Type 0

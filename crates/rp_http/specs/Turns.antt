@@ -13,17 +13,11 @@ use Rattle.rp_messages.specs.declared.routing.Unrouted.{Unrouted}
 use Rattle.rp_messages.specs.declared.routing.Unrouted.TheVariants.{Head, BadRequest, NoMemory}
 use Rattle.rp_http.specs.declared.inbox.Dropped.{Dropped}
 use Rattle.rp_http.specs.declared.inbox.Dropped.TheVariants as dropped
-use Rattle.rp_http.specs.declared.turn.Reply.{Reply}
-use Rattle.rp_http.specs.declared.turn.Reply.TheVariants.{Made, Fixed}
 use Rattle.rp_http.specs.declared.turn.Turn.{Turn}
 use Rattle.rp_http.specs.declared.turn.Turn.TheVariants.{Answered, Refused, Wants}
+use Rattle.rp_http.specs.Bytes.{text_in}
 use Rattle.rp_http.specs.Inboxes.{State, Holds, room_of, weight}
 use Rattle.rp_http.specs.Runs.{IsUnfinished}
-
--- the bytes of a reply
-abbrev pub text_in : Reply → List ℕ
-text_in (Made bytes) = bytes
-text_in (Fixed bytes) = bytes.now
 
 -- the bytes are an answer to what is meant, and this is what it leaves
 pub record Answers (old new : Plain) (meaning : Effect) (bytes : List ℕ) : Type 0 where
@@ -43,13 +37,13 @@ pub record IsAnswered (tokens : List (List ℕ)) (came : List ℕ) (left : State
 
 -- a message was answered; or none can come; or more bytes have to come, and may
 abbrev pub IsTurn : List (List ℕ) → List ℕ → State → Plain → Plain → Turn → Type 0
-IsTurn tokens came left old new (Answered reply stays) = IsAnswered tokens came left old new (text_in reply) stays
+IsTurn tokens came left old new (Answered bytes stays) = IsAnswered tokens came left old new (text_in bytes) stays
 IsTurn tokens came left old new (Refused fault) = FailsBy came fault × Holds tokens came left × (new ≡ old)
 IsTurn tokens came left old new Wants = IsUnfinished came × Holds tokens came left × (0 < room_of left) × (new ≡ old)
 
 -- a message that is answered leaves less to do
 abbrev pub IsLess : State → State → Turn → Type 0
-IsLess before after (Answered reply stays) = weight after < weight before
+IsLess before after (Answered bytes stays) = weight after < weight before
 IsLess before after (Refused fault) = ⊤
 IsLess before after Wants = weight after ≤ weight before + 1
 

@@ -1,6 +1,7 @@
 //! The bytes of answers.
-ghost use Rattle.std.specs.Prelude.{◌≡◌, IfOk};
+ghost use Rattle.std.specs.Prelude.{◌≡◌, ◌++◌, IfOk};
 ghost use Rattle.rp_messages.specs.Answers.{refusal_status, reply_status, answer_of_reply};
+ghost use Rattle.rp_http.specs.Bytes.{text_in};
 
 use http::StatusCode;
 use http_routes::answer_head;
@@ -8,48 +9,31 @@ use rp_plain::messages::{Refusal, Reply};
 use rp_replies::reply_bytes;
 use rp_repo::release;
 use std::alloc::{AllocError, Global};
-use std::marker::Model;
 
 /// The most bytes of a body that stands in one block with its head, so that one write sends both. A longer one isn't copied.
 const JOINED: usize = 65_536;
 
 /// The bytes of an answer.
 #[derive(Drop)]
-pub struct AnswerBytes {
-    head: Vec<u8>,
-    /// What stands behind the head, and not in one block with it.
-    body: Vec<u8>,
-}
-
-impl Model for AnswerBytes {
-    ghost use Rattle.std.specs.Prelude.{ℕ, List, ◌++◌};
-
-    ghost Value = { List ℕ };
-
-    ghost view = { λ a. a.head.items ++ a.body.items };
+pub enum AnswerBytes {
+    Fixed(&'static [u8]),
+    /// A head and a body in one block.
+    Joined(Vec<u8>),
+    /// A head, and a body.
+    Parted(Vec<u8>, Vec<u8>),
 }
 
 impl AnswerBytes {
-    ghost use Rattle.std.specs.Prelude.{◌≤◌, ◌<◌, ◌×◌, ℕ, List, ◌++◌, length, drop};
-
-    /// What stands behind so many of the bytes, up to the end of its block.
-    pub fn piece_at(&self, at: usize) -> &[u8]
-        requires { at ≤ length self.now }
-        ensures front { (rest : List ℕ) × (drop at self.now ≡ result.now ++ rest) }
-        ensures some { at < length self.now → 0 < length result.now }
-    {
-        if at < self.head.len() {
-            &self.head[at..]
-        } else {
-            &self.body[at - self.head.len()..]
-        }
-    }
-
     /// Lets go of the bytes.
-    pub fn release(self) {
-        let AnswerBytes { head, body } = self;
-        release(head);
-        release(body);
+    pub(crate) fn release(self) {
+        match self {
+            AnswerBytes::Fixed(_) => {}
+            AnswerBytes::Joined(bytes) => release(bytes),
+            AnswerBytes::Parted(head, body) => {
+                release(head);
+                release(body);
+            }
+        }
     }
 }
 
@@ -78,23 +62,20 @@ fn reply_status(reply: &Reply) -> StatusCode
 
 /// The bytes of the answer that a reply is: its JSON, with a head before it.
 pub fn answer_bytes(alloc: Global, reply: &Reply) -> Result<AnswerBytes, AllocError>
-    ensures { IfOk result (λ bytes. bytes ≡ answer_of_reply reply.now) }
+    ensures { IfOk result (λ bytes. text_in bytes ≡ answer_of_reply reply.now) }
 {
     let body = reply_bytes(alloc, reply)?;
     let head = answer_head(alloc, reply_status(reply), body.len())?;
-    join(alloc, head, body)
+    join(head, body)
 }
 
 /// A head with its body, in one block where the body is small.
-fn join(alloc: Global, mut head: Vec<u8>, body: Vec<u8>) -> Result<AnswerBytes, AllocError>
-    ensures { IfOk result (λ bytes. bytes ≡ head.items ++ body.items) }
+fn join(mut head: Vec<u8>, body: Vec<u8>) -> Result<AnswerBytes, AllocError>
+    ensures { IfOk result (λ bytes. text_in bytes ≡ head.items ++ body.items) }
 {
     if body.len() > JOINED {
-        return Ok(AnswerBytes { head, body });
+        return Ok(AnswerBytes::Parted(head, body));
     }
     head.extend_from_slice(&body)?;
-    Ok(AnswerBytes {
-        head,
-        body: Vec::new(alloc),
-    })
+    Ok(AnswerBytes::Joined(head))
 }

@@ -1,14 +1,17 @@
 //! One connection: what came by it, and what is still to be sent.
-ghost use Rattle.std.specs.Prelude.{◌≡◌, ◌≢◌, ◌≤◌, ◌<◌, ◌+◌, ◌⊎◌, ℕ, List, [], Option, true, false, length, IfOk, OnOk, OnErr, IsErrOf, IsOkOf};
+ghost use Rattle.std.specs.Prelude.{◌≡◌, ◌≢◌, ◌≤◌, ◌<◌, ◌+◌, ◌⊎◌, ℕ, List, [], Option, true, false, length, take, IfOk, OnOk, OnErr};
+ghost use Rattle.std.specs.Io.KnownBytes.{Consumes, IsAtEnd, Keeps};
 ghost use Rattle.rp_plain.specs.Plain.{Plain};
+ghost use Rattle.rp_http.specs.Bytes.{owed_in};
 ghost use Rattle.rp_http.specs.Inboxes.{Open, weight};
 ghost use Rattle.rp_http.specs.Runs.{max_reads, IsEndedRun, IsWholeRun, IsFirstRun, IsCutRun};
-ghost use Rattle.rp_http.specs.Serving.{IsServed, IsLast, IsOut};
+ghost use Rattle.rp_http.specs.Serving.{IsServed, IsLast};
 ghost use Rattle.rp_http.specs.Turns.{Leaves};
 
+use crate::answers::AnswerBytes;
 use crate::inbox::Inbox;
 use crate::outbox::Outbox;
-use crate::turn::{Reply, Turn, take_turn};
+use crate::turn::{Turn, take_turn};
 use crate::workspace::{PIECE, Workspace};
 use http_routes::{Tokens, fault_answer};
 use rp_io::{DeviceFault, Sink, Source};
@@ -68,7 +71,6 @@ pub enum Stage {
 }
 
 /// One connection.
-#[derive(Drop)]
 pub struct Connection {
     pub(crate) inbox: Inbox,
     pub(crate) outbox: Outbox,
@@ -76,11 +78,37 @@ pub struct Connection {
     pub(crate) reads: u32,
 }
 
+impl Drop for Connection {
+    fn drop(self) {
+        let Connection {
+            inbox,
+            outbox,
+            phase: _,
+            reads: _,
+        } = self;
+        drop(inbox);
+        drop(outbox);
+    }
+}
+
+/// Reads once.
+fn read_once<R: Source>(reader: &mut R, piece: &mut [u8]) -> Result<usize, DeviceFault>
+    ensures bound { IfOk result (λ n. n ≤ length piece.new) }
+    ensures room { length piece.new ≡ length piece.old }
+    ensures bytes { IfOk result (λ n. Consumes (R.remaining reader.old) (R.remaining reader.new) (take n piece.new)) }
+    ensures end { IfOk result (λ n. n ≡ 0 → 0 < length piece.old → IsAtEnd (R.remaining reader.new)) }
+    ensures keeps { OnErr result (Keeps (R.remaining reader.old) (R.remaining reader.new)) }
+    ensures same { OnOk result (R.read_failures reader.new ≡ R.read_failures reader.old) }
+    ensures err { OnErr result (R.read_failures reader.new ≢ R.read_failures reader.old) }
+{
+    reader.read(piece)
+}
+
 impl Connection {
     /// A connection by which nothing came.
     pub fn new(alloc: Global) -> Result<Connection, AllocError>
         ensures inbox { IfOk result (λ c. c.inbox ≡ Open []) }
-        ensures outbox { IfOk result (λ c. c.outbox ≡ []) }
+        ensures outbox { IfOk result (λ c. owed_in c.outbox ≡ []) }
         ensures phase { IfOk result (λ c. c.phase ≡ Phase.Turns) }
         ensures reads { IfOk result (λ c. c.reads ≡ max_reads) }
     {
@@ -122,6 +150,8 @@ impl Connection {
         ensures served { (start : Plain) (input known before after : Option (List ℕ)) →
             IsServed tokens.now start repository.old.content input known before after self.old →
             IsServed tokens.now start repository.new.content input known before after self.new }
+        ensures run { Leaves tokens.now repository.old.content repository.new.content }
+        ensures partners { repository.new.content.partners ≡ repository.old.content.partners }
         ensures phase { self.new.phase ≢ Phase.Turns }
         ensures reads { self.new.reads ≡ self.old.reads }
         ensures less { self.new.phase ≢ Phase.Wants → self.new.phase ≢ Phase.Refuses → weight self.new.inbox < weight self.old.inbox }
@@ -134,12 +164,12 @@ impl Connection {
             &mut self.inbox,
             &mut workspace.scratch,
         ) {
-            Turn::Answered(reply, stays) => {
-                self.outbox.put(reply);
+            Turn::Answered(bytes, stays) => {
+                self.outbox.put(bytes);
                 self.phase = Phase::Sends(stays);
             }
             Turn::Refused(fault) => {
-                self.outbox.put(Reply::Fixed(fault_answer(fault)));
+                self.outbox.put(AnswerBytes::Fixed(fault_answer(fault)));
                 self.phase = Phase::Refuses;
             }
             Turn::Wants => self.phase = Phase::Wants,
@@ -156,11 +186,12 @@ impl Connection {
         ensures served { (tokens : List (List ℕ)) (start now : Plain) (input before after : Option (List ℕ)) →
             IsServed tokens start now input (R.remaining reader.old) before after self.old →
             IsServed tokens start now input (R.remaining reader.new) before after self.new }
-        ensures ended { IsOkOf result 0 → (tokens : List (List ℕ)) (start now : Plain) (input before after : Option (List ℕ)) →
+        ensures ended { IfOk result (λ n. n ≡ 0 → (tokens : List (List ℕ)) (start now : Plain) (input before after : Option (List ℕ)) →
             IsServed tokens start now input (R.remaining reader.old) before after self.old →
-            IsEndedRun tokens start now input before after }
+            IsEndedRun tokens start now input before after) }
         ensures phase { IfOk result (λ n. 0 < n → self.new.phase ≡ Phase.Turns) }
-        ensures reads { IfOk result (λ n. self.new.reads < self.old.reads) }
+        ensures reads { IfOk result (λ n. self.new.reads + 1 ≡ self.old.reads) }
+        ensures gave { IfOk result (λ n. (piece : List ℕ) × (length piece ≡ n) × Consumes (R.remaining reader.old) (R.remaining reader.new) piece) }
         ensures weight { IfOk result (λ n. weight self.new.inbox ≤ weight self.old.inbox + 16385) }
         ensures same { OnOk result (R.read_failures reader.new ≡ R.read_failures reader.old) }
         ensures err { OnErr result ((R.read_failures reader.new ≢ R.read_failures reader.old) ⊎ (self.old.reads ≡ 0)) }
@@ -170,7 +201,7 @@ impl Connection {
         }
         let room = PIECE.min(self.inbox.room());
         let piece = &mut workspace.piece[..room];
-        let count = reader.read(piece)?;
+        let count = read_once(reader, piece)?;
         self.reads -= 1;
         if count > 0 {
             self.inbox.receive(&piece[..count]);
@@ -184,9 +215,14 @@ impl Connection {
         ensures served { (tokens : List (List ℕ)) (start now : Plain) (input known before : Option (List ℕ)) →
             IsServed tokens start now input known before (W.contents writer.old) self.old →
             IsServed tokens start now input known before (W.contents writer.new) self.new }
-        ensures fewer { OnOk result (0 < length self.old.outbox → length self.new.outbox < length self.old.outbox) }
+        ensures cut { OnErr result (0 < length self.old.outbox.first → (tokens : List (List ℕ)) (start now : Plain) (input known before : Option (List ℕ)) →
+            IsServed tokens start now input known before (W.contents writer.old) self.old →
+            IsCutRun tokens start now input before (W.contents writer.new)) }
+        ensures fewer { OnOk result (0 < length self.old.outbox.first → length (owed_in self.new.outbox) < length (owed_in self.old.outbox)) }
         ensures inbox { self.new.inbox ≡ self.old.inbox }
         ensures reads { self.new.reads ≡ self.old.reads }
+        ensures stays { self.old.phase ≢ Phase.Sends true → self.new.phase ≡ self.old.phase }
+        ensures wants { self.new.phase ≡ Phase.Wants → self.old.phase ≡ Phase.Wants }
         ensures same { OnOk result (W.write_failures writer.new ≡ W.write_failures writer.old) }
         ensures err { OnErr result (W.write_failures writer.new ≢ W.write_failures writer.old) }
     {
@@ -198,10 +234,18 @@ impl Connection {
 
     /// Whether something is still to be sent.
     pub(crate) fn owes(&self) -> bool
-        ensures owes { result ≡ true → 0 < length self.now.outbox }
-        ensures none { result ≡ false → self.now.outbox ≡ [] }
+        ensures owes { result ≡ true → 0 < length self.now.outbox.first }
+        ensures none { result ≡ false → owed_in self.now.outbox ≡ [] }
     {
         !self.outbox.is_empty()
+    }
+
+    /// Whether more bytes have to come.
+    pub(crate) fn wants(&self) -> bool
+        ensures wants { result ≡ true → self.now.phase ≡ Phase.Wants }
+        ensures other { result ≡ false → self.now.phase ≢ Phase.Wants }
+    {
+        self.phase == Phase::Wants
     }
 
     /// Whether the connection ends once all is sent.
@@ -212,16 +256,30 @@ impl Connection {
         self.phase == Phase::Sends(false) || self.phase == Phase::Refuses
     }
 
+    /// Whether the connection goes on once all is sent.
+    fn goes_on(&self) -> bool
+        ensures goes { result ≡ true → self.now.phase ≡ Phase.Sends true }
+        ensures other { result ≡ false → self.now.phase ≢ Phase.Sends true }
+    {
+        self.phase == Phase::Sends(true)
+    }
+
     /// Goes on where a reply is out and the connection stays.
-    fn settle(&mut self)
+    pub(crate) fn settle(&mut self)
         ensures served { (tokens : List (List ℕ)) (start now : Plain) (input known before after : Option (List ℕ)) →
             IsServed tokens start now input known before after self.old →
             IsServed tokens start now input known before after self.new }
         ensures inbox { self.new.inbox ≡ self.old.inbox }
         ensures outbox { self.new.outbox ≡ self.old.outbox }
         ensures reads { self.new.reads ≡ self.old.reads }
+        ensures phase { owed_in self.old.outbox ≡ [] → self.new.phase ≢ Phase.Sends true }
+        ensures stays { self.old.phase ≢ Phase.Sends true → self.new.phase ≡ self.old.phase }
+        ensures wants { self.new.phase ≡ Phase.Wants → self.old.phase ≡ Phase.Wants }
     {
-        if self.phase == Phase::Sends(true) && self.outbox.is_empty() {
+        if !self.goes_on() {
+            return;
+        }
+        if !self.owes() {
             self.phase = Phase::Turns;
         }
     }
@@ -242,9 +300,10 @@ impl Connection {
             IsServed tokens.now start repository.old.content input (R.remaining reader.old) before (W.contents writer.old) self.old →
             IsServed tokens.now start repository.new.content input (R.remaining reader.new) before (W.contents writer.new) self.new }
         ensures run { Leaves tokens.now repository.old.content repository.new.content }
-        ensures whole { IsOkOf result Stepped.Over ⊎ IsOkOf result Stepped.Ended → (start : Plain) (input before : Option (List ℕ)) →
+        ensures partners { repository.new.content.partners ≡ repository.old.content.partners }
+        ensures whole { IfOk result (λ stepped. (stepped ≡ Stepped.Over) ⊎ (stepped ≡ Stepped.Ended) → (start : Plain) (input before : Option (List ℕ)) →
             IsServed tokens.now start repository.old.content input (R.remaining reader.old) before (W.contents writer.old) self.old →
-            IsWholeRun tokens.now start repository.new.content input before (W.contents writer.new) }
+            IsWholeRun tokens.now start repository.new.content input before (W.contents writer.new)) }
     {
         match self.phase {
             Phase::Turns => {
@@ -252,19 +311,35 @@ impl Connection {
                 Ok(Stepped::Turned)
             }
             Phase::Wants => match self.read(workspace, reader) {
-                Ok(0) => Ok(Stepped::Ended),
-                Ok(count) => Ok(Stepped::Read(count)),
+                Ok(count) => Ok(if count == 0 {
+                    Stepped::Ended
+                } else {
+                    Stepped::Read(count)
+                }),
                 Err(DeviceFault) => Err(StreamFault::Read),
             },
-            Phase::Sends(_) | Phase::Refuses => {
-                if self.outbox.is_empty() {
-                    return Ok(Stepped::Over);
-                }
-                match self.send(writer) {
-                    Ok(()) => Ok(Stepped::Sent),
-                    Err(DeviceFault) => Err(StreamFault::Write),
-                }
-            }
+            Phase::Sends(_) | Phase::Refuses => self.send_on(writer),
         }
+    }
+
+    /// One step of a connection that sends.
+    fn send_on<W: Sink>(&mut self, writer: &mut W) -> Result<Stepped, StreamFault>
+        ensures served { (tokens : List (List ℕ)) (start now : Plain) (input known before : Option (List ℕ)) →
+            IsServed tokens start now input known before (W.contents writer.old) self.old →
+            IsServed tokens start now input known before (W.contents writer.new) self.new }
+        ensures over { IfOk result (λ stepped. stepped ≡ Stepped.Over → IsLast self.new.phase × (owed_in self.new.outbox ≡ [])) }
+        ensures ended { IfOk result (λ stepped. stepped ≢ Stepped.Ended) }
+    {
+        if self.owes() {
+            return match self.send(writer) {
+                Ok(()) => Ok(Stepped::Sent),
+                Err(DeviceFault) => Err(StreamFault::Write),
+            };
+        }
+        if self.is_last() {
+            return Ok(Stepped::Over);
+        }
+        self.settle();
+        Ok(Stepped::Sent)
     }
 }

@@ -39,7 +39,7 @@ pub struct Inbox {
 }
 
 impl Model for Inbox {
-    ghost use Rattle.std.specs.Prelude.{◌≤◌, ◌×◌};
+    ghost use Rattle.std.specs.Prelude.{◌≤◌};
     ghost use Rattle.std.specs.Vec.{vec_capacity};
     ghost use Rattle.rp_http.specs.Inboxes.{State, state_of, IsSound};
 
@@ -76,7 +76,7 @@ fn remove_front(held: &mut Vec<u8>, count: usize)
 fn append(held: &mut Vec<u8>, bytes: &[u8])
     requires { vec_len held.old + length bytes.now ≤ vec_capacity held.old }
     ensures items { held.new.items ≡ held.old.items ++ bytes.now }
-    ensures capacity { vec_capacity held.new ≡ vec_capacity held.old }
+    ensures capacity { vec_capacity held.old ≤ vec_capacity held.new }
 {
     let Ok(()) = held.extend_from_slice(bytes) else {
         unreachable!()

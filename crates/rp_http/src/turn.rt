@@ -1,16 +1,18 @@
 //! One turn of a connection: the first message of what came.
-ghost use Rattle.std.specs.Prelude.{◌≡◌, ◌≤◌, ◌<◌, ℕ, List, length, IsErrOf, IfOk, OnOk, IfErr, OnErr};
+ghost use Rattle.std.specs.Prelude.{◌≡◌, ◌≤◌, ◌<◌, ℕ, List, length, Err, IsErrOf, IfOk, OnOk, IfErr, OnErr};
 ghost use Rattle.http_messages.specs.Next.{Call};
 ghost use Rattle.rp_core.specs.Held.{turn, made};
 ghost use Rattle.rp_messages.specs.Answers.{Barely, Told, answer_bytes, answer_of_reply};
 ghost use Rattle.rp_messages.specs.Meaning.{meant_by};
 ghost use Rattle.rp_messages.specs.Routing.{Routed, Asks};
+ghost use Rattle.rp_plain.specs.Plain.{Plain};
 ghost use Rattle.rp_plain.specs.Turns.{effect};
 ghost use Rattle.rp_plain.specs.declared.messages.Refusal.TheVariants as refusals;
 ghost use Rattle.rp_plain.specs.declared.messages.Reply.TheVariants as replies;
 ghost use Rattle.rp_repo.specs.Ready.{IsReady};
+ghost use Rattle.rp_http.specs.Bytes.{text_in};
 ghost use Rattle.rp_http.specs.Inboxes.{IsLooked, Holds};
-ghost use Rattle.rp_http.specs.Turns.{text_in, Answers, IsTurn, IsLess, IsRouted};
+ghost use Rattle.rp_http.specs.Turns.{Answers, IsTurn, IsLess, Leaves, IsRouted, IsToldOr, dropped_text};
 
 use crate::answers::{AnswerBytes, answer_bytes};
 use crate::inbox::{Dropped, Inbox, Ready};
@@ -18,32 +20,15 @@ use http_messages::{Fault, Next, Scratch, next_message};
 use http_routes::{Tokens, bare_answer, no_memory_answer};
 use rp_core::Pending;
 use rp_messages::{Asked, Unrouted, route, route_head};
-use rp_plain::messages::{Refusal, Reply as RepositoryReply, Request};
+use rp_plain::messages::{Refusal, Reply, Request};
 use rp_repo::Repository;
 use std::alloc::{AllocError, Global};
-
-/// The bytes of a reply.
-#[derive(Drop)]
-pub enum Reply {
-    Made(AnswerBytes),
-    Fixed(&'static [u8]),
-}
-
-impl Reply {
-    /// Lets go of the bytes.
-    pub(crate) fn release(self) {
-        match self {
-            Reply::Made(bytes) => bytes.release(),
-            Reply::Fixed(_) => {}
-        }
-    }
-}
 
 /// What a turn came to.
 #[derive(Drop)]
 pub enum Turn {
     /// A message was answered, and the connection goes on or doesn't.
-    Answered(Reply, bool),
+    Answered(AnswerBytes, bool),
     /// No message can come.
     Refused(Fault),
     /// More bytes have to come.
@@ -60,6 +45,7 @@ pub fn take_turn(
 ) -> Turn
     requires { length tokens.now ≤ length repository.old.content.partners }
     ensures turn { (came : List ℕ) → Holds tokens.now came inbox.old → IsTurn tokens.now came inbox.new repository.old.content repository.new.content result }
+    ensures run { Leaves tokens.now repository.old.content repository.new.content }
     ensures less { IsLess inbox.old inbox.new result }
 {
     match inbox.ready() {
@@ -67,7 +53,7 @@ pub fn take_turn(
         Ready::Waits => Turn::Wants,
         Ready::Skipped(stays, why) => {
             inbox.clear();
-            Turn::Answered(Reply::Fixed(dropped_answer(why)), stays)
+            Turn::Answered(AnswerBytes::Fixed(dropped_answer(why)), stays)
         }
     }
 }
@@ -92,6 +78,7 @@ fn look(
     requires few { length tokens.now ≤ length repository.old.content.partners }
     requires looked { IsLooked inbox.old }
     ensures turn { (came : List ℕ) → Holds tokens.now came inbox.old → IsTurn tokens.now came inbox.new repository.old.content repository.new.content result }
+    ensures run { Leaves tokens.now repository.old.content repository.new.content }
     ensures less { IsLess inbox.old inbox.new result }
 {
     match next_message(inbox.shown(), scratch) {
@@ -115,7 +102,11 @@ fn look(
 }
 
 /// Answers what a message asks for.
-fn answer(alloc: Global, repository: &mut Repository<'_>, asked: Result<Asked, Unrouted>) -> Reply
+fn answer(
+    alloc: Global,
+    repository: &mut Repository<'_>,
+    asked: Result<Asked, Unrouted>,
+) -> AnswerBytes
     requires { IfOk asked (λ found. found.partner < length repository.old.content.partners) }
     ensures { (routed : Routed) → IsRouted routed asked → Answers repository.old.content repository.new.content (meant_by repository.old.content routed) (text_in result) }
 {
@@ -124,19 +115,28 @@ fn answer(alloc: Global, repository: &mut Repository<'_>, asked: Result<Asked, U
             let Asked { partner, request } = asked;
             answer_turn(alloc, repository, partner, request)
         }
-        Err(Unrouted::Head(bare)) => Reply::Fixed(bare_answer(bare)),
-        Err(Unrouted::BadRequest) => refused(alloc),
-        Err(Unrouted::NoMemory) => Reply::Fixed(no_memory_answer()),
+        Err(why) => answer_unrouted(alloc, why),
+    }
+}
+
+/// Answers a message that asks for nothing.
+fn answer_unrouted(alloc: Global, why: Unrouted) -> AnswerBytes
+    ensures { (r : Plain) (routed : Routed) → IsRouted routed (Err why) → Answers r r (meant_by r routed) (text_in result) }
+{
+    match why {
+        Unrouted::Head(bare) => AnswerBytes::Fixed(bare_answer(bare)),
+        Unrouted::BadRequest => refused(alloc),
+        Unrouted::NoMemory => AnswerBytes::Fixed(no_memory_answer()),
     }
 }
 
 /// The answer to a body that is no request.
-fn refused(alloc: Global) -> Reply
+fn refused(alloc: Global) -> AnswerBytes
     ensures { IsToldOr (replies.Refused refusals.BadRequest) (text_in result) }
 {
-    match answer_bytes(alloc, &RepositoryReply::Refused(Refusal::BadRequest)) {
-        Ok(bytes) => Reply::Made(bytes),
-        Err(AllocError) => Reply::Fixed(no_memory_answer()),
+    match answer_bytes(alloc, &Reply::Refused(Refusal::BadRequest)) {
+        Ok(bytes) => bytes,
+        Err(AllocError) => AnswerBytes::Fixed(no_memory_answer()),
     }
 }
 
@@ -146,15 +146,15 @@ fn answer_turn(
     repository: &mut Repository<'_>,
     partner: usize,
     request: Request,
-) -> Reply
+) -> AnswerBytes
     requires { partner < length repository.old.content.partners }
     ensures { let old = repository.old.content in Answers old repository.new.content (meant_by old (Asks partner request)) (text_in result) }
 {
     let caller = repository.caller_at(partner);
     let pending = repository.prepare(alloc, caller, request);
     match answer_prepared(alloc, repository, pending) {
-        Ok(bytes) => Reply::Made(bytes),
-        Err(AllocError) => Reply::Fixed(no_memory_answer()),
+        Ok(bytes) => bytes,
+        Err(AllocError) => AnswerBytes::Fixed(no_memory_answer()),
     }
 }
 
@@ -165,7 +165,7 @@ fn answer_prepared(
     pending: Pending,
 ) -> Result<AnswerBytes, AllocError>
     requires { IsReady repository.old pending }
-    ensures made { IfOk result (λ bytes. bytes ≡ answer_of_reply pending.reply) }
+    ensures made { IfOk result (λ bytes. text_in bytes ≡ answer_of_reply pending.reply) }
     ensures changed { OnOk result (repository.new.content ≡ made pending.steps repository.old) }
     ensures refused { OnErr result (repository.new.content ≡ repository.old.content) }
 {

@@ -5,33 +5,13 @@ use Rattle.rp_rows.specs.Rows.{Text}
 use Rattle.rp_plain.specs.declared.messages.Request.{Request}
 use Rattle.rp_plain.specs.declared.messages.Reply.{Reply}
 use Rattle.rp_plain.specs.Plain.{Plain}
-use Rattle.rp_plain.specs.Edits.{Edit, EditModel, EditGroup, edited_by, changed}
-use Rattle.rp_plain.specs.Readers.{asked}
-use Rattle.rp_plain.specs.Step.{answer, next}
 use Rattle.rp_plain.specs.Turns.{Turn, Run}
 use Rattle.rp_laws.specs.Laws.{TwoRuns}
 use Rattle.rp_messages.specs.Routing.{Routed, Asks, Unreadable, Unasked, routed}
 use Rattle.rp_messages.specs.Answers.{Answer, Told, Barely, answer_of_reply}
 use Rattle.rp_messages.specs.Meaning.{Effect, meant_by, is_no_memory_answer, MayAnswer, left_by}
+use Rattle.rp_messages.proofs.Partners.{message_partners}
 use Rattle.rp_messages.specs.Laws.{turn_in, with_turn, with_reply, turns_of, replies_of, MessagesAreTurns, TwoConnections}
-
--- ---- the partners stay
-
-changed_partners : (es : List Edit) (r : Plain) → (changed es r).partners ≡ r.partners
-changed_partners [] r = refl
-changed_partners (EditModel k a ∷ es) r = changed_partners es (edited_by (EditModel k a) r)
-changed_partners (EditGroup k a ∷ es) r = changed_partners es (edited_by (EditGroup k a) r)
-
-next_partners : (r : Plain) (c : Text) (q : Request) → (next r c q).partners ≡ r.partners
-next_partners r c q = changed_partners (answer (asked r c) c q).edits r
-
-meant_partners : (r : Plain) (asked : Routed) → (meant_by r asked).next.partners ≡ r.partners
-meant_partners r (Asks place q) = next_partners r (slice_index_or r.partners place []) q
-meant_partners r Unreadable = refl
-meant_partners r (Unasked bare) = refl
-
-left_partners : (r : Plain) (e : Effect) (told : Answer) → e.next.partners ≡ r.partners → (left_by r e told).partners ≡ r.partners
-left_partners r e told same = elim (is_no_memory_answer told) as (λ b. (if b then r else e.next).partners ≡ r.partners) [ true ↦ refl | false ↦ same ]
 
 -- ---- one message
 
@@ -62,7 +42,7 @@ messages_are_turns tokens r end (c ∷ cs) [] run = absurd run
 messages_are_turns tokens r end (c ∷ cs) (told ∷ answers) run =
     let asked = routed tokens c in
     let next = left_by r (meant_by r asked) told in
-    let stays : next.partners ≡ r.partners = left_partners r (meant_by r asked) told (meant_partners r asked) in
+    let stays : next.partners ≡ r.partners = message_partners tokens r c told in
     let later : Run next (turns_of tokens r.partners cs) (replies_of tokens r.partners cs answers) end =
     subst (λ ps. Run next (turns_of tokens ps cs) (replies_of tokens ps cs answers) end) stays (messages_are_turns tokens next end cs answers run.1) in
     one_turn r end asked told (turns_of tokens r.partners cs) (replies_of tokens r.partners cs answers) run.0 later

@@ -1,0 +1,27 @@
+use Rattle.std.proofs.Common.{refl, sym, subst, arith}
+use Rattle.rp_http.specs.Bytes.{owed_in}
+use Rattle.rp_http.proofs.Serving.{read_nothing, read_on, as_short, ended_run, Keeps-none, consumes_none}
+use Rattle.rp_http.proofs.connection.Connection.read.Goals as goal
+
+pub returns-in_err-count-clause-served : goal.returns-in_err-count-clause-served
+returns-in_err-count-clause-served g c = λ tokens start now input before after is.
+    let s = c.args.self.now in
+    read_nothing tokens start now input _ _ before after s.inbox (owed_in s.outbox) s.phase c.requires (Keeps-none _ _ c.in_err-count.ensures.keeps) is
+
+pub returns-then-count-gt0-clause-served : goal.returns-then-count-gt0-clause-served
+returns-then-count-gt0-clause-served g c = λ tokens start now input before after is.
+    let s = c.args.self.now in
+    let short = as_short tokens start now input _ before after s.inbox (owed_in s.outbox) s.phase c.requires is in
+    read_on tokens start now input _ _ before after s.inbox c.receive.new.self (owed_in s.outbox) _ short.idle c.in_ok-count.ensures.bytes (c.receive.ensures.holds tokens short.idle.came short.idle.holds)
+
+pub returns-else-count-gt0-clause-served : goal.returns-else-count-gt0-clause-served
+returns-else-count-gt0-clause-served g c = λ tokens start now input before after is.
+    let s = c.args.self.now in
+    read_nothing tokens start now input _ _ before after s.inbox (owed_in s.outbox) s.phase c.requires (consumes_none _ _ _ c.in_ok-count.count (omega (arith, c.if-count-gt0.false)) c.in_ok-count.ensures.bytes) is
+
+pub returns-else-count-gt0-clause-ended : goal.returns-else-count-gt0-clause-ended
+returns-else-count-gt0-clause-ended g c = λ none tokens start now input before after is.
+    let s = c.args.self.now in
+    let short = as_short tokens start now input _ before after s.inbox (owed_in s.outbox) s.phase c.requires is in
+    ended_run tokens start now input _ _ before after s.inbox (owed_in s.outbox) short (consumes_none _ _ _ c.in_ok-count.count none c.in_ok-count.ensures.bytes)
+    (c.in_ok-count.ensures.end none (omega (arith, short.room, c.room.ensures, c.min-room.ensures)))

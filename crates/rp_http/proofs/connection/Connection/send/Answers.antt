@@ -1,0 +1,27 @@
+use Rattle.std.proofs.Common.{◌<◌, ℕ, List, Option, length}
+use Rattle.rp_plain.specs.Plain.{Plain}
+use Rattle.rp_http.specs.Runs.{IsCutRun}
+use Rattle.rp_http.specs.Serving.{IsServed}
+use Rattle.rp_http.specs.Bytes.{owed_in}
+use Rattle.rp_http.proofs.Serving.{write_failed, wrote_first, cut_run, on_err}
+use Rattle.rp_http.proofs.connection.Connection.send.Goals as goal
+
+pub returns-in_err-count-clause-served : goal.returns-in_err-count-clause-served
+returns-in_err-count-clause-served g c = λ tokens start now input known before is.
+    let s = c.args.self.now in
+    write_failed tokens start now input known before _ _ s.inbox (owed_in s.outbox) s.phase c.in_err-count.ensures.bytes is
+
+pub returns-clause-served : goal.returns-clause-served
+returns-clause-served g c = λ tokens start now input known before is.
+    let s = c.args.self.now in
+    c.settle.ensures.served tokens start now input known before _
+    (wrote_first tokens start now input known before _ _ s.inbox s.outbox.first s.outbox.rest _ c.in_ok-count.count s.phase (rw c.next.ensures.first at c.in_ok-count.ensures.bound) (rw c.next.ensures.first at c.in_ok-count.ensures.bytes) c.advance.ensures is)
+
+pub returns-in_err-count-clause-cut : goal.returns-in_err-count-clause-cut
+returns-in_err-count-clause-cut g c =
+    let s = c.args.self.now in
+    let cut : 0 < length s.outbox.first → (tokens : List (List ℕ)) (start now : Plain) (input known before : Option (List ℕ)) → IsServed tokens start now input known before (g.W.Sink.contents c.args.writer.now) s
+    → IsCutRun tokens start now input before (g.W.Sink.contents c.write.new.self) = λ some tokens start now input known before is.
+    cut_run tokens start now input known before _ s.inbox s.outbox.first s.outbox.rest s.phase some
+    (write_failed tokens start now input known before _ _ s.inbox (owed_in s.outbox) s.phase c.in_err-count.ensures.bytes is) in
+    on_err c.from_residual.result _ cut
