@@ -6,7 +6,7 @@ of what its caller doesn't see.
     .ci/check_memory.py --self-test    and then plants such places into copies of sources, each of which has to be found
 
 What is read of growth stands in growth.py. Want of memory has the words NoMemory, NoRoom, AllocError, AllocFailed and
-OutOfMemory, `no_memory_line`, and strings that say 'NoMemory' or 'out of memory', their escapes read, also where they stand in
+OutOfMemory, `no_memory_line`, `no_memory_answer`, and strings that say 'NoMemory' or 'out of memory', their escapes read, also where they stand in
 pieces side by side. Such a word may stand
 
     in a type       AllocError and AllocFailed: in the head of a function; and as an argument, as in Result<T, AllocError>, in
@@ -39,7 +39,7 @@ import growth
 from sources import Fault, Listed, Token, Unreadable, code_of, flat, missed, parted, place_of, planted, sources, spelled, without_listed
 
 ERRORS = {"AllocError", "AllocFailed"}
-WORDS = {"NoMemory", "NoRoom", "OutOfMemory", "no_memory_line", *ERRORS}
+WORDS = {"NoMemory", "NoRoom", "OutOfMemory", "no_memory_line", "no_memory_answer", *ERRORS}
 SAYS_MEMORY = re.compile(r"NoMemory|out of memory", re.IGNORECASE)
 
 LISTED = [
@@ -52,6 +52,19 @@ LISTED = [
            "AllocError is the one error of line_of"),
     Listed("crates/rp_replies/src/replies.rt", "no_memory_line", r'b"{\"refused\":{\"code\":18,\"name\":\"NoMemory\"}}\n"',
            "the reply's bytes, which are had by a word"),
+    Listed("crates/http_routes/src/answers.rt", "no_memory_answer",
+           r'b"HTTP/1.1 503 Service Unavailable\r\nContent-Type: application/json\r\nContent-Length: 41\r\n\r\n{\"refused\":{\"code\":18,\"name\":\"NoMemory\"}}"',
+           "the answer's bytes, which are had by a word"),
+    Listed("crates/rp_http/src/answers.rt", "refusal_status", "Refusal::NoMemory => StatusCode::SERVICE_UNAVAILABLE",
+           "the status of a refusal that is told"),
+    Listed("crates/rp_http/src/inbox.rt", "receive", "self.drop_body(left, stays, Dropped::NoMemory);",
+           "behind the one error of Vec::extend_from_slice, which is AllocError"),
+    Listed("crates/rp_http/src/serve.rt", "serve_connection",
+           "let Ok(mut workspace) = Workspace::new(alloc) else { return Err(ServeFault::NoMemory); };",
+           "AllocError is the one error of Workspace::new"),
+    Listed("crates/rp_http/src/serve.rt", "serve_connection",
+           "let Ok(mut connection) = Connection::new(alloc) else { return Err(ServeFault::NoMemory); };",
+           "AllocError is the one error of Connection::new"),
 ]
 
 

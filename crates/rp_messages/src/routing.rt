@@ -106,7 +106,7 @@ fn names(alloc: Global, item: &Item<'_>) -> Result<Request, Unread>
 {
     match key_at(alloc, item) {
         Ok(model) => Ok(Request::Names { model }),
-        Err(_) => Err(Unread::NoMemory),
+        Err(AllocError) => Err(Unread::NoMemory),
     }
 }
 
@@ -116,7 +116,7 @@ fn export(alloc: Global, item: &Item<'_>) -> Result<Request, Unread>
 {
     match key_at(alloc, item) {
         Ok(model) => Ok(Request::Export { model, links: true }),
-        Err(_) => Err(Unread::NoMemory),
+        Err(AllocError) => Err(Unread::NoMemory),
     }
 }
 
@@ -126,7 +126,7 @@ fn members(alloc: Global, item: &Item<'_>) -> Result<Request, Unread>
 {
     match key_at(alloc, item) {
         Ok(group) => Ok(Request::Members { group }),
-        Err(_) => Err(Unread::NoMemory),
+        Err(AllocError) => Err(Unread::NoMemory),
     }
 }
 
