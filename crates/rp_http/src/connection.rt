@@ -242,6 +242,7 @@ impl Connection {
             IsServed tokens.now start repository.old.content input (R.remaining reader.old) before (W.contents writer.old) self.old →
             IsServed tokens.now start repository.new.content input (R.remaining reader.new) before (W.contents writer.new) self.new }
         ensures run { Leaves tokens.now repository.old.content repository.new.content }
+        ensures partners { repository.new.content.partners ≡ repository.old.content.partners }
         ensures whole { IsOkOf result Stepped.Over ⊎ IsOkOf result Stepped.Ended → (start : Plain) (input before : Option (List ℕ)) →
             IsServed tokens.now start repository.old.content input (R.remaining reader.old) before (W.contents writer.old) self.old →
             IsWholeRun tokens.now start repository.new.content input before (W.contents writer.new) }

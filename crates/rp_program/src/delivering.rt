@@ -9,7 +9,7 @@ ghost use Rattle.rp_program.specs.Validations.{IsValidated};
 use crate::ending::Done;
 use crate::fault::Fault;
 use crate::pages::Pages;
-use crate::running::lent;
+use crate::opening::lent;
 use ex_compiled::Compiled;
 use plain_data::{Failure, Text};
 use rp_delivery::{
