@@ -102,6 +102,7 @@ fn config_in(alloc: Global, value: &Value) -> Result<Config, ConfigFault>
 
 fn names_in(alloc: Global, partners: &[Value]) -> Result<Rows<Text>, ConfigFault>
     ensures ok { IfOk result (λ names. spec.each spec.name_of (items_view partners.now) ≡ Some names) }
+    ensures len { IfOk result (λ names. length names ≡ length partners.now) }
     ensures wrong { IsErrOf result ConfigFault.Wrong → spec.each spec.name_of (items_view partners.now) ≡ None }
 {
     let mut names = Rows::new(alloc);
@@ -127,6 +128,7 @@ fn name_in(partner: &Value) -> Option<&str>
 
 fn tokens_in(alloc: Global, partners: &[Value]) -> Result<Rows<Text>, ConfigFault>
     ensures ok { IfOk result (λ tokens. spec.each spec.token_of (items_view partners.now) ≡ Some tokens) }
+    ensures len { IfOk result (λ tokens. length tokens ≡ length partners.now) }
     ensures wrong { IsErrOf result ConfigFault.Wrong → spec.each spec.token_of (items_view partners.now) ≡ None }
 {
     let mut tokens = Rows::new(alloc);

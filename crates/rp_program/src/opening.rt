@@ -7,10 +7,10 @@ ghost use Rattle.rp_program.specs.Starts.{repository_with};
 
 use crate::fault::Fault;
 use http_routes::Tokens;
+use plain_data::{Failure, Rows, Text};
 use rp_config::{Shown, config_at};
 use rp_files::{Folder, LoadFault};
 use rp_repo::{Compiled, LoadedSchema, Repository};
-use plain_data::{Failure, Rows, Text};
 use std::alloc::{AllocError, Global};
 
 /// The schemas, with what is found in them once. This isn't let go of, since the process is to end with what it is lent to.

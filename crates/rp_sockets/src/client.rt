@@ -86,6 +86,7 @@ impl Client {
     }
 
     /// Goes on until its socket would have it wait, or it had enough for now.
+    #[tactic(auto, using(crate::proofs::Running::leaves_more, crate::proofs::Running::leaves_none))]
     pub(crate) fn go(
         &mut self,
         alloc: Global,
@@ -108,6 +109,7 @@ impl Client {
     }
 
     /// One step of it.
+    #[tactic(auto, using(crate::proofs::Running::leaves_more, crate::proofs::Running::leaves_none))]
     fn step(
         &mut self,
         alloc: Global,

@@ -1,5 +1,8 @@
 //! How long a connection may take. The times are of a clock that stands still while the program works, so that nobody is ended
 //! for what another one asks.
+ghost use Rattle.std.specs.Prelude.{◌≡◌, ◌≢◌};
+ghost use Rattle.rp_sockets.specs.Deadlines as spec;
+
 use std::time::Duration;
 
 /// How many seconds a head may take from its first byte on.
@@ -49,7 +52,9 @@ pub struct Times {
 
 impl Times {
     /// Those of a connection that was opened now.
-    pub fn opened(now: Duration) -> Times {
+    pub fn opened(now: Duration) -> Times
+        ensures { result ≡ record { awaited = Awaited.Nothing; since = now; moved = now; came = 0 } }
+    {
         Times {
             awaited: Awaited::Nothing,
             since: now,
@@ -59,7 +64,10 @@ impl Times {
     }
 
     /// The same after so many bytes came.
-    pub fn read(self, count: usize, now: Duration) -> Times {
+    pub fn read(self, count: usize, now: Duration) -> Times
+        ensures moved { result.moved ≡ now }
+        ensures rest { (result.awaited ≡ self.awaited) × (result.since ≡ self.since) }
+    {
         Times {
             moved: now,
             came: self.came.saturating_add(count as u64),
@@ -68,12 +76,19 @@ impl Times {
     }
 
     /// The same after bytes went.
-    pub fn sent(self, now: Duration) -> Times {
+    pub fn sent(self, now: Duration) -> Times
+        ensures { result ≡ record self { moved = now } }
+    {
         Times { moved: now, ..self }
     }
 
     /// The same where this is waited for now.
-    pub fn with(self, awaited: Awaited, now: Duration) -> Times {
+    pub fn with(self, awaited: Awaited, now: Duration) -> Times
+        ensures awaited { result.awaited ≡ awaited }
+        ensures same { awaited ≡ self.awaited → result ≡ self }
+        ensures since { awaited ≢ self.awaited → result.since ≡ now }
+        ensures moved { result.moved ≡ self.moved }
+    {
         if awaited == self.awaited {
             return self;
         }
@@ -96,16 +111,29 @@ impl Times {
     }
 
     /// Whether the connection took too long.
-    pub fn is_late(&self, now: Duration) -> bool {
-        if self.quiet(now).as_secs() >= QUIET {
-            return true;
-        }
-        let passed = now.saturating_sub(self.since).as_secs();
-        match self.awaited {
-            Awaited::Nothing | Awaited::Reply => false,
-            Awaited::Head => passed >= HEAD,
-            Awaited::Body => passed >= SLOW_BODY && self.came / BODY_RATE < passed,
-            Awaited::Close => passed >= CLOSING,
-        }
+    pub fn is_late(&self, now: Duration) -> bool
+        ensures { result ≡ spec.is_late self.now now }
+    {
+        seconds(self.moved, now) >= QUIET
+            || is_too_long(self.awaited, seconds(self.since, now), self.came)
+    }
+}
+
+/// The whole seconds from one time to another.
+fn seconds(from: Duration, to: Duration) -> u64
+    ensures { result ≡ spec.seconds from to }
+{
+    to.saturating_sub(from).as_secs()
+}
+
+/// Whether so many seconds are too long for what is awaited, while so many bytes came.
+fn is_too_long(awaited: Awaited, passed: u64, came: u64) -> bool
+    ensures { result ≡ spec.is_too_long awaited passed came }
+{
+    match awaited {
+        Awaited::Nothing | Awaited::Reply => false,
+        Awaited::Head => passed >= HEAD,
+        Awaited::Body => passed >= SLOW_BODY && came / BODY_RATE < passed,
+        Awaited::Close => passed >= CLOSING,
     }
 }

@@ -29,11 +29,7 @@ pub(crate) fn watch(registry: &Registry, token: Token, wanted: bool) -> Watch {
     if !wanted {
         return Watch::Off;
     }
-    match registry.register(
-        &mut SourceFd(&STANDARD_INPUT),
-        token,
-        Interest::READABLE,
-    ) {
+    match registry.register(&mut SourceFd(&STANDARD_INPUT), token, Interest::READABLE) {
         Ok(()) => Watch::Waits,
         Err(_) => Watch::Ready,
     }
@@ -41,11 +37,7 @@ pub(crate) fn watch(registry: &Registry, token: Token, wanted: bool) -> Watch {
 
 /// Has the poll tell again.
 fn watch_again(registry: &Registry, token: Token) -> Watch {
-    match registry.reregister(
-        &mut SourceFd(&STANDARD_INPUT),
-        token,
-        Interest::READABLE,
-    ) {
+    match registry.reregister(&mut SourceFd(&STANDARD_INPUT), token, Interest::READABLE) {
         Ok(()) => Watch::Waits,
         Err(_) => Watch::Ready,
     }

@@ -98,6 +98,7 @@ impl Serving {
     }
 
     /// Has a connection go on as far as it can.
+    #[tactic(auto, using(crate::proofs::Running::leaves_more, crate::proofs::Running::leaves_none))]
     fn drive(
         &mut self,
         alloc: Global,
@@ -139,6 +140,7 @@ impl Serving {
     }
 
     /// Has all go on that are ready.
+    #[tactic(auto, using(crate::proofs::Running::leaves_more, crate::proofs::Running::leaves_none))]
     fn serve_ready(
         &mut self,
         alloc: Global,
@@ -229,10 +231,7 @@ impl Serving {
         if let Some(connection) = self.connection(alloc) {
             let key = self.clients.vacant_key();
             let mut client = Client::new(stream, connection, self.now);
-            if client
-                .register(self.poll.registry(), Token(key))
-                .is_ok()
-            {
+            if client.register(self.poll.registry(), Token(key)).is_ok() {
                 let _ = self.clients.insert(client);
             }
         }
@@ -296,6 +295,7 @@ impl Serving {
     }
 
     /// Ends the connections that took too long, if it is time to look. What has come of each is read before.
+    #[tactic(auto, using(crate::proofs::Running::leaves_more, crate::proofs::Running::leaves_none))]
     fn sweep(
         &mut self,
         alloc: Global,
@@ -327,6 +327,7 @@ impl Serving {
     }
 
     /// Where standard input has ended: takes no more connections, and has all others answer what has come.
+    #[tactic(auto, using(crate::proofs::Running::leaves_more, crate::proofs::Running::leaves_none))]
     fn finish(
         &mut self,
         alloc: Global,
@@ -356,6 +357,7 @@ impl Serving {
     }
 
     /// What is done after each wait.
+    #[tactic(auto, using(crate::proofs::Running::leaves_more, crate::proofs::Running::leaves_none))]
     fn serve_once<R: Input>(
         &mut self,
         rt: &R,
@@ -381,6 +383,7 @@ impl Serving {
 impl Listening {
     /// Serves the connections of the address until that ends. What messages of the partners with these tokens lead to is all that
     /// happens to the repository, however it ends.
+    #[tactic(auto, using(crate::proofs::Running::leaves_more, crate::proofs::Running::leaves_none))]
     pub fn serve<R: Clock + Input>(
         self,
         rt: &R,
