@@ -61,6 +61,8 @@ pub const SERVE_ABOUT: &str =
     "Answers the same requests over HTTP, from any number of partners at a time.";
 
 pub const SERVE_AFTER: &str = "\
+As in
+
   rp_server serve --config config.json --listen 127.0.0.1:8080
   curl -H 'Authorization: Bearer ta' http://127.0.0.1:8080/v1/items
 

@@ -1,5 +1,5 @@
 -- Connections that are served from a repository as it is opened.
-use Rattle.std.specs.Prelude.{◌≡◌, ℕ, List, Option, Some, None, Ok, ⊤}
+use Rattle.std.specs.Prelude.{◌≡◌, ℕ, List, Option, Ok, IfSome}
 use Rattle.rp_config.specs.Loading.{loaded_at}
 use Rattle.rp_config.specs.declared.loading.Loaded.{Loaded}
 use Rattle.rp_files.specs.Files.{Held}
@@ -16,11 +16,7 @@ pub record Serves (loaded : Loaded) : Type 0 where
   pub run : Leaves loaded.tokens start end
   pub valid : IsValid end
 
--- it was loaded from the folder, where its files are known
-abbrev pub IsLoaded : Option Held → List ℕ → Loaded → Type 0
-IsLoaded None path loaded = ⊤
-IsLoaded (Some held) path loaded = loaded_at held path ≡ Ok loaded
-
--- the same from the repository that the configuration at a path opens
+-- the same from the repository that the configuration at a path opens, where the folder's files are known, and else from that of some
+-- schemas and partners
 abbrev pub ServesFrom : Option Held → List ℕ → Type 0
-ServesFrom files path = (loaded : Loaded) × IsLoaded files path loaded × Serves loaded
+ServesFrom files path = (loaded : Loaded) × IfSome files (λ held. loaded_at held path ≡ Ok loaded) × Serves loaded

@@ -22,7 +22,7 @@ const NO_ROOM: [i32; 4] = [12, 23, 24, 105];
 const OF_NETWORK: [i32; 8] = [64, 71, 92, 95, 100, 101, 112, 113];
 
 /// What this error of an accept means.
-pub(crate) fn missed(error: &Error) -> Missed {
+pub(crate) fn meaning_of(error: &Error) -> Missed {
     match error.kind() {
         ErrorKind::WouldBlock => Missed::NoneWaits,
         ErrorKind::Interrupted | ErrorKind::ConnectionAborted => Missed::Lost,

@@ -25,7 +25,7 @@ pub(crate) enum Watch {
 
 /// Has the poll tell of standard input under this token, if its end is asked for. A file can always be read, and the system watches
 /// none.
-pub(crate) fn watch(registry: &Registry, token: Token, wanted: bool) -> Watch {
+pub(crate) fn watched(registry: &Registry, token: Token, wanted: bool) -> Watch {
     if !wanted {
         return Watch::Off;
     }
@@ -36,7 +36,7 @@ pub(crate) fn watch(registry: &Registry, token: Token, wanted: bool) -> Watch {
 }
 
 /// Has the poll tell again.
-fn watch_again(registry: &Registry, token: Token) -> Watch {
+fn watched_again(registry: &Registry, token: Token) -> Watch {
     match registry.reregister(&mut SourceFd(&STANDARD_INPUT), token, Interest::READABLE) {
         Ok(()) => Watch::Waits,
         Err(_) => Watch::Ready,
@@ -48,9 +48,9 @@ pub(crate) fn read_on<R: Input>(rt: &R, registry: &Registry, token: Token) -> io
     let mut dropped = [0; DROPPED];
     match rt.reader().read(&mut dropped) {
         Ok(0) => Ok(Watch::Ended),
-        Ok(_) => Ok(watch_again(registry, token)),
+        Ok(_) => Ok(watched_again(registry, token)),
         Err(error) => match error.kind() {
-            ErrorKind::WouldBlock | ErrorKind::Interrupted => Ok(watch_again(registry, token)),
+            ErrorKind::WouldBlock | ErrorKind::Interrupted => Ok(watched_again(registry, token)),
             _ => Err(error),
         },
     }

@@ -2,9 +2,9 @@
 ghost use Rattle.std.specs.Prelude.{◌≡◌, ◌≤◌, length};
 ghost use Rattle.rp_http.specs.Turns.{Leaves};
 
-use crate::arrivals::{Missed, missed};
+use crate::arrivals::{Missed, meaning_of};
 use crate::client::{Client, Fate};
-use crate::input::{Watch, read_on, watch};
+use crate::input::{Watch, read_on, watched};
 use crate::listening::{ARRIVALS, INPUT, Listening, ServeFault};
 use mio::net::{TcpListener, TcpStream};
 use mio::{Events, Poll, Token};
@@ -58,7 +58,7 @@ struct Serving {
 impl Serving {
     fn new(alloc: Global, listening: Listening, ends: Ends) -> Result<Serving, AllocError> {
         let clients = Slab::with_capacity(alloc, CLIENTS)?;
-        let input = watch(listening.poll.registry(), INPUT, ends.input);
+        let input = watched(listening.poll.registry(), INPUT, ends.input);
         let Listening { poll, listener, .. } = listening;
         Ok(Serving {
             poll,
@@ -210,7 +210,7 @@ impl Serving {
 
     /// An accept gave no connection.
     fn miss(&mut self, error: io::Error) -> Result<(), ServeFault> {
-        match missed(&error) {
+        match meaning_of(&error) {
             Missed::NoneWaits => {
                 self.arrivals = false;
                 Ok(())
