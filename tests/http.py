@@ -1046,6 +1046,7 @@ ask("GET", "/v1/models/ann/z")
 ask("GET", "/v1/schemas", headers={})
 ask("HEAD", "/v1/schemas")
 ask("GET", "/v1/items", headers={**ann, "Connection": "close"})
+it.close()
 ask("POST", "/v1/requests", b"{")
 """
 HTTP_CLIENT_SEES = """GET /v1/schemas 200 OK application/json {"ok":{"schemas":["T"]}}
@@ -1059,7 +1060,7 @@ POST /v1/requests 400 Bad Request application/json {"refused":{"code":1,"name":"
 
 
 def test_pythons_own_client():
-    """http.client asks on one connection, and on another where the first was closed."""
+    """http.client asks on one connection, and on another where it asked to close the first: the reply doesn't tell it so."""
     with serving() as server:
         done = subprocess.run([sys.executable, "-I", "-c", HTTP_CLIENT, str(server.address[1])], capture_output=True, text=True, timeout=60, check=False)
     if (done.returncode, done.stdout, done.stderr) != (0, HTTP_CLIENT_SEES, ""):
