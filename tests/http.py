@@ -972,7 +972,7 @@ def test_until_the_input_ends():
         server.process.stdin.close()
         server.process.stdin = None
         ended(server)
-    with serving("--until-input-ends", stdin=subprocess.PIPE) as server, Client(server) as client, Client(server) as silent, Client(server) as half:
+    with serving("--until-input-ends", stdin=subprocess.PIPE) as server, Client(server, room=4096) as client, Client(server) as silent, Client(server) as half:
         silent.ask(ASKED, SCHEMAS)
         half.send(ASKED[:20])
         client.ask(as_post(create("ann", "m")), DONE)
@@ -983,10 +983,17 @@ def test_until_the_input_ends():
         server.process.stdin = None
         client.expect(ok(linked(canonical("#1=P(1.,'" + "x" * (6 * MIB) + "');"))))
         client.expect(SCHEMAS)
-        for it in (client, silent, half):
-            it.socket.close()
+        client.expect_end()
         ended(server)
+        for it in (silent, half):
+            it.expect_end()
     with serving("--until-input-ends", stdin=subprocess.DEVNULL) as server:
+        ended(server)
+    with open(__file__, "rb") as text, serving("--until-input-ends", stdin=text) as server:
+        ended(server)
+    with serving("--until-input-ends", "--connections", "2", stdin=subprocess.PIPE) as server:
+        expect_whole(server, ASKED, SCHEMAS)
+        expect_whole(server, ASKED, SCHEMAS)
         ended(server)
     # (without the option nothing is read there)
     with serving(stdin=subprocess.PIPE) as server:
