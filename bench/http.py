@@ -181,8 +181,8 @@ def measure_loads(folder, server, seconds):
     compare(bodies["/v1/schemas"].encode(), b'{"ok":{"schemas":["AUTOMOTIVE_DESIGN"]}}')
     if len(json.loads(bodies["/v1/models/ann/names"])["ok"]["names"]) != 1000:
         sys.exit("bench: the model hasn't 1,000 names")
-    table = Table({"asked": "16", "connections": "12", "best": "10,.0f", "middle": "10,.0f", "ms, 99 %": "9.2f", "nginx": "10,.0f", "middle ": "10,.0f", "ms, 99 % ": "9.2f",
-                   "of nginx": "9.2f"})
+    table = Table({"asked": "16", "connections": "12", "best": "10,.0f", "middle": "10,.0f", "ms, 99 %": "9.2f", "nginx": "10,.0f",
+                   "middle ": "10,.0f", "ms, 99 % ": "9.2f", "of nginx": "9.2f"})
     with Nginx(folder, bodies) as nginx:
         for row in ROWS:
             compare(nginx.client.ask(row.message()), bodies[row.path].encode())
@@ -190,7 +190,8 @@ def measure_loads(folder, server, seconds):
         server.client.socket.close()
         for row in ROWS:
             for connections in CONNECTIONS:
-                runs = [(load(folder, server.port, row, connections, seconds), load(folder, nginx.port, row, connections, seconds)) for _ in range(RUNS)]
+                runs = [(load(folder, server.port, row, connections, seconds), load(folder, nginx.port, row, connections,
+                                                                                    seconds)) for _ in range(RUNS)]
                 own, other = zip(*runs)
                 table.row(row.title, connections, *told(own), *told(other), max(own).requests / max(other).requests)
     server.client = Client(server.port)
@@ -233,7 +234,8 @@ def measure_put(folder, file, wanted):
     line = request("put", owner="ann", model="m", file=file)
     runs = [(put_by_batch(folder, line, wanted), put_over_http(folder, line, wanted)) for _ in range(RUNS)]
     by_batch, over_http = zip(*runs)
-    table = Table({"put of bytes": "13,", "batch, s": "9.3f", "processor": "10.3f", "HTTP, s": "9.3f", "processor ": "10.3f", "HTTP/batch": "11.2f", "of processor": "13.2f"})
+    table = Table({"put of bytes": "13,", "batch, s": "9.3f", "processor": "10.3f", "HTTP, s": "9.3f", "processor ": "10.3f", "HTTP/batch": "11.2f",
+                   "of processor": "13.2f"})
     least = [min(getattr(it, key) for it in its) for its in (by_batch, over_http) for key in ("seconds", "processor")]
     table.row(len(file), *least, least[2] / least[0], least[3] / least[1])
 

@@ -10,7 +10,6 @@ import functools
 import json
 import random
 import resource
-import socket
 import sys
 import threading
 import time
@@ -81,7 +80,8 @@ def trickle(clients, stop):
 def break_off(server, stop, faults):
     """Connections that are reset, or end their side, at any time."""
     chance = random.Random(5)
-    texts = [b"", ASKED, ASKED[:20], ASKED * 30, post(b"x" * 100_000)[:50_000], get("/v1/models/ann/m/file"), b"GET  ", head("POST", "/v1/requests", "Content-Length: 16777216", token=None)]
+    texts = [b"", ASKED, ASKED[:20], ASKED * 30, post(b"x" * 100_000)[:50_000], get("/v1/models/ann/m/file"), b"GET  ",
+             head("POST", "/v1/requests", "Content-Length: 16777216", token=None)]
     while not stop.is_set():
         try:
             with Client(server) as client:
@@ -193,7 +193,8 @@ def send_half(server, make):
 def test_bodies_of_strangers():
     """400 who have no token, or ask for what isn't there, and send 8 of 16 MiB each, cost at most 64 MiB together. Each is told so at
     the end of his body."""
-    heads = [lambda: head("POST", "/v1/requests", "Content-Length: 16777216", token=None), lambda: head("POST", "/v1/requests", "Content-Length: 16777216", token="xx"),
+    heads = [lambda: head("POST", "/v1/requests", "Content-Length: 16777216", token=None), lambda: head("POST", "/v1/requests",
+                                                                                                        "Content-Length: 16777216", token="xx"),
              lambda: head("POST", "/v1/nothing", "Content-Length: 16777216"), lambda: head("PUT", "/v1/requests", "Content-Length: 16777216")]
     with serving() as server, ThreadPoolExecutor(8) as pool:
         seconds_of_a_request(server)
@@ -211,7 +212,8 @@ def test_bodies_of_strangers():
 
 def come_and_go(server, count):
     """So many connections, one after the other, of several kinds."""
-    kinds = [ASKED, ASKED * 3, b"GET  ", ASKED[:9], get("/v1/schemas", "Connection: close"), get("/v1/items", token=None), post(b"{" + b" " * 5_000), padded()]
+    kinds = [ASKED, ASKED * 3, b"GET  ", ASKED[:9], get("/v1/schemas", "Connection: close"), get("/v1/items", token=None), post(b"{" + b" " * 5_000),
+             padded()]
     for k in range(count):
         with Client(server) as client:
             data = kinds[k % len(kinds)]
@@ -320,7 +322,8 @@ def deadlines():
     """What has to end 30 s after it began, and what hasn't."""
     with serving() as server:
         begin = time.monotonic()
-        clients = {name: Client(server) for name in ("head", "slow head", "later head", "empty lines", "body", "slow body", "good body", "early body", "idle", "pipeline", "silent")}
+        clients = {name: Client(server) for name in ("head", "slow head", "later head", "empty lines", "body", "slow body", "good body", "early body",
+                                                     "idle", "pipeline", "silent")}
         large = head("POST", "/v1/requests", "Content-Length: 100000")
         clients["head"].send(ASKED[:-1])
         clients["later head"].ask(ASKED, SCHEMAS)
