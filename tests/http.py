@@ -881,7 +881,6 @@ def test_command_line_faults():
                 expect_whole_once(server)
                 if int(k) == 1:
                     server.expect_ended()
-                    server.process = subprocess.Popen(["sleep", "60"], stdout=subprocess.PIPE, stderr=subprocess.PIPE)
         with Server(config=ONE_SCHEMA, listen="127.0.0.1:00000") as server:
             expect_whole(server, ASKED, SCHEMAS)
 
@@ -960,17 +959,11 @@ def test_all_addresses():
         expect_whole(server, ASKED, SCHEMAS)
 
 
-def ended(server, *errors):
-    """A server that may end by itself: what has to hold of it at its end."""
-    server.expect_ended(0, b"".join(errors))
-    server.process = subprocess.Popen(["sleep", "60"], stdout=subprocess.PIPE, stderr=subprocess.PIPE)
-
-
 def test_so_many_connections():
     """It takes N connections and ends with status 0 when the last of them has ended, however they end."""
     with serving("--connections", "1") as server:
         expect_whole_once(server)
-        ended(server)
+        server.expect_ended()
     with serving("--connections", "4") as server:
         first, second, third = Client(server), Client(server), Client(server)
         first.ask(ASKED, SCHEMAS)
@@ -989,12 +982,12 @@ def test_so_many_connections():
                 raise Wrong("it ended before its last connection")
             fourth.ask(get("/v1/schemas", "Connection: close"), SCHEMAS)
             fourth.expect_end()
-        ended(server)
+        server.expect_ended()
     with serving("--connections=100") as server:
         for k in range(100):
             with Client(server) as client:
                 client.ask(get("/v1/schemas", *(["Connection: close"] if k % 2 else [])), SCHEMAS)
-        ended(server)
+        server.expect_ended()
     # (one more isn't served)
     with serving("--connections", "1") as server, Client(server) as client:
         client.ask(ASKED, SCHEMAS)
@@ -1008,7 +1001,7 @@ def test_so_many_connections():
                 raise
         client.ask(ASKED, SCHEMAS)
         client.socket.close()
-        ended(server)
+        server.expect_ended()
 
 
 def test_until_the_input_ends():
@@ -1019,7 +1012,7 @@ def test_until_the_input_ends():
         expect_whole(server, ASKED, SCHEMAS)
         server.process.stdin.close()
         server.process.stdin = None
-        ended(server)
+        server.expect_ended()
     with serving("--until-input-ends", stdin=subprocess.PIPE) as server, Client(server, room=4096) as client, \
             Client(server) as silent, Client(server) as half:
         silent.ask(ASKED, SCHEMAS)
@@ -1033,17 +1026,17 @@ def test_until_the_input_ends():
         client.expect(ok(linked(canonical("#1=P(1.,'" + "x" * (6 * MIB) + "');"))))
         client.expect(SCHEMAS)
         client.expect_end()
-        ended(server)
+        server.expect_ended()
         for it in (silent, half):
             it.expect_end()
     with serving("--until-input-ends", stdin=subprocess.DEVNULL) as server:
-        ended(server)
+        server.expect_ended()
     with open(__file__, "rb") as text, serving("--until-input-ends", stdin=text) as server:
-        ended(server)
+        server.expect_ended()
     with serving("--until-input-ends", "--connections", "2", stdin=subprocess.PIPE) as server:
         expect_whole(server, ASKED, SCHEMAS)
         expect_whole(server, ASKED, SCHEMAS)
-        ended(server)
+        server.expect_ended()
     # (without the option nothing is read there)
     with serving(stdin=subprocess.PIPE) as server:
         server.process.stdin.close()
@@ -1071,8 +1064,7 @@ def test_a_port_is_free_again():
             for it in threads:
                 it.start()
             time.sleep(0.3)
-            server.process.kill()
-            server.process.wait()
+            server.kill()
             try:
                 with Server(config=ONE_SCHEMA, listen="%s:%d" % server.address) as again:
                     expect_whole_once(again)
@@ -1081,7 +1073,6 @@ def test_a_port_is_free_again():
                         it.join()
             finally:
                 stop.set()
-            server.process = subprocess.Popen(["sleep", "60"], stdout=subprocess.PIPE, stderr=subprocess.PIPE)
 
 
 # ---- clients of others

@@ -33,6 +33,8 @@ class Server:
         if Folder.stand_in:
             raise LeftOut
         self.folder = Repository(config, **dict(files))
+        # whether its end was waited for
+        self.is_over = False
         self.process = subprocess.Popen([Folder.program, "serve", "--config", "config.json", "--listen", listen, *words],
                                         cwd=self.folder.folder.name, stdin=stdin, stdout=subprocess.PIPE, stderr=subprocess.PIPE, bufsize=0, **given)
         line = first_line(self.process)
@@ -47,6 +49,8 @@ class Server:
         return self
 
     def __exit__(self, kind, fault, trace):
+        if self.is_over:
+            return
         ended = self.process.poll()
         seen = self.kill()
         if kind is None and (ended is not None or seen != (b"", b"")):
@@ -54,6 +58,7 @@ class Server:
 
     def kill(self):
         """Ends it, and gives what it wrote that wasn't read yet."""
+        self.is_over = True
         self.process.kill()
         seen = self.process.communicate()
         self.folder.__exit__()
@@ -66,14 +71,9 @@ class Server:
         except subprocess.TimeoutExpired:
             raise Wrong(f"it doesn't end in {seconds} s") from None
         finally:
-            self.kill_rest()
+            self.kill()
         if (self.process.returncode, output, written) != (status, b"", errors):
             raise Wrong(f"status {self.process.returncode}, standard output {output!r}, standard error {written!r}")
-
-    def kill_rest(self):
-        if self.process.poll() is None:
-            self.kill()
-        self.folder.__exit__()
 
     def memory(self):
         """The bytes of memory that the process holds now."""
