@@ -404,19 +404,20 @@ def test_heads_that_are_none():
 
 
 def test_a_wrong_byte_at_each_place_of_a_head():
-    """Each byte in place of each of a head: where no continuation completes it, it is told so as soon as that byte is there;
+    """Other bytes in place of each of a head, of each sort and at each place others: where no continuation completes it, it is told so as soon as that byte is there;
     else nothing is written before the head's end, and then what the head asks for."""
     base = b"\nGET /v1/items HTTP/1.1\r\nAuthorization:Bearer ta\r\nX: y\n\r\n"
     rows = []
+    always = set(b"\0\x08\t\n\x0b\x0c\r\x1f !\"(),/0:;<=>?@A[\\]a{|}~\x7f\x80\x9f\xa0\xc3\xff")
     for at in range(len(base)):
         front = base[:at]
         for byte in range(256):
-            if byte == base[at]:
+            if byte == base[at] or (byte % 5 != at % 5 and byte not in always):
                 continue
             text = front + bytes([byte])
             if place_behind(text) is None:
                 rows.append((text, True))
-            elif byte % 8 == at % 8:
+            elif byte % 4 == at % 4:
                 rows.append((text + base[at + 1:], False))
 
     def look(text, is_wrong):
@@ -724,6 +725,7 @@ def test_each_reply_before_the_next_request():
         slow.send(get("/v1/models/ann/m/file") + as_post(create("ann", "later")))
         time.sleep(0.5)
         client.ask(get("/v1/items"), ok(listed((b"owner", b"m", b"ann"))))
+        slow.take_all()
         slow.expect(ok(linked(text)))
         slow.expect(DONE)
         client.ask(get("/v1/items"), ok(listed((b"owner", b"later", b"ann"), (b"owner", b"m", b"ann"))))
@@ -736,7 +738,7 @@ def test_random_inputs():
               get("/v1/models/ann/m/file", "Connection: close"), b"\r\n", b"\n", b"GET /v1/schemas HTTP/1.0\n\n",
               head("POST", "/v1/requests", "Content-Length: 7"), head("POST", "/v1/items", "Transfer-Encoding: x"),
               ASKED[:-2] + b"Content-Length: 3\r\n", ASKED[:-2] + b"Connection: close\r\n", b"Authorization: Bearer tb\r\n",
-              get("/v1/groups/ann/g", token=None), padded_head(9_000)]
+              get("/v1/groups/ann/g", token=None), padded_head(2_000)]
 
     def made():
         data = bytearray(b"".join(chance.choice(pieces) for _ in range(chance.randrange(1, 6))))
@@ -752,8 +754,8 @@ def test_random_inputs():
                 del data[at:]
         return bytes(data)
 
-    inputs = [made() for _ in range(3_000)]
-    seen = {wanted[9:12] for wanted, _ in (answers(it, TOKENS, empty_repository) for it in inputs)}
+    inputs = [made() for _ in range(2_000)]
+    seen = {wanted[9:12] for wanted, _ in (answers(it, TOKENS, empty_repository) for it in inputs[:300])}
     if not seen >= {b"200", b"400", b"401", b"404", b"405", b"501", b""}:
         raise Wrong(f"the inputs are answered by {seen} alone")
     with serving() as server, ThreadPoolExecutor(8) as pool:
@@ -1023,6 +1025,7 @@ def test_until_the_input_ends():
         time.sleep(0.5)
         server.process.stdin.close()
         server.process.stdin = None
+        client.take_all()
         client.expect(ok(linked(canonical("#1=P(1.,'" + "x" * (6 * MIB) + "');"))))
         client.expect(SCHEMAS)
         client.expect_end()

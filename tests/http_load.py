@@ -8,8 +8,10 @@ those who write do so for ten seconds. The last line is 'http load: N passed, M 
 """
 import functools
 import json
+import os
 import random
 import resource
+import signal
 import sys
 import threading
 import time
@@ -80,7 +82,7 @@ def trickle(clients, stop):
 def break_off(server, stop, faults):
     """Connections that are reset, or end their side, at any time."""
     chance = random.Random(5)
-    texts = [b"", ASKED, ASKED[:20], ASKED * 30, post(b"x" * 100_000)[:50_000], get("/v1/models/ann/m/file"), b"GET  ",
+    texts = [b"", ASKED, ASKED[:20], ASKED * 30, post(b"x" * 100_000)[:50_000], get("/v1/models/ann/m"), b"GET  ",
              head("POST", "/v1/requests", "Content-Length: 16777216", token=None)]
     while not stop.is_set():
         try:
@@ -110,9 +112,11 @@ def test_a_request_beside_those_who_hold_others_up():
         try:
             for it in stopped:
                 it.send(get("/v1/models/ann/m/file") * 20)
+            # (the five files are made before it)
+            time.sleep(0.2)
+            seconds_of_a_request(server)
             for it in threads:
                 it.start()
-            time.sleep(0.3)
             seen = []
             for _ in range(100):
                 seen.append(seconds_of_a_request(server))
@@ -128,9 +132,6 @@ def test_a_request_beside_those_who_hold_others_up():
             raise Wrong(f"{len(faults)} connections broke, the first by {faults[0]}")
         if held > 5 * 2 * LETTERS + 16 * MIB:
             raise Wrong(f"{held / MIB:.0f} MiB are held for five who take nothing")
-        # (the silent ones are there still)
-        for it in silent[::40]:
-            it.ask(ASKED, SCHEMAS)
         close_all(silent + slow + stopped)
 
 
@@ -158,6 +159,34 @@ def test_more_connections_than_there_is_room_for():
             if (seconds := seconds_of_a_request(server)) > LONGEST:
                 raise Wrong(f"a newcomer is served in {seconds:.3f} s beside 600 silent ones")
         close_all(silent)
+
+
+def burst(server, count):
+    """So many connections that come at once, each with a request: what is written to each."""
+    os.kill(server.process.pid, signal.SIGSTOP)
+    clients = []
+    for _ in range(count):
+        clients.append(Client(server))
+        clients[-1].send(ASKED)
+    os.kill(server.process.pid, signal.SIGCONT)
+    lost = 0
+    for it in clients:
+        try:
+            it.expect(SCHEMAS)
+        except Wrong:
+            lost += 1
+    close_all(clients)
+    if lost:
+        raise Wrong(f"{lost} of {count} that came at once aren't served")
+
+
+def test_more_at_once_than_there_is_room_for():
+    """What has come of a connection is read before it is ended, so each of 700 that come at once is answered; under `ulimit -n 100` each
+    of 150."""
+    for descriptors, count in ((1024, 500), (1024, 700), (100, 150)):
+        with serving(descriptors=descriptors) as server:
+            seconds_of_a_request(server)
+            burst(server, count)
 
 
 def test_few_descriptors():
@@ -330,7 +359,7 @@ def deadlines():
         clients["later head"].send(b"G")
         clients["empty lines"].send(b"\r\n")
         clients["body"].send(large)
-        clients["early body"].send(large + b" " * 20_000)
+        clients["early body"].send(large + b" " * 50_000)
         clients["good body"].send(large)
         clients["slow body"].send(large)
         clients["idle"].ask(ASKED, SCHEMAS)
@@ -347,7 +376,7 @@ def deadlines():
                 raise Wrong(f"{name}: {fault}") from fault
         time.sleep(max(0, begin + 33 - time.monotonic()))
         refused = answer(b'{"refused":{"code":1,"name":"BadRequest"}}')
-        clients["early body"].ask(b" " * 80_000, refused)
+        clients["early body"].ask(b" " * 50_000, refused)
         clients["good body"].ask(b" " * (100_000 - 29 * 2_000), refused)
         for name in ("idle", "pipeline", "silent"):
             clients[name].ask(ASKED, SCHEMAS)

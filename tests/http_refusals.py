@@ -85,10 +85,23 @@ def nothing(server):
     Client(server).socket.close()
 
 
-def look(shim, nth, **how):
-    """A session with this allocation refused, and then another connection, where there is room again."""
-    with serving(shim, 4_000_000, **how) as server:
-        held, unknown = session(server)
+def look(shim, nth, may_end):
+    """A session with this allocation refused, and then another connection, where there is room again. Before the first connection it
+    may end with status 2."""
+    try:
+        server = serving(shim, 4_000_000, REFUSE_NTH=nth)
+    except Wrong:
+        if may_end:
+            return
+        raise
+    with server:
+        try:
+            held, unknown = session(server)
+        except ConnectionRefusedError:
+            if not may_end:
+                raise Wrong("it ended") from None
+            server.expect_ended(2, None)
+            return
         for _ in range(3):
             with Client(server) as client:
                 seen = one_reply(client, get("/v1/items"))
@@ -108,7 +121,7 @@ def test_each_refusal():
 
         def one(nth):
             try:
-                look(shim, nth, REFUSE_NTH=nth)
+                look(shim, nth, nth <= before)
             except Wrong as fault:
                 return f"allocation {nth} of {all_of_them}: {fault}"
             return None

@@ -65,13 +65,15 @@ class Server:
         return seen
 
     def expect_ended(self, status=0, errors=b"", seconds=SECONDS):
-        """It ends by itself with this status. What it wrote on standard error beside the first line is looked at, too."""
+        """It ends by itself with this status, and has written these errors behind the first line; None stands for any one line."""
         try:
             output, written = self.process.communicate(timeout=seconds)
         except subprocess.TimeoutExpired:
             raise Wrong(f"it doesn't end in {seconds} s") from None
         finally:
             self.kill()
+        if errors is None and written.count(b"\n") == 1 and written.endswith(b"\n"):
+            errors = written
         if (self.process.returncode, output, written) != (status, b"", errors):
             raise Wrong(f"status {self.process.returncode}, standard output {output!r}, standard error {written!r}")
 
@@ -104,6 +106,10 @@ class Client:
 
     def __exit__(self, *_):
         self.socket.close()
+
+    def take_all(self):
+        """Takes as much at once from now on as others do."""
+        self.socket.setsockopt(socket.SOL_SOCKET, socket.SO_RCVBUF, 4 << 20)
 
     def send(self, data):
         try:
