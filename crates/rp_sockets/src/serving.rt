@@ -3,17 +3,17 @@ ghost use Rattle.std.specs.Prelude.{◌≡◌, ◌≤◌, length};
 ghost use Rattle.rp_http.specs.Turns.{Leaves};
 
 use crate::arrivals::{Missed, meaning_of};
-use crate::client::{Client, Fate};
+use crate::client::{Client, Fate, Moment};
 use crate::input::{Watch, read_on, watched};
 use crate::listening::{ARRIVALS, INPUT, Listening, ServeFault};
 use mio::net::{TcpListener, TcpStream};
-use mio::{Events, Poll, Token};
+use mio::{Events, Poll, Registry, Token};
 use rp_http::{Connection, Tokens, Workspace};
 use rp_repo::Repository;
 use slab::Slab;
 use std::alloc::{AllocError, Global};
 use std::io;
-use std::io::Input;
+use std::io::{ErrorKind, Input};
 use std::time::{Clock, Duration, Instant};
 
 /// The most connections that are open at once.
@@ -49,8 +49,12 @@ struct Serving {
     /// How many more connections may come, if there is an end to them.
     more: Option<u32>,
     input: Watch,
+    /// A descriptor that is let go of where none is left. The system tells of a want of descriptors also where no connection waits.
+    spare: Option<Registry>,
     /// How long it has waited for sockets: the clock of all deadlines.
     now: Duration,
+    /// How many turns connections had.
+    turn: u64,
     /// When deadlines were last looked at.
     swept: Duration,
 }
@@ -59,6 +63,7 @@ impl Serving {
     fn new(alloc: Global, listening: Listening, ends: Ends) -> Result<Serving, AllocError> {
         let clients = Slab::with_capacity(alloc, CLIENTS)?;
         let input = watched(listening.poll.registry(), INPUT, ends.input);
+        let spare = listening.poll.registry().try_clone().ok();
         let Listening { poll, listener, .. } = listening;
         Ok(Serving {
             poll,
@@ -67,7 +72,9 @@ impl Serving {
             arrivals: true,
             more: ends.connections,
             input,
+            spare,
             now: Duration::ZERO,
+            turn: 0,
             swept: Duration::ZERO,
         })
     }
@@ -79,7 +86,7 @@ impl Serving {
 
     /// How long to wait for sockets at most.
     fn patience(&self) -> Option<Duration> {
-        if self.arrivals || self.input == Watch::Ready {
+        if self.arrivals || self.input == Watch::Ready || self.input == Watch::Ended {
             Some(Duration::ZERO)
         } else if self.clients.is_empty() {
             None
@@ -111,11 +118,21 @@ impl Serving {
         ensures run { Leaves tokens.now repository.old.content repository.new.content }
         ensures partners { repository.new.content.partners ≡ repository.old.content.partners }
     {
-        let fate = match self.clients.get_mut(key) {
-            Some(client) => client.go(alloc, repository, tokens, workspace, self.now),
-            None => Fate::Waits,
+        let moment = self.next_moment();
+        let Some(client) = self.clients.get_mut(key) else {
+            return;
         };
+        let fate = client.go(alloc, repository, tokens, workspace, moment);
         self.settle(key, fate);
+    }
+
+    /// The moment of the next turn.
+    fn next_moment(&mut self) -> Moment {
+        self.turn = self.turn.saturating_add(1);
+        Moment {
+            now: self.now,
+            turn: self.turn,
+        }
     }
 
     /// Does with a connection what has become of it.
@@ -180,60 +197,135 @@ impl Serving {
     }
 
     /// Accepts the connections that wait.
-    fn accept(&mut self, alloc: Global) -> Result<(), ServeFault> {
+    #[tactic(auto, using(crate::proofs::Running::leaves_more, crate::proofs::Running::leaves_none))]
+    fn accept(
+        &mut self,
+        alloc: Global,
+        repository: &mut Repository<'_>,
+        tokens: &Tokens,
+        workspace: &mut Workspace,
+    ) -> Result<(), ServeFault>
+        requires few { length tokens.now ≤ length repository.old.content.partners }
+        ensures run { Leaves tokens.now repository.old.content repository.new.content }
+        ensures partners { repository.new.content.partners ≡ repository.old.content.partners }
+    {
         for _ in 0..ARRIVALS_AT_ONCE {
             if !self.arrivals {
                 return Ok(());
             }
-            self.accept_one(alloc)?;
+            self.accept_one(alloc, repository, tokens, workspace)?;
         }
         Ok(())
     }
 
     /// Accepts a connection, if one waits.
-    fn accept_one(&mut self, alloc: Global) -> Result<(), ServeFault> {
+    #[tactic(auto, using(crate::proofs::Running::leaves_more, crate::proofs::Running::leaves_none))]
+    fn accept_one(
+        &mut self,
+        alloc: Global,
+        repository: &mut Repository<'_>,
+        tokens: &Tokens,
+        workspace: &mut Workspace,
+    ) -> Result<(), ServeFault>
+        requires few { length tokens.now ≤ length repository.old.content.partners }
+        ensures run { Leaves tokens.now repository.old.content repository.new.content }
+        ensures partners { repository.new.content.partners ≡ repository.old.content.partners }
+    {
         let accepted = match &self.listener {
             Some(listener) => listener.accept(),
-            None => {
-                self.arrivals = false;
-                return Ok(());
-            }
+            None => Err(ErrorKind::WouldBlock.into()),
         };
         match accepted {
             Ok((stream, _)) => {
-                self.admit(alloc, stream);
+                self.welcome(alloc, repository, tokens, workspace, stream);
                 Ok(())
             }
-            Err(error) => self.miss(error),
+            Err(error) => self.miss(alloc, repository, tokens, workspace, error),
         }
     }
 
     /// An accept gave no connection.
-    fn miss(&mut self, error: io::Error) -> Result<(), ServeFault> {
+    #[tactic(auto, using(crate::proofs::Running::leaves_more, crate::proofs::Running::leaves_none))]
+    fn miss(
+        &mut self,
+        alloc: Global,
+        repository: &mut Repository<'_>,
+        tokens: &Tokens,
+        workspace: &mut Workspace,
+        error: io::Error,
+    ) -> Result<(), ServeFault>
+        requires few { length tokens.now ≤ length repository.old.content.partners }
+        ensures run { Leaves tokens.now repository.old.content repository.new.content }
+        ensures partners { repository.new.content.partners ≡ repository.old.content.partners }
+    {
         match meaning_of(&error) {
             Missed::NoneWaits => {
                 self.arrivals = false;
+                self.take_spare();
                 Ok(())
             }
             Missed::Lost => Ok(()),
-            Missed::NoRoom if self.end_quietest() => Ok(()),
+            Missed::NoRoom if self.spare.is_some() => {
+                self.spare = None;
+                Ok(())
+            }
+            Missed::NoRoom if !self.clients.is_empty() => {
+                self.make_room(alloc, repository, tokens, workspace);
+                Ok(())
+            }
             Missed::NoRoom | Missed::Fault => Err(ServeFault::Accept(error)),
         }
     }
 
+    /// Takes a connection in, and sees that a descriptor is left for the next one.
+    #[tactic(auto, using(crate::proofs::Running::leaves_more, crate::proofs::Running::leaves_none))]
+    fn welcome(
+        &mut self,
+        alloc: Global,
+        repository: &mut Repository<'_>,
+        tokens: &Tokens,
+        workspace: &mut Workspace,
+        stream: TcpStream,
+    )
+        requires few { length tokens.now ≤ length repository.old.content.partners }
+        ensures run { Leaves tokens.now repository.old.content repository.new.content }
+        ensures partners { repository.new.content.partners ≡ repository.old.content.partners }
+    {
+        self.admit(alloc, repository, tokens, workspace, stream);
+        self.keep_spare(alloc, repository, tokens, workspace);
+    }
+
     /// Takes a connection in.
-    fn admit(&mut self, alloc: Global, stream: TcpStream) {
+    #[tactic(auto, using(crate::proofs::Running::leaves_more, crate::proofs::Running::leaves_none))]
+    fn admit(
+        &mut self,
+        alloc: Global,
+        repository: &mut Repository<'_>,
+        tokens: &Tokens,
+        workspace: &mut Workspace,
+        stream: TcpStream,
+    )
+        requires few { length tokens.now ≤ length repository.old.content.partners }
+        ensures run { Leaves tokens.now repository.old.content repository.new.content }
+        ensures partners { repository.new.content.partners ≡ repository.old.content.partners }
+    {
         self.count();
         let _ = stream.set_nodelay(true);
-        if self.clients.len() >= CLIENTS {
-            let _ = self.end_quietest();
-        }
-        if let Some(connection) = self.connection(alloc) {
-            let key = self.clients.vacant_key();
-            let mut client = Client::new(stream, connection, self.now);
-            if client.register(self.poll.registry(), Token(key)).is_ok() {
-                let _ = self.clients.insert(client);
-            }
+        self.keep_within(alloc, repository, tokens, workspace);
+        let connection = self.connection(alloc, repository, tokens, workspace);
+        self.put(stream, connection);
+    }
+
+    /// Has the poll tell of a connection. One for which there is no memory has ended.
+    fn put(&mut self, stream: TcpStream, connection: Option<Connection>) {
+        let Some(connection) = connection else {
+            return;
+        };
+        let key = self.clients.vacant_key();
+        let moment = self.next_moment();
+        let mut client = Client::new(stream, connection, moment);
+        if client.register(self.poll.registry(), Token(key)).is_ok() {
+            let _ = self.clients.insert(client);
         }
     }
 
@@ -248,39 +340,118 @@ impl Serving {
         }
     }
 
-    /// What a new connection needs. Where memory is wanting, others are ended for it, the one quiet longest first.
-    fn connection(&mut self, alloc: Global) -> Option<Connection> {
+    /// Makes room for one more, where all are taken.
+    #[tactic(auto, using(crate::proofs::Running::leaves_more, crate::proofs::Running::leaves_none))]
+    fn keep_within(
+        &mut self,
+        alloc: Global,
+        repository: &mut Repository<'_>,
+        tokens: &Tokens,
+        workspace: &mut Workspace,
+    )
+        requires few { length tokens.now ≤ length repository.old.content.partners }
+        ensures run { Leaves tokens.now repository.old.content repository.new.content }
+        ensures partners { repository.new.content.partners ≡ repository.old.content.partners }
+    {
+        if self.clients.len() < CLIENTS {
+            return;
+        }
+        self.make_room(alloc, repository, tokens, workspace);
+    }
+
+    /// What a new connection needs. Where memory is wanting, another one is ended for it.
+    #[tactic(auto, using(crate::proofs::Running::leaves_more, crate::proofs::Running::leaves_none))]
+    fn connection(
+        &mut self,
+        alloc: Global,
+        repository: &mut Repository<'_>,
+        tokens: &Tokens,
+        workspace: &mut Workspace,
+    ) -> Option<Connection>
+        requires few { length tokens.now ≤ length repository.old.content.partners }
+        ensures run { Leaves tokens.now repository.old.content repository.new.content }
+        ensures partners { repository.new.content.partners ≡ repository.old.content.partners }
+    {
+        if let Ok(connection) = Connection::new(alloc) {
+            return Some(connection);
+        }
+        self.make_room(alloc, repository, tokens, workspace);
+        Connection::new(alloc).ok()
+    }
+
+    /// Takes a spare descriptor, where there is none and one is found.
+    fn take_spare(&mut self) {
+        if self.spare.is_none() {
+            self.spare = self.poll.registry().try_clone().ok();
+        }
+    }
+
+    /// The same; where none is found, a connection is ended for it, but not the last.
+    #[tactic(auto, using(crate::proofs::Running::leaves_more, crate::proofs::Running::leaves_none))]
+    fn keep_spare(
+        &mut self,
+        alloc: Global,
+        repository: &mut Repository<'_>,
+        tokens: &Tokens,
+        workspace: &mut Workspace,
+    )
+        requires few { length tokens.now ≤ length repository.old.content.partners }
+        ensures run { Leaves tokens.now repository.old.content repository.new.content }
+        ensures partners { repository.new.content.partners ≡ repository.old.content.partners }
+    {
+        self.take_spare();
+        if self.spare.is_some() || self.clients.len() < 2 {
+            return;
+        }
+        self.make_room(alloc, repository, tokens, workspace);
+        self.take_spare();
+    }
+
+    /// Ends the connection that is quiet longest, once what has come of it is read: one that moved then isn't.
+    #[tactic(auto, using(crate::proofs::Running::leaves_more, crate::proofs::Running::leaves_none))]
+    fn make_room(
+        &mut self,
+        alloc: Global,
+        repository: &mut Repository<'_>,
+        tokens: &Tokens,
+        workspace: &mut Workspace,
+    )
+        requires few { length tokens.now ≤ length repository.old.content.partners }
+        ensures run { Leaves tokens.now repository.old.content repository.new.content }
+        ensures partners { repository.new.content.partners ≡ repository.old.content.partners }
+    {
         for _ in 0..CLIENTS {
-            match Connection::new(alloc) {
-                Ok(connection) => return Some(connection),
-                Err(AllocError) => {
-                    if !self.end_quietest() {
-                        return None;
-                    }
-                }
+            let Some((key, moved)) = self.quietest() else {
+                return;
+            };
+            self.drive(alloc, repository, tokens, workspace, key);
+            if self.is_ended(key, moved) {
+                return;
             }
         }
-        None
     }
 
-    /// Ends the connection that is quiet longest. Answers whether there was one.
-    fn end_quietest(&mut self) -> bool {
-        match self.quietest() {
-            Some(key) => self.clients.try_remove(key).is_some(),
+    /// Ends a connection, unless something moved since that turn. Answers whether it has ended.
+    fn is_ended(&mut self, key: usize, moved: u64) -> bool {
+        let stays = match self.clients.get(key) {
+            Some(client) => client.moved() != moved,
             None => false,
+        };
+        if !stays {
+            let _ = self.clients.try_remove(key);
         }
+        !stays
     }
 
-    /// The connection that is quiet longest.
-    fn quietest(&self) -> Option<usize> {
+    /// The connection that is quiet longest, and the turn in which something of it last moved.
+    fn quietest(&self) -> Option<(usize, u64)> {
         let mut found = None;
-        let mut longest = Duration::ZERO;
+        let mut least = u64::MAX;
         for key in 0..CLIENTS {
             if let Some(client) = self.clients.get(key) {
-                let quiet = client.quiet(self.now);
-                if found.is_none() || quiet > longest {
-                    found = Some(key);
-                    longest = quiet;
+                if client.moved() < least {
+                    least = client.moved();
+                    found = Some((key, least));
                 }
             }
         }
@@ -312,11 +483,29 @@ impl Serving {
         }
         self.swept = self.now;
         for key in 0..CLIENTS {
-            if self.is_late(key) {
-                self.drive(alloc, repository, tokens, workspace, key);
-                self.end_late(key);
-            }
+            self.drive_late(alloc, repository, tokens, workspace, key);
         }
+    }
+
+    /// Reads what has come of a connection that took too long, and ends it if it did so still.
+    #[tactic(auto, using(crate::proofs::Running::leaves_more, crate::proofs::Running::leaves_none))]
+    fn drive_late(
+        &mut self,
+        alloc: Global,
+        repository: &mut Repository<'_>,
+        tokens: &Tokens,
+        workspace: &mut Workspace,
+        key: usize,
+    )
+        requires few { length tokens.now ≤ length repository.old.content.partners }
+        ensures run { Leaves tokens.now repository.old.content repository.new.content }
+        ensures partners { repository.new.content.partners ≡ repository.old.content.partners }
+    {
+        if !self.is_late(key) {
+            return;
+        }
+        self.drive(alloc, repository, tokens, workspace, key);
+        self.end_late(key);
     }
 
     /// Ends a connection that took too long still.
@@ -356,6 +545,60 @@ impl Serving {
         }
     }
 
+    /// Has all go on that are ready, and then ends those that took too long.
+    #[tactic(auto, using(crate::proofs::Running::leaves_more, crate::proofs::Running::leaves_none))]
+    fn serve_open(
+        &mut self,
+        alloc: Global,
+        repository: &mut Repository<'_>,
+        tokens: &Tokens,
+        workspace: &mut Workspace,
+        events: &Events<Global>,
+    )
+        requires few { length tokens.now ≤ length repository.old.content.partners }
+        ensures run { Leaves tokens.now repository.old.content repository.new.content }
+        ensures partners { repository.new.content.partners ≡ repository.old.content.partners }
+    {
+        self.serve_ready(alloc, repository, tokens, workspace, events);
+        self.sweep(alloc, repository, tokens, workspace);
+    }
+
+    /// What is done for connections after each wait.
+    #[tactic(auto, using(crate::proofs::Running::leaves_more, crate::proofs::Running::leaves_none))]
+    fn serve_all(
+        &mut self,
+        alloc: Global,
+        repository: &mut Repository<'_>,
+        tokens: &Tokens,
+        workspace: &mut Workspace,
+        events: &Events<Global>,
+    )
+        requires few { length tokens.now ≤ length repository.old.content.partners }
+        ensures run { Leaves tokens.now repository.old.content repository.new.content }
+        ensures partners { repository.new.content.partners ≡ repository.old.content.partners }
+    {
+        self.serve_open(alloc, repository, tokens, workspace, events);
+        self.finish(alloc, repository, tokens, workspace);
+    }
+
+    /// What is done behind that: new connections are taken in, and standard input is looked at.
+    #[tactic(auto, using(crate::proofs::Running::leaves_more, crate::proofs::Running::leaves_none))]
+    fn look_around<R: Input>(
+        &mut self,
+        rt: &R,
+        alloc: Global,
+        repository: &mut Repository<'_>,
+        tokens: &Tokens,
+        workspace: &mut Workspace,
+    ) -> Result<(), ServeFault>
+        requires few { length tokens.now ≤ length repository.old.content.partners }
+        ensures run { Leaves tokens.now repository.old.content repository.new.content }
+        ensures partners { repository.new.content.partners ≡ repository.old.content.partners }
+    {
+        self.accept(alloc, repository, tokens, workspace)?;
+        self.look_at_input(rt)
+    }
+
     /// What is done after each wait.
     #[tactic(auto, using(crate::proofs::Running::leaves_more, crate::proofs::Running::leaves_none))]
     fn serve_once<R: Input>(
@@ -371,12 +614,8 @@ impl Serving {
         ensures run { Leaves tokens.now repository.old.content repository.new.content }
         ensures partners { repository.new.content.partners ≡ repository.old.content.partners }
     {
-        self.serve_ready(alloc, repository, tokens, workspace, events);
-        self.accept(alloc)?;
-        self.sweep(alloc, repository, tokens, workspace);
-        self.look_at_input(rt)?;
-        self.finish(alloc, repository, tokens, workspace);
-        Ok(())
+        self.serve_all(alloc, repository, tokens, workspace, events);
+        self.look_around(rt, alloc, repository, tokens, workspace)
     }
 }
 
