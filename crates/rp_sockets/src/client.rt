@@ -34,12 +34,23 @@ pub(crate) enum Fate {
     Gone,
 }
 
+/// A moment of the loop over connections.
+#[derive(Clone, Copy)]
+pub(crate) struct Moment {
+    /// The time of deadlines.
+    pub(crate) now: Duration,
+    /// A number that grows with each turn of a connection: at one time many may have theirs.
+    pub(crate) turn: u64,
+}
+
 /// One connection and its socket.
 #[derive(Drop)]
 pub(crate) struct Client {
     stream: TcpStream,
     connection: Connection,
     times: Times,
+    /// The turn in which a byte last came or went, or it was opened.
+    moved: u64,
     /// Whether its last reply is sent and its writing side shut, so that what still comes is dropped.
     closing: bool,
     /// How many more reads it may make, where no more requests are wanted.
@@ -48,11 +59,12 @@ pub(crate) struct Client {
 
 impl Client {
     /// A connection that was opened now.
-    pub(crate) fn new(stream: TcpStream, connection: Connection, now: Duration) -> Client {
+    pub(crate) fn new(stream: TcpStream, connection: Connection, moment: Moment) -> Client {
         Client {
             stream,
             connection,
-            times: Times::opened(now),
+            times: Times::opened(moment.now),
+            moved: moment.turn,
             closing: false,
             last_reads: None,
         }
@@ -75,9 +87,9 @@ impl Client {
         self.times.is_late(now)
     }
 
-    /// How long nothing moved.
-    pub(crate) fn quiet(&self, now: Duration) -> Duration {
-        self.times.quiet(now)
+    /// The turn in which something last moved.
+    pub(crate) fn moved(&self) -> u64 {
+        self.moved
     }
 
     /// No more requests are wanted of it but those that have come.
@@ -93,14 +105,14 @@ impl Client {
         repository: &mut Repository<'_>,
         tokens: &Tokens,
         workspace: &mut Workspace,
-        now: Duration,
+        moment: Moment,
     ) -> Fate
         requires few { length tokens.now ≤ length repository.old.content.partners }
         ensures run { Leaves tokens.now repository.old.content repository.new.content }
         ensures partners { repository.new.content.partners ≡ repository.old.content.partners }
     {
         for _ in 0..STEPS {
-            let fate = self.step(alloc, repository, tokens, workspace, now);
+            let fate = self.step(alloc, repository, tokens, workspace, moment);
             if fate != Fate::Goes {
                 return fate;
             }
@@ -116,7 +128,7 @@ impl Client {
         repository: &mut Repository<'_>,
         tokens: &Tokens,
         workspace: &mut Workspace,
-        now: Duration,
+        moment: Moment,
     ) -> Fate
         requires few { length tokens.now ≤ length repository.old.content.partners }
         ensures run { Leaves tokens.now repository.old.content repository.new.content }
@@ -126,8 +138,8 @@ impl Client {
             return self.linger();
         }
         let stepped = self.advance(alloc, repository, tokens, workspace);
-        let fate = self.after(stepped, now);
-        self.times = self.times.with(self.awaited(), now);
+        let fate = self.after(stepped, moment);
+        self.times = self.times.with(self.awaited(), moment.now);
         fate
     }
 
@@ -161,15 +173,17 @@ impl Client {
     }
 
     /// Where it stands after such a step.
-    fn after(&mut self, stepped: Result<Stepped, Trouble>, now: Duration) -> Fate {
+    fn after(&mut self, stepped: Result<Stepped, Trouble>, moment: Moment) -> Fate {
         match stepped {
             Ok(Stepped::Turned) => Fate::Goes,
             Ok(Stepped::Read(count)) => {
-                self.times = self.times.read(count, now);
+                self.times = self.times.read(count, moment.now);
+                self.moved = moment.turn;
                 self.after_read()
             }
             Ok(Stepped::Sent) => {
-                self.times = self.times.sent(now);
+                self.times = self.times.sent(moment.now);
+                self.moved = moment.turn;
                 Fate::Goes
             }
             Ok(Stepped::Over) => self.close(),

@@ -105,11 +105,6 @@ impl Times {
         }
     }
 
-    /// How long nothing moved.
-    pub fn quiet(&self, now: Duration) -> Duration {
-        now.saturating_sub(self.moved)
-    }
-
     /// Whether the connection took too long.
     pub fn is_late(&self, now: Duration) -> bool
         ensures { result ≡ spec.is_late self.now now }

@@ -2,6 +2,7 @@
 //! is handled at a time, and each connection's next one once the reply before it is sent.
 #![tactic(auto)]
 
+mod accepting;
 mod arrivals;
 mod client;
 mod deadlines;

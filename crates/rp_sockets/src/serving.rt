@@ -2,13 +2,12 @@
 ghost use Rattle.std.specs.Prelude.{◌≡◌, ◌≤◌, length};
 ghost use Rattle.rp_http.specs.Turns.{Leaves};
 
-use crate::arrivals::{Missed, meaning_of};
-use crate::client::{Client, Fate};
+use crate::client::{Client, Fate, Moment};
 use crate::input::{Watch, read_on, watched};
 use crate::listening::{ARRIVALS, INPUT, Listening, ServeFault};
-use mio::net::{TcpListener, TcpStream};
-use mio::{Events, Poll, Token};
-use rp_http::{Connection, Tokens, Workspace};
+use mio::net::TcpListener;
+use mio::{Events, Poll, Registry, Token};
+use rp_http::{Tokens, Workspace};
 use rp_repo::Repository;
 use slab::Slab;
 use std::alloc::{AllocError, Global};
@@ -17,13 +16,10 @@ use std::io::Input;
 use std::time::{Clock, Duration, Instant};
 
 /// The most connections that are open at once.
-const CLIENTS: usize = 512;
+pub(crate) const CLIENTS: usize = 512;
 
 /// How many sockets a poll tells of at most: all that there may be.
 const EVENTS: usize = 1_024;
-
-/// How many arrivals are met before the connections' turn.
-const ARRIVALS_AT_ONCE: u32 = 512;
 
 /// How many milliseconds pass until deadlines are looked at again.
 const SWEEP: u64 = 500;
@@ -39,26 +35,31 @@ pub struct Ends {
 
 /// The connections of an address.
 #[derive(Drop)]
-struct Serving {
-    poll: Poll,
+pub(crate) struct Serving {
+    pub(crate) poll: Poll,
     /// Nothing once no more connections are wanted.
-    listener: Option<TcpListener>,
-    clients: Slab<Client>,
+    pub(crate) listener: Option<TcpListener>,
+    pub(crate) clients: Slab<Client>,
     /// Whether connections may wait to be accepted.
-    arrivals: bool,
+    pub(crate) arrivals: bool,
     /// How many more connections may come, if there is an end to them.
-    more: Option<u32>,
-    input: Watch,
+    pub(crate) more: Option<u32>,
+    pub(crate) input: Watch,
+    /// A descriptor that is let go of where none is left. The system tells of a want of descriptors also where no connection waits.
+    pub(crate) spare: Option<Registry>,
     /// How long it has waited for sockets: the clock of all deadlines.
-    now: Duration,
+    pub(crate) now: Duration,
+    /// How many turns connections had.
+    pub(crate) turn: u64,
     /// When deadlines were last looked at.
-    swept: Duration,
+    pub(crate) swept: Duration,
 }
 
 impl Serving {
     fn new(alloc: Global, listening: Listening, ends: Ends) -> Result<Serving, AllocError> {
         let clients = Slab::with_capacity(alloc, CLIENTS)?;
         let input = watched(listening.poll.registry(), INPUT, ends.input);
+        let spare = listening.poll.registry().try_clone().ok();
         let Listening { poll, listener, .. } = listening;
         Ok(Serving {
             poll,
@@ -67,7 +68,9 @@ impl Serving {
             arrivals: true,
             more: ends.connections,
             input,
+            spare,
             now: Duration::ZERO,
+            turn: 0,
             swept: Duration::ZERO,
         })
     }
@@ -79,7 +82,7 @@ impl Serving {
 
     /// How long to wait for sockets at most.
     fn patience(&self) -> Option<Duration> {
-        if self.arrivals || self.input == Watch::Ready {
+        if self.arrivals || self.input == Watch::Ready || self.input == Watch::Ended {
             Some(Duration::ZERO)
         } else if self.clients.is_empty() {
             None
@@ -99,7 +102,7 @@ impl Serving {
 
     /// Has a connection go on as far as it can.
     #[tactic(auto, using(crate::proofs::Running::leaves_more, crate::proofs::Running::leaves_none))]
-    fn drive(
+    pub(crate) fn drive(
         &mut self,
         alloc: Global,
         repository: &mut Repository<'_>,
@@ -111,11 +114,21 @@ impl Serving {
         ensures run { Leaves tokens.now repository.old.content repository.new.content }
         ensures partners { repository.new.content.partners ≡ repository.old.content.partners }
     {
-        let fate = match self.clients.get_mut(key) {
-            Some(client) => client.go(alloc, repository, tokens, workspace, self.now),
-            None => Fate::Waits,
+        let moment = self.next_moment();
+        let Some(client) = self.clients.get_mut(key) else {
+            return;
         };
+        let fate = client.go(alloc, repository, tokens, workspace, moment);
         self.settle(key, fate);
+    }
+
+    /// The moment of the next turn.
+    pub(crate) fn next_moment(&mut self) -> Moment {
+        self.turn = self.turn.saturating_add(1);
+        Moment {
+            now: self.now,
+            turn: self.turn,
+        }
     }
 
     /// Does with a connection what has become of it.
@@ -179,114 +192,6 @@ impl Serving {
         }
     }
 
-    /// Accepts the connections that wait.
-    fn accept(&mut self, alloc: Global) -> Result<(), ServeFault> {
-        for _ in 0..ARRIVALS_AT_ONCE {
-            if !self.arrivals {
-                return Ok(());
-            }
-            self.accept_one(alloc)?;
-        }
-        Ok(())
-    }
-
-    /// Accepts a connection, if one waits.
-    fn accept_one(&mut self, alloc: Global) -> Result<(), ServeFault> {
-        let accepted = match &self.listener {
-            Some(listener) => listener.accept(),
-            None => {
-                self.arrivals = false;
-                return Ok(());
-            }
-        };
-        match accepted {
-            Ok((stream, _)) => {
-                self.admit(alloc, stream);
-                Ok(())
-            }
-            Err(error) => self.miss(error),
-        }
-    }
-
-    /// An accept gave no connection.
-    fn miss(&mut self, error: io::Error) -> Result<(), ServeFault> {
-        match meaning_of(&error) {
-            Missed::NoneWaits => {
-                self.arrivals = false;
-                Ok(())
-            }
-            Missed::Lost => Ok(()),
-            Missed::NoRoom if self.end_quietest() => Ok(()),
-            Missed::NoRoom | Missed::Fault => Err(ServeFault::Accept(error)),
-        }
-    }
-
-    /// Takes a connection in.
-    fn admit(&mut self, alloc: Global, stream: TcpStream) {
-        self.count();
-        let _ = stream.set_nodelay(true);
-        if self.clients.len() >= CLIENTS {
-            let _ = self.end_quietest();
-        }
-        if let Some(connection) = self.connection(alloc) {
-            let key = self.clients.vacant_key();
-            let mut client = Client::new(stream, connection, self.now);
-            if client.register(self.poll.registry(), Token(key)).is_ok() {
-                let _ = self.clients.insert(client);
-            }
-        }
-    }
-
-    /// Counts a connection, where there is an end to them. No more are wanted after the last.
-    fn count(&mut self) {
-        if let Some(more) = self.more {
-            let left = more.saturating_sub(1);
-            self.more = Some(left);
-            if left == 0 {
-                self.listener = None;
-            }
-        }
-    }
-
-    /// What a new connection needs. Where memory is wanting, others are ended for it, the one quiet longest first.
-    fn connection(&mut self, alloc: Global) -> Option<Connection> {
-        for _ in 0..CLIENTS {
-            match Connection::new(alloc) {
-                Ok(connection) => return Some(connection),
-                Err(AllocError) => {
-                    if !self.end_quietest() {
-                        return None;
-                    }
-                }
-            }
-        }
-        None
-    }
-
-    /// Ends the connection that is quiet longest. Answers whether there was one.
-    fn end_quietest(&mut self) -> bool {
-        match self.quietest() {
-            Some(key) => self.clients.try_remove(key).is_some(),
-            None => false,
-        }
-    }
-
-    /// The connection that is quiet longest.
-    fn quietest(&self) -> Option<usize> {
-        let mut found = None;
-        let mut longest = Duration::ZERO;
-        for key in 0..CLIENTS {
-            if let Some(client) = self.clients.get(key) {
-                let quiet = client.quiet(self.now);
-                if found.is_none() || quiet > longest {
-                    found = Some(key);
-                    longest = quiet;
-                }
-            }
-        }
-        found
-    }
-
     fn is_late(&self, key: usize) -> bool {
         match self.clients.get(key) {
             Some(client) => client.is_late(self.now),
@@ -312,11 +217,29 @@ impl Serving {
         }
         self.swept = self.now;
         for key in 0..CLIENTS {
-            if self.is_late(key) {
-                self.drive(alloc, repository, tokens, workspace, key);
-                self.end_late(key);
-            }
+            self.drive_late(alloc, repository, tokens, workspace, key);
         }
+    }
+
+    /// Reads what has come of a connection that took too long, and ends it if it did so still.
+    #[tactic(auto, using(crate::proofs::Running::leaves_more, crate::proofs::Running::leaves_none))]
+    fn drive_late(
+        &mut self,
+        alloc: Global,
+        repository: &mut Repository<'_>,
+        tokens: &Tokens,
+        workspace: &mut Workspace,
+        key: usize,
+    )
+        requires few { length tokens.now ≤ length repository.old.content.partners }
+        ensures run { Leaves tokens.now repository.old.content repository.new.content }
+        ensures partners { repository.new.content.partners ≡ repository.old.content.partners }
+    {
+        if !self.is_late(key) {
+            return;
+        }
+        self.drive(alloc, repository, tokens, workspace, key);
+        self.end_late(key);
     }
 
     /// Ends a connection that took too long still.
@@ -356,6 +279,60 @@ impl Serving {
         }
     }
 
+    /// Has all go on that are ready, and then ends those that took too long.
+    #[tactic(auto, using(crate::proofs::Running::leaves_more, crate::proofs::Running::leaves_none))]
+    fn serve_open(
+        &mut self,
+        alloc: Global,
+        repository: &mut Repository<'_>,
+        tokens: &Tokens,
+        workspace: &mut Workspace,
+        events: &Events<Global>,
+    )
+        requires few { length tokens.now ≤ length repository.old.content.partners }
+        ensures run { Leaves tokens.now repository.old.content repository.new.content }
+        ensures partners { repository.new.content.partners ≡ repository.old.content.partners }
+    {
+        self.serve_ready(alloc, repository, tokens, workspace, events);
+        self.sweep(alloc, repository, tokens, workspace);
+    }
+
+    /// What is done for connections after each wait.
+    #[tactic(auto, using(crate::proofs::Running::leaves_more, crate::proofs::Running::leaves_none))]
+    fn serve_all(
+        &mut self,
+        alloc: Global,
+        repository: &mut Repository<'_>,
+        tokens: &Tokens,
+        workspace: &mut Workspace,
+        events: &Events<Global>,
+    )
+        requires few { length tokens.now ≤ length repository.old.content.partners }
+        ensures run { Leaves tokens.now repository.old.content repository.new.content }
+        ensures partners { repository.new.content.partners ≡ repository.old.content.partners }
+    {
+        self.serve_open(alloc, repository, tokens, workspace, events);
+        self.finish(alloc, repository, tokens, workspace);
+    }
+
+    /// What is done behind that: new connections are taken in, and standard input is looked at.
+    #[tactic(auto, using(crate::proofs::Running::leaves_more, crate::proofs::Running::leaves_none))]
+    fn look_around<R: Input>(
+        &mut self,
+        rt: &R,
+        alloc: Global,
+        repository: &mut Repository<'_>,
+        tokens: &Tokens,
+        workspace: &mut Workspace,
+    ) -> Result<(), ServeFault>
+        requires few { length tokens.now ≤ length repository.old.content.partners }
+        ensures run { Leaves tokens.now repository.old.content repository.new.content }
+        ensures partners { repository.new.content.partners ≡ repository.old.content.partners }
+    {
+        self.accept(alloc, repository, tokens, workspace)?;
+        self.look_at_input(rt)
+    }
+
     /// What is done after each wait.
     #[tactic(auto, using(crate::proofs::Running::leaves_more, crate::proofs::Running::leaves_none))]
     fn serve_once<R: Input>(
@@ -371,12 +348,8 @@ impl Serving {
         ensures run { Leaves tokens.now repository.old.content repository.new.content }
         ensures partners { repository.new.content.partners ≡ repository.old.content.partners }
     {
-        self.serve_ready(alloc, repository, tokens, workspace, events);
-        self.accept(alloc)?;
-        self.sweep(alloc, repository, tokens, workspace);
-        self.look_at_input(rt)?;
-        self.finish(alloc, repository, tokens, workspace);
-        Ok(())
+        self.serve_all(alloc, repository, tokens, workspace, events);
+        self.look_around(rt, alloc, repository, tokens, workspace)
     }
 }
 

@@ -1,6 +1,7 @@
 //! A socket that doesn't wait, as a reader and as a writer. What comes by it isn't known.
 use mio::net::TcpStream;
 use rp_io::{DeviceFault, Sink, Source};
+use std::io;
 use std::io::{Error, ErrorKind, Read, Write};
 
 /// Why a socket's last read or write gave nothing.
@@ -20,6 +21,14 @@ impl Trouble {
             ErrorKind::WouldBlock => Trouble::Blocks,
             ErrorKind::Interrupted => Trouble::Interrupted,
             _ => Trouble::Broken,
+        }
+    }
+
+    /// That of a write which took nothing.
+    fn of_write(failed: io::Result<usize>) -> Trouble {
+        match failed {
+            Ok(_) => Trouble::Broken,
+            Err(error) => Trouble::of(&error),
         }
     }
 }
@@ -97,12 +106,6 @@ impl<'s> SocketWriter<'s> {
     pub(crate) fn trouble(&self) -> Trouble {
         self.trouble
     }
-
-    fn fail(&mut self, trouble: Trouble) -> DeviceFault {
-        self.failures = self.failures.wrapping_add(1);
-        self.trouble = trouble;
-        DeviceFault
-    }
 }
 
 impl Sink for SocketWriter<'_> {
@@ -116,8 +119,11 @@ impl Sink for SocketWriter<'_> {
         let mut stream = self.stream;
         match stream.write(buf) {
             Ok(count) if count > 0 || buf.is_empty() => Ok(count),
-            Ok(_) => Err(self.fail(Trouble::Broken)),
-            Err(error) => Err(self.fail(Trouble::of(&error))),
+            failed => {
+                self.failures = self.failures.wrapping_add(1);
+                self.trouble = Trouble::of_write(failed);
+                Err(DeviceFault)
+            }
         }
     }
 }

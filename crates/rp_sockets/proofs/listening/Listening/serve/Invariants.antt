@@ -3,4 +3,4 @@ use Rattle.rp_http.specs.Turns.{Leaves}
 use Rattle.rp_sockets.proofs.listening.Listening.serve.Given as goal
 
 abbrev pub invariant-loop : goal.invariant-loop
-invariant-loop l = Leaves l.tokens l.initial.repository.content l.repository.content × (l.repository.content.partners ≡ l.initial.repository.content.partners)
+invariant-loop g l = Leaves l.tokens l.initial.repository.content l.repository.content × (l.repository.content.partners ≡ l.initial.repository.content.partners)
