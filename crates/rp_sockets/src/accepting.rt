@@ -87,15 +87,15 @@ impl Serving {
                 Ok(())
             }
             Missed::Lost => Ok(()),
-            Missed::NoRoom if self.spare.is_some() => {
+            Missed::Full if self.spare.is_some() => {
                 self.spare = None;
                 Ok(())
             }
-            Missed::NoRoom if !self.clients.is_empty() => {
+            Missed::Full if !self.clients.is_empty() => {
                 self.make_room(alloc, repository, tokens, workspace);
                 Ok(())
             }
-            Missed::NoRoom | Missed::Fault => Err(ServeFault::Accept(error)),
+            Missed::Full | Missed::Fault => Err(ServeFault::Accept(error)),
         }
     }
 

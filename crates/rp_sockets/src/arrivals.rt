@@ -9,7 +9,7 @@ pub(crate) enum Missed {
     /// That one came to nothing. Others may wait.
     Lost,
     /// No descriptor or no memory was found for it.
-    NoRoom,
+    Full,
     /// No more can be accepted.
     Fault,
 }
@@ -27,7 +27,7 @@ pub(crate) fn meaning_of(error: &Error) -> Missed {
         ErrorKind::WouldBlock => Missed::NoneWaits,
         ErrorKind::Interrupted | ErrorKind::ConnectionAborted => Missed::Lost,
         _ => match error.raw_os_error() {
-            Some(number) if NO_ROOM.contains(&number) => Missed::NoRoom,
+            Some(number) if NO_ROOM.contains(&number) => Missed::Full,
             Some(number) if OF_NETWORK.contains(&number) => Missed::Lost,
             _ => Missed::Fault,
         },
