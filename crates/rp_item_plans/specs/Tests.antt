@@ -1,14 +1,21 @@
--- The tests of requests on the caller's own items that the store and the rights don't make.
-use Rattle.std.specs.Prelude.{not, List, [], ◌∷◌, Option}
+-- The tests of requests on items that the store and the rights don't make, and what comes of them.
+use Rattle.std.specs.Prelude.{◌≡◌, ◌≢◌, not, List, [], ◌∷◌, Option, Some, None, Result, MatchResult}
 use Rattle.rp_rows.specs.declared.rows.Key.{Key}
 use Rattle.rp_rows.specs.declared.rows.Right.{Right}
 use Rattle.rp_rows.specs.declared.rows.Right.TheVariants.{Groups}
 use Rattle.rp_rows.specs.Rows.{Text, key_of}
 use Rattle.rp_plain.specs.declared.messages.Refusal.{Refusal}
-use Rattle.rp_plain.specs.declared.messages.Refusal.TheVariants.{UnknownSchema}
+use Rattle.rp_plain.specs.declared.messages.Refusal.TheVariants.{NoMemory, UnknownSchema}
+use Rattle.rp_plain.specs.declared.messages.Reply.TheVariants.{Done}
 use Rattle.rp_plain.specs.Readers.{Readers}
-use Rattle.rp_plain.specs.Meaning.{has_schema, name_fault, names_fault, when, is_no_partner, unseen, lacks}
+use Rattle.rp_plain.specs.Meaning.{has_schema, name_fault, names_fault, key_fault, when, is_no_partner, unseen, lacks}
 use Rattle.rp_plain.specs.Groups.{member_fault, is_of_other}
+use Rattle.rp_plans.specs.declared.edits.Edit.{Edit}
+use Rattle.rp_plans.specs.declared.edits.Plan.{Plan}
+
+-- of what is told of an item under this key, on which he has this right
+abbrev pub seen_tests : Readers → Key → Right → List (Option Refusal)
+seen_tests a k right = key_fault k ∷ is_no_partner a k.owner ∷ unseen right ∷ []
 
 -- of a new item of a schema, whose name is in upper case
 abbrev pub new_tests : Readers → Text → Text → List (Option Refusal)
@@ -30,3 +37,11 @@ member_tests a c group k = member_fault group k ∷ is_no_partner a k.owner ∷ 
 abbrev pub include_tests : Readers → Text → Text → Key → List (Option Refusal)
 include_tests a c group k =
     member_fault group k ∷ is_no_partner a k.owner ∷ unseen (a.group_right (key_of c group)) ∷ lacks Groups (a.model_right k) ∷ is_of_other (a.content k) (a.listing (key_of c group)) ∷ []
+
+-- this key, where there is no reason against; else the reason, or memory is wanting
+abbrev pub IsKeyUnless : Option Refusal → Key → Result Key Refusal → Type 0
+IsKeyUnless fault k result = MatchResult result (λ key. (key ≡ k) × (fault ≡ None)) (λ refusal. refusal ≢ NoMemory → fault ≡ Some refusal)
+
+-- the plan of this edit, which is answered by Done, or memory is wanting
+abbrev pub IsDone : Edit → Result Plan Refusal → Type 0
+IsDone e result = MatchResult result (λ plan. plan ≡ record { reply = Done; edits = e ∷ [] }) (λ refusal. refusal ≡ NoMemory)

@@ -6,10 +6,10 @@ ghost use Rattle.rp_readers.specs.Told.{told};
 ghost use Rattle.rp_plans.specs.Plans.{Plans};
 ghost use Rattle.rp_item_plans.specs.Tests.{grant_tests};
 
-use crate::models::own;
+use crate::models::{done, own_unless};
 use plain_data::Text;
 use rp_access::Change;
-use rp_plain::messages::{Refusal, Reply, Request};
+use rp_plain::messages::{Refusal, Request};
 use rp_plans::{Edit, Plan, first, is_no_partner, names_fault, unseen};
 use rp_readers::Readers;
 use rp_rows::rows::{Level, Right};
@@ -36,12 +36,9 @@ pub fn plan_grant(
 ) -> Result<Plan, Refusal>
     ensures { Plans (told asked.now) asked.now.caller.now (Request.GrantModel name to level) result }
 {
-    if let Some(refusal) = grant_fault(asked, &name, &to, asked.own_model_right(&name)) {
-        return Err(refusal);
-    }
-    let key = own(alloc, asked, name)?;
-    let edit = Edit::OfRights(Change::GrantModel(key, to, level));
-    Ok(Plan::of(alloc, Reply::Done, edit)?)
+    let fault = grant_fault(asked, &name, &to, asked.own_model_right(&name));
+    let key = own_unless(alloc, asked, name, fault)?;
+    done(alloc, Edit::OfRights(Change::GrantModel(key, to, level)))
 }
 
 /// No level of a partner on a model of the caller's.
@@ -53,10 +50,7 @@ pub fn plan_revoke(
 ) -> Result<Plan, Refusal>
     ensures { Plans (told asked.now) asked.now.caller.now (Request.RevokeModel name to) result }
 {
-    if let Some(refusal) = grant_fault(asked, &name, &to, asked.own_model_right(&name)) {
-        return Err(refusal);
-    }
-    let key = own(alloc, asked, name)?;
-    let edit = Edit::OfRights(Change::RevokeModel(key, to));
-    Ok(Plan::of(alloc, Reply::Done, edit)?)
+    let fault = grant_fault(asked, &name, &to, asked.own_model_right(&name));
+    let key = own_unless(alloc, asked, name, fault)?;
+    done(alloc, Edit::OfRights(Change::RevokeModel(key, to)))
 }

@@ -4,10 +4,10 @@ ghost use Rattle.rp_readers.specs.Told.{told};
 ghost use Rattle.rp_plans.specs.Plans.{Plans};
 
 use crate::grants::grant_fault;
-use crate::models::{new_fault, own, own_fault};
+use crate::models::{done, new_fault, own, own_fault, own_unless};
 use plain_data::Text;
 use rp_access::Change;
-use rp_plain::messages::{Refusal, Reply, Request};
+use rp_plain::messages::{Refusal, Request};
 use rp_plans::{Edit, Plan};
 use rp_readers::Readers;
 use std::alloc::Global;
@@ -26,8 +26,7 @@ pub fn plan_create_group(
         return Err(refusal);
     }
     let key = own(alloc, asked, name)?;
-    let edit = Edit::OfRights(Change::CreateGroup(key, schema));
-    Ok(Plan::of(alloc, Reply::Done, edit)?)
+    done(alloc, Edit::OfRights(Change::CreateGroup(key, schema)))
 }
 
 /// A group of the caller's is gone, with its grants.
@@ -38,12 +37,9 @@ pub fn plan_delete_group(
 ) -> Result<Plan, Refusal>
     ensures { Plans (told asked.now) asked.now.caller.now (Request.DeleteGroup name) result }
 {
-    if let Some(refusal) = own_fault(&name, asked.own_group_right(&name)) {
-        return Err(refusal);
-    }
-    let key = own(alloc, asked, name)?;
-    let edit = Edit::OfRights(Change::RemoveGroup(key));
-    Ok(Plan::of(alloc, Reply::Done, edit)?)
+    let fault = own_fault(&name, asked.own_group_right(&name));
+    let key = own_unless(alloc, asked, name, fault)?;
+    done(alloc, Edit::OfRights(Change::RemoveGroup(key)))
 }
 
 /// A partner may read a group of the caller's.
@@ -55,12 +51,9 @@ pub fn plan_grant_group(
 ) -> Result<Plan, Refusal>
     ensures { Plans (told asked.now) asked.now.caller.now (Request.GrantGroup name to) result }
 {
-    if let Some(refusal) = grant_fault(asked, &name, &to, asked.own_group_right(&name)) {
-        return Err(refusal);
-    }
-    let key = own(alloc, asked, name)?;
-    let edit = Edit::OfRights(Change::GrantGroup(key, to));
-    Ok(Plan::of(alloc, Reply::Done, edit)?)
+    let fault = grant_fault(asked, &name, &to, asked.own_group_right(&name));
+    let key = own_unless(alloc, asked, name, fault)?;
+    done(alloc, Edit::OfRights(Change::GrantGroup(key, to)))
 }
 
 /// A partner may not read a group of the caller's.
@@ -72,10 +65,7 @@ pub fn plan_revoke_group(
 ) -> Result<Plan, Refusal>
     ensures { Plans (told asked.now) asked.now.caller.now (Request.RevokeGroup name to) result }
 {
-    if let Some(refusal) = grant_fault(asked, &name, &to, asked.own_group_right(&name)) {
-        return Err(refusal);
-    }
-    let key = own(alloc, asked, name)?;
-    let edit = Edit::OfRights(Change::RevokeGroup(key, to));
-    Ok(Plan::of(alloc, Reply::Done, edit)?)
+    let fault = grant_fault(asked, &name, &to, asked.own_group_right(&name));
+    let key = own_unless(alloc, asked, name, fault)?;
+    done(alloc, Edit::OfRights(Change::RevokeGroup(key, to)))
 }

@@ -7,11 +7,12 @@ ghost use Rattle.rp_readers.specs.Told.{told};
 ghost use Rattle.rp_plans.specs.Plans.{Plans};
 ghost use Rattle.rp_item_plans.specs.Tests.{member_tests, include_tests};
 
-use crate::models::own;
+use crate::lists::seen_fault;
+use crate::models::{done, own_unless};
 use plain_data::Text;
 use rp_access::Change;
 use rp_plain::messages::{Refusal, Reply, Request};
-use rp_plans::{Edit, Plan, first, is_no_partner, key_fault, lacks, unseen, when};
+use rp_plans::{Edit, Plan, first, is_no_partner, lacks, unseen, when};
 use rp_readers::Readers;
 use rp_rows::names::is_valid_name;
 use rp_rows::rows::{Key, Listing, ModelContent, Right};
@@ -72,12 +73,9 @@ pub fn plan_include(
 ) -> Result<Plan, Refusal>
     ensures { Plans (told asked.now) asked.now.caller.now (Request.Include group model) result }
 {
-    if let Some(refusal) = include_fault(asked, &group, &model) {
-        return Err(refusal);
-    }
-    let group = own(alloc, asked, group)?;
-    let edit = Edit::OfRights(Change::Include(group, model));
-    Ok(Plan::of(alloc, Reply::Done, edit)?)
+    let fault = include_fault(asked, &group, &model);
+    let group = own_unless(alloc, asked, group, fault)?;
+    done(alloc, Edit::OfRights(Change::Include(group, model)))
 }
 
 /// A group of the caller's doesn't list a model.
@@ -89,24 +87,16 @@ pub fn plan_exclude(
 ) -> Result<Plan, Refusal>
     ensures { Plans (told asked.now) asked.now.caller.now (Request.Exclude group model) result }
 {
-    if let Some(refusal) = exclude_fault(asked, &group, &model) {
-        return Err(refusal);
-    }
-    let group = own(alloc, asked, group)?;
-    let edit = Edit::OfRights(Change::Exclude(group, model));
-    Ok(Plan::of(alloc, Reply::Done, edit)?)
+    let fault = exclude_fault(asked, &group, &model);
+    let group = own_unless(alloc, asked, group, fault)?;
+    done(alloc, Edit::OfRights(Change::Exclude(group, model)))
 }
 
 /// The models that a group lists, and which of them count.
 pub fn plan_members(alloc: Global, asked: &Readers<'_, '_>, group: &Key) -> Result<Plan, Refusal>
     ensures { Plans (told asked.now) asked.now.caller.now (Request.Members group.now) result }
 {
-    let tests = [
-        key_fault(group),
-        is_no_partner(asked, &group.owner),
-        unseen(asked.group_right(group)),
-    ];
-    if let Some(refusal) = first(&tests) {
+    if let Some(refusal) = seen_fault(asked, group, asked.group_right(group)) {
         return Err(refusal);
     }
     let members = asked.members(alloc, group)?;

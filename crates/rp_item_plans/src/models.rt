@@ -5,7 +5,7 @@ ghost use Rattle.rp_rows.specs.Rows.{key_of};
 ghost use Rattle.rp_plain.specs.Meaning.{first_some};
 ghost use Rattle.rp_readers.specs.Told.{told};
 ghost use Rattle.rp_plans.specs.Plans.{Plans};
-ghost use Rattle.rp_item_plans.specs.Tests.{new_tests, own_tests};
+ghost use Rattle.rp_item_plans.specs.Tests.{new_tests, own_tests, IsKeyUnless, IsDone};
 
 use plain_data::Text;
 use rp_plain::messages::{Refusal, Reply, Request};
@@ -21,6 +21,28 @@ pub fn own(alloc: Global, asked: &Readers<'_, '_>, name: Text) -> Result<Key, Al
 {
     let owner = asked.caller.copy(alloc)?;
     Ok(Key { owner, name })
+}
+
+/// The key of the caller's own item of this name, unless there is a reason against.
+pub fn own_unless(
+    alloc: Global,
+    asked: &Readers<'_, '_>,
+    name: Text,
+    fault: Option<Refusal>,
+) -> Result<Key, Refusal>
+    ensures { IsKeyUnless fault (key_of asked.now.caller.now name) result }
+{
+    if let Some(refusal) = fault {
+        return Err(refusal);
+    }
+    Ok(own(alloc, asked, name)?)
+}
+
+/// The plan of a request that is answered by no more than that it is done.
+pub fn done(alloc: Global, edit: Edit) -> Result<Plan, Refusal>
+    ensures { IsDone edit result }
+{
+    Ok(Plan::of(alloc, Reply::Done, edit)?)
 }
 
 /// Why an item of the caller's isn't created, of a schema whose name is in upper case.
@@ -54,18 +76,14 @@ pub fn plan_create(
         return Err(refusal);
     }
     let key = own(alloc, asked, name)?;
-    let edit = Edit::OfModel(Change::Create(key, schema));
-    Ok(Plan::of(alloc, Reply::Done, edit)?)
+    done(alloc, Edit::OfModel(Change::Create(key, schema)))
 }
 
 /// A model of the caller's is gone, with its grants.
 pub fn plan_delete(alloc: Global, asked: &Readers<'_, '_>, name: Text) -> Result<Plan, Refusal>
     ensures { Plans (told asked.now) asked.now.caller.now (Request.DeleteModel name) result }
 {
-    if let Some(refusal) = own_fault(&name, asked.own_model_right(&name)) {
-        return Err(refusal);
-    }
-    let key = own(alloc, asked, name)?;
-    let edit = Edit::OfModel(Change::Remove(key));
-    Ok(Plan::of(alloc, Reply::Done, edit)?)
+    let fault = own_fault(&name, asked.own_model_right(&name));
+    let key = own_unless(alloc, asked, name, fault)?;
+    done(alloc, Edit::OfModel(Change::Remove(key)))
 }

@@ -4,6 +4,7 @@ ghost use Rattle.rp_readers.specs.Listed.{TellsListed};
 ghost use Rattle.rp_readers.specs.Told.{told};
 ghost use Rattle.rp_plans.specs.Plans.{Plans};
 
+use crate::lists::seen_fault;
 use plain_data::Text;
 use rp_plain::messages::{Refusal, Reply, Request};
 use rp_plans::{Plan, first, is_no_partner, key_fault, unseen, when};
@@ -23,12 +24,7 @@ pub fn plan_extent(
     requires { TellsListed (told asked.now) }
     ensures { Plans (told asked.now) asked.now.caller.now (Request.Extent group.now entity.now) result }
 {
-    let tests = [
-        key_fault(group),
-        is_no_partner(asked, &group.owner),
-        unseen(asked.group_right(group)),
-    ];
-    if let Some(refusal) = first(&tests) {
+    if let Some(refusal) = seen_fault(asked, group, asked.group_right(group)) {
         return Err(refusal);
     }
     let counted = asked.counted(alloc, group)?;

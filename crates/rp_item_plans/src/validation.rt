@@ -7,11 +7,12 @@ ghost use Rattle.rp_readers.specs.Listed.{TellsListed, TellsPopulations, counted
 ghost use Rattle.rp_readers.specs.Told.{told};
 ghost use Rattle.rp_plans.specs.Plans.{Plans};
 
+use crate::lists::seen_fault;
 use plain_data::Rows;
 use rp_group_domain::CountedModel;
 use rp_plain::messages::{Refusal, Reply, Request};
 use rp_plain::reports::ToldReport;
-use rp_plans::{Plan, first, is_no_partner, key_fault, unseen};
+use rp_plans::Plan;
 use rp_readers::Readers;
 use rp_reports::SchemaRules;
 use rp_rows::rows::{Key, ModelContent};
@@ -70,12 +71,7 @@ pub fn plan_validate(
     requires schemas { rules.now ≡ (told asked.now).schemas }
     ensures { Plans (told asked.now) asked.now.caller.now (Request.Validate group.now) result }
 {
-    let tests = [
-        key_fault(group),
-        is_no_partner(asked, &group.owner),
-        unseen(asked.group_right(group)),
-    ];
-    if let Some(refusal) = first(&tests) {
+    if let Some(refusal) = seen_fault(asked, group, asked.group_right(group)) {
         return Err(refusal);
     }
     let report = validated(alloc, asked, rules, group)?;
