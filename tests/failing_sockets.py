@@ -91,7 +91,9 @@ def test_each_receive_fails():
         with serving(shim, FAIL_RECEIVE=nth) as server:
             with Client(server) as client:
                 client.send(ASKED)
-                client.half_close()
+                # (the connection may have ended before)
+                with contextlib.suppress(OSError):
+                    client.half_close()
                 seen = seen_to_the_end(client)
                 if seen != (SCHEMAS if nth > len(ASKED) else b""):
                     raise Wrong(f"{seen!r} is written")
