@@ -7,6 +7,8 @@ Fenced blocks of a page whose first line has one of these forms make up its exam
 
     ```json file=config.json     the block is the file config.json of the folder that examples run in
     ```sh example                the block is a command, run there by bash; rp_server is in its PATH
+    ```sh server                 the block starts `rp_server serve`, which goes on while the examples of the page run. The port 8080
+                                 stands for one that is free, here and in the commands
     ```text output               the block is exactly what the command before it prints
     ```json request              each line is a request; all those of a page are asked in one run, by its config.json
     ```json reply                the replies to the requests of the block before it, a line each
@@ -17,19 +19,22 @@ standard error and ends with status 0. There has to be at least one example.
 
 Each document that names the toolchain by its sum, as `logic 0123456789abcdef`, names the one that `rt version` prints.
 """
+import contextlib
 import os
 import re
 import shutil
 import subprocess
 import sys
 import tempfile
+import threading
 from typing import NamedTuple
 
 TOP = os.path.dirname(os.path.dirname(os.path.abspath(__file__)))
 PROGRAM = os.path.join(TOP, "crates/rp_server/out/rp_server")
-PAGES = ("README.md", "docs/DELIVERIES.md", "docs/REQUESTS.md", "docs/REFUSALS.md", "docs/REPORTS.md", "docs/EXCHANGE-FILES.md", "docs/EXPRESS-PROFILE.md",
+PAGES = ("README.md", "docs/DELIVERIES.md", "docs/HTTP.md", "docs/REQUESTS.md", "docs/REFUSALS.md", "docs/REPORTS.md", "docs/EXCHANGE-FILES.md", "docs/EXPRESS-PROFILE.md",
          "example/session/README.md", "example/assembly/README.md")
 BATCH = "rp_server batch --config config.json"
+PORT = "127.0.0.1:8080"
 SUM = re.compile(r"`(logic [0-9a-f]{16})`")
 
 
@@ -109,10 +114,45 @@ def fill(folder, program, page, files):
     return where, bin_folder
 
 
+@contextlib.contextmanager
+def served(command, where, env):
+    """Runs the server of a page, if it has one, and gives its address. It has to be there still at the end, and to have written one line."""
+    if command is None:
+        yield PORT
+        return
+    process = subprocess.Popen(["bash", "-c", f"exec {command.replace(PORT, '127.0.0.1:0')}"], cwd=where, env=env, stdin=subprocess.DEVNULL,
+                               stdout=subprocess.PIPE, stderr=subprocess.PIPE, text=True)
+    # (one that says nothing is ended, and so is the wait for its line)
+    timer = threading.Timer(60, process.kill)
+    timer.start()
+    try:
+        line = process.stderr.readline()
+        timer.cancel()
+        found = re.fullmatch(r"rp_server: listening on (127\.0\.0\.1:\d+)\n", line)
+        if not found:
+            sys.exit(f"check_readme: {command!r} wrote {line!r} on standard error")
+        yield found[1]
+        status = process.poll()
+    finally:
+        process.kill()
+        seen = process.communicate()
+    if status is not None or seen != ("", ""):
+        sys.exit(f"check_readme: {command!r} ended with status {status} and wrote {seen}")
+
+
 def first_difference(seen, wanted):
     """The first line of an output that is another one than wanted."""
     pairs = zip([*seen.splitlines(), "(the end)"], [*wanted.splitlines(), "(the end)"])
     return next((f"{it!r}\nin place of\n{other!r}" for it, other in pairs if it != other), "other line ends")
+
+
+def run_example(example, page, where, env, address):
+    done = subprocess.run(["bash", "-euo", "pipefail", "-c", example.command.replace(PORT, address)], cwd=where, env=env,
+                          input=example.given.encode(), capture_output=True, timeout=120, check=False)
+    seen, errors = done.stdout.decode(errors="replace"), done.stderr.decode(errors="replace")
+    if done.returncode != 0 or errors or seen != example.output:
+        sys.exit(f"check_readme: {page}: {example.command!r} gave status {done.returncode} and\n{errors}"
+                 f"{first_difference(seen, example.output)}")
 
 
 def run_examples(program, page):
@@ -123,14 +163,11 @@ def run_examples(program, page):
         sys.exit(f"check_readme: {page} has no example")
     with tempfile.TemporaryDirectory() as folder:
         where, bin_folder = fill(folder, program, page, files_of(blocks))
-        path = {**os.environ, "PATH": f"{bin_folder}:{os.environ['PATH']}"}
-        for example in examples:
-            done = subprocess.run(["bash", "-euo", "pipefail", "-c", example.command], cwd=where, env=path,
-                                  input=example.given.encode(), capture_output=True, timeout=120, check=False)
-            seen, errors = done.stdout.decode(errors="replace"), done.stderr.decode(errors="replace")
-            if done.returncode != 0 or errors or seen != example.output:
-                sys.exit(f"check_readme: {page}: {example.command!r} gave status {done.returncode} and\n{errors}"
-                         f"{first_difference(seen, example.output)}")
+        env = {**os.environ, "PATH": f"{bin_folder}:{os.environ['PATH']}", "no_proxy": "127.0.0.1"}
+        server = next((body for words, body in blocks if words[1:] == ["server"]), None)
+        with served(server, where, env) as address:
+            for example in examples:
+                run_example(example, page, where, env, address)
     return len(examples)
 
 

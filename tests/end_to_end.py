@@ -879,8 +879,7 @@ def test_command_line_faults():
         ["batch", "config.json"], ["batch", "--config"], ["batch", "--config", "--config"], ["batch", "--config", "-x"],
         [*given, "--config", "config.json"], [*given, "more"], [*given, "--load", "x"], [*given, "--save", "x"],
         [*given, "--listen", "127.0.0.1:0"], ["check"], ["check", "t.exp", "t.exp"], ["serve", *given[1:]],
-        ["serve", *given[1:], "--listen", "127.0.0.1:0", "--connections", "1"], ["batch", "-c", "config.json"],
-        ["batch", "--conf", "config.json"], ["batch", "--config", "config.json", "--", "x"],
+        ["batch", "-c", "config.json"], ["batch", "--conf", "config.json"], ["batch", "--config", "config.json", "--", "x"],
         ["two", "batch", "--config", "config.json"], [b"b\xff"], [b"\xc3", *given], ["batch", "--config", b"config.json\xff"], ["check", b"\xa0.exp"],
     ]
     with Repository() as folder:

@@ -31,7 +31,7 @@ from typing import NamedTuple
 
 TOP = os.path.dirname(os.path.dirname(os.path.abspath(__file__)))
 PROGRAM = os.path.join(TOP, "crates/rp_server/out/rp_server")
-ANN = {"name": "ann", "token": "a secret of ann's"}
+ANN = {"name": "ann", "token": "ta"}
 COLUMN = 46
 
 

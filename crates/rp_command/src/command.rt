@@ -1,12 +1,13 @@
 //! What the command line asks for.
 use crate::fault::CommandLineFault;
 use crate::texts::{
-    ABOUT, BATCH_ABOUT, BATCH_AFTER, CHECK_ABOUT, CHECK_AFTER, VALIDATE_ABOUT, VALIDATE_AFTER,
-    VERSION,
+    ABOUT, BATCH_ABOUT, BATCH_AFTER, CHECK_ABOUT, CHECK_AFTER, SERVE_ABOUT, SERVE_AFTER,
+    VALIDATE_ABOUT, VALIDATE_AFTER, VERSION,
 };
 use clap::error::ErrorKind;
 use clap::{Arg, ArgAction, ArgMatches, Error};
 use std::alloc::{AllocError, Global};
+use std::net::SocketAddr;
 
 /// How many files are validated at most.
 const MOST_FILES: usize = 50;
@@ -18,6 +19,8 @@ pub enum Command<'a> {
     Help(Error),
     /// To answer the lines of standard input, by the configuration in the file of this path.
     Batch(&'a str),
+    /// To serve connections.
+    Serve(Service<'a>),
     /// To tell whether the file of this path is a schema.
     Check(&'a str),
     /// The same, with the lines of the text.
@@ -49,18 +52,69 @@ pub struct Delivery<'a> {
     pub page: Option<&'a str>,
 }
 
-/// `batch`, with its arguments.
-fn batch_command<'a>(alloc: Global) -> Result<clap::Command<'a>, AllocError> {
-    let config = Arg::new(alloc, "config")
+/// The connections that are to be served.
+#[derive(Clone, Copy, Drop)]
+pub struct Service<'a> {
+    /// The path of the configuration.
+    pub config: &'a str,
+    /// Where they come.
+    pub address: SocketAddr,
+    /// How many, if there is an end to them.
+    pub connections: Option<u32>,
+    /// Whether serving ends with standard input.
+    pub until_input_ends: bool,
+}
+
+/// The configuration that a command is given.
+fn config_option<'a>(alloc: Global) -> Arg<'a> {
+    Arg::new(alloc, "config")
         .long("config")
         .value_name("FILE")
         .help("The configuration, as shown below")
         .required(true)
-        .action(ArgAction::Set);
+        .action(ArgAction::Set)
+}
+
+/// `batch`, with its arguments.
+fn batch_command<'a>(alloc: Global) -> Result<clap::Command<'a>, AllocError> {
     clap::Command::new(alloc, "batch")
         .about(BATCH_ABOUT)
         .after_help(BATCH_AFTER)
-        .arg(config)
+        .arg(config_option(alloc))
+}
+
+/// `serve` with its configuration and its address.
+fn with_address<'a>(alloc: Global) -> Result<clap::Command<'a>, AllocError> {
+    let address = Arg::new(alloc, "listen")
+        .long("listen")
+        .value_name("ADDRESS")
+        .help("An IP address with a port, as 127.0.0.1:8080 or [::1]:8080")
+        .required(true)
+        .action(ArgAction::Set);
+    clap::Command::new(alloc, "serve")
+        .about(SERVE_ABOUT)
+        .after_help(SERVE_AFTER)
+        .arg(config_option(alloc))?
+        .arg(address)
+}
+
+/// The same with `--connections`.
+fn with_connections<'a>(alloc: Global) -> Result<clap::Command<'a>, AllocError> {
+    let connections = Arg::new(alloc, "connections")
+        .long("connections")
+        .value_name("N")
+        .help("Ends after N connections, 1 to 4294967295")
+        .action(ArgAction::Set);
+    with_address(alloc)?.arg(connections)
+}
+
+/// `serve`, with its arguments.
+fn serve_command<'a>(alloc: Global) -> Result<clap::Command<'a>, AllocError> {
+    let until = Arg::new(alloc, "until-input-ends")
+        .long("until-input-ends")
+        .help("Ends when standard input has ended")
+        .action(ArgAction::SetTrue);
+    with_connections(alloc)?.arg(until)
 }
 
 /// `check`, with its arguments.
@@ -164,10 +218,16 @@ fn with_check<'a>(alloc: Global) -> Result<clap::Command<'a>, AllocError> {
     with_batch(alloc)?.subcommand(check)
 }
 
+/// The program, with `serve` too.
+fn with_serve<'a>(alloc: Global) -> Result<clap::Command<'a>, AllocError> {
+    let serve = serve_command(alloc)?;
+    with_check(alloc)?.subcommand(serve)
+}
+
 /// The program, with all commands.
 fn whole<'a>(alloc: Global) -> Result<clap::Command<'a>, AllocError> {
     let validate = validate_command(alloc)?;
-    with_check(alloc)?.subcommand(validate)
+    with_serve(alloc)?.subcommand(validate)
 }
 
 /// What these words ask for, the program's own name first.
@@ -186,6 +246,7 @@ fn asked_in<'a>(
 ) -> Result<Option<Command<'a>>, CommandLineFault> {
     match matches.subcommand() {
         Some(("validate", found)) => delivery_in(alloc, found),
+        Some(("serve", found)) => Ok(Some(Command::Serve(service_in(found)?))),
         Some((name, found)) => Ok(one_file_in(name, found)),
         None => Ok(None),
     }
@@ -198,6 +259,37 @@ fn one_file_in<'a>(name: &str, found: &ArgMatches<'a>) -> Option<Command<'a>> {
         "check" if found.get_flag("explain") => found.get_str("file").map(Command::Explain),
         "check" => found.get_str("file").map(Command::Check),
         _ => None,
+    }
+}
+
+/// The connections that `serve` is asked for.
+fn service_in<'a>(found: &ArgMatches<'a>) -> Result<Service<'a>, CommandLineFault> {
+    let (Some(config), Some(address)) = (found.get_str("config"), found.get_str("listen")) else {
+        return Err(CommandLineFault::Incomplete);
+    };
+    let Ok(address) = address.parse::<SocketAddr>() else {
+        return Err(CommandLineFault::NoAddress);
+    };
+    let connections = match found.get_str("connections") {
+        Some(digits) => Some(number_of(digits).ok_or(CommandLineFault::NoNumber)?),
+        None => None,
+    };
+    Ok(Service {
+        config,
+        address,
+        connections,
+        until_input_ends: found.get_flag("until-input-ends"),
+    })
+}
+
+/// The number that these digits are, from 1 on.
+fn number_of(digits: &str) -> Option<u32> {
+    if !digits.bytes().all(|byte| byte.is_ascii_digit()) {
+        return None;
+    }
+    match digits.parse::<u32>() {
+        Ok(0) | Err(_) => None,
+        Ok(number) => Some(number),
     }
 }
 

@@ -11,6 +11,10 @@ pub enum CommandLineFault {
     Incomplete,
     /// The page would be written over a file that is to be read.
     PageOverInput,
+    /// Where connections are to come is no address.
+    NoAddress,
+    /// How many connections are to come is no number.
+    NoNumber,
     /// Memory is wanting.
     NoMemory,
 }
@@ -22,11 +26,17 @@ impl fmt::Display for CommandLineFault {
             CommandLineFault::Incomplete => {
                 write_usage(
                     f,
-                    "batch wants --config FILE, check wants FILE, validate --schema FILE and 1 to 50 files",
+                    "batch wants --config FILE, serve --config FILE and --listen ADDRESS, check FILE, validate --schema FILE and 1 to 50 files",
                 )
             }
             CommandLineFault::PageOverInput => {
                 write_usage(f, "--html names a file that is to be read")
+            }
+            CommandLineFault::NoAddress => {
+                write_usage(f, "--listen wants an IP address with a port")
+            }
+            CommandLineFault::NoNumber => {
+                write_usage(f, "--connections wants a number from 1 to 4294967295")
             }
             CommandLineFault::NoMemory => f.write_str("out of memory"),
         }

@@ -57,6 +57,42 @@ schema of 8 MiB some 160 MB and two seconds. All that is put stays in memory, an
 The status is 0 at the end of the input. It is 2, with one line on standard error, where the command
 line or a file is wrong or where the input or the output fails.";
 
+pub const SERVE_ABOUT: &str =
+    "Answers the same requests over HTTP, from any number of partners at a time.";
+
+pub const SERVE_AFTER: &str = "\
+As in
+
+  rp_server serve --config config.json --listen 127.0.0.1:8080
+  curl -H 'Authorization: Bearer ta' http://127.0.0.1:8080/v1/items
+
+The configuration is that of batch. A partner is known by his token. Once it
+listens it writes one line on standard error, with the port that was chosen
+where 0 was asked for:
+
+  rp_server: listening on 127.0.0.1:8080
+
+These requests have paths of their own, and need no body:
+
+  GET /v1/schemas                    schemas
+  GET /v1/items                      list
+  GET /v1/models/OWNER/NAME          names
+  GET /v1/models/OWNER/NAME/file     export, with its links
+  GET /v1/groups/OWNER/NAME          members
+
+All others are the body of POST /v1/requests, which names no partner in \"as\":
+
+  curl -H 'Authorization: Bearer ta' -d '{\"do\":\"list\"}' http://127.0.0.1:8080/v1/requests
+
+Up to 512 connections are open at once. One that is quiet for a minute is
+ended, and so is one whose head or body comes too slowly.
+
+It serves until it is killed; with --connections N until N connections have
+ended; with --until-input-ends until standard input has ended and what came
+whole is answered. Then the status is 0. All that is put stays in memory, and is
+gone at the end. The status is 2, with one line on standard error, where the
+command line, a file or a token is wrong or the address can't be listened on.";
+
 pub const CHECK_ABOUT: &str = "Reads an EXPRESS schema, and tells its name or its first fault.";
 
 pub const CHECK_AFTER: &str = "\

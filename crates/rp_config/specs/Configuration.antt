@@ -27,6 +27,13 @@ name_in ms = if has_only (codes "name" ∷ codes "token" ∷ []) ms then option_
 abbrev pub name_of : Data → Option (List ℕ)
 name_of partner = option_and_then name_in (as_object partner)
 
+-- the token of a partner, who has a name too and nothing else
+abbrev pub token_in : Members → Option (List ℕ)
+token_in ms = if has_only (codes "name" ∷ codes "token" ∷ []) ms then option_and_then (λ name. text_in (codes "token") ms) (text_in (codes "name") ms) else None
+
+abbrev pub token_of : Data → Option (List ℕ)
+token_of partner = option_and_then token_in (as_object partner)
+
 -- how many partners and schemas there are at most
 abbrev pub max_partners : ℕ
 max_partners = 1000
@@ -34,15 +41,15 @@ max_partners = 1000
 abbrev pub max_schemas : ℕ
 max_schemas = 100
 
-abbrev pub unless_many : List (List ℕ) → List (List ℕ) → Option Config
-unless_many names paths = if nat_lt max_partners (length names) || nat_lt max_schemas (length paths) then None else Some (record { partners = names; schemas = paths })
+abbrev pub unless_many : List (List ℕ) → List (List ℕ) → List (List ℕ) → Option Config
+unless_many names tokens paths = if nat_lt max_partners (length names) || nat_lt max_schemas (length paths) then None else Some (record { partners = names; tokens = tokens; schemas = paths })
 
--- the names of the partners and the paths of the schemas' files, each list in its order
+-- the names and the tokens of the partners and the paths of the schemas' files, each list in its order
 abbrev pub config_in : Members → Option Config
 config_in ms =
     if has_only (codes "partners" ∷ codes "schemas" ∷ []) ms then
     option_and_then (λ partners. option_and_then (λ schemas.
-    option_and_then (λ names. option_and_then (λ paths. unless_many names paths) (each as_str schemas)) (each name_of partners))
+    option_and_then (λ names. option_and_then (λ tokens. option_and_then (λ paths. unless_many names tokens paths) (each as_str schemas)) (each token_of partners)) (each name_of partners))
     (list_in (codes "schemas") ms)) (list_in (codes "partners") ms)
     else None
 

@@ -30,6 +30,6 @@ abbrev pub schemas_at : Held → List (List ℕ) → Result (List Checked) LoadF
 schemas_at held [] = Ok []
 schemas_at held (path ∷ paths) = and_then (schema_at held path) (λ found. and_then (schemas_at held paths) (λ more. Ok (found ∷ more)))
 
--- The partners of the configuration at a path, and the schemas that it names; else the first fault.
+-- The partners of the configuration at a path with their tokens, and the schemas that it names; else the first fault.
 abbrev pub loaded_at : Held → List ℕ → Result Loaded LoadFault
-loaded_at held path = and_then (config_at held path) (λ config. and_then (schemas_at held config.schemas) (λ found. Ok (record { partners = config.partners; schemas = found })))
+loaded_at held path = and_then (config_at held path) (λ config. and_then (schemas_at held config.schemas) (λ found. Ok (record { partners = config.partners; tokens = config.tokens; schemas = found })))

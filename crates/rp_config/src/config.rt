@@ -1,5 +1,5 @@
 //! The configuration: `{"partners":[{"name":"ann","token":"ta"}],"schemas":["t.exp"]}`.
-ghost use Rattle.std.specs.Prelude.{◌≡◌, Some, None, IfOk, IsErrOf, option_map, option_and_then};
+ghost use Rattle.std.specs.Prelude.{◌≡◌, length, Some, None, IfOk, IsErrOf, option_map, option_and_then};
 ghost use Rattle.serde_json.specs.Find.{as_str, as_object};
 ghost use Rattle.serde_json.specs.View.{view, items_view};
 ghost use Rattle.rp_config.specs.Configuration as spec;
@@ -19,6 +19,8 @@ pub(crate) const MAX_SCHEMAS: usize = 100;
 pub struct Config {
     /// The names of the partners, in their order.
     pub partners: Rows<Text>,
+    /// Their tokens, in the same order.
+    pub tokens: Rows<Text>,
     /// The paths of the schemas' files, in their order.
     pub schemas: Rows<Text>,
 }
@@ -58,6 +60,7 @@ impl<T: Drop> From<AllocFailed<T>> for ConfigFault {
 /// any, and there are at most 1,000 partners and 100 schemas.
 pub fn config_of(alloc: Global, bytes: &[u8]) -> Result<Config, ConfigFault>
     ensures ok { IfOk result (λ config. spec.config_of bytes.now ≡ Some config) }
+    ensures tokens { IfOk result (λ config. length config.tokens ≡ length config.partners) }
     ensures wrong { IsErrOf result ConfigFault.Wrong → spec.config_of bytes.now ≡ None }
 {
     match Value::from_slice(alloc, bytes) {
@@ -69,6 +72,7 @@ pub fn config_of(alloc: Global, bytes: &[u8]) -> Result<Config, ConfigFault>
 
 fn config_in(alloc: Global, value: &Value) -> Result<Config, ConfigFault>
     ensures ok { IfOk result (λ config. option_and_then spec.config_in (as_object (view value.now)) ≡ Some config) }
+    ensures tokens { IfOk result (λ config. length config.tokens ≡ length config.partners) }
     ensures wrong { IsErrOf result ConfigFault.Wrong → option_and_then spec.config_in (as_object (view value.now)) ≡ None }
 {
     let Some(members) = value.as_object() else {
@@ -83,16 +87,22 @@ fn config_in(alloc: Global, value: &Value) -> Result<Config, ConfigFault>
     let Some(schemas) = value.get("schemas").and_then(Value::as_array) else {
         return Err(ConfigFault::Wrong);
     };
-    let partners = names_in(alloc, partners)?;
+    let names = names_in(alloc, partners)?;
+    let tokens = tokens_in(alloc, partners)?;
     let schemas = paths_in(alloc, schemas)?;
-    if partners.len() > MAX_PARTNERS || schemas.len() > MAX_SCHEMAS {
+    if names.len() > MAX_PARTNERS || schemas.len() > MAX_SCHEMAS {
         return Err(ConfigFault::Wrong);
     }
-    Ok(Config { partners, schemas })
+    Ok(Config {
+        partners: names,
+        tokens,
+        schemas,
+    })
 }
 
 fn names_in(alloc: Global, partners: &[Value]) -> Result<Rows<Text>, ConfigFault>
     ensures ok { IfOk result (λ names. spec.each spec.name_of (items_view partners.now) ≡ Some names) }
+    ensures len { IfOk result (λ names. length names ≡ length partners.now) }
     ensures wrong { IsErrOf result ConfigFault.Wrong → spec.each spec.name_of (items_view partners.now) ≡ None }
 {
     let mut names = Rows::new(alloc);
@@ -114,6 +124,32 @@ fn name_in(partner: &Value) -> Option<&str>
     }
     let _token = partner.get("token").and_then(Value::as_str)?;
     partner.get("name").and_then(Value::as_str)
+}
+
+fn tokens_in(alloc: Global, partners: &[Value]) -> Result<Rows<Text>, ConfigFault>
+    ensures ok { IfOk result (λ tokens. spec.each spec.token_of (items_view partners.now) ≡ Some tokens) }
+    ensures len { IfOk result (λ tokens. length tokens ≡ length partners.now) }
+    ensures wrong { IsErrOf result ConfigFault.Wrong → spec.each spec.token_of (items_view partners.now) ≡ None }
+{
+    let mut tokens = Rows::new(alloc);
+    for partner in partners {
+        let Some(token) = token_in(partner) else {
+            return Err(ConfigFault::Wrong);
+        };
+        tokens.push(Text::from_str(alloc, token)?)?;
+    }
+    Ok(tokens)
+}
+
+/// The token of a partner, who has a name too.
+fn token_in(partner: &Value) -> Option<&str>
+    ensures { option_map (λ token. token.now) result ≡ spec.token_of (view partner.now) }
+{
+    if !has_only_keys(partner.as_object()?, &["name", "token"]) {
+        return None;
+    }
+    let _name = partner.get("name").and_then(Value::as_str)?;
+    partner.get("token").and_then(Value::as_str)
 }
 
 fn paths_in(alloc: Global, schemas: &[Value]) -> Result<Rows<Text>, ConfigFault>

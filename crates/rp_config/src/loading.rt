@@ -1,5 +1,5 @@
 //! The configuration, and the schemas that it names.
-ghost use Rattle.std.specs.Prelude.{◌≡◌, IfOk, IfSome};
+ghost use Rattle.std.specs.Prelude.{◌≡◌, length, IfOk, IfSome};
 ghost use Rattle.plain_data.specs.Gives.{Gives};
 ghost use Rattle.ex_check.specs.Check as check;
 ghost use Rattle.rp_config.specs.Loading as spec;
@@ -16,6 +16,8 @@ use std::alloc::{AllocError, Global};
 pub struct Loaded {
     /// The names of the partners, in their order.
     pub partners: Rows<Text>,
+    /// Their tokens, in the same order.
+    pub tokens: Rows<Text>,
     /// The schemas, in the order of their files.
     pub schemas: Rows<Compiled>,
 }
@@ -27,20 +29,30 @@ pub fn load_all<D: Folder>(
     folder: &D,
     path: &str,
 ) -> Result<Loaded, Failure<LoadFault>>
-    ensures { IfSome (D.files folder.now) (λ held. Gives (λ loaded. loaded) result (spec.loaded_at held path.now)) }
+    ensures loaded { IfSome (D.files folder.now) (λ held. Gives (λ loaded. loaded) result (spec.loaded_at held path.now)) }
+    ensures tokens { IfOk result (λ loaded. length loaded.tokens ≡ length loaded.partners) }
 {
-    let Config { partners, schemas } = config_at(alloc, folder, path)?;
+    let Config {
+        partners,
+        tokens,
+        schemas,
+    } = config_at(alloc, folder, path)?;
     let schemas = schemas_at(alloc, folder, schemas.as_slice())?;
-    Ok(Loaded { partners, schemas })
+    Ok(Loaded {
+        partners,
+        tokens,
+        schemas,
+    })
 }
 
 /// The configuration in the file of this path.
-pub(crate) fn config_at<D: Folder>(
+pub fn config_at<D: Folder>(
     alloc: Global,
     folder: &D,
     path: &str,
 ) -> Result<Config, Failure<LoadFault>>
-    ensures { IfSome (D.files folder.now) (λ held. Gives (λ config. config) result (spec.config_at held path.now)) }
+    ensures tokens { IfOk result (λ config. length config.tokens ≡ length config.partners) }
+    ensures config { IfSome (D.files folder.now) (λ held. Gives (λ config. config) result (spec.config_at held path.now)) }
 {
     let bytes = file_bytes(alloc, folder, path)?;
     match config_of(alloc, &bytes) {

@@ -30,6 +30,26 @@ pub fn partner_twice_in<D: Folder>(
     }
 }
 
+/// The first two partners in the configuration at this path who have one token. It is read once more.
+pub fn token_twice_in<D: Folder>(
+    alloc: Global,
+    folder: &D,
+    path: &str,
+) -> Result<Option<String>, Failure<LoadFault>> {
+    let config = config_at(alloc, folder, path)?;
+    let names = config.partners.as_slice();
+    let Some((first, again)) = first_again(config.tokens.as_slice()) else {
+        return Ok(None);
+    };
+    match (names.get(first), names.get(again)) {
+        (Some(first), Some(again)) => {
+            let (first, again) = (Shown(first.as_str()), Shown(again.as_str()));
+            Ok(Some(format!(in alloc; "{first} and {again}")?))
+        }
+        _ => Ok(None),
+    }
+}
+
 /// The name of the schema in the file of this path.
 fn name_at<D: Folder>(alloc: Global, folder: &D, path: &str) -> Result<Text, Failure<LoadFault>> {
     let schema = schema_at(alloc, folder, path)?;

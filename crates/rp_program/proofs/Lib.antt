@@ -1,3 +1,4 @@
 pub mod StartLemmas
 pub mod CheckLemmas
 pub mod ValidationLemmas
+pub mod ServeLemmas

@@ -3,3 +3,4 @@ pub mod Runs
 pub mod Checks
 pub mod Statuses
 pub mod Validations
+pub mod Served

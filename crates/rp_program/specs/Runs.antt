@@ -3,7 +3,7 @@ use Rattle.std.specs.Prelude.{ℕ}
 use Rattle.rp_plain.specs.Plain.{Plain}
 use Rattle.rp_plain.specs.Valid.{IsValid}
 use Rattle.rp_program.specs.declared.ending.Done.{Done}
-use Rattle.rp_program.specs.declared.ending.Done.TheVariants.{Helped, Answered, Checked, Validated}
+use Rattle.rp_program.specs.declared.ending.Done.TheVariants.{Helped, Answered, Served, Checked, Validated}
 
 -- a run from one such repository, which ends so
 pub record RunsFrom (IsStart : Plain → Type 0) (Ends : Plain → Plain → Type 0) : Type 0 where
@@ -17,5 +17,6 @@ pub record RunsFrom (IsStart : Plain → Type 0) (Ends : Plain → Plain → Typ
 abbrev pub IsAnswered : Done → (ℕ → Type 0) → Type 0
 IsAnswered (Answered lines) Is = Is lines
 IsAnswered Helped Is = ⊥
+IsAnswered Served Is = ⊥
 IsAnswered (Checked verdict) Is = ⊥
 IsAnswered (Validated judgement) Is = ⊥

@@ -2,6 +2,9 @@
 use Rattle.std.specs.Prelude.{◌≡◌, ℕ, List, Option, Some, None, Result, Ok, Err}
 use Rattle.plain_data.specs.declared.failure.Failure.{Failure}
 use Rattle.plain_data.specs.declared.failure.Failure.TheVariants as failure
+use Rattle.ex_types.specs.Checked.{Checked}
+use Rattle.http_routes.specs.declared.tokens.TokenFault.{TokenFault}
+use Rattle.http_routes.specs.Tokens.{token_fault}
 use Rattle.ex_check.specs.declared.report.CheckFault.{CheckFault}
 use Rattle.ex_check.specs.declared.report.CheckFault.TheVariants as checked
 use Rattle.rp_files.specs.Files.{Held, file_at}
@@ -13,19 +16,23 @@ use Rattle.rp_plain.specs.declared.messages.NewFault.TheVariants as new
 use Rattle.rp_plain.specs.Opening.{new_fault, opened}
 use Rattle.rp_plain.specs.Plain.{Plain}
 use Rattle.rp_program.specs.declared.fault.StartFault.{StartFault}
-use Rattle.rp_program.specs.declared.fault.StartFault.TheVariants.{Load, New}
+use Rattle.rp_program.specs.declared.fault.StartFault.TheVariants.{Load, New, Tokens}
 use Rattle.rp_program.specs.declared.fault.Fault.{Fault}
 use Rattle.rp_program.specs.declared.fault.Fault.TheVariants.{Start, Write}
 
 -- ---- a repository
 
-abbrev pub unless : Option NewFault → Plain → Result Plain StartFault
-unless None r = Ok r
-unless (Some fault) r = Err (New fault)
+abbrev pub unless : Option NewFault → Option TokenFault → Plain → Result Plain StartFault
+unless None None r = Ok r
+unless None (Some fault) r = Err (Tokens fault)
+unless (Some fault) tokens r = Err (New fault)
 
--- the repository of what was loaded, empty, or why there is none
+-- the repository of these schemas and partners, empty, or why there is none: what is wrong with their tokens comes last
+abbrev pub repository_with : List Checked → List (List ℕ) → List (List ℕ) → Result Plain StartFault
+repository_with schemas partners tokens = unless (new_fault schemas partners) (token_fault tokens) (opened schemas partners)
+
 abbrev pub repository_of : Loaded → Result Plain StartFault
-repository_of loaded = unless (new_fault loaded.schemas loaded.partners) (opened loaded.schemas loaded.partners)
+repository_of loaded = repository_with loaded.schemas loaded.partners loaded.tokens
 
 abbrev pub repository_if : Result Loaded LoadFault → Result Plain StartFault
 repository_if (Ok loaded) = repository_of loaded
@@ -60,6 +67,9 @@ load_failure (failure.Fault fault) = failure.Fault (Load fault)
 abbrev pub new_failure : NewFault → Failure StartFault
 new_failure new.NoMemory = failure.NoMemory
 new_failure fault = failure.Fault (New fault)
+
+abbrev pub bad_tokens : TokenFault → Failure StartFault
+bad_tokens fault = failure.Fault (Tokens fault)
 
 abbrev pub check_fault : CheckFault → Fault
 check_fault checked.NoMemory = Start failure.NoMemory

@@ -8,8 +8,8 @@ ghost use Rattle.rp_program.specs.Validations.{IsValidated};
 
 use crate::ending::Done;
 use crate::fault::Fault;
+use crate::opening::lent;
 use crate::pages::Pages;
-use crate::running::lent;
 use ex_compiled::Compiled;
 use plain_data::{Failure, Text};
 use rp_delivery::{

@@ -12,6 +12,8 @@ pub enum Done {
     Helped,
     /// It answered all lines of the input, so many.
     Answered(u64),
+    /// It served connections, until that was to end.
+    Served,
     /// It told whether a text is a schema.
     Checked(Verdict),
     /// It validated files, of which this is said.
@@ -23,7 +25,8 @@ pub fn status_of<F>(ended: &Result<Done, F>) -> u8
     ensures { result ≡ spec.status_of ended.now }
 {
     match ended {
-        Ok(Done::Helped | Done::Answered(_) | Done::Checked(Verdict::Accepted)) => 0,
+        Ok(Done::Helped | Done::Answered(_) | Done::Served) => 0,
+        Ok(Done::Checked(Verdict::Accepted)) => 0,
         Ok(Done::Validated(Judgement::Kept)) => 0,
         Ok(Done::Checked(Verdict::Refused) | Done::Validated(Judgement::NotKept)) => 1,
         Err(_) => 2,

@@ -1,10 +1,13 @@
 //! Why a command ends before its work is done.
 use ex_check::CheckFault;
+use http_routes::TokenFault;
 use plain_data::{Failure, Text};
 use rp_files::LoadFault;
 use rp_repo::NewFault;
+use rp_sockets::ServeFault;
 use std::alloc::AllocError;
 use std::io;
+use std::net::SocketAddr;
 
 /// Why there is nothing to work on.
 #[derive(Drop)]
@@ -13,6 +16,8 @@ pub enum StartFault {
     Load(LoadFault),
     /// There is no repository of these schemas and partners.
     New(NewFault),
+    /// The partners' tokens are wrong.
+    Tokens(TokenFault),
 }
 
 /// Why a command ends before its work is done.
@@ -28,6 +33,10 @@ pub enum Fault {
     Refused(Text, Text),
     /// The page that is wanted in the file of this path can't be written. All else was.
     Page(Text, io::Error),
+    /// The address can't be listened on.
+    Listen(SocketAddr, io::Error),
+    /// Serving ended before its end.
+    Serve(ServeFault),
 }
 
 impl From<Failure<LoadFault>> for Fault {
@@ -54,6 +63,18 @@ impl From<NewFault> for Fault {
             NewFault::NoMemory => Fault::Start(Failure::NoMemory),
             _ => Fault::Start(Failure::Fault(StartFault::New(fault))),
         }
+    }
+}
+
+impl From<TokenFault> for Fault {
+    ghost use Rattle.std.specs.Prelude.{◌≡◌};
+    ghost use Rattle.rp_program.specs.declared.fault.Fault.TheVariants.{Start};
+    ghost use Rattle.rp_program.specs.Starts.{bad_tokens};
+
+    ghost from_gives = { λ fault e. e ≡ Start (bad_tokens fault) };
+
+    fn from(fault: TokenFault) -> Fault {
+        Fault::Start(Failure::Fault(StartFault::Tokens(fault)))
     }
 }
 

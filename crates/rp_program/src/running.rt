@@ -10,10 +10,11 @@ ghost use Rattle.rp_program.specs.Runs.{RunsFrom, IsAnswered};
 
 use crate::ending::Done;
 use crate::fault::Fault;
+use crate::opening::open;
 use rp_config::{Loaded, load_all};
 use rp_files::Folder;
-use rp_repo::{Compiled, LoadedSchema, Repository, RunFault, Sink, Source, run_lines};
-use std::alloc::{AllocError, Global};
+use rp_repo::{RunFault, Sink, Source, run_lines};
+use std::alloc::Global;
 use std::mem;
 
 /// Answers all lines of the reader, by the repository of the partners and schemas that the configuration in the file of
@@ -49,17 +50,6 @@ pub fn batch<D: Folder, R: Source, W: Sink>(
     run_loaded(alloc, loaded, reader, writer)
 }
 
-/// The schemas, with what is found in them once. This isn't let go of, since the process is to end with what it is lent to.
-pub(crate) fn lent<'s>(
-    alloc: Global,
-    schemas: &'s [Compiled],
-) -> Result<&'s [LoadedSchema<'s>], AllocError>
-    ensures { IfOk result (λ lent. lent.now ≡ schemas.now) }
-{
-    let loaded = LoadedSchema::all(alloc, schemas)?;
-    Ok(loaded.leak())
-}
-
 /// The same, by the repository of what was loaded.
 fn run_loaded<R: Source, W: Sink>(
     alloc: Global,
@@ -80,9 +70,12 @@ fn run_loaded<R: Source, W: Sink>(
     ensures start { (why : Failure StartFault) → IsErrOf result (Fault.Start why) →
         (reader.new ≡ reader.old) × (writer.new ≡ writer.old) × Fails why (repository_of loaded) }
 {
-    let Loaded { partners, schemas } = loaded;
-    let schemas_lent = lent(alloc, schemas.as_slice())?;
-    let mut repository = Repository::new(alloc, schemas_lent, partners.into_vec())?;
+    let Loaded {
+        partners,
+        tokens,
+        schemas,
+    } = loaded;
+    let (mut repository, _tokens) = open(alloc, schemas.as_slice(), partners, tokens)?;
     let ended = run_lines(alloc, &mut repository, reader, writer);
     // The process ends, and all of its memory goes with it. To give that back value by value would take long.
     mem::forget(repository);

@@ -4,10 +4,11 @@ use plain_data::{Failure, Text};
 use rp_command::CommandLineFault;
 use rp_config::Shown;
 use rp_files::LoadFault;
-use rp_program::{Fault as CommandFault, StartFault};
+use rp_program::{Fault as CommandFault, ServeFault, StartFault, TokenFault};
 use rp_repo::NewFault;
 use std::alloc::{AllocError, AllocFailed};
-use std::fmt;
+use std::io::ErrorKind;
+use std::{fmt, io};
 
 /// Why the program ends with status 2.
 #[derive(Drop)]
@@ -59,6 +60,9 @@ fn write_of_command<W: fmt::Write>(
         CommandFault::Start(Failure::Fault(StartFault::New(fault))) => {
             write!(f, "{}{beside}", why_none(*fault))
         }
+        CommandFault::Start(Failure::Fault(StartFault::Tokens(fault))) => {
+            write!(f, "{}{beside}", why_unknown(*fault))
+        }
         CommandFault::Start(Failure::NoMemory) => f.write_str("out of memory"),
         CommandFault::Read => f.write_str("standard input can't be read"),
         CommandFault::Write => f.write_str("standard output can't be written"),
@@ -68,6 +72,10 @@ fn write_of_command<W: fmt::Write>(
         CommandFault::Page(path, error) => {
             write!(f, "{} can't be written: {}", shown(path), Unwritten(*error))
         }
+        CommandFault::Listen(address, error) => {
+            write!(f, "{address} can't be listened on: {}", Unheard(*error))
+        }
+        CommandFault::Serve(fault) => write_of_serving(f, fault),
     }
 }
 
@@ -96,8 +104,41 @@ fn write_of_file<W: fmt::Write>(
     }
 }
 
+/// Writes why serving ended before its end.
+fn write_of_serving<W: fmt::Write>(f: &mut fmt::Formatter<W>, fault: &ServeFault) -> fmt::Result {
+    match fault {
+        ServeFault::Accept(error) => write!(f, "connections can't be accepted: {error}"),
+        ServeFault::Wait(error) => write!(f, "connections can't be waited for: {error}"),
+        ServeFault::Input => f.write_str("standard input can't be read"),
+        ServeFault::NoMemory => f.write_str("out of memory"),
+    }
+}
+
+/// Why an address can't be listened on.
+#[derive(Clone, Copy, Drop)]
+struct Unheard(io::Error);
+
+impl fmt::Display for Unheard {
+    fn fmt<W: fmt::Write>(&self, f: &mut fmt::Formatter<W>) -> fmt::Result {
+        match self.0.kind() {
+            ErrorKind::AddrInUse => f.write_str("it is in use"),
+            ErrorKind::AddrNotAvailable => f.write_str("it is none of this machine's"),
+            ErrorKind::PermissionDenied => f.write_str("permission is denied"),
+            _ => write!(f, "{}", self.0),
+        }
+    }
+}
+
 fn shown(path: &Text) -> Shown<'_> {
     Shown(path.as_str())
+}
+
+/// What is wrong with the partners' tokens.
+fn why_unknown(fault: TokenFault) -> &'static str {
+    match fault {
+        TokenFault::BadToken => "a token isn't 1 to 128 of A-Z a-z 0-9 _ . -",
+        TokenFault::TwoTokens => "two partners have one token",
+    }
 }
 
 /// Why there is no repository.

@@ -9,19 +9,21 @@ use fault::Fault;
 use page::PageFiles;
 use plain_data::Failure;
 use progress::Progress;
-use rp_command::{Command, Delivery, Telling, command_of};
+use rp_command::{Command, Delivery, Service, Telling, command_of};
 use rp_config::{
-    Shown, is_read_again, partner_twice_in, schema_twice, schema_twice_in, what_begins,
-    why_unreadable, wrong_place,
+    Shown, is_read_again, partner_twice_in, schema_twice, schema_twice_in, token_twice_in,
+    what_begins, why_unreadable, wrong_place,
 };
 use rp_delivery::{Asked, Form};
 use rp_files::{FromFiles, LoadFault, file_bytes};
 use rp_program::{
-    Done, Fault as CommandFault, StartFault, Verdict, batch, check, explain, status_of, validate,
+    Done, Ends, Fault as CommandFault, StartFault, TokenFault, Verdict, bad_token_in, batch, check,
+    explain, serve, status_of, validate,
 };
 use rp_repo::{FromReader, NewFault, ToWriter};
 use std::alloc::Global;
 use std::io::IsTerminal;
+use std::net::Net;
 use std::process::ExitCode;
 use std::rt::{Clock, Env, Files};
 use std::{env, fmt, io};
@@ -35,7 +37,7 @@ fn main(rt: HostRuntime) -> ExitCode {
 }
 
 /// Does what the command line asks for. Standard error is a terminal or not.
-fn run<R: AllocGlobal + Files + Env + Print + Eprint + Input + Clock>(
+fn run<R: AllocGlobal + Files + Env + Print + Eprint + Input + Clock + Net>(
     rt: &R,
     terminal: bool,
 ) -> Result<Done, Fault> {
@@ -50,6 +52,9 @@ fn run<R: AllocGlobal + Files + Env + Print + Eprint + Input + Clock>(
             Err(_) => Err(Fault::from(CommandFault::Write)),
         },
         Command::Batch(path) => told(rt, Naming::Config(path), batch_of(rt, path)),
+        Command::Serve(service) => {
+            told(rt, Naming::Config(service.config), serve_of(rt, &service))
+        }
         Command::Check(path) => {
             let mut writer = ToWriter::new(io::writer(rt));
             let ended = check(alloc, &FromFiles::new(rt), path, &mut writer);
@@ -119,6 +124,25 @@ fn batch_of<R: AllocGlobal + Files + Print + Input>(
     )
 }
 
+/// Serves connections, by the repository that the configuration tells.
+fn serve_of<R: AllocGlobal + Files + Eprint + Input + Clock + Net>(
+    rt: &R,
+    service: &Service<'_>,
+) -> Result<Done, CommandFault> {
+    let ends = Ends {
+        connections: service.connections,
+        input: service.until_input_ends,
+    };
+    serve(
+        rt.alloc(),
+        &FromFiles::new(rt),
+        service.config,
+        rt,
+        service.address,
+        ends,
+    )
+}
+
 /// How a check of the file of this path ended, and where it refused the text what the text is.
 fn told_of_schema<R: AllocGlobal + Files + Eprint>(
     rt: &R,
@@ -171,6 +195,10 @@ fn beside<R: AllocGlobal + Files>(
             Naming::Config(path) => beside_config(rt, path, *fault),
             Naming::Paths(paths) => beside_paths(rt, paths, *fault),
         },
+        CommandFault::Start(Failure::Fault(StartFault::Tokens(fault))) => match naming {
+            Naming::Config(path) => beside_tokens(rt, path, *fault),
+            _ => Ok(None),
+        },
         _ => Ok(None),
     }
 }
@@ -189,6 +217,22 @@ fn beside_config<R: AllocGlobal + Files>(
         NewFault::TwoPartners => found(partner_twice_in(alloc, &folder, path)),
         NewFault::TwoSchemas => found(schema_twice_in(alloc, &folder, path)),
         _ => Ok(None),
+    }
+}
+
+/// What is told beside a fault of the tokens that the configuration at this path names: whose they are.
+fn beside_tokens<R: AllocGlobal + Files>(
+    rt: &R,
+    path: &str,
+    fault: TokenFault,
+) -> Result<Option<String>, Fault> {
+    let (alloc, folder) = (rt.alloc(), FromFiles::new(rt));
+    if !is_read_again(rt, path) {
+        return Ok(None);
+    }
+    match fault {
+        TokenFault::BadToken => found(bad_token_in(alloc, &folder, path)),
+        TokenFault::TwoTokens => found(token_twice_in(alloc, &folder, path)),
     }
 }
 
