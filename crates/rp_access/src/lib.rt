@@ -15,4 +15,3 @@ mod steps;
 
 pub use access::{Access, Prepared};
 pub use changes::{AccessFault, Change};
-pub use relisting::{excluding, including};

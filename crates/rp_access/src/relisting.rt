@@ -44,12 +44,12 @@ fn push_after(
 }
 
 /// What the group holds once it lists the model.
-pub fn including(alloc: Global, listing: &Listing, model: Key) -> Result<Listing, AllocError>
+pub(crate) fn including(alloc: Global, listing: &Listing, model: Key) -> Result<Listing, AllocError>
     ensures { IfOk result (λ l. l ≡ with_member model listing.now) }
 {
     let former = listing.members.as_slice();
-    let mut members = Vec::new(alloc);
-    let mut after = Vec::new(alloc);
+    let mut members = Vec::with_capacity(alloc, former.len().saturating_add(1))?;
+    let mut after = Vec::with_capacity(alloc, former.len())?;
     push_before(alloc, &model, former, &mut members)?;
     push_after(alloc, &model, former, &mut after)?;
     members.push(model)?;
@@ -61,11 +61,11 @@ pub fn including(alloc: Global, listing: &Listing, model: Key) -> Result<Listing
 }
 
 /// What the group holds once it doesn't list the model.
-pub fn excluding(alloc: Global, listing: &Listing, model: &Key) -> Result<Listing, AllocError>
+pub(crate) fn excluding(alloc: Global, listing: &Listing, model: &Key) -> Result<Listing, AllocError>
     ensures { IfOk result (λ l. l ≡ without_member model.now listing.now) }
 {
     let former = listing.members.as_slice();
-    let mut members = Vec::new(alloc);
+    let mut members = Vec::with_capacity(alloc, former.len())?;
     push_before(alloc, model, former, &mut members)?;
     push_after(alloc, model, former, &mut members)?;
     Ok(Listing {
