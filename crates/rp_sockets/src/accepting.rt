@@ -229,7 +229,8 @@ impl Serving {
         self.take_spare();
     }
 
-    /// Ends the connection that is quiet longest, once what has come of it is read: one that moved then isn't.
+    /// Ends the connection that is quiet longest, once what has come of it is read: one that moved then isn't. Where something of
+    /// all of them moved, it is the one whose turn came first.
     #[tactic(auto, using(crate::proofs::Running::leaves_more, crate::proofs::Running::leaves_none))]
     fn make_room(
         &mut self,
@@ -250,6 +251,14 @@ impl Serving {
             if self.is_ended(key, moved) {
                 return;
             }
+        }
+        self.end_quietest();
+    }
+
+    /// Ends the connection that is quiet longest.
+    fn end_quietest(&mut self) {
+        if let Some((key, _)) = self.quietest() {
+            let _ = self.clients.try_remove(key);
         }
     }
 
