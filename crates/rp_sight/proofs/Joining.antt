@@ -303,31 +303,51 @@ held_at {A = A} P k xs ys rows table are has x found = by (find (is_entry k) ys)
         cc
     by (Some y) e = has (joined_row x y) (at ∙ ap (both (Some x)) e)
 
-pub row_read : {A : Type 0} (xs : List (Entry A)) (ys : List (Entry (List Grant))) (rows : List (Row A)) (i : ℕ) (x : Entry A) (y : Entry (List Grant)) (gs : List Grant) → joined xs ys ≡ rows → map entry_key xs ≡ map entry_key ys → i < length rows → x ≡ get_or xs i x → y ≡ get_or ys i y → gs ≡ y.value → let r : Row A = record { owner = x.key.owner; name = x.key.name; holds = x.value; grants = gs } in get_or rows i r ≡ r
-row_read {A = A} xs ys rows i x y gs are same within is_x is_y is_gs =
-    let r : Row A = record { owner = x.key.owner; name = x.key.name; holds = x.value; grants = gs } in
-    ap (λ rs. get_or rs i r) (sym are)
-    ∙ get-joined xs ys i r x y same (omega (arith, length-joined xs ys same, ap length are))
-    ∙ (λ j. joined_row (sym is_x j) (sym is_y j))
-    ∙ ap (λ (hs : List Grant). record { owner = x.key.owner; name = x.key.name; holds = x.value; grants = hs }) (sym is_gs)
+-- the entries of both halves at a place have the same key
+same_at : {A B : Type 0} (xs : List (Entry A)) (ys : List (Entry B)) (i : ℕ) (x : Entry A) (y : Entry B) → map entry_key xs ≡ map entry_key ys → i < length xs → entry_key (get_or xs i x) ≡ entry_key (get_or ys i y)
+same_at [] ys i x y same within = absurd (omega arith)
+same_at (z ∷ xs) [] i x y same within = cc
+same_at (z ∷ xs) (w ∷ ys) zero x y same within = cc
+same_at (z ∷ xs) (w ∷ ys) (suc i) x y same within =
+    let rest : map entry_key xs ≡ map entry_key ys = cc in
+    same_at xs ys i x y rest (omega arith)
 
--- where the row at a key stands, told by its entry
-pub row_there : {A : Type 0} (k : Key) (xs : List (Entry A)) (ys : List (Entry (List Grant))) (rows : List (Row A)) (i : ℕ) → IsTable xs ys → joined xs ys ≡ rows → IsThere key_cmp entry_key k xs i → IsThere key_cmp row_key k rows i
+-- the row at a place, with the key of the entry of rights
+pub row_read : {A : Type 0} (xs : List (Entry A)) (ys : List (Entry (List Grant))) (rows : List (Row A)) (i : ℕ) (x : Entry A) (y : Entry (List Grant)) (gs : List Grant) → joined xs ys ≡ rows → map entry_key xs ≡ map entry_key ys → i < length rows → x ≡ get_or xs i x → y ≡ get_or ys i y → gs ≡ y.value → let r : Row A = record { owner = y.key.owner; name = y.key.name; holds = x.value; grants = gs } in get_or rows i r ≡ r
+row_read {A = A} xs ys rows i x y gs are same within is_x is_y is_gs =
+    let r : Row A = record { owner = y.key.owner; name = y.key.name; holds = x.value; grants = gs } in
+    let here : i < length xs = omega (arith, within, length-joined xs ys same, ap length are) in
+    let one : entry_key x ≡ entry_key y = ap entry_key is_x ∙ same_at xs ys i x y same here ∙ ap entry_key (sym is_y) in
+    ap (λ rs. get_or rs i r) (sym are)
+    ∙ get-joined xs ys i r x y same here
+    ∙ (λ j. joined_row (sym is_x j) (sym is_y j))
+    ∙ (λ j. record { owner = (one j).owner; name = (one j).name; holds = x.value; grants = sym is_gs j })
+
+-- where the row at a key stands, told by its entry of rights
+pub row_there : {A : Type 0} (k : Key) (xs : List (Entry A)) (ys : List (Entry (List Grant))) (rows : List (Row A)) (i : ℕ) → IsTable xs ys → joined xs ys ≡ rows → IsThere key_cmp entry_key k ys i → IsThere key_cmp row_key k rows i
 row_there {A = A} k xs ys rows i table are there =
+    let earlier = same_filtered (λ j. is_lt (key_cmp j k)) xs ys table.same in
     subst (λ (rs : List (Row A)). IsThere key_cmp row_key k rs i) are (record {
       order = rows_ascend xs ys table.order;
       is =
           there.is
-          ∙ sym (length-joined (before k xs) (before k ys) (same_filtered (λ j. is_lt (key_cmp j k)) xs ys table.same))
+          ∙ sym (length-same (before k xs) (before k ys) earlier)
+          ∙ sym (length-joined (before k xs) (before k ys) earlier)
           ∙ ap length (joined-filter (λ j. is_lt (key_cmp j k)) xs ys table.same);
-      within = omega (arith, there.within, length-joined xs ys table.same);
+      within = omega (arith, there.within, length-joined xs ys table.same, length-same xs ys table.same);
       found = ap is_some (find-joined k xs ys table.same) ∙ some (find (is_entry k) xs) (find (is_entry k) ys) there.found (same_found k xs ys table.same);
     })
   where
-    some : (o : Option (Entry A)) (p : Option (Entry (List Grant))) → is_some o ≡ true → map entry_key (option_to_list o) ≡ map entry_key (option_to_list p) → is_some (both o p) ≡ true
-    some None p h same = h
-    some (Some x) None h same = cc
+    some : (o : Option (Entry A)) (p : Option (Entry (List Grant))) → is_some p ≡ true → map entry_key (option_to_list o) ≡ map entry_key (option_to_list p) → is_some (both o p) ≡ true
+    some None None h same = h
+    some None (Some y) h same = cc
+    some (Some x) None h same = h
     some (Some x) (Some y) h same = refl
 
-pub row_absent : {A : Type 0} (k : Key) (xs : List (Entry A)) (ys : List (Entry (List Grant))) (rows : List (Row A)) → IsTable xs ys → joined xs ys ≡ rows → find (is_entry k) xs ≡ None → find (is_row k) rows ≡ None
-row_absent k xs ys rows table are none = ap (find (is_row k)) (sym are) ∙ find-joined k xs ys table.same ∙ ap (λ o. both o (find (is_entry k) ys)) none
+pub row_absent : {A : Type 0} (k : Key) (xs : List (Entry A)) (ys : List (Entry (List Grant))) (rows : List (Row A)) → IsTable xs ys → joined xs ys ≡ rows → find (is_entry k) ys ≡ None → find (is_row k) rows ≡ None
+row_absent {A = A} k xs ys rows table are none =
+    ap (find (is_row k)) (sym are) ∙ find-joined k xs ys table.same ∙ ap (both (find (is_entry k) xs)) none ∙ alone (find (is_entry k) xs)
+  where
+    alone : (o : Option (Entry A)) → both o None ≡ None
+    alone None = refl
+    alone (Some x) = refl

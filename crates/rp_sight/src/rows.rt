@@ -72,11 +72,23 @@ impl<'a, A> Table<'a, A> {
         ensures { get_or self.now.rows place (row_of result) ≡ row_of result }
     {
         let entry = self.held.entry(place);
+        // (The key is taken from the smaller entry: what is held isn't read from memory before it is asked for.)
         let rights = self.rights.entry(place);
         RowRef {
-            key: &entry.key,
+            key: &rights.key,
             holds: &entry.value,
             grants: rights.value.as_slice(),
+        }
+    }
+
+    /// Where the row under the key of this owner and name stands. The rights are searched, whose entries are smaller.
+    fn place_for(&self, owner: &Text, name: &Text) -> Option<usize>
+        ensures there { MatchOption result (find (is_row (key_of owner.now name.now)) self.now.rows ≡ None) (IsThere key_cmp row_key (key_of owner.now name.now) self.now.rows) }
+        ensures ascending { IsAscending key_cmp row_key self.now.rows }
+    {
+        match self.rights.search_for(owner, name) {
+            Ok(place) => Some(place),
+            Err(_) => None,
         }
     }
 
@@ -85,13 +97,8 @@ impl<'a, A> Table<'a, A> {
         ensures found { option_map row_of result ≡ find (is_row (key_of owner.now name.now)) self.now.rows }
         ensures ascending { IsAscending key_cmp row_key self.now.rows }
     {
-        let entry = self.held.find_for(owner, name)?;
-        let rights = self.rights.find_for(owner, name)?;
-        Some(RowRef {
-            key: &entry.key,
-            holds: &entry.value,
-            grants: rights.value.as_slice(),
-        })
+        let place = self.place_for(owner, name)?;
+        Some(self.row(place))
     }
 
     pub fn find(&self, key: &Key) -> Option<RowRef<'a, A>>
@@ -105,10 +112,7 @@ impl<'a, A> Table<'a, A> {
     pub fn place_of(&self, key: &Key) -> Option<usize>
         ensures { MatchOption result (find (is_row key.now) self.now.rows ≡ None) (IsThere key_cmp row_key key.now self.now.rows) }
     {
-        match self.held.search(key) {
-            Ok(place) => Some(place),
-            Err(_) => None,
-        }
+        self.place_for(&key.owner, &key.name)
     }
 
     /// The grants on what stands under the key.

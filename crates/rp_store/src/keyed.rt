@@ -147,7 +147,7 @@ impl<B> Keyed<B> {
     }
 
     /// Where the key of this owner and name stands, or where it is to stand.
-    fn search_for(&self, owner: &Text, name: &Text) -> Result<usize, usize>
+    pub fn search_for(&self, owner: &Text, name: &Text) -> Result<usize, usize>
         ensures { MatchResult result (IsThere key_cmp entry_key (key_of owner.now name.now) self.now.entries) (IsAbsent key_cmp entry_key (key_of owner.now name.now) self.now.entries) }
     {
         sorted_tables::search(&self.entries, &Parts { owner, name })
