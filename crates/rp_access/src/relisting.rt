@@ -61,7 +61,11 @@ pub(crate) fn including(alloc: Global, listing: &Listing, model: Key) -> Result<
 }
 
 /// What the group holds once it doesn't list the model.
-pub(crate) fn excluding(alloc: Global, listing: &Listing, model: &Key) -> Result<Listing, AllocError>
+pub(crate) fn excluding(
+    alloc: Global,
+    listing: &Listing,
+    model: &Key,
+) -> Result<Listing, AllocError>
     ensures { IfOk result (λ l. l ≡ without_member model.now listing.now) }
 {
     let former = listing.members.as_slice();
