@@ -17,6 +17,9 @@ use std::io::ErrorKind;
 /// How many arrivals are met before the connections' turn.
 const ARRIVALS_AT_ONCE: u32 = 512;
 
+/// How many connections are looked at, whether they are quiet, before one that isn't is ended for another.
+const TRIES: u32 = 8;
+
 impl Serving {
     /// Accepts the connections that wait.
     #[tactic(auto, using(crate::proofs::Running::leaves_more, crate::proofs::Running::leaves_none))]
@@ -229,8 +232,8 @@ impl Serving {
         self.take_spare();
     }
 
-    /// Ends the connection that is quiet longest, once what has come of it is read: one that moved then isn't. Where something of
-    /// all of them moved, it is the one whose turn came first.
+    /// Ends the connection that is quiet longest, once what has come of it is read: one that moved then isn't, but after some
+    /// tries it is the one whose turn is longest ago.
     #[tactic(auto, using(crate::proofs::Running::leaves_more, crate::proofs::Running::leaves_none))]
     fn make_room(
         &mut self,
@@ -243,7 +246,7 @@ impl Serving {
         ensures run { Leaves tokens.now repository.old.content repository.new.content }
         ensures partners { repository.new.content.partners ≡ repository.old.content.partners }
     {
-        for _ in 0..CLIENTS {
+        for _ in 0..TRIES {
             let Some((key, moved)) = self.quietest() else {
                 return;
             };
@@ -252,14 +255,27 @@ impl Serving {
                 return;
             }
         }
-        self.end_quietest();
+        self.end_quietest(alloc, repository, tokens, workspace);
     }
 
-    /// Ends the connection that is quiet longest.
-    fn end_quietest(&mut self) {
-        if let Some((key, _)) = self.quietest() {
-            let _ = self.clients.try_remove(key);
-        }
+    /// Ends the connection that is quiet longest, once what has come of it is read, whatever that was.
+    #[tactic(auto, using(crate::proofs::Running::leaves_more, crate::proofs::Running::leaves_none))]
+    fn end_quietest(
+        &mut self,
+        alloc: Global,
+        repository: &mut Repository<'_>,
+        tokens: &Tokens,
+        workspace: &mut Workspace,
+    )
+        requires few { length tokens.now ≤ length repository.old.content.partners }
+        ensures run { Leaves tokens.now repository.old.content repository.new.content }
+        ensures partners { repository.new.content.partners ≡ repository.old.content.partners }
+    {
+        let Some((key, _)) = self.quietest() else {
+            return;
+        };
+        self.drive(alloc, repository, tokens, workspace, key);
+        let _ = self.clients.try_remove(key);
     }
 
     /// Ends a connection, unless something moved since that turn. Answers whether it has ended.

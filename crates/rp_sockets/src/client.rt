@@ -87,6 +87,11 @@ impl Client {
         self.times.is_late(now)
     }
 
+    /// Whether a reply is on its way, so that nothing is read.
+    pub(crate) fn sends(&self) -> bool {
+        self.connection.stage() == Stage::Reply
+    }
+
     /// The turn in which something last moved.
     pub(crate) fn moved(&self) -> u64 {
         self.moved

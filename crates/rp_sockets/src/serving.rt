@@ -221,7 +221,14 @@ impl Serving {
         }
     }
 
-    /// Reads what has come of a connection that took too long, and ends it if it did so still.
+    fn sends(&self, key: usize) -> bool {
+        match self.clients.get(key) {
+            Some(client) => client.sends(),
+            None => false,
+        }
+    }
+
+    /// Ends a connection that took too long. What has come of it is read before; one that sends a reply reads nothing.
     #[tactic(auto, using(crate::proofs::Running::leaves_more, crate::proofs::Running::leaves_none))]
     fn drive_late(
         &mut self,
@@ -238,7 +245,9 @@ impl Serving {
         if !self.is_late(key) {
             return;
         }
-        self.drive(alloc, repository, tokens, workspace, key);
+        if !self.sends(key) {
+            self.drive(alloc, repository, tokens, workspace, key);
+        }
         self.end_late(key);
     }
 
