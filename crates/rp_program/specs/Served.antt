@@ -1,11 +1,18 @@
 -- Connections that are served from a repository as it is opened.
-use Rattle.std.specs.Prelude.{◌≡◌, ℕ, List, Option, Ok, IfSome}
+use Rattle.std.specs.Prelude.{◌≡◌, ℕ, List, Option, Ok, Err, IfSome, Result}
+use Rattle.std.specs.declared.net.socket_addr.SocketAddr.{SocketAddr}
+use Rattle.plain_data.specs.declared.failure.Failure.{Failure}
 use Rattle.rp_config.specs.Loading.{loaded_at}
 use Rattle.rp_config.specs.declared.loading.Loaded.{Loaded}
 use Rattle.rp_files.specs.Files.{Held}
 use Rattle.rp_http.specs.Turns.{Leaves}
 use Rattle.rp_plain.specs.Plain.{Plain}
 use Rattle.rp_plain.specs.Valid.{IsValid}
+use Rattle.rp_program.specs.declared.ending.Done.{Done}
+use Rattle.rp_program.specs.declared.ending.Done.TheVariants.{Helped, Answered, Served, Checked, Validated}
+use Rattle.rp_program.specs.declared.fault.StartFault.{StartFault}
+use Rattle.rp_program.specs.declared.fault.Fault.{Fault}
+use Rattle.rp_program.specs.declared.fault.Fault.TheVariants.{Start, Read, Write, Refused, Page, Listen, Serve}
 use Rattle.rp_program.specs.Starts.{repository_of}
 
 -- messages of the partners by their tokens led from the repository of what was loaded to a valid one
@@ -20,3 +27,19 @@ pub record Serves (loaded : Loaded) : Type 0 where
 -- schemas and partners
 abbrev pub ServesFrom : Option Held → List ℕ → Type 0
 ServesFrom files path = (loaded : Loaded) × IfSome files (λ held. loaded_at held path ≡ Ok loaded) × Serves loaded
+
+-- How the command ended that serves an address. There was no repository to serve, for this reason; or it was served, until that was to
+-- end or no more connections came; or the address is none to listen on, and no message came.
+abbrev pub IsServed : (Failure StartFault → Type 0) → Type 0 → SocketAddr → Result Done Fault → Type 0
+IsServed Lacks It address (Ok Served) = It
+IsServed Lacks It address (Ok Helped) = ⊥
+IsServed Lacks It address (Ok (Answered lines)) = ⊥
+IsServed Lacks It address (Ok (Checked verdict)) = ⊥
+IsServed Lacks It address (Ok (Validated judgement)) = ⊥
+IsServed Lacks It address (Err (Start why)) = Lacks why
+IsServed Lacks It address (Err (Listen at error)) = (at ≡ address) × It
+IsServed Lacks It address (Err (Serve fault)) = It
+IsServed Lacks It address (Err Read) = ⊥
+IsServed Lacks It address (Err Write) = ⊥
+IsServed Lacks It address (Err (Refused path words)) = ⊥
+IsServed Lacks It address (Err (Page path error)) = ⊥

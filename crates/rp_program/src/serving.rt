@@ -1,12 +1,10 @@
 //! The connections of an address, answered by the repository that a configuration opens.
-ghost use Rattle.std.specs.Prelude.{◌≡◌, ◌≤◌, length, IfOk, IfSome, IsErrOf};
-ghost use Rattle.plain_data.specs.declared.failure.Failure.{Failure};
+ghost use Rattle.std.specs.Prelude.{◌≡◌, ◌≤◌, ⊤, length, IfSome};
 ghost use Rattle.plain_data.specs.Gives.{Fails};
-ghost use Rattle.rp_program.specs.declared.fault.StartFault.{StartFault};
-ghost use Rattle.rp_program.specs.Starts.{repository_of, opened_at};
-ghost use Rattle.plain_data.specs.declared.failure.Failure.TheVariants.{NoMemory};
 ghost use Rattle.rp_http.specs.Turns.{Leaves};
-ghost use Rattle.rp_program.specs.Served.{ServesFrom, Serves};
+ghost use Rattle.rp_program.specs.Starts.{repository_of, opened_at};
+ghost use Rattle.rp_program.specs.Served.{ServesFrom, Serves, IsServed};
+ghost use Rattle.plain_data.specs.declared.failure.Failure.TheVariants.{NoMemory};
 
 use crate::ending::Done;
 use crate::fault::Fault;
@@ -34,11 +32,9 @@ pub fn serve<D: Folder, R: Net + Clock + Input + Eprint>(
     address: SocketAddr,
     ends: Ends,
 ) -> Result<Done, Fault>
-    // All that happened to the repository is a run of messages of its partners.
-    ensures served { IfOk result (λ done. (done ≡ Done.Served) × ServesFrom (D.files folder.now) path.now) }
-
-    // Where nothing is served, the fault is the first that there is.
-    ensures start { (why : Failure StartFault) → IsErrOf result (Fault.Start why) → IfSome (D.files folder.now) (λ held. Fails why (opened_at held path.now)) }
+    // However it ends, a run of messages of its partners is all that happened to the repository. Where there is none, the fault
+    // is the first that there is.
+    ensures { IsServed (λ why. IfSome (D.files folder.now) (λ held. Fails why (opened_at held path.now))) (ServesFrom (D.files folder.now) path.now) address result }
 {
     let loaded = load_all(alloc, folder, path)?;
     serve_loaded(alloc, loaded, rt, address, ends)
@@ -53,8 +49,7 @@ fn serve_loaded<R: Net + Clock + Input + Eprint>(
     ends: Ends,
 ) -> Result<Done, Fault>
     requires { length loaded.tokens ≤ length loaded.partners }
-    ensures served { IfOk result (λ done. (done ≡ Done.Served) × Serves loaded) }
-    ensures start { (why : Failure StartFault) → IsErrOf result (Fault.Start why) → Fails why (repository_of loaded) }
+    ensures { IsServed (λ why. Fails why (repository_of loaded)) (Serves loaded) address result }
 {
     let Loaded {
         partners,
@@ -63,6 +58,7 @@ fn serve_loaded<R: Net + Clock + Input + Eprint>(
     } = loaded;
     let (mut repository, tokens) = open(alloc, schemas.as_slice(), partners, tokens)?;
     let ended = serve_at(alloc, &mut repository, &tokens, rt, address, ends);
+    repository.is_valid();
     // The process ends, and all of its memory goes with it. To give that back value by value would take long.
     mem::forget(repository);
     mem::forget(schemas);
@@ -80,8 +76,7 @@ fn serve_at<R: Net + Clock + Input + Eprint>(
 ) -> Result<Done, Fault>
     requires few { length tokens.now ≤ length repository.old.content.partners }
     ensures run { Leaves tokens.now repository.old.content repository.new.content }
-    ensures done { IfOk result (λ done. done ≡ Done.Served) }
-    ensures start { (why : Failure StartFault) → IsErrOf result (Fault.Start why) → why ≡ NoMemory }
+    ensures ended { IsServed (λ why. why ≡ NoMemory) ⊤ address result }
 {
     let listening = match Listening::bind(rt, address) {
         Ok(listening) => listening,

@@ -360,6 +360,51 @@ impl Serving {
         self.serve_all(alloc, repository, tokens, workspace, events);
         self.look_around(rt, alloc, repository, tokens, workspace)
     }
+
+    /// Waits, and does what is to be done then.
+    #[tactic(auto, using(crate::proofs::Running::leaves_more, crate::proofs::Running::leaves_none))]
+    fn serve_next<R: Clock + Input>(
+        &mut self,
+        rt: &R,
+        alloc: Global,
+        repository: &mut Repository<'_>,
+        tokens: &Tokens,
+        workspace: &mut Workspace,
+        events: &mut Events<Global>,
+    ) -> Result<(), ServeFault>
+        requires few { length tokens.now ≤ length repository.old.content.partners }
+        ensures run { Leaves tokens.now repository.old.content repository.new.content }
+        ensures partners { repository.new.content.partners ≡ repository.old.content.partners }
+    {
+        match self.wait(rt, events) {
+            Ok(()) => self.serve_once(rt, alloc, repository, tokens, workspace, events),
+            Err(error) => Err(ServeFault::Wait(error)),
+        }
+    }
+
+    /// Serves until no connection is left, and none may come.
+    #[tactic(auto, using(crate::proofs::Running::leaves_more, crate::proofs::Running::leaves_none))]
+    fn serve_to_end<R: Clock + Input>(
+        &mut self,
+        rt: &R,
+        alloc: Global,
+        repository: &mut Repository<'_>,
+        tokens: &Tokens,
+        workspace: &mut Workspace,
+        events: &mut Events<Global>,
+    ) -> Result<(), ServeFault>
+        requires few { length tokens.now ≤ length repository.old.content.partners }
+        ensures run { Leaves tokens.now repository.old.content repository.new.content }
+        ensures partners { repository.new.content.partners ≡ repository.old.content.partners }
+    {
+        for _ in 0..u64::MAX {
+            if self.is_over() {
+                break;
+            }
+            self.serve_next(rt, alloc, repository, tokens, workspace, events)?;
+        }
+        Ok(())
+    }
 }
 
 impl Listening {
@@ -381,16 +426,7 @@ impl Listening {
         let mut workspace = Workspace::new(alloc)?;
         let mut events = Events::with_capacity(alloc, EVENTS)?;
         let mut serving = Serving::new(alloc, self, ends)?;
-        for _ in 0..u64::MAX {
-            if serving.is_over() {
-                break;
-            }
-            if let Err(error) = serving.wait(rt, &mut events) {
-                return Err(ServeFault::Wait(error));
-            }
-            serving.serve_once(rt, alloc, repository, tokens, &mut workspace, &events)?;
-        }
-        Ok(())
+        serving.serve_to_end(rt, alloc, repository, tokens, &mut workspace, &mut events)
     }
 }
 
