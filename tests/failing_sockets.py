@@ -1,13 +1,17 @@
 #!/usr/bin/env python3
 """Runs `rp_server serve` over sockets that move a byte at a time, each receive and each send of them failing in turn, and compares all
-that it writes.
+that it writes. Then accepts fail, and what it asks of the system beside.
 
     tests/failing_sockets.py [PROGRAM]
 
-tools/fail.c has them fail. A fault ends its connection and no other. The last line is 'failing sockets: N passed, M failed', and the
-status is 0 only if none failed.
+tools/fail.c has them fail. A fault of a connection ends that one and no other; one of the address ends the program. The last line is
+'failing sockets: N passed, M failed', and the status is 0 only if none failed.
 """
+import contextlib
+import errno
 import os
+import re
+import subprocess
 import sys
 import tempfile
 from concurrent.futures import ThreadPoolExecutor
@@ -29,8 +33,9 @@ ASKED = b"GET /v1/schemas HTTP/1.1\r\nAuthorization: Bearer ta\r\n\r\n"
 READS = 1_000_000
 
 
-def serving(shim, **faults):
-    return Server(config=ONE_SCHEMA, env={**os.environ, "LD_PRELOAD": shim, "FAIL_SHORT": "1", **{name: str(it) for name, it in faults.items()}})
+def serving(shim, *words, stdin=subprocess.DEVNULL, **faults):
+    env = {**os.environ, "LD_PRELOAD": shim, "FAIL_SHORT": "1", **{name: str(it) for name, it in faults.items()}}
+    return Server(*words, config=ONE_SCHEMA, stdin=stdin, env=env)
 
 
 def seen_to_the_end(client):
@@ -138,6 +143,17 @@ def test_each_send_fails():
     each(expect_sends, range(1, 2 * len(DONE) + 1, 3))
 
 
+def test_each_receive_and_each_send_is_interrupted():
+    """By a signal, say. It is made again, and the bytes are the same."""
+    def look(shim, row):
+        name, nth = row
+        with serving(shim, FAIL_ERROR=errno.EINTR, **{name: nth}) as server, Client(server) as client:
+            client.send(ASKED + as_post(create("ann", "m")))
+            client.expect(SCHEMAS + DONE)
+
+    each(look, [("FAIL_RECEIVE", nth) for nth in range(1, len(ASKED) + 5, 5)] + [("FAIL_SEND", nth) for nth in range(1, len(SCHEMAS) + 5, 5)])
+
+
 def test_as_many_reads_as_there_are():
     """A connection has a million reads. A request that takes all of them is answered; one that takes one more ends without a reply."""
     def look(shim, more):
@@ -158,6 +174,112 @@ def test_as_many_reads_as_there_are():
                 client.expect(SCHEMAS)
 
     each(look, [0, 1])
+
+
+# ---- the address
+
+# errors of the network that a connection came by, one of a connection that was broken off, and a signal
+OF_ONE = [errno.EINTR, errno.ECONNABORTED, errno.ENONET, errno.EPROTO, errno.ENOPROTOOPT, errno.EOPNOTSUPP, errno.ENETDOWN, errno.ENETUNREACH,
+          errno.EHOSTDOWN, errno.EHOSTUNREACH]
+# wants of memory and of descriptors
+WANTS = [errno.ENOMEM, errno.ENFILE, errno.EMFILE, errno.ENOBUFS]
+
+
+def ask(server):
+    with Client(server) as client:
+        client.ask(ASKED, SCHEMAS)
+
+
+def test_accepts_that_come_to_nothing():
+    """Where a connection is lost while it is accepted, those behind it are served."""
+    def look(shim, row):
+        error, nth, many = row
+        with serving(shim, FAIL_ACCEPT=nth, FAIL_ACCEPTS=many, FAIL_ERROR=error) as server:
+            for _ in range(4):
+                ask(server)
+
+    each(look, [(error, nth, many) for error in OF_ONE for nth, many in ((1, 1), (3, 5))])
+
+
+def test_accepts_that_find_no_room():
+    """Where descriptors or memory are wanting, what is spare is given up for a connection, and then the one that is quiet longest."""
+    def look(shim, error):
+        with serving(shim, FAIL_ACCEPT=1, FAIL_ERROR=error) as server:
+            ask(server)
+        for many in (1, 2, 3):
+            with serving(shim, FAIL_ACCEPT=3, FAIL_ACCEPTS=many, FAIL_ERROR=error) as server, Client(server) as first, Client(server) as second:
+                first.ask(ASKED, SCHEMAS)
+                second.ask(ASKED, SCHEMAS)
+                first.ask(ASKED, SCHEMAS)
+                ask(server)
+                for client, ends in ((second, many > 1), (first, many > 2)):
+                    if ends:
+                        client.expect_end()
+                    else:
+                        client.ask(ASKED, SCHEMAS)
+
+    each(look, WANTS)
+
+
+def expect_fault(server, what):
+    """The program ends by itself, with status 2 and one line, which says what."""
+    server.expect_ended(2, re.compile(rb"rp_server: %s[^\n]*\n" % what))
+
+
+def test_no_more_accepts():
+    """Where no more connections can be accepted, it ends with status 2 and one line; so it does without room, where no connection can be
+    ended."""
+    def look(shim, row):
+        error, many = row
+        with serving(shim, FAIL_ACCEPT=1, FAIL_ACCEPTS=many, FAIL_ERROR=error) as server:
+            # (it may be over before the client has connected)
+            with contextlib.suppress(OSError):
+                Client(server).socket.close()
+            expect_fault(server, b"connections can't be accepted")
+
+    each(look, [*((it, 1) for it in (errno.EBADF, errno.EINVAL, errno.ENOTSOCK, errno.EIO)), *((it, 2) for it in WANTS)])
+
+
+def test_no_more_waits():
+    """Where sockets can't be waited for, and where standard input can't be read whose end is asked for, it ends so too; a signal is no such fault."""
+    def look(shim, _):
+        with serving(shim, FAIL_WAIT=1) as server:
+            expect_fault(server, b"connections can't be waited for")
+        with serving(shim, FAIL_WAIT=1, FAIL_ERROR=errno.EINTR) as server:
+            ask(server)
+        with serving(shim, "--until-input-ends", stdin=subprocess.PIPE, FAIL_READ=3) as server:
+            ask(server)
+            server.process.stdin.write(b"abc")
+            expect_fault(server, b"standard input can't be read")
+        with serving(shim, "--until-input-ends", stdin=subprocess.PIPE, FAIL_READ=3, FAIL_ERROR=errno.EINTR) as server:
+            ask(server)
+            server.process.stdin.write(b"abc")
+            ask(server)
+            server.expect_ended()
+        folder = os.open("/", os.O_RDONLY)
+        with serving(shim, "--until-input-ends", stdin=folder) as server:
+            os.close(folder)
+            expect_fault(server, b"standard input can't be read")
+
+    each(look, [0])
+
+
+def test_sockets_that_are_not_watched():
+    """A connection of which the system doesn't tell ends; an address of which it doesn't tell isn't listened on."""
+    def look(shim, _):
+        with serving(shim, FAIL_WATCH=2) as server:
+            with Client(server) as client:
+                client.expect_end()
+            ask(server)
+        try:
+            serving(shim, FAIL_WATCH=1).kill()
+        except Wrong as fault:
+            if "can't be listened on" not in str(fault):
+                raise
+        else:
+            raise Wrong("it listens")
+
+    each(look, [0])
 
 
 if __name__ == "__main__":

@@ -14,6 +14,7 @@ import random
 import re
 import resource
 import shutil
+import signal
 import socket
 import subprocess
 import sys
@@ -404,8 +405,8 @@ def test_heads_that_are_none():
 
 
 def test_a_wrong_byte_at_each_place_of_a_head():
-    """Other bytes in place of each of a head, of each sort and at each place others: where no continuation completes it, it is told so as soon as that byte is there;
-    else nothing is written before the head's end, and then what the head asks for."""
+    """Other bytes in place of each of a head, of each sort and at each place others: where no continuation completes it, it is told so as
+    soon as that byte is there; else nothing is written before the head's end, and then what the head asks for."""
     base = b"\nGET /v1/items HTTP/1.1\r\nAuthorization:Bearer ta\r\nX: y\n\r\n"
     rows = []
     always = set(b"\0\x08\t\n\x0b\x0c\r\x1f !\"(),/0:;<=>?@A[\\]a{|}~\x7f\x80\x9f\xa0\xc3\xff")
@@ -912,6 +913,23 @@ def test_faults_in_their_order():
                 raise Wrong(f"{config}: {fault}") from fault
 
 
+def test_wrong_files():
+    """A configuration or a schema that isn't there, isn't one, or is too long ends it with status 2 and one line."""
+    ann = '{"partners":[{"name":"ann","token":"ta"}],"schemas":%s}'
+    texts = {
+        "empty.json": "", "list.json": "[]", "word.json": "config", "cut.json": ann[:-4], "key.json": '{"partners":[],"schemas":[],"listen":"x"}',
+        "partner.json": '{"partners":[{"name":"a b","token":"ta"}],"schemas":["t.exp"]}', "token.json": '{"partners":[{"name":"ann"}],"schemas":[]}',
+        "absent.json": ann % '["nothing.exp"]', "folder.json": ann % '["folder"]', "broken.json": ann % '["t.exp","broken.exp"]',
+        "twice.json": ann % '["t.exp","t.exp"]', "long.json": ann % '["t.exp"]' + " " * FILE_LIMIT, "schema.json": ann % '["long.exp"]',
+    }
+    with Repository(ONE_SCHEMA, broken="SCHEMA A; END_SCHEMA", long="SCHEMA A; END_SCHEMA;" + " " * FILE_LIMIT) as folder:
+        folder.write("folder/x", "")
+        for name, text in texts.items():
+            folder.write(name, text)
+        for name in (*texts, "nothing.json", "folder", ""):
+            expect_serve_fault(folder, config=name)
+
+
 def test_wrong_tokens():
     """A token is 1 to 128 characters that a name may have, and no two partners have one. `batch` asks for no less."""
     def partners(*tokens):
@@ -1046,6 +1064,19 @@ def test_until_the_input_ends():
         server.process.stdin = None
         time.sleep(0.2)
         expect_whole(server, ASKED, SCHEMAS)
+
+
+def test_signals():
+    """A signal ends it at once, whatever is under way."""
+    for signal_sent in (signal.SIGTERM, signal.SIGINT, signal.SIGHUP):
+        with serving() as server, Client(server, room=4096) as client, Client(server) as half:
+            client.ask(as_post(create("ann", "m")), DONE)
+            client.ask(as_post(put("ann", "ann", "m", file_of("#1=P(1.,'" + "x" * (6 * MIB) + "');"))), ok(instances(1)))
+            client.send(get("/v1/models/ann/m/file"))
+            half.send(ASKED[:20])
+            time.sleep(0.1)
+            server.process.send_signal(signal_sent)
+            server.expect_ended(-signal_sent, seconds=1)
 
 
 def test_a_port_is_free_again():

@@ -3,8 +3,8 @@
 
     tests/http_load.py [--long] [PROGRAM]
 
-What takes time is tested beside the rest: a head and a body that don't come. With --long the deadlines of 60 s are tested too, and
-those who write do so for ten seconds. The last line is 'http load: N passed, M failed', and the status is 0 only if none failed.
+What takes time is tested beside the rest: a head and a body that don't come. With --long the deadlines of 60 s are tested too. The last
+line is 'http load: N passed, M failed', and the status is 0 only if none failed.
 """
 import functools
 import json
@@ -18,7 +18,7 @@ import time
 from concurrent.futures import ThreadPoolExecutor
 
 from lib.harness import Folder, Wrong, run_tests, shortened, take_program
-from lib.messages import CONFIG, MIB, add, create, file_of, get as get_instance, got, put
+from lib.messages import CONFIG, MIB, add, check, create, file_of, get as get_instance, got, put
 from lib.plain_http import answer, bare
 from lib.serving import Client, Server, as_post, get, head, post
 
@@ -32,6 +32,8 @@ ROOM = 512
 LONGEST = 0.2
 # a file whose reply no socket holds
 LETTERS = 7 * MIB
+# how many seconds clients write
+WRITING = 10
 
 
 def many_descriptors():
@@ -130,8 +132,8 @@ def test_a_request_beside_those_who_hold_others_up():
             raise Wrong(f"a request took {max(seen):.3f} s, {sorted(seen)[50]:.3f} s in the middle")
         if faults:
             raise Wrong(f"{len(faults)} connections broke, the first by {faults[0]}")
-        if held > 5 * 2 * LETTERS + 16 * MIB:
-            raise Wrong(f"{held / MIB:.0f} MiB are held for five who take nothing")
+        if held > 5 * (LETTERS + MIB) + 16 * MIB:
+            raise Wrong(f"{held / MIB:.0f} MiB are held for five who take nothing of a reply of {LETTERS / MIB:.0f}")
         close_all(silent + slow + stopped)
 
 
@@ -187,6 +189,26 @@ def test_more_at_once_than_there_is_room_for():
         with serving(descriptors=descriptors) as server:
             seconds_of_a_request(server)
             burst(server, count)
+
+
+def test_newcomers_beside_busy_ones():
+    """Where all that there is room for have many requests under way, newcomers are served, and one of the others is ended for each."""
+    with serving() as server:
+        busy = [Client(server) for _ in range(ROOM)]
+        for it in busy:
+            it.ask(ASKED, SCHEMAS)
+        os.kill(server.process.pid, signal.SIGSTOP)
+        for it in busy:
+            it.send(ASKED * 1_000)
+        newcomers = [Client(server) for _ in range(60)]
+        for it in newcomers:
+            it.send(ASKED)
+        os.kill(server.process.pid, signal.SIGCONT)
+        for it in newcomers:
+            it.expect(SCHEMAS)
+        if server.descriptors() > ROOM + 16:
+            raise Wrong(f"{server.descriptors()} descriptors are open")
+        close_all(busy + newcomers)
 
 
 def test_few_descriptors():
@@ -297,9 +319,9 @@ def write_for(server, who, model, end):
 
 
 def test_each_finds_what_he_wrote():
-    """200 clients write for some seconds, each into a model of his own, and each finds all that he was told `ok` of."""
+    """200 clients write for ten seconds, each into a model of his own, and each finds all that he was told `ok` of."""
     with serving() as server, ThreadPoolExecutor(200) as pool:
-        end = time.monotonic() + (10 if "--long" in sys.argv else 3)
+        end = time.monotonic() + WRITING
         rows = [(who, f"m{k}") for who in ("ann", "bob") for k in range(100)]
         counts = list(pool.map(lambda row: write_for(server, *row, end), rows))
         for (who, model), count in zip(rows, counts):
@@ -347,12 +369,21 @@ def ends_at(client, begin, least, most):
         raise Wrong(f"it ended after {after:.1f} s")
 
 
+def is_taken(client):
+    """Whether a byte that is sent is taken, as far as it's known yet."""
+    try:
+        client.socket.send(b"x")
+    except OSError:
+        return False
+    return True
+
+
 def deadlines():
     """What has to end 30 s after it began, and what hasn't."""
     with serving() as server:
         begin = time.monotonic()
         clients = {name: Client(server) for name in ("head", "slow head", "later head", "empty lines", "body", "slow body", "good body", "early body",
-                                                     "idle", "pipeline", "silent")}
+                                                     "idle", "pipeline", "silent", "closed")}
         large = head("POST", "/v1/requests", "Content-Length: 100000")
         clients["head"].send(ASKED[:-1])
         clients["later head"].ask(ASKED, SCHEMAS)
@@ -364,11 +395,18 @@ def deadlines():
         clients["slow body"].send(large)
         clients["idle"].ask(ASKED, SCHEMAS)
         clients["pipeline"].ask(ASKED * 100, SCHEMAS * 100)
+        clients["closed"].ask(get("/v1/schemas", "Connection: close"), SCHEMAS)
+        clients["closed"].expect_end()
+        taken = []
         for k in range(29):
+            taken.append(is_taken(clients["closed"]))
             clients["slow head"].send(ASKED[k:k + 1])
             clients["slow body"].send(b" " * 10)
             clients["good body"].send(b" " * 2_000)
             time.sleep(max(0, begin + k + 1 - time.monotonic()))
+        # (what a client sends that was closed is taken for 5 s; that it isn't any more is told by the next that he sends)
+        if not all(taken[:5]) or any(taken[8:]):
+            raise Wrong(f"what is sent behind the last reply is taken so, second by second: {taken}")
         for name in ("head", "slow head", "later head", "empty lines", "body", "slow body"):
             try:
                 ends_at(clients[name], begin, 29, 33)
@@ -409,6 +447,18 @@ def long_deadlines():
         close_all((silent, idle, stopped, slow))
 
 
+def busy_deadlines():
+    """While the program works on what others ask, no deadline comes nearer."""
+    text = "SCHEMA A; " + "".join(f"ENTITY e{k}; x : REAL; END_ENTITY; " for k in range(200_000)) + "END_SCHEMA;"
+    asked, told_of_it = as_post(check("ann", text)), answer(b'{"ok":{"schema":"A","warnings":[]}}')
+    with serving() as server, Client(server) as half, Client(server, seconds=300) as busy:
+        half.send(ASKED[:-1])
+        begin = time.monotonic()
+        while time.monotonic() < begin + 40:
+            busy.ask(asked, told_of_it)
+        half.ask(ASKED[-1:], SCHEMAS)
+
+
 @functools.lru_cache(maxsize=None)
 def begun(part):
     """A part that runs beside the others, from its first mention on."""
@@ -429,6 +479,12 @@ def test_long_deadlines():
         begun(long_deadlines).result()
 
 
+def test_deadlines_beside_work():
+    """With --long: a head that isn't whole 40 s after its first byte, since the program works nearly all of that time, is answered."""
+    if "--long" in sys.argv:
+        begun(busy_deadlines).result()
+
+
 def main(words):
     is_long = "--long" in words
     words = [it for it in words if it != "--long"]
@@ -436,6 +492,7 @@ def main(words):
     begun(deadlines)
     if is_long:
         begun(long_deadlines)
+        begun(busy_deadlines)
     run_tests("http load", globals(), words)
 
 

@@ -12,6 +12,8 @@ from lib.messages import Repository
 # how long a reply, and the start of the program, may take
 SECONDS = 30
 LISTENING = re.compile(rb"rp_server: listening on ((?:\d+\.){3}\d+|\[[0-9a-f:]+\]):(\d+)\n")
+# what it writes where it ends with status 2
+FAULT = re.compile(rb"rp_server: [^\n]+\n")
 
 
 def first_line(process):
@@ -65,14 +67,14 @@ class Server:
         return seen
 
     def expect_ended(self, status=0, errors=b"", seconds=SECONDS):
-        """It ends by itself with this status, and has written these errors behind the first line; None stands for any one line."""
+        """It ends by itself with this status, and has written these errors behind the first line, or errors of this pattern."""
         try:
             output, written = self.process.communicate(timeout=seconds)
         except subprocess.TimeoutExpired:
             raise Wrong(f"it doesn't end in {seconds} s") from None
         finally:
             self.kill()
-        if errors is None and written.count(b"\n") == 1 and written.endswith(b"\n"):
+        if isinstance(errors, re.Pattern) and errors.fullmatch(written):
             errors = written
         if (self.process.returncode, output, written) != (status, b"", errors):
             raise Wrong(f"status {self.process.returncode}, standard output {output!r}, standard error {written!r}")
