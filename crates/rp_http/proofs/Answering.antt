@@ -1,5 +1,5 @@
 -- What is answered is what a message means.
-use Rattle.std.proofs.Common.{rules, ◌≡◌, ℕ, ◌+◌, ◌<◌, ◌≤◌, List, [], ◌∷◌, length, Bool, true, false, true≢false, Option, Some, None, Result, Ok, Err, IfOk, ◌⊎◌, inl, inr, refl, sym, ap, subst, ◌∙◌, arith}
+use Rattle.std.proofs.Common.{rules, ◌≡◌, ℕ, ◌+◌, ◌<◌, ◌≤◌, List, [], ◌∷◌, length, Bool, true, false, true≢false, Option, Some, None, Result, Ok, Err, IfOk, inl, inr, refl, sym, ap, subst, ◌∙◌, arith}
 use Rattle.std.specs.Prelude.{if◌then◌else◌, IsErrOf, option_and_then, is_some, unwrap_or}
 use Rattle.std.specs.Fmt.{digits}
 use Rattle.std.specs.Str.{bytes_eq}
@@ -10,15 +10,15 @@ use Rattle.rp_plain.specs.declared.messages.Request.{Request}
 use Rattle.rp_plain.specs.declared.messages.Reply.TheVariants as replies
 use Rattle.rp_core.specs.Held.{Kept, turn, made, made_of, IsPrepared}
 use Rattle.rp_core.specs.declared.steps.Pending.{Pending}
-use Rattle.http_messages.specs.Next.{Call, Parts}
+use Rattle.http_messages.specs.Next.{Call}
 use Rattle.http_routes.specs.Answers.{bare_text, bare_status, no_memory_text}
 use Rattle.http_routes.specs.Paths.{Place, method_of, path_of}
 use Rattle.http_routes.specs.Tokens.{place_from, place_among}
 use Rattle.http_routes.specs.declared.answers.Bare.{Bare}
 use Rattle.http_routes.specs.declared.answers.Bare.TheVariants.{MethodNotAllowed}
-use Rattle.rp_messages.specs.Answers.{Told, Barely, answer_bytes, answer_of_reply}
-use Rattle.rp_messages.specs.Meaning.{Effect, meant_by, meant}
-use Rattle.rp_messages.specs.Routing.{Headed, Goes, Stops, by_caller, by_path, by_method, by_head, by_request, request_at, headed, Routed, Asks, Unreadable, Unasked, routed}
+use Rattle.rp_messages.specs.Answers.{Told, Barely, answer_of_reply}
+use Rattle.rp_messages.specs.Meaning.{Effect, meant_by}
+use Rattle.rp_messages.specs.Routing.{Goes, Stops, by_caller, by_head, by_request, request_at, Routed, Asks, Unreadable, Unasked, routed}
 use Rattle.rp_messages.specs.declared.routing.Asked.{Asked}
 use Rattle.rp_messages.specs.declared.routing.Unrouted.{Unrouted}
 use Rattle.rp_messages.specs.declared.routing.Unrouted.TheVariants.{Head, BadRequest, NoMemory}

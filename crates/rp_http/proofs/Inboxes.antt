@@ -1,11 +1,10 @@
 -- What an inbox holds of what came.
-use Rattle.std.proofs.Common.{◌≡◌, ℕ, ◌+◌, ◌-◌, ◌<◌, ◌≤◌, List, [], ◌∷◌, ◌++◌, length, drop, Bool, true, false, length-append, append-nil, ◌⊎◌, inl, inr, refl, sym, ap, subst, ◌∙◌, arith}
-use Rattle.http_messages.specs.Next.{Parts, Call, Announces, IsCall}
+use Rattle.std.proofs.Common.{◌≡◌, ℕ, ◌+◌, ◌-◌, ◌≤◌, List, ◌++◌, length, Bool, length-append, sym, ap, subst, ◌∙◌, arith}
+use Rattle.http_messages.specs.Next.{Announces}
 use Rattle.http_messages.proofs.Growing.{announced_stays}
-use Rattle.http_messages.proofs.Uniqueness.{announces_one}
 use Rattle.rp_http.specs.declared.inbox.Dropped.{Dropped}
 use Rattle.rp_http.specs.declared.inbox.Dropped.TheVariants.{NoMemory}
-use Rattle.rp_http.specs.Inboxes.{State, Open, Gathers, Skips, IsComing, IsLooked, IsWhole, shown, Holds, MayDrop}
+use Rattle.rp_http.specs.Inboxes.{State, Gathers, Skips, IsComing, Holds}
 
 -- more of a message comes
 abbrev pub coming_more : (came piece : List ℕ) (n : ℕ) (stays : Bool) → IsComing came n stays → length came + length piece ≤ n → IsComing (came ++ piece) n stays

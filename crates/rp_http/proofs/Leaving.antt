@@ -1,5 +1,5 @@
 -- Messages lead on, and the partners stay.
-use Rattle.std.proofs.Common.{◌≡◌, ℕ, List, [], ◌∷◌, ◌++◌, refl, sym, ap, subst, ◌∙◌}
+use Rattle.std.proofs.Common.{◌≡◌, ℕ, List, [], ◌∷◌, refl, ap, ◌∙◌}
 use Rattle.rp_plain.specs.Plain.{Plain}
 use Rattle.http_messages.specs.Next.{Call}
 use Rattle.rp_messages.specs.Answers.{Answer}

@@ -1,10 +1,10 @@
 -- What is found at the front of what came.
-use Rattle.std.proofs.Common.{◌≡◌, ℕ, ◌+◌, ◌-◌, ◌<◌, ◌≤◌, List, [], ◌∷◌, ◌++◌, length, take, drop, Bool, true, false, Result, length-drop, length-append, take_all, ◌⊎◌, inl, inr, refl, sym, ap, subst, ◌∙◌, arith}
+use Rattle.std.proofs.Common.{◌≡◌, ℕ, ◌+◌, ◌-◌, ◌<◌, List, [], length, drop, Bool, Result, length-drop, length-append, take_all, inl, inr, refl, sym, ap, subst, ◌∙◌, arith}
 use Rattle.std.proofs.lemmas.Grind.{common_steps}
 use Rattle.std.specs.Prelude.{slice_range}
 use Rattle.httparse.specs.Grammar.{RequestHead, print_request}
 use Rattle.rp_plain.specs.Plain.{Plain}
-use Rattle.http_messages.specs.Heads.{IsHead, HasNoHead}
+use Rattle.http_messages.specs.Heads.{IsHead}
 use Rattle.http_messages.specs.Next.{Parts, Call, Announces, IsCall, IsBegun, IsAwaited, head_of}
 use Rattle.http_messages.proofs.Uniqueness.{announces_one}
 use Rattle.http_routes.specs.Answers.{no_memory_text}

@@ -8,13 +8,13 @@ use Rattle.std.specs.Io.KnownBytes.{prepend_known, Appends, Consumes, IsAtEnd, K
 use Rattle.rp_io.proofs.KnownLemmas.{Appends-nil, Appends-trans}
 use Rattle.rp_plain.specs.Plain.{Plain}
 use Rattle.http_messages.specs.declared.message.Fault.{Fault}
-use Rattle.http_messages.specs.Next.{Call, IsCall, IsBegun, IsAwaited, FailsBy}
+use Rattle.http_messages.specs.Next.{Call, IsCall, FailsBy}
 use Rattle.http_messages.proofs.Growing.{call_stays, fault_stays}
 use Rattle.rp_messages.specs.Answers.{Answer, answer_bytes}
 use Rattle.rp_messages.specs.Meaning.{MayAnswer, left_by, meant, MessageRun}
 use Rattle.rp_http.specs.Inboxes.{State, Open, Holds, room_of}
 use Rattle.rp_http.specs.Turns.{IsAnswered}
-use Rattle.rp_http.specs.Runs.{Cuts, TakesCalls, AllStay, OnKnown, IsUnfinished, text_of, fault_text, Answered, AnsweredInPart, IsFirstRun, IsEndedRun, IsClosedRun, IsRefusedRun, IsWholeRun, IsCutAnswer, IsCutFault, IsCutRun}
+use Rattle.rp_http.specs.Runs.{Cuts, TakesCalls, AllStay, OnKnown, IsUnfinished, text_of, fault_text, Answered, AnsweredInPart, IsFirstRun, IsEndedRun, IsWholeRun, IsCutRun}
 use Rattle.rp_http.specs.declared.connection.Stepped.{Stepped}
 use Rattle.rp_http.specs.declared.connection.Stepped.TheVariants.{Over, Ended}
 use Rattle.rp_http.specs.declared.connection.Phase.{Phase}
@@ -477,3 +477,39 @@ whole_if {W = W} (Ok stepped) over ended then = whole_or stepped W over ended th
 pub on_err : {T E : Type 0} (r : Result T E) (P : Type 0) → P → OnErr r P
 on_err (Ok x) P is = tt
 on_err (Err e) P is = is
+
+pub on_err_then : {T E P Q : Type 0} (r : Result T E) → OnErr r P → (P → Q) → OnErr r Q
+on_err_then (Ok x) is then = tt
+on_err_then (Err e) is then = then is
+
+-- a call that failed left this as it was, and these bytes
+pub kept_on_err : {T E C : Type 0} (r : Result T E) (c : C) (before after : Option (List ℕ)) → Keeps before after → OnErr r ((c ≡ c) × Keeps before after)
+kept_on_err (Ok x) c before after keeps = tt
+kept_on_err (Err e) c before after keeps = (refl, keeps)
+
+pub keeps_same : (a : Option (List ℕ)) → Keeps a a
+keeps_same None = tt
+keeps_same (Some xs) = refl
+
+speaks : Phase → Bool
+speaks Turns = false
+speaks Wants = false
+speaks (Sends stays) = true
+speaks Refuses = true
+
+speaking : (phase : Phase) → speaks phase ≡ true → (phase ≢ Turns) × (phase ≢ Wants)
+unfolding speaks
+speaking phase e = (λ turns. absurd (true≢false (sym e ∙ ap speaks turns)), λ wants. absurd (true≢false (sym e ∙ ap speaks wants)))
+
+pub sends_not : (phase : Phase) → ((stays : Bool) × (phase ≡ Sends stays)) ⊎ (phase ≡ Refuses) → (phase ≢ Turns) × (phase ≢ Wants)
+unfolding speaks
+sends_not phase (inl sends) = speaking phase (ap speaks sends.1)
+sends_not phase (inr refuses) = speaking phase (ap speaks refuses)
+
+-- what is left but a reply after which the connection goes on
+pub sends_left : (phase : Phase) → ¬ (IsLast phase) → phase ≢ Turns → phase ≢ Wants → phase ≡ Sends true
+sends_left Turns last turns wants = absurd (turns refl)
+sends_left Wants last turns wants = absurd (wants refl)
+sends_left (Sends true) last turns wants = refl
+sends_left (Sends false) last turns wants = absurd (last (inl refl))
+sends_left Refuses last turns wants = absurd (last (inr refl))

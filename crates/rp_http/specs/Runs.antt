@@ -1,7 +1,9 @@
 -- The messages of a connection, and what is written for them.
-use Rattle.std.specs.Prelude.{◌≡◌, ℕ, ◌⊎◌, true, false, List, [], ◌∷◌, ◌++◌, drop, Option, Some, None, flat_map, ⊤}
+use Rattle.std.specs.Prelude.{◌≡◌, ℕ, ◌+◌, ◌%◌, ◌^◌, ◌⊎◌, true, false, List, [], ◌∷◌, ◌++◌, drop, Option, Some, None, flat_map, ⊤}
 use Rattle.std.specs.Io.KnownBytes.{Appends}
 use Rattle.rp_io.specs.Front.{AppendsFront}
+use Rattle.rp_io.specs.Held.{HasAtLeast}
+use Rattle.rp_io.specs.Reads.{Reads}
 use Rattle.rp_plain.specs.Plain.{Plain}
 use Rattle.http_messages.specs.declared.message.Fault.{Fault}
 use Rattle.http_messages.specs.Next.{Parts, Call, IsCall, IsBegun, IsAwaited, FailsBy}
@@ -115,6 +117,17 @@ pub record IsCutFault (tokens : List (List ℕ)) (old new : Plain) (input before
 abbrev pub IsCutRun : List (List ℕ) → Plain → Plain → Option (List ℕ) → Option (List ℕ) → Option (List ℕ) → Type 0
 IsCutRun tokens old new input before after = IsCutAnswer tokens old new input before after ⊎ IsCutFault tokens old new input before after
 
+-- ---- how often it reads
+
 -- the most reads of a connection
 abbrev pub max_reads : ℕ
 max_reads = 1000000
+
+-- n more reads were made, each into some room, as a field counts that begins anew at 2 ^ 64
+pub record MakesSome (old new : Reads) (n : ℕ) : Type 0 where
+  pub count : new.count % 2 ^ 64 ≡ (old.count + n) % 2 ^ 64
+
+-- all reads of a connection were made, and each gave a byte
+pub record RunsOut (old new : Reads) (input : Option (List ℕ)) : Type 0 where
+  pub made : MakesSome old new max_reads
+  pub fed : HasAtLeast input max_reads

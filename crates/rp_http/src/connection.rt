@@ -1,11 +1,12 @@
 //! One connection: what came by it, and what is still to be sent.
-ghost use Rattle.std.specs.Prelude.{◌≡◌, ◌≢◌, ◌≤◌, ◌<◌, ◌+◌, ◌⊎◌, ℕ, List, [], Option, true, false, length, take, IfOk, OnOk, OnErr};
+ghost use Rattle.std.specs.Prelude.{◌≡◌, ◌≢◌, ◌≤◌, ◌<◌, ◌+◌, ◌⊎◌, ℕ, List, [], Option, true, false, length, take, IfOk, OnOk, OnErr, IsErrOf};
 ghost use Rattle.std.specs.Io.KnownBytes.{Consumes, IsAtEnd, Keeps};
+ghost use Rattle.rp_io.specs.Reads.{Reads, MakesReads};
 ghost use Rattle.rp_plain.specs.Plain.{Plain};
 ghost use Rattle.rp_http.specs.Bytes.{owed_in};
 ghost use Rattle.rp_http.specs.Inboxes.{Open, weight};
-ghost use Rattle.rp_http.specs.Runs.{max_reads, IsEndedRun, IsWholeRun, IsFirstRun, IsCutRun};
-ghost use Rattle.rp_http.specs.Serving.{IsServed, IsLast};
+ghost use Rattle.rp_http.specs.Runs.{max_reads, MakesSome, IsEndedRun, IsWholeRun, IsCutRun};
+ghost use Rattle.rp_http.specs.Serving.{IsServed, IsLast, Moves, Gives, Spends, stage_at};
 ghost use Rattle.rp_http.specs.Turns.{Leaves};
 
 use crate::answers::AnswerBytes;
@@ -98,6 +99,7 @@ fn read_once<R: Source>(reader: &mut R, piece: &mut [u8]) -> Result<usize, Devic
     ensures bytes { IfOk result (λ n. Consumes (R.remaining reader.old) (R.remaining reader.new) (take n piece.new)) }
     ensures end { IfOk result (λ n. n ≡ 0 → 0 < length piece.old → IsAtEnd (R.remaining reader.new)) }
     ensures keeps { OnErr result (Keeps (R.remaining reader.old) (R.remaining reader.new)) }
+    ensures counted { MakesReads (R.reads_made reader.old) (R.reads_made reader.new) 1 (length piece.old) }
     ensures same { OnOk result (R.read_failures reader.new ≡ R.read_failures reader.old) }
     ensures err { OnErr result (R.read_failures reader.new ≢ R.read_failures reader.old) }
 {
@@ -122,18 +124,12 @@ impl Connection {
     }
 
     /// What it waits for.
-    pub fn stage(&self) -> Stage {
+    pub fn stage(&self) -> Stage
+        ensures { result ≡ stage_at self.now.inbox self.now.phase }
+    {
         match self.phase {
             Phase::Sends(_) | Phase::Refuses => Stage::Reply,
-            Phase::Turns | Phase::Wants => {
-                if self.inbox.has_head() {
-                    Stage::Body
-                } else if self.inbox.shown().is_empty() {
-                    Stage::Nothing
-                } else {
-                    Stage::Head
-                }
-            }
+            Phase::Turns | Phase::Wants => self.inbox.stage(),
         }
     }
 
@@ -191,10 +187,12 @@ impl Connection {
             IsEndedRun tokens start now input before after) }
         ensures phase { IfOk result (λ n. 0 < n → self.new.phase ≡ Phase.Turns) }
         ensures reads { IfOk result (λ n. self.new.reads + 1 ≡ self.old.reads) }
-        ensures gave { IfOk result (λ n. (piece : List ℕ) × (length piece ≡ n) × Consumes (R.remaining reader.old) (R.remaining reader.new) piece) }
+        ensures counted { OnOk result (MakesSome (R.reads_made reader.old) (R.reads_made reader.new) 1) }
+        ensures gave { IfOk result (λ n. Gives (R.remaining reader.old) (R.remaining reader.new) n) }
         ensures weight { IfOk result (λ n. weight self.new.inbox ≤ weight self.old.inbox + 16385) }
         ensures same { OnOk result (R.read_failures reader.new ≡ R.read_failures reader.old) }
-        ensures err { OnErr result ((R.read_failures reader.new ≢ R.read_failures reader.old) ⊎ (self.old.reads ≡ 0)) }
+        ensures kept { OnErr result ((self.new ≡ self.old) × Keeps (R.remaining reader.old) (R.remaining reader.new)) }
+        ensures err { OnErr result ((R.read_failures reader.new ≢ R.read_failures reader.old) ⊎ ((self.old.reads ≡ 0) × (reader.new ≡ reader.old))) }
     {
         if self.reads == 0 {
             return Err(DeviceFault);
@@ -223,6 +221,7 @@ impl Connection {
         ensures reads { self.new.reads ≡ self.old.reads }
         ensures stays { self.old.phase ≢ Phase.Sends true → self.new.phase ≡ self.old.phase }
         ensures wants { self.new.phase ≡ Phase.Wants → self.old.phase ≡ Phase.Wants }
+        ensures kept { OnErr result ((self.new ≡ self.old) × Keeps (W.contents writer.old) (W.contents writer.new)) }
         ensures same { OnOk result (W.write_failures writer.new ≡ W.write_failures writer.old) }
         ensures err { OnErr result (W.write_failures writer.new ≢ W.write_failures writer.old) }
     {
@@ -273,6 +272,7 @@ impl Connection {
         ensures outbox { self.new.outbox ≡ self.old.outbox }
         ensures reads { self.new.reads ≡ self.old.reads }
         ensures phase { owed_in self.old.outbox ≡ [] → self.new.phase ≢ Phase.Sends true }
+        ensures turns { owed_in self.old.outbox ≡ [] → self.old.phase ≡ Phase.Sends true → self.new.phase ≡ Phase.Turns }
         ensures stays { self.old.phase ≢ Phase.Sends true → self.new.phase ≡ self.old.phase }
         ensures wants { self.new.phase ≡ Phase.Wants → self.old.phase ≡ Phase.Wants }
     {
@@ -301,6 +301,12 @@ impl Connection {
             IsServed tokens.now start repository.new.content input (R.remaining reader.new) before (W.contents writer.new) self.new }
         ensures run { Leaves tokens.now repository.old.content repository.new.content }
         ensures partners { repository.new.content.partners ≡ repository.old.content.partners }
+        ensures moves { IfOk result (λ stepped. Moves self.old self.new stepped) }
+        ensures spends { IfOk result (λ stepped. Spends stepped self.old.reads self.new.reads (R.reads_made reader.old) (R.reads_made reader.new) (R.remaining reader.old) (R.remaining reader.new)) }
+        ensures kept { OnErr result ((self.new ≡ self.old) × (repository.new ≡ repository.old) × Keeps (R.remaining reader.old) (R.remaining reader.new) × Keeps (W.contents writer.old) (W.contents writer.new)) }
+        ensures read_failed { IsErrOf result StreamFault.Read →
+            (R.read_failures reader.new ≢ R.read_failures reader.old) ⊎ ((self.old.reads ≡ 0) × (reader.new ≡ reader.old)) }
+        ensures write_failed { IsErrOf result StreamFault.Write → W.write_failures writer.new ≢ W.write_failures writer.old }
         ensures whole { IfOk result (λ stepped. (stepped ≡ Stepped.Over) ⊎ (stepped ≡ Stepped.Ended) → (start : Plain) (input before : Option (List ℕ)) →
             IsServed tokens.now start repository.old.content input (R.remaining reader.old) before (W.contents writer.old) self.old →
             IsWholeRun tokens.now start repository.new.content input before (W.contents writer.new)) }
@@ -329,6 +335,11 @@ impl Connection {
             IsServed tokens start now input known before (W.contents writer.new) self.new }
         ensures over { IfOk result (λ stepped. stepped ≡ Stepped.Over → IsLast self.new.phase × (owed_in self.new.outbox ≡ [])) }
         ensures ended { IfOk result (λ stepped. stepped ≢ Stepped.Ended) }
+        ensures moves { self.old.phase ≢ Phase.Turns → self.old.phase ≢ Phase.Wants → IfOk result (λ stepped. Moves self.old self.new stepped) }
+        ensures spends { (made : Reads) (known : Option (List ℕ)) → IfOk result (λ stepped. Spends stepped self.old.reads self.new.reads made made known known) }
+        ensures kept { OnErr result ((self.new ≡ self.old) × Keeps (W.contents writer.old) (W.contents writer.new)) }
+        ensures write_failed { IsErrOf result StreamFault.Write → W.write_failures writer.new ≢ W.write_failures writer.old }
+        ensures other { ¬ (IsErrOf result StreamFault.Read) }
     {
         if self.owes() {
             return match self.send(writer) {

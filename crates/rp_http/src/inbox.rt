@@ -2,6 +2,7 @@
 ghost use Rattle.std.specs.Prelude.{◌≡◌, ◌≤◌, ◌+◌, ◌++◌, length, drop, IfOk};
 ghost use Rattle.std.specs.Vec.{vec_capacity, vec_len};
 
+use crate::connection::Stage;
 use http_routes::Bare;
 use rp_repo::release;
 use std::alloc::{AllocError, Global};
@@ -41,13 +42,13 @@ pub struct Inbox {
 impl Model for Inbox {
     ghost use Rattle.std.specs.Prelude.{◌≤◌};
     ghost use Rattle.std.specs.Vec.{vec_capacity};
-    ghost use Rattle.rp_http.specs.Inboxes.{State, state_of, IsSound};
+    ghost use Rattle.rp_http.specs.Inboxes.{State, state_of, held_room, IsSound};
 
     ghost Value = { State };
 
     ghost view = { λ i. state_of i.held.items i.coming };
 
-    ghost invariant = { λ i. (32768 ≤ vec_capacity i.held) × IsSound i.held.items i.coming };
+    ghost invariant = { λ i. (held_room ≤ vec_capacity i.held) × IsSound i.held.items i.coming };
 }
 
 /// What there is to do.
@@ -95,6 +96,7 @@ fn body_from(alloc: Global, bytes: &[u8], size: usize) -> Result<Vec<u8>, AllocE
 impl Inbox {
     ghost use Rattle.std.specs.Prelude.{◌-◌, ℕ, List, []};
     ghost use Rattle.rp_http.specs.Inboxes.{Open, Skips, IsComing, shown, room_of, weight, Holds, IsReady, IsGathered, IsWhole};
+    ghost use Rattle.rp_http.specs.Serving.{stage_in};
 
     /// An empty one.
     pub fn new(alloc: Global) -> Result<Inbox, AllocError>
@@ -118,11 +120,19 @@ impl Inbox {
         }
     }
 
-    /// Whether the rest of a body comes next.
-    pub(crate) fn has_head(&self) -> bool {
-        match self.coming {
-            Coming::Heads => false,
-            _ => true,
+    /// Of what more bytes would be.
+    pub(crate) fn stage(&self) -> Stage
+        ensures { result ≡ stage_in self.now }
+    {
+        match &self.coming {
+            Coming::Heads => {
+                if self.held.is_empty() {
+                    Stage::Nothing
+                } else {
+                    Stage::Head
+                }
+            }
+            _ => Stage::Body,
         }
     }
 

@@ -1,9 +1,8 @@
 //! One connection over a reader and a writer that wait.
 ghost use Rattle.std.specs.Prelude.{◌≡◌, ◌≢◌, ◌≤◌, ◌⊎◌, ℕ, List, [], Option, true, length, OnOk, OnErr, IsErrOf};
-ghost use Rattle.rp_io.specs.Held.{HasAtLeast};
 ghost use Rattle.rp_plain.specs.Plain.{Plain};
 ghost use Rattle.rp_http.specs.Bytes.{owed_in};
-ghost use Rattle.rp_http.specs.Runs.{max_reads, IsWholeRun, IsFirstRun, IsCutRun};
+ghost use Rattle.rp_http.specs.Runs.{RunsOut, IsWholeRun, IsFirstRun, IsCutRun};
 ghost use Rattle.rp_http.specs.Serving.{IsServed};
 ghost use Rattle.rp_http.specs.declared.connection.Phase.TheVariants.{Sends, Wants};
 
@@ -62,7 +61,7 @@ pub fn serve_connection<R: Source, W: Sink>(
     ensures first { IsErrOf result ServeFault.ReadFault →
         IsFirstRun tokens.now repository.old.content repository.new.content (R.remaining reader.old) (W.contents writer.old) (W.contents writer.new) }
     ensures read_failed { IsErrOf result ServeFault.ReadFault →
-        (R.read_failures reader.new ≢ R.read_failures reader.old) ⊎ HasAtLeast (R.remaining reader.old) max_reads }
+        (R.read_failures reader.new ≢ R.read_failures reader.old) ⊎ RunsOut (R.reads_made reader.old) (R.reads_made reader.new) (R.remaining reader.old) }
     ensures cut { IsErrOf result ServeFault.WriteFault →
         IsCutRun tokens.now repository.old.content repository.new.content (R.remaining reader.old) (W.contents writer.old) (W.contents writer.new) }
     ensures write_failed { IsErrOf result ServeFault.WriteFault → W.write_failures writer.new ≢ W.write_failures writer.old }

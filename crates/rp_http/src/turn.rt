@@ -1,12 +1,10 @@
 //! One turn of a connection: the first message of what came.
-ghost use Rattle.std.specs.Prelude.{◌≡◌, ◌≤◌, ◌<◌, ℕ, List, length, Err, IsErrOf, IfOk, OnOk, IfErr, OnErr};
-ghost use Rattle.http_messages.specs.Next.{Call};
-ghost use Rattle.rp_core.specs.Held.{turn, made};
-ghost use Rattle.rp_messages.specs.Answers.{Barely, Told, answer_bytes, answer_of_reply};
+ghost use Rattle.std.specs.Prelude.{◌≡◌, ◌≤◌, ◌<◌, ℕ, List, length, Err, IfOk, OnOk, OnErr};
+ghost use Rattle.rp_core.specs.Held.{made};
+ghost use Rattle.rp_messages.specs.Answers.{answer_of_reply};
 ghost use Rattle.rp_messages.specs.Meaning.{meant_by};
 ghost use Rattle.rp_messages.specs.Routing.{Routed, Asks};
 ghost use Rattle.rp_plain.specs.Plain.{Plain};
-ghost use Rattle.rp_plain.specs.Turns.{effect};
 ghost use Rattle.rp_plain.specs.declared.messages.Refusal.TheVariants as refusals;
 ghost use Rattle.rp_plain.specs.declared.messages.Reply.TheVariants as replies;
 ghost use Rattle.rp_repo.specs.Ready.{IsReady};

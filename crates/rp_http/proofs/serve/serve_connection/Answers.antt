@@ -1,8 +1,8 @@
-use Rattle.std.proofs.Common.{◌≡◌, ◌≢◌, ◌<◌, refl, sym, subst, ap, inl, inr, ◌∙◌, arith}
+use Rattle.std.proofs.Common.{◌≢◌, ◌<◌, refl, sym, subst, ap, inl, inr, ◌∙◌, arith}
 use Rattle.rp_http.specs.declared.connection.Phase.TheVariants.{Wants, Refuses}
 use Rattle.rp_http.specs.Bytes.{owed_in}
 use Rattle.rp_http.specs.Inboxes.{weight}
-use Rattle.rp_http.proofs.Feeding.{IsFed, fed_first, fed_more}
+use Rattle.rp_http.proofs.Feeding.{IsFed, fed_first, fed_more, fault_of}
 use Rattle.rp_http.proofs.Serving.{begins, over_run, as_short, turns_left, wants_not, refuses_not}
 use Rattle.rp_http.proofs.serve.serve_connection.Goals as goal
 
@@ -13,7 +13,7 @@ turns-init g c =
       served = begins c.args.tokens.now c.args.repository.now.content _ _ s.inbox (owed_in s.outbox) s.phase c.in-Ok-new.ensures.inbox c.in-Ok-new.ensures.outbox c.in-Ok-new.ensures.phase;
       turns = c.in-Ok-new.ensures.phase;
       partners = refl;
-      fed = fed_first _ _ c.in-Ok-new.ensures.reads;
+      fed = fed_first _ _ _ c.in-Ok-new.ensures.reads;
       same_reader = refl;
       same_writer = refl;
     }
@@ -41,7 +41,7 @@ turns-preserved-else-count-eq0 g c =
       served = c.read.ensures.served _ _ _ _ _ _ (c.send_all.ensures.served _ _ _ _ _ _ (c.turn.ensures.served _ _ _ _ _ c.turns.invariant.served));
       turns = c.in-Ok-read.ensures.phase some;
       partners = c.turn.ensures.partners ∙ c.turns.invariant.partners;
-      fed = fed_more _ _ _ gave.0 _ _ c.turns.invariant.fed (c.in-Ok-read.ensures.reads ∙ same) gave.2 (omega (arith, gave.1, some));
+      fed = fed_more _ _ _ _ _ _ gave.0 _ _ c.turns.invariant.fed (c.in-Ok-read.ensures.reads ∙ same) c.in-Ok-read.ensures.counted gave.2 (omega (arith, gave.1, some));
       same_reader = c.in-Ok-read.ensures.same ∙ c.turns.invariant.same_reader;
       same_writer = c.in-Ok-send_all.ensures.same ∙ c.turns.invariant.same_writer;
     }
@@ -51,6 +51,11 @@ returns-in-Err-clause-first g c = λ _.
     let s = c.send_all.new.connection in
     (as_short c.args.tokens.now c.args.repository.now.content c.turn.new.repository.content _ _ _ _ s.inbox (owed_in s.outbox) s.phase (c.wants.ensures.wants c.if-wants.true)
     (c.send_all.ensures.served _ _ _ _ _ _ (c.turn.ensures.served _ _ _ _ _ c.turns.invariant.served))).idle.first
+
+pub returns-in-Err-clause-read_failed : goal.returns-in-Err-clause-read_failed
+returns-in-Err-clause-read_failed g c = λ _.
+    fault_of g.R.Source.reads_made g.R.Source.read_failures c.args.reader.now c.turns.reader c.read.new.reader (g.R.Source.remaining c.args.reader.now) (g.R.Source.remaining c.turns.reader)
+    c.turns.connection.reads _ c.turns.invariant.fed (c.send_all.ensures.reads ∙ c.turn.ensures.reads) c.turns.invariant.same_reader c.in-Err.ensures.err
 
 pub turns-smaller : goal.turns-smaller
 turns-smaller g c =
@@ -65,7 +70,8 @@ turns-preserved g c =
       served = c.send_all.ensures.served _ _ _ _ _ _ (c.turn.ensures.served _ _ _ _ _ c.turns.invariant.served);
       turns = turns_left _ (c.is_last.ensures.more c.if-is_last.false) (c.wants.ensures.other c.if-wants.false) c.in-Ok-send_all.ensures.phase;
       partners = c.turn.ensures.partners ∙ c.turns.invariant.partners;
-      fed = subst (λ k. IsFed (g.R.Source.remaining c.args.reader.now) (g.R.Source.remaining c.turns.reader) k) (sym same) c.turns.invariant.fed;
+      fed = subst (λ k. IsFed (g.R.Source.reads_made c.args.reader.now) (g.R.Source.reads_made c.turns.reader) (g.R.Source.remaining c.args.reader.now) (g.R.Source.remaining c.turns.reader) k)
+          (sym same) c.turns.invariant.fed;
       same_reader = c.turns.invariant.same_reader;
       same_writer = c.in-Ok-send_all.ensures.same ∙ c.turns.invariant.same_writer;
     }

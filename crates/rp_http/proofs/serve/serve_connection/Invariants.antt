@@ -1,4 +1,4 @@
-use Rattle.std.proofs.Common.{◌≡◌, ◌≤◌, ◌+◌, ◌*◌, ℕ, List, Option}
+use Rattle.std.proofs.Common.{◌≡◌, ◌+◌, ◌*◌}
 use Rattle.rp_http.specs.declared.connection.Phase.TheVariants.{Turns}
 use Rattle.rp_http.specs.Inboxes.{weight}
 use Rattle.rp_http.specs.Serving.{IsServed}
@@ -11,7 +11,7 @@ invariant-turns g l = record {
       (g.W.Sink.contents l.initial.writer) (g.W.Sink.contents l.writer) l.connection;
   turns : l.connection.phase ≡ Turns;
   partners : l.repository.content.partners ≡ l.initial.repository.content.partners;
-  fed : IsFed (g.R.Source.remaining l.initial.reader) (g.R.Source.remaining l.reader) l.connection.reads;
+  fed : IsFed (g.R.Source.reads_made l.initial.reader) (g.R.Source.reads_made l.reader) (g.R.Source.remaining l.initial.reader) (g.R.Source.remaining l.reader) l.connection.reads;
   same_reader : g.R.Source.read_failures l.reader ≡ g.R.Source.read_failures l.initial.reader;
   same_writer : g.W.Sink.write_failures l.writer ≡ g.W.Sink.write_failures l.initial.writer;
 }

@@ -1,4 +1,4 @@
-use Rattle.std.proofs.Common.{refl, sym}
+use Rattle.std.proofs.Common.{refl}
 use Rattle.http_messages.specs.Next.{call_of, parts_in}
 use Rattle.rp_http.proofs.Answering.{asked_within, found}
 use Rattle.rp_http.proofs.Looking.{whole_of, less_of, complete, gathered, decided, begun, shown_came}

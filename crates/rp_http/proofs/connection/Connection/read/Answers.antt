@@ -1,6 +1,6 @@
-use Rattle.std.proofs.Common.{refl, sym, subst, arith}
+use Rattle.std.proofs.Common.{arith}
 use Rattle.rp_http.specs.Bytes.{owed_in}
-use Rattle.rp_http.proofs.Serving.{read_nothing, read_on, as_short, ended_run, Keeps-none, consumes_none}
+use Rattle.rp_http.proofs.Serving.{read_nothing, read_on, as_short, ended_run, Keeps-none, consumes_none, kept_on_err}
 use Rattle.rp_http.proofs.connection.Connection.read.Goals as goal
 
 pub returns-in_err-count-clause-served : goal.returns-in_err-count-clause-served
@@ -25,3 +25,12 @@ returns-else-count-gt0-clause-ended g c = λ none tokens start now input before 
     let short = as_short tokens start now input _ before after s.inbox (owed_in s.outbox) s.phase c.requires is in
     ended_run tokens start now input _ _ before after s.inbox (owed_in s.outbox) short (consumes_none _ _ _ c.in_ok-count.count none c.in_ok-count.ensures.bytes)
     (c.in_ok-count.ensures.end none (omega (arith, short.room, c.room.ensures, c.min-room.ensures)))
+
+pub returns-then-count-gt0-clause-counted : goal.returns-then-count-gt0-clause-counted
+returns-then-count-gt0-clause-counted g c = record { count = c.read_once.ensures.counted.count }
+
+pub returns-else-count-gt0-clause-counted : goal.returns-else-count-gt0-clause-counted
+returns-else-count-gt0-clause-counted g c = record { count = c.read_once.ensures.counted.count }
+
+pub returns-in_err-count-clause-kept : goal.returns-in_err-count-clause-kept
+returns-in_err-count-clause-kept g c = kept_on_err c.from_residual.result c.args.self.now _ _ c.in_err-count.ensures.keeps

@@ -3,7 +3,7 @@ use Rattle.rp_plain.specs.Plain.{Plain}
 use Rattle.rp_http.specs.Runs.{IsCutRun}
 use Rattle.rp_http.specs.Serving.{IsServed}
 use Rattle.rp_http.specs.Bytes.{owed_in}
-use Rattle.rp_http.proofs.Serving.{write_failed, wrote_first, cut_run, on_err}
+use Rattle.rp_http.proofs.Serving.{write_failed, wrote_first, cut_run, on_err, kept_on_err}
 use Rattle.rp_http.proofs.connection.Connection.send.Goals as goal
 
 pub returns-in_err-count-clause-served : goal.returns-in_err-count-clause-served
@@ -25,3 +25,6 @@ returns-in_err-count-clause-cut g c =
     cut_run tokens start now input known before _ s.inbox s.outbox.first s.outbox.rest s.phase some
     (write_failed tokens start now input known before _ _ s.inbox (owed_in s.outbox) s.phase c.in_err-count.ensures.bytes is) in
     on_err c.from_residual.result _ cut
+
+pub returns-in_err-count-clause-kept : goal.returns-in_err-count-clause-kept
+returns-in_err-count-clause-kept g c = kept_on_err c.from_residual.result c.args.self.now _ _ c.in_err-count.ensures.bytes

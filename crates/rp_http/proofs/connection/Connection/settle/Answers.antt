@@ -9,3 +9,6 @@ returns-then-not-owes-clause-served c = λ tokens start now input known before a
 
 pub returns-else-not-owes-clause-phase : goal.returns-else-not-owes-clause-phase
 returns-else-not-owes-clause-phase c = λ none. absurd (some_owed c.args.self.now.outbox.first c.args.self.now.outbox.rest (c.owes.ensures.owes c.if-not-owes.false) none)
+
+pub returns-else-not-owes-clause-turns : goal.returns-else-not-owes-clause-turns
+returns-else-not-owes-clause-turns c = λ none. absurd (some_owed c.args.self.now.outbox.first c.args.self.now.outbox.rest (c.owes.ensures.owes c.if-not-owes.false) none)

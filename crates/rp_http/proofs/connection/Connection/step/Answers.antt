@@ -1,7 +1,7 @@
-use Rattle.std.proofs.Common.{refl, inl}
+use Rattle.std.proofs.Common.{◌<◌, refl, inl, ◌∙◌, arith}
 use Rattle.rp_http.specs.Bytes.{owed_in}
 use Rattle.rp_http.proofs.Leaving.{leaves_none}
-use Rattle.rp_http.proofs.Serving.{over_run, whole_if}
+use Rattle.rp_http.proofs.Serving.{over_run, whole_if, keeps_same, on_err_then, sends_not}
 use Rattle.rp_http.proofs.connection.Connection.step.Goals as goal
 
 pub returns-in-Turns-clause-served : goal.returns-in-Turns-clause-served
@@ -39,3 +39,48 @@ returns-in-Sends-clause-whole g c =
     whole_if c.send_on.result c.send_on.ensures.over c.send_on.ensures.ended (λ last start input before is.
     over_run c.args.tokens.now start c.args.repository.now.content input _ before _ c.send_on.new.self.inbox (owed_in c.send_on.new.self.outbox) c.send_on.new.self.phase last.0 last.1
     (c.send_on.ensures.served c.args.tokens.now start c.args.repository.now.content input _ before is))
+
+pub returns-in-Turns-clause-moves : goal.returns-in-Turns-clause-moves
+returns-in-Turns-clause-moves g c = (c.in-Turns.is, c.turn.ensures.phase)
+
+pub returns-in-Turns-clause-spends : goal.returns-in-Turns-clause-spends
+returns-in-Turns-clause-spends g c = (c.turn.ensures.reads, refl, refl)
+
+pub returns-then-count-eq0-clause-moves : goal.returns-then-count-eq0-clause-moves
+returns-then-count-eq0-clause-moves g c = c.in-Wants.is
+
+pub returns-then-count-eq0-clause-spends : goal.returns-then-count-eq0-clause-spends
+returns-then-count-eq0-clause-spends g c =
+    let gave = c.in-Ok.ensures.gave in
+    (c.in-Ok.ensures.reads, c.in-Ok.ensures.counted, (gave.0, gave.1 ∙ c.if-count-eq0.true, gave.2))
+
+pub returns-else-count-eq0-clause-moves : goal.returns-else-count-eq0-clause-moves
+returns-else-count-eq0-clause-moves g c =
+    let some : 0 < c.in-Ok.count = omega (arith, c.if-count-eq0.false) in
+    (c.in-Wants.is, some, c.in-Ok.ensures.phase some)
+
+pub returns-else-count-eq0-clause-spends : goal.returns-else-count-eq0-clause-spends
+returns-else-count-eq0-clause-spends g c = (c.in-Ok.ensures.reads, c.in-Ok.ensures.counted, c.in-Ok.ensures.gave)
+
+pub returns-in-Err-clause-kept : goal.returns-in-Err-clause-kept
+returns-in-Err-clause-kept g c = (c.in-Err.ensures.kept.0, refl, c.in-Err.ensures.kept.1, keeps_same _)
+
+pub returns-in-Err-clause-read_failed : goal.returns-in-Err-clause-read_failed
+returns-in-Err-clause-read_failed g c = λ _. c.in-Err.ensures.err
+
+pub returns-in-Sends-clause-moves : goal.returns-in-Sends-clause-moves
+returns-in-Sends-clause-moves g c =
+    let others = sends_not c.args.self.now.phase c.in-Sends.is in
+    c.send_on.ensures.moves others.0 others.1
+
+pub returns-in-Sends-clause-spends : goal.returns-in-Sends-clause-spends
+returns-in-Sends-clause-spends g c = c.send_on.ensures.spends _ _
+
+pub returns-in-Sends-clause-kept : goal.returns-in-Sends-clause-kept
+returns-in-Sends-clause-kept g c = on_err_then c.send_on.result c.send_on.ensures.kept (λ is. (is.0, refl, keeps_same _, is.1))
+
+pub returns-in-Sends-clause-read_failed : goal.returns-in-Sends-clause-read_failed
+returns-in-Sends-clause-read_failed g c = λ is. absurd (c.send_on.ensures.other is)
+
+pub returns-in-Sends-clause-write_failed : goal.returns-in-Sends-clause-write_failed
+returns-in-Sends-clause-write_failed g c = c.send_on.ensures.write_failed

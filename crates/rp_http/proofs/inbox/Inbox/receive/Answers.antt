@@ -1,4 +1,4 @@
-use Rattle.std.proofs.Common.{◌≡◌, ◌≤◌, ◌-◌, length, sym, ap, subst, ◌∙◌, arith, refl}
+use Rattle.std.proofs.Common.{◌≡◌, ◌≤◌, ◌-◌, length, sym, ap, subst, ◌∙◌, arith}
 use Rattle.rp_http.specs.declared.inbox.Coming.{Coming}
 use Rattle.rp_http.specs.Inboxes.{State, Gathers, Skips, state_of, IsSound, IsComing, room_of, Holds}
 use Rattle.rp_http.proofs.Inboxes.{coming_more, drops, gathers_more, skips_more}
