@@ -28,8 +28,8 @@ pub record Serves (loaded : Loaded) : Type 0 where
 abbrev pub ServesFrom : Option Held → List ℕ → Type 0
 ServesFrom files path = (loaded : Loaded) × IfSome files (λ held. loaded_at held path ≡ Ok loaded) × Serves loaded
 
--- How the command ended that serves an address. There was no repository to serve, for this reason; or it was served, until that was to
--- end or no more connections came; or the address is none to listen on, and no message came.
+-- How the command ended that serves an address: there was no repository to serve, for this reason; or there was one, which was served until
+-- that was to end or could no more be done; or this address can't be listened on.
 abbrev pub IsServed : (Failure StartFault → Type 0) → Type 0 → SocketAddr → Result Done Fault → Type 0
 IsServed Lacks It address (Ok Served) = It
 IsServed Lacks It address (Ok Helped) = ⊥
