@@ -245,10 +245,28 @@ impl Serving {
         if !self.is_late(key) {
             return;
         }
-        if !self.sends(key) {
-            self.drive(alloc, repository, tokens, workspace, key);
-        }
+        self.read_late(alloc, repository, tokens, workspace, key);
         self.end_late(key);
+    }
+
+    /// Reads what has come of a connection that took too long, unless it sends a reply.
+    #[tactic(auto, using(crate::proofs::Running::leaves_more, crate::proofs::Running::leaves_none))]
+    fn read_late(
+        &mut self,
+        alloc: Global,
+        repository: &mut Repository<'_>,
+        tokens: &Tokens,
+        workspace: &mut Workspace,
+        key: usize,
+    )
+        requires few { length tokens.now ≤ length repository.old.content.partners }
+        ensures run { Leaves tokens.now repository.old.content repository.new.content }
+        ensures partners { repository.new.content.partners ≡ repository.old.content.partners }
+    {
+        if self.sends(key) {
+            return;
+        }
+        self.drive(alloc, repository, tokens, workspace, key);
     }
 
     /// Ends a connection that took too long still.
