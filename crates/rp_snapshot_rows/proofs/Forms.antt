@@ -1,5 +1,6 @@
 -- What was written is what is read.
-use Rattle.std.proofs.Common.{◌≡◌, ℕ, ◌<◌, ◌^◌, true, false, List, [], ◌∷◌, ◌++◌, length, Option, Some, None, codes, decimal, refl, sym, ap, ◌∙◌, append-nil, append_assoc, lt-ltb}
+use Rattle.std.proofs.Common.{◌≡◌, ℕ, ◌<◌, ◌^◌, true, false, List, [], ◌∷◌, ◌++◌, length, Option, Some, None, Result, Ok, Err, codes, decimal, refl, sym, ap, ◌∙◌, append-nil, append_assoc, lt-ltb}
+use Rattle.std.proofs.lemmas.Slice.Eq.{bytes_eq-Decides}
 use Rattle.std.proofs.lemmas.Fmt.{decimal_is_IsNumeral, decimal_nonempty}
 use Rattle.fast_float.specs.Text.{Parts, scan, digits_of, IsWellFormed}
 use Rattle.fast_float.proofs.Writing.{scan-text_of}
@@ -15,9 +16,9 @@ use Rattle.rp_rows.specs.declared.rows.Key.{Key}
 use Rattle.rp_rows.specs.Rows.{Model, GroupRow}
 use Rattle.rp_snapshot_rows.specs.declared.lack.Lack.{Lack}
 use Rattle.rp_snapshot_rows.specs.Written.{level_word, grant_data, reader_data, member_data, link_data, model_data, group_data}
-use Rattle.rp_snapshot_rows.specs.Tokens.{listed, tokens_of, grant_tokens, reader_tokens, member_tokens, link_tokens, tail_tokens, behind_file, model_tokens, group_tokens}
-use Rattle.rp_snapshot_rows.specs.Again.{HasNumbers, IsToRead}
-use Rattle.rp_snapshot_rows.specs.Reading.{Fails, level_of, pair_at, grant_at, reader_at, member_at, link_at, text_at, list_at, first_list_at, whole_at, whole_of, file_at, greatest_at, tail_at}
+use Rattle.rp_snapshot_rows.specs.Tokens.{listed, tokens_of, grant_tokens, reader_tokens, member_tokens, link_tokens, tail_tokens, behind_grants, behind_file, model_tokens, behind_readers, group_tokens}
+use Rattle.rp_snapshot_rows.specs.Again.{Again, Passed, HasNumbers, IsToRead}
+use Rattle.rp_snapshot_rows.specs.Reading.{Fails, Gives, Passes, level_of, pair_at, grant_at, reader_at, member_at, link_at, text_at, list_at, first_list_at, whole_at, whole_of, file_at, greatest_at, tail_at}
 use Rattle.rp_snapshot_rows.proofs.ListLemmas.{items_tokens-map}
 
 -- ---- what can't be read isn't there
@@ -32,6 +33,15 @@ some_is x y e = cc
 -- a value and the tokens behind it are those
 pub both_are : {A : Type 0} (x y : A × List Token) → Some x ≡ Some y → (x.0 ≡ y.0) × (x.1 ≡ y.1)
 both_are {A = A} x y e = let is = some_is x y e in (ap (λ (p : A × List Token). p.0) is, ap (λ (p : A × List Token). p.1) is)
+
+-- what reading gives is what was written
+pub given_again : {X Y : Type 0} (view : X → Y) (r : Result X (Failure Lack)) (read : Option (Y × List Token)) (y : Y) (new rest : List Token) → Gives view r new read → read ≡ Some (y, rest) → Again view r y new rest
+given_again view (Ok x) read y new rest gives is = both_are (view x, new) (y, rest) (sym gives ∙ is)
+given_again view (Err e) read y new rest gives is = no_fault e read (y, rest) gives is
+
+pub passed_again : (r : Result (Unit {0}) (Failure Lack)) (read : Option (List Token)) (new rest : List Token) → Passes r new read → read ≡ Some rest → Passed r new rest
+passed_again (Ok x) read new rest passes is = some_is new rest (sym passes ∙ is)
+passed_again (Err e) read new rest passes is = no_fault e read rest passes is
 
 -- ---- numbers
 
@@ -77,9 +87,13 @@ pub file_again : (file : List ℕ) (ts : List Token) → file_at (begin_object �
 unfolding file_at text_at
 file_again file ts = refl
 
-pub list_again : (ts : List Token) (name : List ℕ) → list_at name (key name ∷ begin_array ∷ ts) ≡ Some ts
+pub list_again : (name : List ℕ) (ts : List Token) → list_at name (key name ∷ begin_array ∷ ts) ≡ Some ts
 unfolding list_at
-list_again ts name = ?
+list_again name ts = rw ((bytes_eq-Decides name name).1 refl) refl
+
+pub first_list_again : (name : List ℕ) (ts : List Token) → first_list_at name (begin_object ∷ key name ∷ begin_array ∷ ts) ≡ Some ts
+unfolding first_list_at
+first_list_again name ts = list_again name ts
 
 pub greatest_again : (n : ℕ) (ts : List Token) → n < 2 ^ 64 → greatest_at (key (codes "greatest") ∷ number (decimal n) ∷ key (codes "links") ∷ begin_array ∷ ts) ≡ Some (n, ts)
 unfolding greatest_at whole_at list_at
@@ -96,3 +110,22 @@ model_written file m = rw (items_tokens-map grant_data m.grants, items_tokens-ma
 
 pub group_written : (g : GroupRow) → tokens_of (group_data g) ≡ group_tokens g
 group_written g = rw (items_tokens-map reader_data g.grants, items_tokens-map member_data g.holds.members) refl
+
+-- ---- rows, part by part
+
+pub file_read : (file : List ℕ) (m : Model) (rest : List Token) → file_at (tokens_of (model_data file m) ++ rest) ≡ Some (file, behind_file m ++ rest)
+file_read file m rest = ap (λ ts. file_at (ts ++ rest)) (model_written file m) ∙ file_again file (behind_file m ++ rest)
+
+pub grants_opened : (m : Model) (rest : List Token) → list_at (codes "grants") (behind_file m ++ rest) ≡ Some (listed grant_tokens m.grants ++ (behind_grants m ++ rest))
+grants_opened m rest = list_again (codes "grants") _ ∙ ap (λ ts. Some ts) (append_assoc (listed grant_tokens m.grants) (behind_grants m) rest)
+
+pub greatest_read : (m : Model) (rest : List Token) → m.holds.greatest < 2 ^ 64 → greatest_at (behind_grants m ++ rest) ≡ Some (m.holds.greatest, listed link_tokens m.holds.content.links ++ (tail_tokens m.owner m.name m.holds.schema ++ rest))
+greatest_read m rest h = greatest_again m.holds.greatest _ h ∙ ap (λ ts. Some (m.holds.greatest, ts)) (append_assoc (listed link_tokens m.holds.content.links) (tail_tokens m.owner m.name m.holds.schema) rest)
+
+pub readers_opened : (g : GroupRow) (rest : List Token) → first_list_at (codes "grants") (tokens_of (group_data g) ++ rest) ≡ Some (listed reader_tokens g.grants ++ (behind_readers g ++ rest))
+readers_opened g rest =
+    ap (λ ts. first_list_at (codes "grants") (ts ++ rest)) (group_written g) ∙ first_list_again (codes "grants") _
+    ∙ ap (λ ts. Some ts) (append_assoc (listed reader_tokens g.grants) (behind_readers g) rest)
+
+pub members_opened : (g : GroupRow) (rest : List Token) → list_at (codes "members") (behind_readers g ++ rest) ≡ Some (listed member_tokens g.holds.members ++ (tail_tokens g.owner g.name g.holds.schema ++ rest))
+members_opened g rest = list_again (codes "members") _ ∙ ap (λ ts. Some ts) (append_assoc (listed member_tokens g.holds.members) (tail_tokens g.owner g.name g.holds.schema) rest)

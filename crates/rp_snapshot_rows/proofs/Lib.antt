@@ -1,2 +1,3 @@
 mod ListLemmas
 mod Forms
+mod Worked

@@ -17,6 +17,11 @@ abbrev pub Again : {X Y : Type 0} → (X → Y) → Result X (Failure Lack) → 
 Again view (Ok x) y new rest = (view x ≡ y) × (new ≡ rest)
 Again view (Err e) y new rest = e ≡ NoMemory
 
+-- a function passed over what stood first, unless memory ran out
+abbrev pub Passed : Result (Unit {0}) (Failure Lack) → List Token → List Token → Type 0
+Passed (Ok x) new rest = new ≡ rest
+Passed (Err e) new rest = e ≡ NoMemory
+
 -- ---- rows, but for files
 
 abbrev pub saved_model : Model → SavedModel

@@ -39,18 +39,23 @@ abbrev pub tail_tokens : List ℕ → List ℕ → List ℕ → List Token
 tail_tokens owner name schema =
     key (codes "name") ∷ string name ∷ key (codes "owner") ∷ string owner ∷ key (codes "schema") ∷ string schema ∷ end_object ∷ []
 
--- what a model has behind its file: grants, greatest name, links and the rest
+-- what a model has behind its grants: its greatest name, its links and the rest
+abbrev pub behind_grants : Model → List Token
+behind_grants m =
+    key (codes "greatest") ∷ number (decimal m.holds.greatest) ∷ key (codes "links") ∷ begin_array ∷ (listed link_tokens m.holds.content.links
+    ++ tail_tokens m.owner m.name m.holds.schema)
+
+-- what it has behind its file
 abbrev pub behind_file : Model → List Token
-behind_file m =
-    key (codes "grants") ∷ begin_array ∷ (listed grant_tokens m.grants
-    ++ key (codes "greatest") ∷ number (decimal m.holds.greatest) ∷ key (codes "links") ∷ begin_array ∷ (listed link_tokens m.holds.content.links
-    ++ tail_tokens m.owner m.name m.holds.schema))
+behind_file m = key (codes "grants") ∷ begin_array ∷ (listed grant_tokens m.grants ++ behind_grants m)
 
 abbrev pub model_tokens : List ℕ → Model → List Token
 model_tokens file m = begin_object ∷ key (codes "file") ∷ string file ∷ behind_file m
 
+-- what a group has behind its grants
+abbrev pub behind_readers : GroupRow → List Token
+behind_readers g =
+    key (codes "members") ∷ begin_array ∷ (listed member_tokens g.holds.members ++ tail_tokens g.owner g.name g.holds.schema)
+
 abbrev pub group_tokens : GroupRow → List Token
-group_tokens g =
-    begin_object ∷ key (codes "grants") ∷ begin_array ∷ (listed reader_tokens g.grants
-    ++ key (codes "members") ∷ begin_array ∷ (listed member_tokens g.holds.members
-    ++ tail_tokens g.owner g.name g.holds.schema))
+group_tokens g = begin_object ∷ key (codes "grants") ∷ begin_array ∷ (listed reader_tokens g.grants ++ behind_readers g)

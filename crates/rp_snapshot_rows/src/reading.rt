@@ -6,10 +6,10 @@ ghost use Rattle.std.specs.List.{AllByRecursion};
 ghost use Rattle.json.specs.Token.{Token as SpecToken, begin_object, begin_array, key as key_token};
 ghost use Rattle.rp_rows.specs.Rows.{Model as SpecModel, GroupRow as SpecGroup};
 ghost use Rattle.rp_snapshot_rows.specs.Reading as spec;
-ghost use Rattle.rp_snapshot_rows.specs.Reading.{Gives, Passes};
+ghost use Rattle.rp_snapshot_rows.specs.Reading.{Gives};
 ghost use Rattle.rp_snapshot_rows.specs.Written.{model_data, group_data};
 ghost use Rattle.rp_snapshot_rows.specs.Tokens.{tokens_of, behind_file};
-ghost use Rattle.rp_snapshot_rows.specs.Again.{Again, saved_model, saved_group, HasModelNumbers, IsToRead};
+ghost use Rattle.rp_snapshot_rows.specs.Again.{Again, Passed, saved_model, saved_group, HasModelNumbers, IsToRead};
 
 use crate::lack::Lack;
 use crate::lists::{grants, group_grants, links, members};
@@ -23,7 +23,7 @@ use std::alloc::Global;
 
 /// The brace of an object, and the bracket that opens its first list, which is of this name.
 pub fn first_list(reader: &mut Reader<'_>, name: &str) -> Result<(), Failure<Lack>>
-    ensures again { (rest : List SpecToken) → reader.old ≡ begin_object ∷ key_token name.now ∷ begin_array ∷ rest → Again (λ x. x) result tt reader.new rest }
+    ensures again { (rest : List SpecToken) → reader.old ≡ begin_object ∷ key_token name.now ∷ begin_array ∷ rest → Passed result reader.new rest }
     ensures shorter { OnOk result (length reader.new < length reader.old) }
 {
     first_list_at(reader, name)
@@ -31,7 +31,7 @@ pub fn first_list(reader: &mut Reader<'_>, name: &str) -> Result<(), Failure<Lac
 
 /// The bracket that opens the list of this name.
 pub fn list(reader: &mut Reader<'_>, name: &str) -> Result<(), Failure<Lack>>
-    ensures again { (rest : List SpecToken) → reader.old ≡ key_token name.now ∷ begin_array ∷ rest → Again (λ x. x) result tt reader.new rest }
+    ensures again { (rest : List SpecToken) → reader.old ≡ key_token name.now ∷ begin_array ∷ rest → Passed result reader.new rest }
     ensures shorter { OnOk result (length reader.new < length reader.old) }
 {
     list_at(reader, name)

@@ -47,6 +47,22 @@ fn write_pair(out: &mut Writer, first: &str, second: &str) -> Result<(), AllocEr
     out.end_array()
 }
 
+/// A grant on a model.
+fn write_grant(out: &mut Writer, grant: &Grant) -> Result<(), AllocError>
+    ensures ok { OnOk result (out.new.tokens ≡ out.old.tokens ++ tokens_of (grant_data grant.now)) }
+    ensures before { out.new.before ≡ out.old.before }
+{
+    write_pair(out, grant.partner.as_str(), word_of(grant.level))
+}
+
+/// A model that a group lists.
+fn write_member(out: &mut Writer, member: &Key) -> Result<(), AllocError>
+    ensures ok { OnOk result (out.new.tokens ≡ out.old.tokens ++ tokens_of (member_data member.now)) }
+    ensures before { out.new.before ≡ out.old.before }
+{
+    write_pair(out, member.owner.as_str(), member.name.as_str())
+}
+
 fn write_link(out: &mut Writer, link: &Link) -> Result<(), AllocError>
     ensures ok { OnOk result (out.new.tokens ≡ out.old.tokens ++ tokens_of (link_data link.now)) }
     ensures before { out.new.before ≡ out.old.before }
@@ -66,7 +82,7 @@ pub(crate) fn write_grants(out: &mut Writer, grants: &[Grant]) -> Result<(), All
 {
     out.begin_array()?;
     for grant in grants {
-        write_pair(out, grant.partner.as_str(), word_of(grant.level))?;
+        write_grant(out, grant)?;
     }
     out.end_array()
 }
@@ -90,7 +106,7 @@ pub(crate) fn write_members(out: &mut Writer, members: &[Key]) -> Result<(), All
 {
     out.begin_array()?;
     for member in members {
-        write_pair(out, member.owner.as_str(), member.name.as_str())?;
+        write_member(out, member)?;
     }
     out.end_array()
 }

@@ -1,0 +1,4 @@
+pub mod PieceLemmas
+mod SaveLemmas
+mod CompareLemmas
+mod Worked
