@@ -5,11 +5,13 @@
 
 mod comparing;
 mod gathered;
+mod law;
 mod pieces;
 mod saving;
 mod version;
 
 pub use comparing::{behind, is_text_of};
 pub use gathered::gathered;
+pub use law::rows_again;
 pub use saving::{SaveFault, save};
 pub use version::Version;
