@@ -4,6 +4,10 @@ use Rattle.std.proofs.lemmas.List.{append_cancel_left}
 use Rattle.std.proofs.lemmas.Slice.Eq.{bytes_eq-Decides}
 use Rattle.std.specs.Bool.{MatchBool}
 
+-- what is left behind a piece
+pub left_behind : (p rest bytes left : List ℕ) → bytes ≡ p ++ left → bytes ≡ p ++ rest → left ≡ rest
+left_behind p rest bytes left front is = append_cancel_left p left rest (sym front ∙ is)
+
 -- one piece more
 pub passed : (p others left new rest : List ℕ) → left ≡ p ++ new → left ≡ (p ++ others) ++ rest → new ≡ others ++ rest
 passed p others left new rest front is = append_cancel_left p new (others ++ rest) (sym front ∙ is ∙ append_assoc p others rest)

@@ -102,10 +102,25 @@ both_all P Q (x ∷ xs) p q = ((p.0, q.0), both_all P Q xs p.1 q.1)
 good_link : (l : Link) → IsTextLink l × HasNumbers l → AreGood (link_tokens l)
 good_link l h = (
   open_brace,
-  (word (codes "instance") refl, (good_number l.target h.1.1,
-  (word (codes "model") refl, (good_string l.model h.0.1,
-  (word (codes "name") refl, (good_number l.name h.1.0,
-  (word (codes "owner") refl, (good_string l.owner h.0.0, (close_brace, tt))))))))),
+  (
+    word (codes "instance") refl,
+    (
+      good_number l.target h.1.1,
+      (
+        word (codes "model") refl,
+        (
+          good_string l.model h.0.1,
+          (
+            word (codes "name") refl,
+            (
+              good_number l.name h.1.0,
+              (word (codes "owner") refl, (good_string l.owner h.0.0, (close_brace, tt))),
+            ),
+          ),
+        ),
+      ),
+    ),
+  ),
 )
 
 -- ---- rows

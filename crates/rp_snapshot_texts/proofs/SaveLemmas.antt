@@ -31,8 +31,8 @@ finished a b f g text s = (subst (Appends a b) (sym (append-nil s.done) ∙ s.wh
 fronts : (a b c : Option (List ℕ)) (f g : ℕ) (p left text : List ℕ) → SoFar a b f g (p ++ left) text → AppendsFront b c p → AppendsFront a c text
 fronts a b c f g p left text s (front, back, cut, written) =
     let whole : text ≡ (s.done ++ front) ++ (back ++ left) =
-        sym s.whole ∙ ap (λ l. s.done ++ (l ++ left)) cut ∙ ap (λ l. s.done ++ l) (append_assoc front back left)
-        ∙ sym (append_assoc s.done front (back ++ left)) in
+    sym s.whole ∙ ap (λ l. s.done ++ (l ++ left)) cut ∙ ap (λ l. s.done ++ l) (append_assoc front back left)
+    ∙ sym (append_assoc s.done front (back ++ left)) in
     (s.done ++ front, back ++ left, whole, Appends-trans a b c s.done front s.written written)
 
 pub stopped : (a b c : Option (List ℕ)) (f g h : ℕ) (p left text : List ℕ) (e : SaveFault) → SoFar a b f g (p ++ left) text → Saves (Err e) b c g h p → Saves (Err e) a c f h text
