@@ -11,6 +11,7 @@ use rp_snapshot_texts::Version;
 use std::alloc::{AllocError, Global};
 
 /// The first version, by these schemas: the file of a model is canonical text.
+#[derive(Clone, Copy)]
 pub struct FirstVersion<'a, 's> {
     pub schemas: &'a [LoadedSchema<'s>],
 }
