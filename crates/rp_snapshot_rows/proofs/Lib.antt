@@ -1,3 +1,3 @@
-mod ListLemmas
-mod Forms
+pub mod ListLemmas
+pub mod Forms
 mod Worked

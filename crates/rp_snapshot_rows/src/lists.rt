@@ -1,5 +1,5 @@
 //! The lists of rows: their items, and each list whole.
-#![tactic(auto, unfolding(crate::specs::Reading::pair_at, crate::specs::Reading::grant_at, crate::specs::Reading::reader_at, crate::specs::Reading::member_at, crate::specs::Reading::link_at))]
+#![tactic(auto, unfolding(crate::specs::Reading::grant_at, crate::specs::Reading::reader_at, crate::specs::Reading::member_at, crate::specs::Reading::link_at))]
 
 ghost use Rattle.std.specs.Prelude.{◌≡◌, ◌<◌, ◌++◌, List, length, OnOk};
 ghost use Rattle.std.specs.List.{AllByRecursion};
@@ -33,6 +33,7 @@ fn level_of(word: &str) -> Option<Level>
 }
 
 /// A list of two texts.
+#[tactic(auto, unfolding(crate::specs::Reading::pair_at))]
 fn pair<'a>(reader: &mut Reader<'a>) -> Result<(&'a str, &'a str), Failure<Lack>>
     ensures read { Gives (λ p. (p.0.now, p.1.now)) result reader.new (spec.pair_at reader.old) }
     ensures shorter { OnOk result (length reader.new < length reader.old) }
