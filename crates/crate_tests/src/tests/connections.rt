@@ -188,13 +188,14 @@ fn long_head_is_answered(alloc: Global) -> Result<bool, AllocError> {
     Ok(told.as_deref() == Some(LARGE_HEAD))
 }
 
-/// What one connection of an address on this machine is told.
+/// What one connection of an address on this machine is told. Nothing where it doesn't end in order.
 fn told_by_socket(rt: &HostRuntime) -> Result<Vec<u8>, Fail> {
     let listening = Listening::bind(rt, SocketAddr::from((Ipv4Addr::LOCALHOST, 0)))?;
     let mut stream = ask(rt, listening.address())?;
-    assert!(rt; serve_one(rt, listening)?);
     let mut told = Vec::new(rt.alloc());
-    stream.read_to_end(&mut told)?;
+    if serve_one(rt, listening)? {
+        stream.read_to_end(&mut told)?;
+    }
     Ok(told)
 }
 
