@@ -149,12 +149,13 @@ def look(shim, refusal, may_end):
     with server:
         try:
             there, then = session(server)
-        except ConnectionRefusedError:
+            is_right = "REFUSE_NTH" not in refusal or is_there(server, there) or is_there(server, then)
+        except ConnectionError:
             if not may_end:
                 raise Wrong("it ended") from None
             server.expect_ended(2, FAULT)
             return
-        if "REFUSE_NTH" in refusal and not is_there(server, there) and not is_there(server, then):
+        if not is_right:
             raise Wrong(f"{there} has to be there, or {then}, and isn't")
 
 
