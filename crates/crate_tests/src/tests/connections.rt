@@ -1,6 +1,6 @@
 //! One connection over streams in memory, of which the program serves none, and one by a socket, which the same thread asks. What
 //! many connections are answered is in `tests/http.py`.
-ghost use Rattle.std.specs.Prelude.{◌≤◌, length, IfOk, IfSome};
+ghost use Rattle.std.specs.Prelude.{◌≡◌, ◌≤◌, length, IfOk, IfSome};
 
 use ex_check::compile_schema;
 use http_routes::{TokenFault, Tokens};
