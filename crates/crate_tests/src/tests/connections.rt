@@ -128,7 +128,17 @@ fn opened<'s>(
 fn written(alloc: Global, bytes: &[u8], size: usize) -> Result<Option<Vec<u8>>, AllocError> {
     let schemas = schemas(alloc)?;
     let lent = LoadedSchema::all(alloc, &schemas)?;
-    let Some((mut repository, tokens)) = opened(alloc, &lent)? else {
+    written_by(alloc, &lent, bytes, size)
+}
+
+/// The same, by the repository of these schemas.
+fn written_by<'s>(
+    alloc: Global,
+    schemas: &'s [LoadedSchema<'s>],
+    bytes: &[u8],
+    size: usize,
+) -> Result<Option<Vec<u8>>, AllocError> {
+    let Some((mut repository, tokens)) = opened(alloc, schemas)? else {
         return Ok(None);
     };
     let mut reader = Pieces {
@@ -168,7 +178,17 @@ fn serve_one(rt: &HostRuntime, listening: Listening) -> Result<bool, AllocError>
     let alloc = rt.alloc();
     let schemas = schemas(alloc)?;
     let lent = LoadedSchema::all(alloc, &schemas)?;
-    let Some((mut repository, tokens)) = opened(alloc, &lent)? else {
+    serve_one_by(rt, &lent, listening)
+}
+
+/// The same, by the repository of these schemas.
+fn serve_one_by<'s>(
+    rt: &HostRuntime,
+    schemas: &'s [LoadedSchema<'s>],
+    listening: Listening,
+) -> Result<bool, AllocError> {
+    let alloc = rt.alloc();
+    let Some((mut repository, tokens)) = opened(alloc, schemas)? else {
         return Ok(false);
     };
     let ends = Ends {
