@@ -935,12 +935,12 @@ def test_wrong_tokens():
     def partners(*tokens):
         return {"partners": [{"name": f"p{k}", "token": it} for k, it in enumerate(tokens)], "schemas": ["t.exp"]}
 
-    wrong = [[""], ["a b"], ["a\n"], [" a"], ["\u00e9"], ["x" * 129], ["a/b"], ["a:b"], ["a+b"], ["a="], ["\0"], ["ta", "ta"], ["ta", "tb", "ta"],
-             ["ta", ""], ["ta", "ta", "a b"]]
-    for tokens in wrong:
+    bad = [[""], ["a b"], ["a\n"], [" a"], ["\u00e9"], ["x" * 129], ["a/b"], ["a:b"], ["a+b"], ["a="], ["\0"], ["ta", ""], ["ta", "ta", "a b"]]
+    twice = [["ta", "ta"], ["ta", "tb", "ta"], ["x" * 128, "x", "x" * 128]]
+    for tokens, words in [*((it, "a token isn't 1 to 128 of") for it in bad), *((it, "two partners have one token") for it in twice)]:
         with Repository(partners(*tokens)) as folder:
-            expect_serve_fault(folder)
-            expect_fault(folder.batch(b'{"as":"p0","do":"schemas"}'))
+            expect_fault(folder.run("serve", "--config", "config.json", "--listen", "127.0.0.1:0", seconds=20, stdin=subprocess.DEVNULL), words)
+            expect_fault(folder.batch(b'{"as":"p0","do":"schemas"}'), words)
     for tokens in (["x" * 128], ["t", "T"], ["-", "_", "."], ["0"], ["t", "tt", "ttt"]):
         with Repository(partners(*tokens)) as folder:
             seen = folder.batch(b'{"as":"p0","do":"schemas"}')
