@@ -1066,17 +1066,16 @@ def test_until_the_input_ends():
         expect_whole(server, ASKED, SCHEMAS)
 
 
-def test_signals():
-    """A signal ends it at once, whatever is under way."""
-    for signal_sent in (signal.SIGTERM, signal.SIGINT, signal.SIGHUP):
-        with serving() as server, Client(server, room=4096) as client, Client(server) as half:
-            client.ask(as_post(create("ann", "m")), DONE)
-            client.ask(as_post(put("ann", "ann", "m", file_of("#1=P(1.,'" + "x" * (6 * MIB) + "');"))), ok(instances(1)))
-            client.send(get("/v1/models/ann/m/file"))
-            half.send(ASKED[:20])
-            time.sleep(0.1)
-            server.process.send_signal(signal_sent)
-            server.expect_ended(-signal_sent, seconds=1)
+def test_a_signal_ends_it():
+    """At once, whatever is under way."""
+    with serving() as server, Client(server, room=4096) as client, Client(server) as half:
+        client.ask(as_post(create("ann", "m")), DONE)
+        client.ask(as_post(put("ann", "ann", "m", file_of("#1=P(1.,'" + "x" * (6 * MIB) + "');"))), ok(instances(1)))
+        client.send(get("/v1/models/ann/m/file"))
+        half.send(ASKED[:20])
+        time.sleep(0.1)
+        server.process.send_signal(signal.SIGTERM)
+        server.expect_ended(-signal.SIGTERM, seconds=1)
 
 
 def test_a_port_is_free_again():

@@ -75,10 +75,14 @@ int accept4(int descriptor, struct sockaddr *address, socklen_t *size, int flags
   if (!real) real = dlsym(RTLD_NEXT, "accept4");
   long first = number("FAIL_ACCEPT"), many = number("FAIL_ACCEPTS");
   struct pollfd waiting = {.fd = descriptor, .events = POLLIN};
-  if (first && poll(&waiting, 1, 0) == 1) {
-    accepts++;
-    if (accepts >= first && accepts < first + (many ? many : 1)) return failed();
+  if (!first) return real(descriptor, address, size, flags);
+  /* (one that comes from here on is told of anew) */
+  if (poll(&waiting, 1, 0) != 1) {
+    errno = EAGAIN;
+    return -1;
   }
+  accepts++;
+  if (accepts >= first && accepts < first + (many ? many : 1)) return failed();
   return real(descriptor, address, size, flags);
 }
 
