@@ -304,7 +304,7 @@ held_at {A = A} P k xs ys rows table are has x found = by (find (is_entry k) ys)
     by (Some y) e = has (joined_row x y) (at ∙ ap (both (Some x)) e)
 
 -- the entries of both halves at a place have the same key
-same_at : {A B : Type 0} (xs : List (Entry A)) (ys : List (Entry B)) (i : ℕ) (x : Entry A) (y : Entry B) → map entry_key xs ≡ map entry_key ys → i < length xs → entry_key (get_or xs i x) ≡ entry_key (get_or ys i y)
+pub same_at : {A B : Type 0} (xs : List (Entry A)) (ys : List (Entry B)) (i : ℕ) (x : Entry A) (y : Entry B) → map entry_key xs ≡ map entry_key ys → i < length xs → entry_key (get_or xs i x) ≡ entry_key (get_or ys i y)
 same_at [] ys i x y same within = absurd (omega arith)
 same_at (z ∷ xs) [] i x y same within = cc
 same_at (z ∷ xs) (w ∷ ys) zero x y same within = cc

@@ -5,3 +5,4 @@ pub mod Seeing
 pub mod Counted
 pub mod Marking
 pub mod Places
+pub mod Parts

@@ -1,4 +1,5 @@
 pub mod Stored
+pub mod Parts
 pub mod Granted
 pub mod Kept
 pub mod Regrants

@@ -65,11 +65,17 @@ fn is_counted(groups: &Groups, caller: &Text, model: &RowRef<'_, ModelContent>) 
         .any(|names| counts_among(&table, caller, model, names))
 }
 
-/// What the partner may do with the model, where it counts so in groups that he is granted.
-pub fn level_where(caller: &Text, model: &RowRef<'_, ModelContent>, counted: bool) -> Right
+/// What the partner may do with the model, where it is his or isn't and counts so in groups that he is granted.
+pub fn level_where(
+    caller: &Text,
+    model: &RowRef<'_, ModelContent>,
+    owned: bool,
+    counted: bool,
+) -> Right
+    requires { owned ≡ sight.owns caller.now (row_of model.now) }
     ensures { result ≡ level_by caller.now (row_of model.now) counted }
 {
-    if owns(caller, model) {
+    if owned {
         return Right::Owns;
     }
     match grant_to(caller, model.grants) {

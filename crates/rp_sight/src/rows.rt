@@ -9,6 +9,7 @@ ghost use Rattle.rp_rows.specs.Sight.{owns};
 ghost use Rattle.rp_rows.specs.Alterations.{grants_of};
 ghost use Rattle.rp_store.specs.Entries.{entry_key};
 ghost use Rattle.rp_sight.specs.Stored.{row_of, joined};
+ghost use Rattle.rp_sight.specs.Parts.{is_in, IsPart};
 
 use plain_data::{Rows, Text};
 use rp_rows::rows::{Grant, Key};
@@ -30,6 +31,22 @@ impl<'a, A> Clone for RowRef<'a, A> {
 }
 
 impl<'a, A> Copy for RowRef<'a, A> {}
+
+/// The rows of one owner: from a place on, and before another one.
+#[derive(Clone, Copy)]
+pub struct Part {
+    pub first: usize,
+    pub end: usize,
+}
+
+impl Part {
+    /// Whether the row at a place is among them.
+    pub fn has(&self, place: usize) -> bool
+        ensures { result ≡ is_in self.now place }
+    {
+        self.first <= place && place < self.end
+    }
+}
 
 /// What is held, and beside it the grants on it: two halves with the same keys.
 #[derive(Drop)]
@@ -122,6 +139,16 @@ impl<'a, A> Table<'a, A> {
         match self.find(key) {
             Some(row) => row.grants,
             None => &[],
+        }
+    }
+
+    /// Which rows are the owner's. So a walk over all rows reads no owner's name.
+    pub fn part_of(&self, owner: &Text) -> Part
+        ensures { IsPart owner.now self.now.rows result }
+    {
+        Part {
+            first: self.rights.first_place(owner),
+            end: self.rights.last_place(owner),
         }
     }
 

@@ -37,7 +37,15 @@ pub fn sees_group(caller: &Text, group: &RowRef<'_, Listing>) -> bool
 pub fn group_right(caller: &Text, group: &RowRef<'_, Listing>) -> Right
     ensures { result ≡ sight.group_right caller.now (row_of group.now) }
 {
-    if owns(caller, group) {
+    group_right_where(caller, group, owns(caller, group))
+}
+
+/// What the partner may do with the group, where it is his or isn't.
+pub fn group_right_where(caller: &Text, group: &RowRef<'_, Listing>, owned: bool) -> Right
+    requires { owned ≡ sight.owns caller.now (row_of group.now) }
+    ensures { result ≡ sight.group_right caller.now (row_of group.now) }
+{
+    if owned {
         Right::Owns
     } else if is_granted(caller, group.grants) {
         Right::Reads

@@ -10,7 +10,7 @@ use crate::groups::Groups;
 use crate::levels::level_where;
 use crate::marks::counted_marks;
 use crate::rows::{RowRef, Table};
-use crate::sight::{at_least, group_right, sees_group};
+use crate::sight::{at_least, group_right_where};
 use plain_data::Text;
 use rp_rows::rows::{Listing, ModelContent, Right};
 use std::alloc::{AllocError, Global};
@@ -22,16 +22,18 @@ pub struct Seen<'a, A> {
     pub right: Right,
 }
 
-/// Adds the model, if the partner sees it, where it counts so in groups that he is granted.
+/// Adds the model, if the partner sees it, where it is his or isn't and counts so in groups that he is granted.
 fn push_model<'a>(
     caller: &Text,
     model: &RowRef<'a, ModelContent>,
+    owned: bool,
     counted: bool,
     seen: &mut Vec<Seen<'a, ModelContent>>,
 ) -> Result<(), AllocError>
+    requires { owned ≡ sight.owns caller.now (row_of model.now) }
     ensures { OnOk result (map seen_of seen.new.items ≡ map seen_of seen.old.items ++ (if sight.at_least Right.Reads (level_by caller.now (row_of model.now) counted) then (row_of model.now, level_by caller.now (row_of model.now) counted) ∷ [] else [])) }
 {
-    let right = level_where(caller, model, counted);
+    let right = level_where(caller, model, owned, counted);
     if at_least(Right::Reads, right) {
         seen.push(Seen { row: *model, right })?;
     }
@@ -49,23 +51,27 @@ pub fn visible_models<'a>(
     ensures { IfOk result (λ seen. map seen_of seen.items ≡ map (seen_model groups.now.rows caller.now) (filter (sight.sees groups.now.rows caller.now) models.now.rows)) }
 {
     let marks = counted_marks(alloc, models, groups, caller)?;
+    let own = models.part_of(caller);
     let mut seen = Vec::new(alloc);
     for place in 0..models.len() {
-        push_model(caller, &models.row(place), marks.has(place), &mut seen)?;
+        let (owned, counted) = (own.has(place), marks.has(place));
+        push_model(caller, &models.row(place), owned, counted, &mut seen)?;
     }
     Ok(seen)
 }
 
-/// Adds the group, if the partner sees it.
+/// Adds the group, if the partner sees it, where it is his or isn't.
 fn push_group<'a>(
     caller: &Text,
     group: &RowRef<'a, Listing>,
+    owned: bool,
     seen: &mut Vec<Seen<'a, Listing>>,
 ) -> Result<(), AllocError>
+    requires { owned ≡ sight.owns caller.now (row_of group.now) }
     ensures { OnOk result (map seen_of seen.new.items ≡ map seen_of seen.old.items ++ (if sight.sees_group caller.now (row_of group.now) then seen_group caller.now (row_of group.now) ∷ [] else [])) }
 {
-    if sees_group(caller, group) {
-        let right = group_right(caller, group);
+    let right = group_right_where(caller, group, owned);
+    if at_least(Right::Reads, right) {
         seen.push(Seen { row: *group, right })?;
     }
     Ok(())
@@ -80,9 +86,10 @@ pub fn visible_groups<'a>(
     ensures { IfOk result (λ seen. map seen_of seen.items ≡ map (seen_group caller.now) (filter (sight.sees_group caller.now) groups.now.rows)) }
 {
     let table = groups.table();
+    let own = table.part_of(caller);
     let mut seen = Vec::new(alloc);
     for place in 0..table.len() {
-        push_group(caller, &table.row(place), &mut seen)?;
+        push_group(caller, &table.row(place), own.has(place), &mut seen)?;
     }
     Ok(seen)
 }

@@ -154,7 +154,7 @@ impl<B> Keyed<B> {
     }
 
     /// Where the key stands, or where it is to stand.
-    pub fn search(&self, key: &Key) -> Result<usize, usize>
+    pub(crate) fn search(&self, key: &Key) -> Result<usize, usize>
         ensures { MatchResult result (IsThere key_cmp entry_key key.now self.now.entries) (IsAbsent key_cmp entry_key key.now self.now.entries) }
     {
         sorted_tables::search(&self.entries, key)
@@ -175,7 +175,7 @@ impl<B> Keyed<B> {
     }
 
     /// How many keys are of owners before this one.
-    fn first_place(&self, owner: &Text) -> usize
+    pub fn first_place(&self, owner: &Text) -> usize
         ensures { result ≡ length (filter (λ x. is_lt (text_cmp x.key.owner owner.now)) self.now.entries) }
     {
         self.entries
@@ -183,7 +183,7 @@ impl<B> Keyed<B> {
     }
 
     /// How many keys are of owners before this one, or his own.
-    fn last_place(&self, owner: &Text) -> usize
+    pub fn last_place(&self, owner: &Text) -> usize
         ensures { result ≡ length (filter (λ x. not (is_gt (text_cmp x.key.owner owner.now))) self.now.entries) }
     {
         self.entries
