@@ -64,7 +64,6 @@ LISTED = [
     Listed(f"{READERS}kept.rt", "of", "Vec::with_capacity(alloc, schemas.len())?", "all schemas, at the opening"),
     Listed(f"{SIGHT_OF}members.rt", "members_of", "Vec::with_capacity(alloc, keys.len())?", "what a group lists that the caller sees"),
     Listed(f"{ACCESS}relisting.rt", "including", "Vec::with_capacity(alloc, former.len().saturating_add(1))?", "what a group of the caller's lists"),
-    Listed(f"{ACCESS}relisting.rt", "including", "Vec::with_capacity(alloc, former.len())?", "what a group of the caller's lists"),
     Listed(f"{ACCESS}relisting.rt", "excluding", "Vec::with_capacity(alloc, former.len())?", "what a group of the caller's lists"),
     Listed(f"{SIGHT_OF}groups.rt", "reserve", "self.listings.reserve()?; self.rights.reserve()", ONE_MORE),
     Listed(f"{SIGHT_OF}groups.rt", "reserve_names", "self.granted.reserve()", ONE_MORE),

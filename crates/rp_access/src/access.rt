@@ -278,12 +278,12 @@ impl Access {
     }
 
     /// What the group of the key lists, with the model.
-    fn include(&mut self, alloc: Global, group: Key, model: Key) -> Result<Prepared, AllocError>
+    fn include(&mut self, alloc: Global, group: Key, model: &Key) -> Result<Prepared, AllocError>
         ensures models { self.new.models.entries ≡ self.old.models.entries }
         ensures groups { self.new.groups.rows ≡ self.old.groups.rows }
         ensures fits { IfOk result (λ prepared. PreparedFits self.new prepared) }
         ensures model_rows { IfOk result (λ prepared. prepared_models prepared self.old.models.entries ≡ self.old.models.entries) }
-        ensures group_rows { IfOk result (λ prepared. prepared_groups prepared self.old.groups.rows ≡ relisted_at group (with_member model) (find (is_row group) self.old.groups.rows) self.old.groups.rows) }
+        ensures group_rows { IfOk result (λ prepared. prepared_groups prepared self.old.groups.rows ≡ relisted_at group (with_member model.now) (find (is_row group) self.old.groups.rows) self.old.groups.rows) }
     {
         let listing = match self.groups.table().find(&group) {
             Some(row) => including(alloc, row.holds, model)?,
@@ -340,7 +340,7 @@ impl Access {
             Change::RevokeGroup(key, to) => {
                 self.alter_group(alloc, key, Altered::Grants(to, None))
             }
-            Change::Include(group, model) => self.include(alloc, group, model),
+            Change::Include(group, model) => self.include(alloc, group, &model),
             Change::Exclude(group, model) => self.exclude(alloc, group, &model),
         }
     }

@@ -44,16 +44,18 @@ fn push_after(
 }
 
 /// What the group holds once it lists the model.
-pub(crate) fn including(alloc: Global, listing: &Listing, model: Key) -> Result<Listing, AllocError>
-    ensures { IfOk result (λ l. l ≡ with_member model listing.now) }
+pub(crate) fn including(
+    alloc: Global,
+    listing: &Listing,
+    model: &Key,
+) -> Result<Listing, AllocError>
+    ensures { IfOk result (λ l. l ≡ with_member model.now listing.now) }
 {
     let former = listing.members.as_slice();
     let mut members = Vec::with_capacity(alloc, former.len().saturating_add(1))?;
-    let mut after = Vec::with_capacity(alloc, former.len())?;
-    push_before(alloc, &model, former, &mut members)?;
-    push_after(alloc, &model, former, &mut after)?;
-    members.push(model)?;
-    members.append(&mut after)?;
+    push_before(alloc, model, former, &mut members)?;
+    members.push(model.copy(alloc)?)?;
+    push_after(alloc, model, former, &mut members)?;
     Ok(Listing {
         schema: listing.schema.copy(alloc)?,
         members: Rows::from_vec(members),
