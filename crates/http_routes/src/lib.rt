@@ -9,4 +9,4 @@ mod tokens;
 
 pub use answers::{Bare, answer_head, bare_answer, fault_answer, no_memory_answer};
 pub use paths::{Item, Path, takes_method};
-pub use tokens::{TokenFault, Tokens};
+pub use tokens::{TokenFault, Tokens, is_token};

@@ -71,7 +71,8 @@ fn has_token_bytes(bytes: &[u8]) -> bool
     bytes.iter().all(|byte| is_token_byte(*byte))
 }
 
-fn is_token(bytes: &[u8]) -> bool
+/// Whether these bytes may be a token.
+pub fn is_token(bytes: &[u8]) -> bool
     ensures { result ≡ is_token bytes.now }
 {
     1 <= bytes.len() && bytes.len() <= LONGEST && has_token_bytes(bytes)

@@ -6,7 +6,7 @@ ghost use Rattle.rp_program.specs.declared.fault.StartFault.{StartFault};
 ghost use Rattle.rp_program.specs.Starts.{repository_with};
 
 use crate::fault::Fault;
-use http_routes::Tokens;
+use http_routes::{Tokens, is_token};
 use plain_data::{Failure, Rows, Text};
 use rp_config::{Shown, config_at};
 use rp_files::{Folder, LoadFault};
@@ -50,17 +50,19 @@ pub fn bad_token_in<D: Folder>(
     path: &str,
 ) -> Result<Option<String>, Failure<LoadFault>> {
     let config = config_at(alloc, folder, path)?;
-    for (token, name) in config
-        .tokens
-        .as_slice()
-        .iter()
-        .zip(config.partners.as_slice())
-    {
-        let mut alone = Vec::new(alloc);
-        alone.push(Text::from_str(alloc, token.as_str())?)?;
-        if Tokens::new(alone).is_err() {
-            return Ok(Some(format!(in alloc; "that of {}", Shown(name.as_str()))?));
+    let (tokens, partners) = (config.tokens.as_slice(), config.partners.as_slice());
+    match partner_of_bad(tokens, partners) {
+        Some(name) => Ok(Some(format!(in alloc; "that of {}", Shown(name.as_str()))?)),
+        None => Ok(None),
+    }
+}
+
+/// The first of the partners whose token is none.
+fn partner_of_bad<'p>(tokens: &[Text], partners: &'p [Text]) -> Option<&'p Text> {
+    for (token, partner) in tokens.iter().zip(partners) {
+        if !is_token(token.as_bytes()) {
+            return Some(partner);
         }
     }
-    Ok(None)
+    None
 }
