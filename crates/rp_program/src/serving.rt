@@ -14,7 +14,7 @@ use plain_data::Failure;
 use rp_config::{Loaded, load_all};
 use rp_files::Folder;
 use rp_repo::Repository;
-use rp_sockets::{Ends, Listening, ServeFault};
+use rp_sockets::{Ends, Listening};
 use std::alloc::Global;
 use std::io::{Eprint, Input};
 use std::mem;
@@ -85,8 +85,8 @@ fn serve_at<R: Net + Clock + Input + Eprint>(
     tell(rt, listening.address());
     match listening.serve(rt, alloc, repository, tokens, ends) {
         Ok(()) => Ok(Done::Served),
-        Err(ServeFault::NoMemory) => Err(Fault::Start(Failure::NoMemory)),
-        Err(fault) => Err(Fault::Serve(fault)),
+        Err(Failure::NoMemory) => Err(Fault::Start(Failure::NoMemory)),
+        Err(Failure::Fault(fault)) => Err(Fault::Serve(fault)),
     }
 }
 

@@ -110,7 +110,6 @@ fn write_of_serving<W: fmt::Write>(f: &mut fmt::Formatter<W>, fault: &ServeFault
         ServeFault::Accept(error) => write!(f, "connections can't be accepted: {error}"),
         ServeFault::Wait(error) => write!(f, "connections can't be waited for: {error}"),
         ServeFault::Input => f.write_str("standard input can't be read"),
-        ServeFault::NoMemory => f.write_str("out of memory"),
     }
 }
 

@@ -1,5 +1,5 @@
 -- Runs of messages one after another.
-use Rattle.std.proofs.Common.{◌≡◌, ℕ, List, [], ◌∷◌, ◌++◌, refl, subst}
+use Rattle.std.proofs.Common.{ℕ, List, [], ◌∷◌, ◌++◌, refl, subst}
 use Rattle.http_messages.specs.Next.{Call}
 use Rattle.rp_plain.specs.Plain.{Plain}
 use Rattle.rp_messages.specs.Answers.{Answer}

@@ -1,6 +1,6 @@
 //! How long a connection may take. The times are of a clock that stands still while the program works, so that nobody is ended
 //! for what another one asks.
-ghost use Rattle.std.specs.Prelude.{◌≡◌, ◌≢◌};
+ghost use Rattle.std.specs.Prelude.{◌≡◌, ◌≢◌, ◌+◌, ◌-◌, ◌^◌, min};
 ghost use Rattle.rp_sockets.specs.Deadlines as spec;
 
 use std::time::Duration;
@@ -66,6 +66,7 @@ impl Times {
     /// The same after so many bytes came.
     pub fn read(self, count: usize, now: Duration) -> Times
         ensures moved { result.moved ≡ now }
+        ensures came { result.came ≡ min (self.came + count) (2 ^ 64 - 1) }
         ensures rest { (result.awaited ≡ self.awaited) × (result.since ≡ self.since) }
     {
         Times {
@@ -87,20 +88,16 @@ impl Times {
         ensures awaited { result.awaited ≡ awaited }
         ensures same { awaited ≡ self.awaited → result ≡ self }
         ensures since { awaited ≢ self.awaited → result.since ≡ now }
+        ensures came { awaited ≢ self.awaited → result.came ≡ spec.came_by awaited self.came }
         ensures moved { result.moved ≡ self.moved }
     {
         if awaited == self.awaited {
             return self;
         }
-        let came = match awaited {
-            Awaited::Nothing => 0,
-            Awaited::Reply => self.came.min(AT_HAND),
-            _ => self.came,
-        };
         Times {
             awaited,
             since: now,
-            came,
+            came: came_by(awaited, self.came),
             ..self
         }
     }
@@ -111,6 +108,17 @@ impl Times {
     {
         seconds(self.moved, now) >= QUIET
             || is_too_long(self.awaited, seconds(self.since, now), self.came)
+    }
+}
+
+/// How many bytes of a message came by when this is waited for, of so many that came before.
+fn came_by(awaited: Awaited, came: u64) -> u64
+    ensures { result ≡ spec.came_by awaited came }
+{
+    match awaited {
+        Awaited::Nothing => 0,
+        Awaited::Reply => came.min(AT_HAND),
+        Awaited::Head | Awaited::Body | Awaited::Close => came,
     }
 }
 

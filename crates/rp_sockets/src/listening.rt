@@ -19,8 +19,6 @@ pub enum ServeFault {
     Wait(io::Error),
     /// Standard input, whose end is asked for, can't be read.
     Input,
-    /// Memory is wanting, before any connection came.
-    NoMemory,
 }
 
 /// An address whose connections may come, and wait until they are served.

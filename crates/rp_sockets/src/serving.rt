@@ -1,5 +1,6 @@
 //! The loop over the connections of an address.
-ghost use Rattle.std.specs.Prelude.{◌≡◌, ◌≤◌, length};
+ghost use Rattle.std.specs.Prelude.{◌≡◌, ◌≤◌, length, IsErrOf};
+ghost use Rattle.plain_data.specs.declared.failure.Failure.TheVariants.{NoMemory};
 ghost use Rattle.rp_http.specs.Turns.{Leaves};
 
 use crate::client::{Client, Fate, Moment};
@@ -7,6 +8,7 @@ use crate::input::{Watch, read_on, watched};
 use crate::listening::{ARRIVALS, INPUT, Listening, ServeFault};
 use mio::net::TcpListener;
 use mio::{Events, Poll, Registry, Token};
+use plain_data::Failure;
 use rp_http::{Tokens, Workspace};
 use rp_repo::Repository;
 use slab::Slab;
@@ -428,6 +430,10 @@ impl Serving {
 impl Listening {
     /// Serves the connections of the address until that ends. What messages of the partners with these tokens lead to is all that
     /// happens to the repository, however it ends.
+    ///
+    /// # Errors
+    ///
+    /// `NoMemory` before any connection came; else why it ends before its end.
     #[tactic(auto, using(crate::proofs::Running::leaves_more, crate::proofs::Running::leaves_none))]
     pub fn serve<R: Clock + Input>(
         self,
@@ -436,20 +442,18 @@ impl Listening {
         repository: &mut Repository<'_>,
         tokens: &Tokens,
         ends: Ends,
-    ) -> Result<(), ServeFault>
+    ) -> Result<(), Failure<ServeFault>>
         requires few { length tokens.now ≤ length repository.old.content.partners }
         ensures run { Leaves tokens.now repository.old.content repository.new.content }
         ensures partners { repository.new.content.partners ≡ repository.old.content.partners }
+        ensures memory { IsErrOf result NoMemory → repository.new ≡ repository.old }
     {
         let mut workspace = Workspace::new(alloc)?;
         let mut events = Events::with_capacity(alloc, EVENTS)?;
         let mut serving = Serving::new(alloc, self, ends)?;
-        serving.serve_to_end(rt, alloc, repository, tokens, &mut workspace, &mut events)
-    }
-}
-
-impl From<AllocError> for ServeFault {
-    fn from(_error: AllocError) -> ServeFault {
-        ServeFault::NoMemory
+        match serving.serve_to_end(rt, alloc, repository, tokens, &mut workspace, &mut events) {
+            Ok(()) => Ok(()),
+            Err(fault) => Err(Failure::Fault(fault)),
+        }
     }
 }

@@ -1,4 +1,3 @@
-use Rattle.std.proofs.Common.{◌∙◌}
 use Rattle.rp_sockets.proofs.Running.{leaves_more}
 use Rattle.rp_sockets.proofs.serving.Serving.welcome.Goals as goal
 
