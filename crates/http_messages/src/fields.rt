@@ -1,8 +1,7 @@
 //! What the fields of a head say beside the length of the body.
-ghost use Rattle.std.specs.Prelude.{◌≡◌, length, map, codes, All, MatchOption, None, Some};
+ghost use Rattle.std.specs.Prelude.{◌≡◌, length, map, All, MatchOption, None, Some};
 ghost use Rattle.std.specs.Char.{to_ascii_lowercase};
 ghost use Rattle.httparse.specs.Spans.{IsHeaderWithin, header_bytes};
-ghost use Rattle.http_messages.specs.Framing.{is_named};
 ghost use Rattle.http_messages.specs.Fields.{first_named, token_of, token_in, is_close, stays_of};
 
 use crate::framing::is_name;

@@ -3,7 +3,6 @@ use Rattle.std.specs.Prelude.{◌≡◌, ℕ, ◌<◌, ◌≤◌, ◌+◌, ◌�
 use Rattle.rp_plain.specs.Plain.{Plain}
 use Rattle.rp_plain.specs.declared.messages.Reply as replies
 use Rattle.http_routes.specs.Answers.{bare_text, bare_status, no_memory_text}
-use Rattle.http_messages.specs.declared.message.Fault.{Fault}
 use Rattle.http_messages.specs.Next.{Call, IsCall, FailsBy}
 use Rattle.rp_messages.specs.Answers.{Answer, answer_bytes, answer_of_reply}
 use Rattle.rp_messages.specs.Meaning.{Effect, MayAnswer, left_by, meant, MessageRun}

@@ -1,15 +1,13 @@
 -- A run of messages is a run of the turns that they ask for.
 use Rattle.std.proofs.Common.{◌≡◌, Bool, true, false, true≢false, List, [], ◌∷◌, refl, sym, ap, subst}
-use Rattle.std.specs.Prelude.{if◌then◌else◌, map, slice_index_or}
-use Rattle.rp_rows.specs.Rows.{Text}
-use Rattle.rp_plain.specs.declared.messages.Request.{Request}
+use Rattle.std.specs.Prelude.{if◌then◌else◌, map}
 use Rattle.rp_plain.specs.declared.messages.Reply.{Reply}
 use Rattle.rp_plain.specs.Plain.{Plain}
 use Rattle.rp_plain.specs.Turns.{Turn, Run}
 use Rattle.rp_laws.specs.Laws.{TwoRuns}
 use Rattle.rp_messages.specs.Routing.{Routed, Asks, Unreadable, Unasked, routed}
 use Rattle.rp_messages.specs.Answers.{Answer, Told, Barely, answer_of_reply}
-use Rattle.rp_messages.specs.Meaning.{Effect, meant_by, is_no_memory_answer, MayAnswer, left_by}
+use Rattle.rp_messages.specs.Meaning.{meant_by, is_no_memory_answer, MayAnswer, left_by}
 use Rattle.rp_messages.proofs.Partners.{message_partners}
 use Rattle.rp_messages.specs.Laws.{turn_in, with_turn, with_reply, turns_of, replies_of, MessagesAreTurns, TwoConnections}
 

@@ -2,7 +2,7 @@
 ghost use Rattle.std.specs.Prelude.{◌≡◌, true, Some, None, IfOk, IfErr, IsErrOf, option_and_then};
 ghost use Rattle.rp_rows.specs.Rows.{key_of};
 ghost use Rattle.http_messages.specs.Next.{call_of, parts_in};
-ghost use Rattle.http_routes.specs.Paths.{ToRequest, path_of, place_in};
+ghost use Rattle.http_routes.specs.Paths.{ToRequest, place_in};
 ghost use Rattle.http_routes.specs.Tokens.{place_among};
 ghost use Rattle.rp_messages.specs.Routing.{Goes, Stops, headed, request_at, Asks, Unreadable, Unasked, routed};
 
