@@ -78,7 +78,7 @@ all_is : (rs : List Run) → AreAscii rs → IsAscii (runs_text rs)
 all_is [] are = IsAscii-nil
 all_is (r ∷ rs) are = IsAscii-append (run_text r) (runs_text rs) are.0 (all_is rs are.1)
 
-encoded_is : (text : List ℕ) → IsAscii (encoded text)
+pub encoded_is : (text : List ℕ) → IsAscii (encoded text)
 unfolding encoded
 encoded_is text = all_is (runs (chars text)) (runs_are (chars text))
 

@@ -1,4 +1,4 @@
-mod Ascii
+pub mod Ascii
 mod Decimals
 mod Forms
 mod JoinedNames
