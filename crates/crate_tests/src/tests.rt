@@ -1,5 +1,6 @@
 //! The tests, by what they look at.
 
+mod connections;
 mod decimals;
 mod operations;
 mod values;
