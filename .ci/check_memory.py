@@ -48,6 +48,8 @@ LISTED = [
     Listed("crates/rp_io/src/chunk.rt", "keep",
            "if line.extend_from_slice(piece).is_err() { release(line); return Room::NoRoom; }",
            "AllocError is the one error of Vec::extend_from_slice"),
+    Listed("crates/rp_snapshot_texts/src/gathering.rt", "gathered", "Err(_) => Err(AllocError)",
+           "a write into a Vec fails for want of memory alone"),
     Listed("crates/rp_command/src/command.rt", "fault_of", "Err(_) => CommandLineFault::NoMemory",
            "AllocError is the one error of line_of"),
     Listed("crates/rp_replies/src/replies.rt", "no_memory_line", r'b"{\"refused\":{\"code\":18,\"name\":\"NoMemory\"}}\n"',
