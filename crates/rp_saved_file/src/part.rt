@@ -1,6 +1,7 @@
 //! The file beside another that is to take its place.
-ghost use Rattle.std.specs.Prelude.{◌≤◌, ℕ, List, length, Option, None, IfOk};
+ghost use Rattle.std.specs.Prelude.{◌≡◌, ◌≢◌, ◌<◌, ◌≤◌, ℕ, List, length, Option, None, IfOk, OnOk, OnErr, ⊤};
 ghost use Rattle.std.specs.Io.KnownBytes.{WriteAppends};
+ghost use Rattle.rp_saved_file.specs.Crashes.{Place, file_of, LeavesOnly, LeavesNoMore, LeavesOldOr, Elapses};
 
 use crate::fault::ReplaceFault;
 use plain_data::Failure;
@@ -10,26 +11,78 @@ use std::io::{self, ErrorKind, Write};
 use std::os::unix::fs::{MetadataExt, OpenOptionsExt};
 
 /// A file beside another, which is to take its place.
+///
+/// What this crate promises of a crash it promises of any such file of which these laws hold; the one of `rename` is that a file
+/// whose bytes are on the disk is renamed whole or not at all. Of [`FilePart`] nothing is known, but no code here can tell one from
+/// another.
 pub trait Part {
     /// The bytes that were written into it, where they are known.
     ghost contents: { Self → Option (List ℕ) };
 
-    /// Takes a front of `bytes` and answers how many it has, or fails and takes none.
+    /// Those of its bytes that are on the disk, where they are known.
+    ghost synced: { Self → Option (List ℕ) };
+
+    /// What stands in the place, where this is known.
+    ghost seen: { Self → Option Place };
+
+    /// What a crash at this moment may leave in the place.
+    ghost may_leave: { Self → Place → Type 0 };
+
+    /// The moment, as a number that doesn't fall.
+    ghost moment: { Self → ℕ };
+
+    /// What a crash at some moment from that one on might have left in the place, during a call or between two.
+    ghost left_since: { Self → ℕ → Place → Type 0 };
+
+    /// A count that a failed call changes, and nothing else.
+    ghost failures: { Self → ℕ };
+
+    /// Takes a front of `bytes` and answers how many it has, or fails and takes none. A write that takes none of some bytes has failed.
     fn write(&mut self, bytes: &[u8]) -> io::Result<usize>
         ensures bound { IfOk result (λ n. n ≤ length bytes.now) }
-        ensures bytes { WriteAppends (contents self.old) (contents self.new) result bytes.now };
+        ensures some { IfOk result (λ n. 0 < length bytes.now → 0 < n) }
+        ensures bytes { WriteAppends (contents self.old) (contents self.new) result bytes.now }
+        ensures ok { OnOk result (failures self.new ≡ failures self.old) }
+        ensures err { OnErr result (failures self.new ≢ failures self.old) }
+        ensures crash { LeavesNoMore (may_leave self.old) (may_leave self.new) }
+        ensures time { Elapses (moment self.old) (moment self.new) (left_since self.old) (left_since self.new) (may_leave self.new) };
 
     /// Has all that was written on the disk.
-    fn sync(&mut self) -> Result<(), ReplaceFault>;
+    fn sync(&mut self) -> Result<(), ReplaceFault>
+        ensures synced { OnOk result (synced self.new ≡ contents self.new) }
+        ensures same { contents self.new ≡ contents self.old }
+        ensures ok { OnOk result (failures self.new ≡ failures self.old) }
+        ensures err { OnErr result (failures self.new ≢ failures self.old) }
+        ensures crash { LeavesNoMore (may_leave self.old) (may_leave self.new) }
+        ensures time { Elapses (moment self.old) (moment self.new) (left_since self.old) (left_since self.new) (may_leave self.new) };
 
-    /// Puts it in the place of the other.
-    fn rename(&mut self) -> Result<(), ReplaceFault>;
+    /// Puts it in the place of the other. All that was written is on the disk.
+    fn rename(&mut self) -> Result<(), ReplaceFault>
+        requires { synced self.old ≡ contents self.old }
+        ensures stands { OnOk result (seen self.new ≡ file_of (contents self.old)) }
+        ensures ok { OnOk result (failures self.new ≡ failures self.old) }
+        ensures err { OnErr result (failures self.new ≢ failures self.old) }
+        ensures crash { LeavesOldOr (file_of (contents self.old)) (may_leave self.old) (may_leave self.new) }
+        ensures time { Elapses (moment self.old) (moment self.new) (left_since self.old) (left_since self.new) (may_leave self.new) };
 
-    /// Has its new name on the disk.
-    fn settle(&mut self) -> Result<(), ReplaceFault>;
+    /// Has what stands in the place on the disk, under its name.
+    fn settle(&mut self) -> Result<(), ReplaceFault>
+        ensures durable { OnOk result (LeavesOnly (seen self.old) (may_leave self.new)) }
+        ensures ok { OnOk result (failures self.new ≡ failures self.old) }
+        ensures err { OnErr result (failures self.new ≢ failures self.old) }
+        ensures crash { LeavesNoMore (may_leave self.old) (may_leave self.new) }
+        ensures time { Elapses (moment self.old) (moment self.new) (left_since self.old) (left_since self.new) (may_leave self.new) };
 
     /// Removes it, if it still stands beside the other.
-    fn remove(&mut self);
+    fn remove(&mut self)
+        ensures crash { LeavesNoMore (may_leave self.old) (may_leave self.new) }
+        ensures time { Elapses (moment self.old) (moment self.new) (left_since self.old) (left_since self.new) (may_leave self.new) };
+
+    /// What a crash may leave now counts.
+    ghost counts_now: { (part : Self) (then : ℕ) (place : Place) → then ≤ moment part → may_leave part place → left_since part then place };
+
+    /// Nothing else counts from now on.
+    ghost only_now: { (part : Self) (place : Place) → left_since part (moment part) place → may_leave part place };
 }
 
 /// A file of `std` beside that of a path. Only its owner may read and write it.
@@ -43,6 +96,7 @@ pub struct FilePart<'p, R: Files> {
     path: &'p str,
     /// The path with `.part` behind it.
     beside: String,
+    failures: u64,
 }
 
 impl<'p, R: Files + Drop> FilePart<'p, R> {
@@ -60,6 +114,7 @@ impl<'p, R: Files + Drop> FilePart<'p, R> {
                 folder,
                 path,
                 beside,
+                failures: 0,
             }),
             Err(fault) => Err(Failure::Fault(fault)),
         }
@@ -138,23 +193,9 @@ impl<R: Files> FilePart<'_, R> {
         let found = fs::symlink_metadata(&self.files, self.beside.as_str())?;
         Ok(made.dev() == found.dev() && made.ino() == found.ino())
     }
-}
 
-impl<R: Files> Part for FilePart<'_, R> {
-    ghost contents = { λ _. None };
-
-    fn write(&mut self, bytes: &[u8]) -> io::Result<usize> {
-        self.file.write(bytes)
-    }
-
-    fn sync(&mut self) -> Result<(), ReplaceFault> {
-        match self.file.sync_all() {
-            Ok(()) => Ok(()),
-            Err(error) => Err(ReplaceFault::Sync(error)),
-        }
-    }
-
-    fn rename(&mut self) -> Result<(), ReplaceFault> {
+    /// Renames the file, unless another one stands beside the place.
+    fn put_in_place(&self) -> Result<(), ReplaceFault> {
         match self.stands() {
             Ok(true) => {}
             Ok(false) => return Err(ReplaceFault::Taken),
@@ -167,10 +208,61 @@ impl<R: Files> Part for FilePart<'_, R> {
         }
     }
 
+    /// Counts a failure.
+    fn count<E>(&mut self, error: E) -> E
+        ensures same { result ≡ error }
+        ensures counted { self.new.failures ≢ self.old.failures }
+    {
+        self.failures = self.failures.wrapping_add(1);
+        error
+    }
+}
+
+impl<R: Files> Part for FilePart<'_, R> {
+    ghost contents = { λ _. None };
+
+    ghost synced = { λ _. None };
+
+    ghost seen = { λ _. None };
+
+    ghost may_leave = { λ _ _. ⊤ };
+
+    ghost moment = { λ _. 0 };
+
+    ghost left_since = { λ _ _ _. ⊤ };
+
+    ghost failures = { λ part. part.failures };
+
+    ghost counts_now = { λ _ _ _ _ _. tt };
+
+    ghost only_now = { λ _ _ _. tt };
+
+    fn write(&mut self, bytes: &[u8]) -> io::Result<usize> {
+        match self.file.write(bytes) {
+            Ok(count) if count > 0 || bytes.is_empty() => Ok(count),
+            Ok(_) => Err(self.count(io::Error::from(ErrorKind::WriteZero))),
+            Err(error) => Err(self.count(error)),
+        }
+    }
+
+    fn sync(&mut self) -> Result<(), ReplaceFault> {
+        match self.file.sync_all() {
+            Ok(()) => Ok(()),
+            Err(error) => Err(self.count(ReplaceFault::Sync(error))),
+        }
+    }
+
+    fn rename(&mut self) -> Result<(), ReplaceFault> {
+        match self.put_in_place() {
+            Ok(()) => Ok(()),
+            Err(fault) => Err(self.count(fault)),
+        }
+    }
+
     fn settle(&mut self) -> Result<(), ReplaceFault> {
         match self.folder.sync_all() {
             Ok(()) => Ok(()),
-            Err(error) => Err(ReplaceFault::Settle(error)),
+            Err(error) => Err(self.count(ReplaceFault::Settle(error))),
         }
     }
 
