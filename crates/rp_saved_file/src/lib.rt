@@ -7,4 +7,4 @@ mod replacing;
 
 pub use fault::ReplaceFault;
 pub use part::{FilePart, Part};
-pub use replacing::Replacement;
+pub use replacing::{Replacement, take_place};

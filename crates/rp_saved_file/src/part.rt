@@ -101,7 +101,7 @@ pub struct FilePart<'p, R: Files> {
 
 impl<'p, R: Files + Drop> FilePart<'p, R> {
     /// Makes it anew, in place of what an earlier run may have left there.
-    pub fn make(
+    pub(crate) fn make(
         alloc: Global,
         files: R,
         path: &'p str,
@@ -168,19 +168,26 @@ fn open_folder<R: Files>(files: &R, path: &str) -> Result<R::File, ReplaceFault>
     }
 }
 
-/// A new file of this path. What stands there is removed and not written over: it could be a link, or others could read it.
-fn made_anew<R: Files>(files: &R, path: &str) -> Result<R::File, ReplaceFault> {
-    match fs::remove_file(files, path) {
-        Ok(()) => {}
-        Err(error) if error.kind() == ErrorKind::NotFound => {}
-        Err(error) => return Err(ReplaceFault::Remove(error)),
-    }
-    let made = OpenOptions::new()
+/// A new file of this path, which its owner alone may read. It fails where anything stands there.
+fn new_file<R: Files>(files: &R, path: &str) -> io::Result<R::File> {
+    OpenOptions::new()
         .write(true)
         .create_new(true)
         .mode(0o600)
-        .open(files, path);
-    match made {
+        .open(files, path)
+}
+
+/// A new file of this path. What stands there is removed and not written over: it could be a link, or others could read it.
+fn made_anew<R: Files>(files: &R, path: &str) -> Result<R::File, ReplaceFault> {
+    match new_file(files, path) {
+        Ok(file) => return Ok(file),
+        Err(error) if error.kind() == ErrorKind::AlreadyExists => {}
+        Err(error) => return Err(ReplaceFault::Make(error)),
+    }
+    if let Err(error) = fs::remove_file(files, path) {
+        return Err(ReplaceFault::Remove(error));
+    }
+    match new_file(files, path) {
         Ok(file) => Ok(file),
         Err(error) => Err(ReplaceFault::Make(error)),
     }
