@@ -2,9 +2,11 @@
 #![tactic(auto)]
 
 mod fault;
+mod file_part;
 mod part;
 mod replacing;
 
 pub use fault::ReplaceFault;
-pub use part::{FilePart, Part};
+pub use file_part::FilePart;
+pub use part::Part;
 pub use replacing::{Replacement, take_place};

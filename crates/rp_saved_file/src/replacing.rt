@@ -3,7 +3,8 @@ ghost use Rattle.std.specs.Prelude.{◌≡◌, ◌≢◌, None, OnOk, OnErr};
 ghost use Rattle.rp_saved_file.specs.Crashes.{file_of, LeavesOnly, Meanwhile};
 
 use crate::fault::ReplaceFault;
-use crate::part::{FilePart, Part};
+use crate::file_part::FilePart;
+use crate::part::Part;
 use plain_data::Failure;
 use rp_io::{DeviceFault, Sink};
 use std::alloc::Global;
