@@ -171,8 +171,8 @@ impl<R: Files> Part for FilePart<'_, R> {
     fn write(&mut self, bytes: &[u8]) -> io::Result<usize> {
         match self.file.write(bytes) {
             Ok(count) if count > 0 || bytes.is_empty() => Ok(count),
-            Ok(_) => Err(self.count(io::Error::from(ErrorKind::WriteZero))),
-            Err(error) => Err(self.count(error)),
+            Ok(_) => Err(io::Error::from(ErrorKind::WriteZero)),
+            Err(error) => Err(error),
         }
     }
 

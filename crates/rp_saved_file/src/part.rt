@@ -30,7 +30,7 @@ pub trait Part {
     /// What a crash at some moment from that one on might have left in the place, during a call or between two.
     ghost left_since: { Self → ℕ → Place → Type 0 };
 
-    /// A count that a failed call changes, and nothing else.
+    /// A count that a failed `sync`, `rename` or `settle` changes, and no other of these.
     ghost failures: { Self → ℕ };
 
     /// Takes a front of `bytes` and answers how many it has, or fails and takes none. A write that takes none of some bytes has failed.
@@ -38,8 +38,6 @@ pub trait Part {
         ensures bound { IfOk result (λ n. n ≤ length bytes.now) }
         ensures some { IfOk result (λ n. 0 < length bytes.now → 0 < n) }
         ensures bytes { WriteAppends (contents self.old) (contents self.new) result bytes.now }
-        ensures ok { OnOk result (failures self.new ≡ failures self.old) }
-        ensures err { OnErr result (failures self.new ≢ failures self.old) }
         ensures crash { LeavesNoMore (may_leave self.old) (may_leave self.new) }
         ensures time { Elapses (moment self.old) (moment self.new) (left_since self.old) (left_since self.new) (may_leave self.new) };
 

@@ -1,6 +1,7 @@
 //! The bytes of a file that is replaced, and the steps by which it is.
-ghost use Rattle.std.specs.Prelude.{◌≡◌, ◌≢◌, None, OnOk, OnErr};
+ghost use Rattle.std.specs.Prelude.{◌≡◌, ◌≢◌, IfOk, OnOk, OnErr};
 ghost use Rattle.rp_saved_file.specs.Crashes.{file_of, LeavesOnly, Meanwhile};
+ghost use Rattle.rp_saved_file.specs.Failures.{failures_of};
 
 use crate::fault::ReplaceFault;
 use crate::file_part::FilePart;
@@ -16,8 +17,14 @@ use std::io;
 /// Who lets go of it without [`finish`](Replacement::finish) leaves the file as it was, and none beside it.
 pub struct Replacement<P: Part> {
     part: P,
-    /// Why the last write that failed did so.
-    failed: Option<io::Error>,
+    failed: Option<Failed>,
+}
+
+/// Writes that failed: how many but for the first, and why the last one did.
+#[derive(Clone, Copy)]
+struct Failed {
+    more: u64,
+    error: io::Error,
 }
 
 impl<P: Part + Drop> Drop for Replacement<P> {
@@ -36,7 +43,9 @@ impl<'p, R: Files + Drop> Replacement<FilePart<'p, R>> {
         alloc: Global,
         files: R,
         path: &'p str,
-    ) -> Result<Replacement<FilePart<'p, R>>, Failure<ReplaceFault>> {
+    ) -> Result<Replacement<FilePart<'p, R>>, Failure<ReplaceFault>>
+        ensures none { IfOk result (λ begun. failures_of begun.failed ≡ 0) }
+    {
         Ok(Replacement::new(FilePart::make(alloc, files, path)?))
     }
 }
@@ -44,18 +53,19 @@ impl<'p, R: Files + Drop> Replacement<FilePart<'p, R>> {
 impl<P: Part + Drop> Replacement<P> {
     /// A replacement by what was just made.
     pub fn new(part: P) -> Replacement<P>
-        ensures { result.part ≡ part }
+        ensures part { result.part ≡ part }
+        ensures none { failures_of result.failed ≡ 0 }
     {
         Replacement { part, failed: None }
     }
 
     /// Puts all that was written in the place of the file. Where a write failed, this fails and tells why.
     pub fn finish(self) -> Result<(), ReplaceFault>
-        ensures { OnOk result (self.failed ≡ None) }
+        ensures { OnOk result (failures_of self.failed ≡ 0) }
     {
         let mut replacement = self;
         match replacement.failed {
-            Some(error) => Err(ReplaceFault::Write(error)),
+            Some(failed) => Err(ReplaceFault::Write(failed.error)),
             None => take_place(&mut replacement.part),
         }
     }
@@ -79,13 +89,17 @@ pub fn take_place<P: Part>(part: &mut P) -> Result<(), ReplaceFault>
 impl<P: Part> Sink for Replacement<P> {
     ghost contents = { λ r. P.contents r.part };
 
-    ghost write_failures = { λ r. P.failures r.part };
+    ghost write_failures = { λ r. failures_of r.failed };
 
     fn write(&mut self, buf: &[u8]) -> Result<usize, DeviceFault> {
         match self.part.write(buf) {
             Ok(count) => Ok(count),
             Err(error) => {
-                self.failed = Some(error);
+                let more = match self.failed {
+                    Some(failed) => failed.more.wrapping_add(1),
+                    None => 0,
+                };
+                self.failed = Some(Failed { more, error });
                 Err(DeviceFault)
             }
         }
