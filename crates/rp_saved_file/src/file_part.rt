@@ -1,5 +1,7 @@
 //! The file of `std` beside that of a path.
-ghost use Rattle.std.specs.Prelude.{◌≡◌, ◌≢◌, None, ⊤};
+ghost use Rattle.std.specs.Prelude.{◌≡◌, ◌≢◌, None, ⊤, IfOk};
+ghost use Rattle.std.specs.String.{string_bytes};
+ghost use Rattle.rp_saved_file.specs.Names.{IsBeside};
 
 use crate::fault::ReplaceFault;
 use crate::part::Part;
@@ -29,7 +31,9 @@ impl<'p, R: Files + Drop> FilePart<'p, R> {
         alloc: Global,
         files: R,
         path: &'p str,
-    ) -> Result<FilePart<'p, R>, Failure<ReplaceFault>> {
+    ) -> Result<FilePart<'p, R>, Failure<ReplaceFault>>
+        ensures { IfOk result (λ part. IsBeside path.now part.path.now (string_bytes part.beside)) }
+    {
         let beside = format!(in alloc; "{path}.part")?;
         match opened(&files, path, beside.as_str()) {
             Ok((folder, file)) => Ok(FilePart {

@@ -1,7 +1,9 @@
 //! The bytes of a file that is replaced, and the steps by which it is.
 ghost use Rattle.std.specs.Prelude.{◌≡◌, ◌≢◌, IfOk, OnOk, OnErr};
 ghost use Rattle.rp_saved_file.specs.Crashes.{file_of, LeavesOnly, Meanwhile};
+ghost use Rattle.std.specs.String.{string_bytes};
 ghost use Rattle.rp_saved_file.specs.Failures.{failures_of};
+ghost use Rattle.rp_saved_file.specs.Names.{IsBeside};
 
 use crate::fault::ReplaceFault;
 use crate::file_part::FilePart;
@@ -44,6 +46,7 @@ impl<'p, R: Files + Drop> Replacement<FilePart<'p, R>> {
         files: R,
         path: &'p str,
     ) -> Result<Replacement<FilePart<'p, R>>, Failure<ReplaceFault>>
+        ensures names { IfOk result (λ begun. IsBeside path.now begun.part.path.now (string_bytes begun.part.beside)) }
         ensures none { IfOk result (λ begun. failures_of begun.failed ≡ 0) }
     {
         Ok(Replacement::new(FilePart::make(alloc, files, path)?))
