@@ -9,4 +9,4 @@ mod replacing;
 pub use fault::ReplaceFault;
 pub use file_part::FilePart;
 pub use part::Part;
-pub use replacing::{Replacement, take_place};
+pub use replacing::{Replaced, Replacement, take_place};

@@ -63,15 +63,26 @@ impl<P: Part + Drop> Replacement<P> {
     }
 
     /// Puts all that was written in the place of the file. Where a write failed, this fails and tells why.
-    pub fn finish(self) -> Result<(), ReplaceFault>
-        ensures { OnOk result (failures_of self.failed ≡ 0) }
+    pub fn finish(mut self) -> Result<Replaced<P>, ReplaceFault>
+        ensures none { OnOk result (failures_of self.failed ≡ 0) }
+        // From then on a crash leaves all of the new bytes.
+        ensures whole { IfOk result (λ replaced. LeavesOnly (file_of (P.contents self.part)) (P.may_leave replaced.part)) }
+        // A crash at any moment till then leaves what one could leave before, or all of the new bytes.
+        ensures meanwhile { IfOk result (λ replaced. Meanwhile P.moment P.left_since P.may_leave self.part replaced.part (file_of (P.contents self.part))) }
     {
-        let mut replacement = self;
-        match replacement.failed {
-            Some(failed) => Err(ReplaceFault::Write(failed.error)),
-            None => take_place(&mut replacement.part),
+        if let Some(failed) = self.failed {
+            return Err(ReplaceFault::Write(failed.error));
         }
+        take_place(&mut self.part)?;
+        let Replacement { part, failed: _ } = self;
+        Ok(Replaced { part })
     }
+}
+
+/// A file that was replaced, for contracts to tell what a crash leaves of it.
+#[derive(Drop)]
+pub struct Replaced<P> {
+    part: P,
 }
 
 /// Has a file take the place of the one that it stands beside.
