@@ -43,7 +43,7 @@ abbrev after : {B : Type 0} → Key → List (Entry B) → List (Entry B)
 after k xs = filter (is_after key_cmp entry_key k) xs
 
 -- what is put at a key has the same key in both
-same_with : {A B : Type 0} (k : Key) (o : Option (Entry A)) (p : Option (Entry B)) (xs : List (Entry A)) (ys : List (Entry B)) → map entry_key xs ≡ map entry_key ys → map entry_key (option_to_list o) ≡ map entry_key (option_to_list p) → map entry_key (with_row key_cmp entry_key k o xs) ≡ map entry_key (with_row key_cmp entry_key k p ys)
+pub same_with : {A B : Type 0} (k : Key) (o : Option (Entry A)) (p : Option (Entry B)) (xs : List (Entry A)) (ys : List (Entry B)) → map entry_key xs ≡ map entry_key ys → map entry_key (option_to_list o) ≡ map entry_key (option_to_list p) → map entry_key (with_row key_cmp entry_key k o xs) ≡ map entry_key (with_row key_cmp entry_key k p ys)
 same_with k o p xs ys same alike =
     same_appended (before k xs ++ option_to_list o) (after k xs) (before k ys ++ option_to_list p) (after k ys)
     (same_appended (before k xs) (option_to_list o) (before k ys) (option_to_list p) (same_filtered (λ j. is_lt (key_cmp j k)) xs ys same) alike)
@@ -84,7 +84,7 @@ joined-option None p = refl
 joined-option (Some x) None = refl
 joined-option (Some x) (Some y) = refl
 
-joined-with : {A : Type 0} (k : Key) (o : Option (Entry A)) (p : Option (Entry (List Grant))) (xs : List (Entry A)) (ys : List (Entry (List Grant))) → map entry_key xs ≡ map entry_key ys → map entry_key (option_to_list o) ≡ map entry_key (option_to_list p) → joined (with_row key_cmp entry_key k o xs) (with_row key_cmp entry_key k p ys) ≡ with_row key_cmp row_key k (both o p) (joined xs ys)
+pub joined-with : {A : Type 0} (k : Key) (o : Option (Entry A)) (p : Option (Entry (List Grant))) (xs : List (Entry A)) (ys : List (Entry (List Grant))) → map entry_key xs ≡ map entry_key ys → map entry_key (option_to_list o) ≡ map entry_key (option_to_list p) → joined (with_row key_cmp entry_key k o xs) (with_row key_cmp entry_key k p ys) ≡ with_row key_cmp row_key k (both o p) (joined xs ys)
 joined-with k o p xs ys same alike =
     let first = same_filtered (λ j. is_lt (key_cmp j k)) xs ys same in
     joined-append (before k xs ++ option_to_list o) (after k xs) (before k ys ++ option_to_list p) (after k ys)
