@@ -1,0 +1,7 @@
+mod Bytes
+mod Numbers
+mod Tokens
+mod Values
+mod Instances
+mod Files
+mod Laws

@@ -1,0 +1,5 @@
+mod Behind
+mod Replacing
+mod ByEdits
+mod Kept
+mod Whole
