@@ -1,0 +1,4 @@
+pub mod Written
+pub mod Tokens
+pub mod Reading
+pub mod Again

@@ -1,0 +1,123 @@
+//! The lists of rows, written.
+
+ghost use Rattle.std.specs.Prelude.{◌≡◌, [], ◌∷◌, ◌++◌, OnOk, decimal};
+ghost use Rattle.json.specs.Token.{key as key_token, number as number_token, string as string_token};
+ghost use Rattle.rp_snapshot_rows.specs.Written.{level_word, grant_data, reader_data, member_data, link_data, pair_of, list_of};
+ghost use Rattle.rp_snapshot_rows.specs.Tokens.{tokens_of};
+
+use json::Writer;
+use rp_content::Link;
+use rp_rows::rows::{Grant, Key, Level};
+use std::alloc::AllocError;
+
+pub(crate) fn string_at(out: &mut Writer, key: &str, text: &str) -> Result<(), AllocError>
+    ensures ok { OnOk result (out.new.tokens ≡ out.old.tokens ++ key_token key.now ∷ string_token text.now ∷ []) }
+    ensures before { out.new.before ≡ out.old.before }
+{
+    out.key(key)?;
+    out.string(text)
+}
+
+pub(crate) fn number_at(out: &mut Writer, key: &str, n: u64) -> Result<(), AllocError>
+    ensures ok { OnOk result (out.new.tokens ≡ out.old.tokens ++ key_token key.now ∷ number_token (decimal n) ∷ []) }
+    ensures before { out.new.before ≡ out.old.before }
+{
+    out.key(key)?;
+    out.u64(n)
+}
+
+fn word_of(level: Level) -> &'static str
+    ensures { result.now ≡ level_word level }
+{
+    match level {
+        Level::Read => "read",
+        Level::Group => "group",
+        Level::Write => "write",
+    }
+}
+
+/// A list of two texts.
+fn write_pair(out: &mut Writer, first: &str, second: &str) -> Result<(), AllocError>
+    ensures ok { OnOk result (out.new.tokens ≡ out.old.tokens ++ tokens_of (pair_of first.now second.now)) }
+    ensures before { out.new.before ≡ out.old.before }
+{
+    out.begin_array()?;
+    out.string(first)?;
+    out.string(second)?;
+    out.end_array()
+}
+
+/// A grant on a model.
+fn write_grant(out: &mut Writer, grant: &Grant) -> Result<(), AllocError>
+    ensures ok { OnOk result (out.new.tokens ≡ out.old.tokens ++ tokens_of (grant_data grant.now)) }
+    ensures before { out.new.before ≡ out.old.before }
+{
+    write_pair(out, grant.partner.as_str(), word_of(grant.level))
+}
+
+/// A model that a group lists.
+fn write_member(out: &mut Writer, member: &Key) -> Result<(), AllocError>
+    ensures ok { OnOk result (out.new.tokens ≡ out.old.tokens ++ tokens_of (member_data member.now)) }
+    ensures before { out.new.before ≡ out.old.before }
+{
+    write_pair(out, member.owner.as_str(), member.name.as_str())
+}
+
+fn write_link(out: &mut Writer, link: &Link) -> Result<(), AllocError>
+    ensures ok { OnOk result (out.new.tokens ≡ out.old.tokens ++ tokens_of (link_data link.now)) }
+    ensures before { out.new.before ≡ out.old.before }
+{
+    out.begin_object()?;
+    number_at(out, "instance", link.target)?;
+    string_at(out, "model", link.model.as_str())?;
+    number_at(out, "name", link.name)?;
+    string_at(out, "owner", link.owner.as_str())?;
+    out.end_object()
+}
+
+/// The grants on a model.
+pub(crate) fn write_grants(out: &mut Writer, grants: &[Grant]) -> Result<(), AllocError>
+    ensures ok { OnOk result (out.new.tokens ≡ out.old.tokens ++ tokens_of (list_of grant_data grants.now)) }
+    ensures before { out.new.before ≡ out.old.before }
+{
+    out.begin_array()?;
+    for grant in grants {
+        write_grant(out, grant)?;
+    }
+    out.end_array()
+}
+
+/// The grants on a group.
+pub(crate) fn write_group_grants(out: &mut Writer, grants: &[Grant]) -> Result<(), AllocError>
+    ensures ok { OnOk result (out.new.tokens ≡ out.old.tokens ++ tokens_of (list_of reader_data grants.now)) }
+    ensures before { out.new.before ≡ out.old.before }
+{
+    out.begin_array()?;
+    for grant in grants {
+        out.string(grant.partner.as_str())?;
+    }
+    out.end_array()
+}
+
+/// The models that a group lists.
+pub(crate) fn write_members(out: &mut Writer, members: &[Key]) -> Result<(), AllocError>
+    ensures ok { OnOk result (out.new.tokens ≡ out.old.tokens ++ tokens_of (list_of member_data members.now)) }
+    ensures before { out.new.before ≡ out.old.before }
+{
+    out.begin_array()?;
+    for member in members {
+        write_member(out, member)?;
+    }
+    out.end_array()
+}
+
+pub(crate) fn write_links(out: &mut Writer, links: &[Link]) -> Result<(), AllocError>
+    ensures ok { OnOk result (out.new.tokens ≡ out.old.tokens ++ tokens_of (list_of link_data links.now)) }
+    ensures before { out.new.before ≡ out.old.before }
+{
+    out.begin_array()?;
+    for link in links {
+        write_link(out, link)?;
+    }
+    out.end_array()
+}

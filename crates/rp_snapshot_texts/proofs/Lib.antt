@@ -1,0 +1,5 @@
+pub mod PieceLemmas
+mod Printed
+mod SaveLemmas
+mod CompareLemmas
+mod Worked

@@ -1,0 +1,4 @@
+pub mod Texts
+pub mod Pieces
+pub mod Saving
+pub mod Again
