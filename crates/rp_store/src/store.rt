@@ -1,17 +1,17 @@
 //! The models, and what is done to them once room is made.
 #![tactic(auto, unfolding(crate::specs::Kept::Fits))]
 
-ghost use Rattle.std.specs.Prelude.{◌≡◌, [], option_copied};
+ghost use Rattle.std.specs.Prelude.{◌≡◌, ◌<◌, [], Some, OnOk, OnErr, option_copied};
 ghost use Rattle.std.specs.List.{find};
 ghost use Rattle.rp_store.specs.Entries.{is_entry};
-ghost use Rattle.rp_store.specs.Models.{instance_at};
+ghost use Rattle.rp_store.specs.Models.{instance_at, with_model};
 ghost use Rattle.rp_store.specs.Kept.{made, Fits};
 
 use crate::changes::Prepared;
 use crate::keyed::{Entry, Keyed};
 use rp_content::Instance;
 use rp_rows::rows::{Key, ModelContent};
-use std::alloc::Global;
+use std::alloc::{AllocError, Global};
 use std::marker::Model;
 
 /// What models hold, in the order of owner and name, each key once.
@@ -65,6 +65,24 @@ impl Store {
             Some(model) => model.value.content.instances.get(name),
             None => None,
         }
+    }
+
+    /// Makes room for one model more.
+    pub fn reserve(&mut self) -> Result<(), AllocError>
+        ensures models { self.new.entries ≡ self.old.entries }
+        ensures room { OnOk result (0 < self.new.room) }
+    {
+        self.models.reserve()
+    }
+
+    /// The model of the key holds this from now on. Without memory nothing changes.
+    pub fn hold(&mut self, key: Key, model: ModelContent) -> Result<(), AllocError>
+        ensures held { OnOk result (self.new.entries ≡ with_model key (Some model) self.old.entries) }
+        ensures kept { OnErr result (self.new.entries ≡ self.old.entries) }
+    {
+        self.reserve()?;
+        self.models.put(key, model);
+        Ok(())
     }
 
     /// Makes a prepared change, if nothing has changed since. It takes no memory.
