@@ -12,16 +12,17 @@ use Rattle.rp_sight.proofs.Joining.{joined-with, same_with}
 use Rattle.rp_access.specs.Kept.{Rights}
 use Rattle.rp_restore_laws.specs.Restoring.{row_of, restored}
 
-abbrev pub with_rights : Key → List Grant → List Rights → List Rights
-with_rights k gs es = with_row key_cmp entry_key k (Some (record { key = k; value = gs })) es
+-- these are the grants on the model of a key from now on
+abbrev pub granted_at : Key → List Grant → List Rights → List Rights
+granted_at k gs es = with_row key_cmp entry_key k (Some (record { key = k; value = gs })) es
 
 -- both halves make the rows with its row, and go on alike
-pub held_rows : (k : Key) (h : ModelContent) (gs : List Grant) (ms : List Held) (es : List Rights) → map entry_key ms ≡ map entry_key es → joined (with_model k (Some h) ms) (with_rights k gs es) ≡ restored (row_of k h gs) (joined ms es)
+pub held_rows : (k : Key) (h : ModelContent) (gs : List Grant) (ms : List Held) (es : List Rights) → map entry_key ms ≡ map entry_key es → joined (with_model k (Some h) ms) (granted_at k gs es) ≡ restored (row_of k h gs) (joined ms es)
 held_rows k h gs ms es same =
     let y : Rights = record { key = k; value = gs } in
     joined-with k (Some (model k h)) (Some y) ms es same refl
 
-pub held_alike : (k : Key) (h : ModelContent) (gs : List Grant) (ms : List Held) (es : List Rights) → map entry_key ms ≡ map entry_key es → map entry_key (with_model k (Some h) ms) ≡ map entry_key (with_rights k gs es)
+pub held_alike : (k : Key) (h : ModelContent) (gs : List Grant) (ms : List Held) (es : List Rights) → map entry_key ms ≡ map entry_key es → map entry_key (with_model k (Some h) ms) ≡ map entry_key (granted_at k gs es)
 held_alike k h gs ms es same =
     let y : Rights = record { key = k; value = gs } in
     same_with k (Some (model k h)) (Some y) ms es same refl
