@@ -2,8 +2,9 @@
 
 ghost use Rattle.std.specs.Prelude.{◌≡◌};
 ghost use Rattle.rp_restore.specs.declared.fault.RestoreFault.TheVariants.{NoMemory};
-ghost use Rattle.rp_restore.specs.Faults.{of_new};
+ghost use Rattle.rp_restore.specs.Faults.{of_new, of_lack};
 
+use plain_data::Failure;
 use rp_plain::messages::NewFault;
 use rp_restored_rows::RowLack;
 use rp_rows::rows::Key;
@@ -86,6 +87,17 @@ impl From<NewFault> for RestoreFault {
             | NewFault::TwoPartners
             | NewFault::BadName
             | NewFault::TooMany => RestoreFault::New(fault),
+        }
+    }
+}
+
+impl From<Failure<SnapshotLack>> for RestoreFault {
+    ghost from_gives = { λ failure e. e ≡ of_lack failure };
+
+    fn from(failure: Failure<SnapshotLack>) -> RestoreFault {
+        match failure {
+            Failure::NoMemory => RestoreFault::NoMemory,
+            Failure::Fault(lack) => RestoreFault::BadSnapshot(lack),
         }
     }
 }

@@ -11,10 +11,11 @@ ghost use Rattle.rp_snapshot_rows.specs.Again.{saved_group};
 ghost use Rattle.rp_snapshot_rows.specs.Tokens.{listed};
 ghost use Rattle.rp_restore.specs.Again.{group_tokens, HoldsAgain, GroupsHeld};
 
-use crate::fault::{RefusedRow, RestoreFault, RowKind, RowReason, SnapshotLack};
+use crate::fault::{RefusedRow, RowKind, RowReason, SnapshotLack};
 use crate::places::no_place;
 use crate::rows::group_row;
 use json::Reader;
+use plain_data::Failure;
 use rp_core::Holdings;
 use rp_restore_laws::restoring_keeps_validity;
 use rp_restored_rows::restored_group;
@@ -42,7 +43,7 @@ fn group<'s>(
     alloc: Global,
     holdings: &mut Holdings<'s>,
     reader: &mut Reader<'_>,
-) -> Result<(), RestoreFault>
+) -> Result<(), Failure<SnapshotLack>>
     requires { IsValid holdings.old.content }
     ensures valid { IsValid holdings.new.content }
     ensures schemas { holdings.new.content.schemas ≡ holdings.old.content.schemas }
@@ -63,7 +64,7 @@ fn group<'s>(
             holdings.hold_group(alloc, key, listing, grants)?;
             Ok(())
         }
-        Err(reason) => Err(RestoreFault::BadSnapshot(SnapshotLack::Row(RefusedRow {
+        Err(reason) => Err(Failure::Fault(SnapshotLack::Row(RefusedRow {
             kind: RowKind::Group,
             key,
             at,
@@ -77,7 +78,7 @@ pub(crate) fn groups<'s>(
     alloc: Global,
     holdings: &mut Holdings<'s>,
     reader: &mut Reader<'_>,
-) -> Result<(), RestoreFault>
+) -> Result<(), Failure<SnapshotLack>>
     requires { IsValid holdings.old.content }
     ensures valid { IsValid holdings.new.content }
     ensures schemas { holdings.new.content.schemas ≡ holdings.old.content.schemas }

@@ -11,7 +11,7 @@ ghost use Rattle.rp_snapshot_rows.specs.Again.{saved_model};
 ghost use Rattle.rp_snapshot_rows.specs.Tokens.{listed};
 ghost use Rattle.rp_restore.specs.Again.{model_tokens, HoldsAgain, TakesModel};
 
-use crate::fault::{RefusedRow, RestoreFault, RowKind, RowReason, SnapshotLack};
+use crate::fault::{RefusedRow, RowKind, RowReason, SnapshotLack};
 use crate::places::no_place;
 use crate::rows::{model_file, model_row};
 use json::Reader;
@@ -50,12 +50,12 @@ fn tested(
 }
 
 /// What is told of a model that isn't taken.
-fn refused(key: Key, at: usize, failure: Failure<RowReason>) -> RestoreFault
-    ensures { failure ≡ Failure.NoMemory → result ≡ RestoreFault.NoMemory }
+fn refused(key: Key, at: usize, failure: Failure<RowReason>) -> Failure<SnapshotLack>
+    ensures { failure ≡ Failure.NoMemory → result ≡ Failure.NoMemory }
 {
     match failure {
-        Failure::NoMemory => RestoreFault::NoMemory,
-        Failure::Fault(reason) => RestoreFault::BadSnapshot(SnapshotLack::Row(RefusedRow {
+        Failure::NoMemory => Failure::NoMemory,
+        Failure::Fault(reason) => Failure::Fault(SnapshotLack::Row(RefusedRow {
             kind: RowKind::Model,
             key,
             at,
@@ -69,7 +69,7 @@ fn model<'s>(
     alloc: Global,
     holdings: &mut Holdings<'s>,
     reader: &mut Reader<'_>,
-) -> Result<(), RestoreFault>
+) -> Result<(), Failure<SnapshotLack>>
     requires { IsValid holdings.old.content }
     ensures valid { IsValid holdings.new.content }
     ensures schemas { holdings.new.content.schemas ≡ holdings.old.content.schemas }
@@ -96,7 +96,7 @@ pub(crate) fn models<'s>(
     alloc: Global,
     holdings: &mut Holdings<'s>,
     reader: &mut Reader<'_>,
-) -> Result<(), RestoreFault>
+) -> Result<(), Failure<SnapshotLack>>
     requires { IsValid holdings.old.content }
     ensures valid { IsValid holdings.new.content }
     ensures schemas { holdings.new.content.schemas ≡ holdings.old.content.schemas }

@@ -23,7 +23,7 @@ use ex_loaded::LoadedSchema;
 use json::{Reader, Scratch};
 use p21_ascii::canonical_is_ascii;
 use p21_laws::accepted_schemas;
-use plain_data::Text;
+use plain_data::{Failure, Text};
 use rp_core::Holdings;
 use rp_laws::{model_text_again, step_keeps_validity};
 use rp_restore_laws::{rows_give_repository, rows_may_be_put};
@@ -49,7 +49,7 @@ fn hold_rows<'s>(
     alloc: Global,
     holdings: &mut Holdings<'s>,
     reader: &mut Reader<'_>,
-) -> Result<(), RestoreFault>
+) -> Result<(), Failure<SnapshotLack>>
     requires { IsValid holdings.old.content }
     ensures valid { IsValid holdings.new.content }
     ensures again { (gs : List SpecGroup) (ms : List SpecModel) → MayTakeRows gs ms holdings.old.content → reader.old ≡ rows_tokens (file_in holdings.old.content.schemas) gs ms → Restores result (with_rows gs ms holdings.old.content) holdings.new.content }
@@ -64,7 +64,7 @@ fn hold_text<'s>(
     alloc: Global,
     holdings: &mut Holdings<'s>,
     text: &str,
-) -> Result<(), RestoreFault>
+) -> Result<(), Failure<SnapshotLack>>
     requires { IsValid holdings.old.content }
     ensures valid { IsValid holdings.new.content }
     ensures again { (gs : List SpecGroup) (ms : List SpecModel) → MayTakeRows gs ms holdings.old.content → tokens text.now ≡ rows_tokens (file_in holdings.old.content.schemas) gs ms → Restores result (with_rows gs ms holdings.old.content) holdings.new.content }
@@ -79,7 +79,7 @@ fn hold_bytes<'s>(
     alloc: Global,
     holdings: &mut Holdings<'s>,
     bytes: &[u8],
-) -> Result<(), RestoreFault>
+) -> Result<(), Failure<SnapshotLack>>
     requires { IsValid holdings.old.content }
     ensures valid { IsValid holdings.new.content }
     ensures again { (r : Plain) → IsValid r → holdings.old.content ≡ opened r.schemas r.partners → bytes.now ≡ snapshot_of r → Restores result r holdings.new.content }
@@ -94,7 +94,7 @@ fn hold_bytes<'s>(
     let first_line = FirstVersion { schemas }.first_line();
     match text_behind(bytes, first_line) {
         Ok(text) => hold_text(alloc, holdings, text),
-        Err(lack) => Err(RestoreFault::BadSnapshot(lack)),
+        Err(lack) => Err(Failure::Fault(lack)),
     }
 }
 

@@ -10,24 +10,24 @@ ghost use Rattle.rp_snapshot_rows.specs.Again.{saved_model, saved_group, HasMode
 ghost use Rattle.rp_restore.specs.Again.{group_tokens, Passes, ReadsAgain};
 ghost use Rattle.rp_restore.specs.Forms.{of_failure};
 
-use crate::fault::{RestoreFault, SnapshotLack};
+use crate::fault::SnapshotLack;
 use json::Reader;
 use plain_data::Failure;
 use rp_snapshot_rows::{Lack, SavedGroup, SavedModel};
 use std::alloc::Global;
 
 /// What the tokens lack, at this byte.
-fn told(failure: Failure<Lack>, at: usize) -> RestoreFault
+fn told(failure: Failure<Lack>, at: usize) -> Failure<SnapshotLack>
     ensures { result ≡ of_failure at failure }
 {
     match failure {
-        Failure::NoMemory => RestoreFault::NoMemory,
-        Failure::Fault(lack) => RestoreFault::BadSnapshot(SnapshotLack::Form(lack, at)),
+        Failure::NoMemory => Failure::NoMemory,
+        Failure::Fault(lack) => Failure::Fault(SnapshotLack::Form(lack, at)),
     }
 }
 
 /// The brace of an object, and the bracket that opens its first list, which is of this name.
-pub(crate) fn first_list(reader: &mut Reader<'_>, name: &str) -> Result<(), RestoreFault>
+pub(crate) fn first_list(reader: &mut Reader<'_>, name: &str) -> Result<(), Failure<SnapshotLack>>
     ensures { (rest : List SpecToken) → reader.old ≡ begin_object ∷ key_token name.now ∷ begin_array ∷ rest → Passes result reader.new rest }
 {
     match rp_snapshot_rows::first_list(reader, name) {
@@ -37,7 +37,7 @@ pub(crate) fn first_list(reader: &mut Reader<'_>, name: &str) -> Result<(), Rest
 }
 
 /// The bracket that opens the list of this name.
-pub(crate) fn list(reader: &mut Reader<'_>, name: &str) -> Result<(), RestoreFault>
+pub(crate) fn list(reader: &mut Reader<'_>, name: &str) -> Result<(), Failure<SnapshotLack>>
     ensures { (rest : List SpecToken) → reader.old ≡ key_token name.now ∷ begin_array ∷ rest → Passes result reader.new rest }
 {
     match rp_snapshot_rows::list(reader, name) {
@@ -50,7 +50,7 @@ pub(crate) fn list(reader: &mut Reader<'_>, name: &str) -> Result<(), RestoreFau
 pub(crate) fn group_row(
     alloc: Global,
     reader: &mut Reader<'_>,
-) -> Result<SavedGroup, RestoreFault>
+) -> Result<SavedGroup, Failure<SnapshotLack>>
     ensures again { (g : SpecGroup) (rest : List SpecToken) → AllByRecursion IsToRead g.grants → reader.old ≡ group_tokens g ++ rest → ReadsAgain (λ x. x) result (saved_group g) reader.new rest }
     ensures shorter { OnOk result (length reader.new < length reader.old) }
 {
@@ -61,7 +61,7 @@ pub(crate) fn group_row(
 }
 
 /// The file of a model, whose row begins here.
-pub(crate) fn model_file<'a>(reader: &mut Reader<'a>) -> Result<&'a str, RestoreFault>
+pub(crate) fn model_file<'a>(reader: &mut Reader<'a>) -> Result<&'a str, Failure<SnapshotLack>>
     ensures again { (written : List ℕ) (m : SpecModel) (rest : List SpecToken) → reader.old ≡ tokens_of (model_data written m) ++ rest → ReadsAgain (λ s. s.now) result written reader.new (behind_file m ++ rest) }
     ensures shorter { OnOk result (length reader.new < length reader.old) }
 {
@@ -75,7 +75,7 @@ pub(crate) fn model_file<'a>(reader: &mut Reader<'a>) -> Result<&'a str, Restore
 pub(crate) fn model_row(
     alloc: Global,
     reader: &mut Reader<'_>,
-) -> Result<SavedModel, RestoreFault>
+) -> Result<SavedModel, Failure<SnapshotLack>>
     ensures again { (m : SpecModel) (rest : List SpecToken) → HasModelNumbers m → reader.old ≡ behind_file m ++ rest → ReadsAgain (λ x. x) result (saved_model m) reader.new rest }
     ensures shorter { OnOk result (length reader.new < length reader.old) }
 {
