@@ -10,7 +10,7 @@ use Rattle.rp_restore.specs.declared.fault.RestoreFault.{RestoreFault}
 use Rattle.rp_restore.specs.declared.fault.RestoreFault.TheVariants.{NoMemory}
 use Rattle.rp_restore.specs.declared.fault.SnapshotLack.{SnapshotLack}
 
-Refuses : Option NewFault → RestoreFault → Type 0
+abbrev Refuses : Option NewFault → RestoreFault → Type 0
 Refuses found e = OpensFirst {X = Kept} (Err e) found
 
 new_refuses : (found : Option NewFault) (fault : NewFault) → (fault ≢ new.NoMemory → found ≡ Some fault) → Refuses found (of_new fault)

@@ -9,7 +9,9 @@ use Rattle.std.proofs.lemmas.Slice.Eq.{bytes_eq-Decides}
 use Rattle.std.proofs.lemmas.Str.{IsUtf8-from_ascii, IsUtf8-nil}
 use Rattle.ex_types.specs.Checked.{Checked}
 use Rattle.p21_canonical.specs.Trees.{canonical}
-use Rattle.p21_laws.proofs.Files.{word_utf8}
+use Rattle.p21_spelling.specs.Tokens.{is_word}
+use Rattle.p21_lexemes.specs.Lexical.{is_letter}
+use Rattle.text_forms.specs.Words.{is_word_byte}
 use Rattle.p21_laws.specs.Contents.{IsRead}
 use Rattle.p21_laws.specs.Schemas.{IsAccepted}
 use Rattle.rp_content.specs.declared.content.Content.{Content}
@@ -17,6 +19,7 @@ use Rattle.rp_content.specs.declared.link.Link.{Link}
 use Rattle.rp_rows.specs.declared.rows.Grant.{Grant}
 use Rattle.rp_rows.specs.declared.rows.Key.{Key}
 use Rattle.rp_rows.specs.declared.rows.ModelContent.{ModelContent}
+use Rattle.rp_rows.specs.Contents.{link_names}
 use Rattle.rp_rows.specs.Names.{is_byte_of_name, is_name}
 use Rattle.rp_rows.specs.Rows.{Text, row_key, Model, GroupRow}
 use Rattle.rp_plain.specs.Plain.{Plain}
@@ -55,7 +58,26 @@ among p (t ∷ ts) s all there = by (bytes_eq s t) refl there
 
 -- ---- schemas
 
-abbrev AllAccepted : List Checked → Type 0
+letter_ascii : (b : ℕ) → is_letter b ≡ true → b < 128
+letter_ascii b e = grind (arith, nat_tests)
+
+word_byte_ascii : (b : ℕ) → is_word_byte b ≡ true → b < 128
+word_byte_ascii b e = grind (arith, nat_tests)
+
+word_bytes_ascii : (t : List ℕ) → list_all is_word_byte t ≡ true → IsAscii t
+word_bytes_ascii [] e i = omega arith
+word_bytes_ascii (b ∷ t) e zero = word_byte_ascii b (and_parts (is_word_byte b) (list_all is_word_byte t) e).0
+word_bytes_ascii (b ∷ t) e (suc i) = word_bytes_ascii t (and_parts (is_word_byte b) (list_all is_word_byte t) e).1 i
+
+word_ascii : (t : List ℕ) → is_word t ≡ true → IsAscii t
+word_ascii [] e i = cc
+word_ascii (b ∷ t) e zero = letter_ascii b (and_parts (is_letter b) (list_all is_word_byte t) e).0
+word_ascii (b ∷ t) e (suc i) = word_bytes_ascii t (and_parts (is_letter b) (list_all is_word_byte t) e).1 i
+
+word_utf8 : (t : List ℕ) → is_word t ≡ true → IsUtf8 t
+word_utf8 t e = IsUtf8-from_ascii t (word_ascii t e)
+
+abbrev pub AllAccepted : List Checked → Type 0
 AllAccepted = AllByRecursion (λ (schema : Checked). IsAccepted schema.named)
 
 -- the schema of a name is accepted, and has the name
@@ -118,7 +140,7 @@ module _ (ascii : CanonicalUtf8) (schemas : List Checked) (partners : List Text)
       let loaded = valid.content.loaded in
       let c = m.holds.content in
       let it = found schemas m.holds.schema schema accepted loaded in
-      let text : IsUtf8 (canonical schema c) = IsUtf8-from_ascii (canonical schema c) (ascii schema it.0 _ _ _ c.links (again schema loaded)) in
+      let text : IsUtf8 (canonical schema c) = IsUtf8-from_ascii (canonical schema c) (ascii schema it.0 (link_names c.links) (canonical schema c) (record c { links = [] }) c.links (again schema loaded)) in
       subst IsUtf8 (sym (ap (λ found. file_by found m.holds) loaded)) text
 
   pub model_text : (m : Model) → IsValidModel schemas partners m → IsModelReadAgain schemas m → IsTextModel (file_in schemas) m

@@ -15,7 +15,7 @@ returns-in_err-row-clause-again c m rest may is =
     rw p.1 (p.2 ∙ memory)
 
 pub returns-in_ok-hold_model-in-Ok-clause-valid : goal.returns-in_ok-hold_model-in-Ok-clause-valid
-returns-in_ok-hold_model-in-Ok-clause-valid c = subst IsValid (sym c.in_ok-hold_model.ensures.held) (c.restoring_keeps_validity.ensures.model c.args.holdings.now.content (model_of c.in-Ok.model) c.in-Ok.ensures.may c.requires)
+returns-in_ok-hold_model-in-Ok-clause-valid c = subst IsValid (sym c.in_ok-hold_model-in-Ok.ensures.held) (c.restoring_keeps_validity.ensures.model c.args.holdings.now.content (model_of c.in-Ok.model) c.in-Ok.ensures.may c.requires)
 
 pub returns-in_ok-hold_model-in-Ok-clause-again : goal.returns-in_ok-hold_model-in-Ok-clause-again
 returns-in_ok-hold_model-in-Ok-clause-again c m rest may is =
@@ -23,7 +23,7 @@ returns-in_ok-hold_model-in-Ok-clause-again c m rest may is =
     let file = c.in_ok-file.ensures.again (file_in r.schemas m.holds) m rest is in
     let row = c.in_ok-row.ensures.again m rest (model_numbers r.schemas r.partners m may.valid) file.1 in
     let taken = c.in-Ok.ensures.again m may row.0 file.0 in
-    (c.in_ok-hold_model.ensures.held ∙ ap (λ x. with_model x r) taken, row.1)
+    (c.in_ok-hold_model-in-Ok.ensures.held ∙ ap (λ x. with_model x r) taken, row.1)
 
 pub returns-in-Err-clause-again : goal.returns-in-Err-clause-again
 returns-in-Err-clause-again c m rest may is =
