@@ -52,6 +52,7 @@ among p [] s all there = cc
 among p (t ∷ ts) s all there = by (bytes_eq s t) refl there
   where
     both = and_parts (p t) (list_all p ts) all
+
     by : (same : Bool) → bytes_eq s t ≡ same → (same || has_text ts s) ≡ true → p s ≡ true
     by true e is = ap p ((bytes_eq-Decides s t).0 e) ∙ both.0
     by false e is = among p ts s both.1 is
@@ -83,20 +84,20 @@ AllAccepted = AllByRecursion (λ (schema : Checked). IsAccepted schema.named)
 -- the schema of a name is accepted, and has the name
 found : (schemas : List Checked) (name : List ℕ) (schema : Checked) → AllAccepted schemas → schema_named schemas name ≡ Some schema → IsAccepted schema.named × (name ≡ schema_name schema)
 found [] name schema all is = cc
-found (x ∷ xs) name schema all is = by (bytes_eq name (schema_name x)) refl is
+found (x ∷ xs) name schema all is = by (found xs name schema all.1) (bytes_eq name (schema_name x)) refl is
   where
-    by : (same : Bool) → bytes_eq name (schema_name x) ≡ same → (if same then Some x else schema_named xs name) ≡ Some schema → IsAccepted schema.named × (name ≡ schema_name schema)
-    by true e here = let it : x ≡ schema = cc in subst (λ (s : Checked). IsAccepted s.named × (name ≡ schema_name s)) it (all.0, (bytes_eq-Decides name (schema_name x)).0 e)
-    by false e here = found xs name schema all.1 here
+    by : (schema_named xs name ≡ Some schema → IsAccepted schema.named × (name ≡ schema_name schema)) → (same : Bool) → bytes_eq name (schema_name x) ≡ same → (if same then Some x else schema_named xs name) ≡ Some schema → IsAccepted schema.named × (name ≡ schema_name schema)
+    by others true e here = let it : x ≡ schema = cc in subst (λ (s : Checked). IsAccepted s.named × (name ≡ schema_name s)) it (all.0, (bytes_eq-Decides name (schema_name x)).0 e)
+    by others false e here = others here
 
 -- the name of one that there is
 loaded_utf8 : (schemas : List Checked) (name : List ℕ) → AllAccepted schemas → has_schema schemas name ≡ true → IsUtf8 name
 loaded_utf8 [] name all there = cc
-loaded_utf8 (x ∷ xs) name all there = by (bytes_eq name (schema_name x)) refl there
+loaded_utf8 (x ∷ xs) name all there = by (loaded_utf8 xs name all.1) (bytes_eq name (schema_name x)) refl there
   where
-    by : (same : Bool) → bytes_eq name (schema_name x) ≡ same → (same || has_schema xs name) ≡ true → IsUtf8 name
-    by true e is = subst IsUtf8 (sym ((bytes_eq-Decides name (schema_name x)).0 e)) (word_utf8 (schema_name x) all.0.words.schema)
-    by false e is = loaded_utf8 xs name all.1 is
+    by : (has_schema xs name ≡ true → IsUtf8 name) → (same : Bool) → bytes_eq name (schema_name x) ≡ same → (same || has_schema xs name) ≡ true → IsUtf8 name
+    by others true e is = subst IsUtf8 (sym ((bytes_eq-Decides name (schema_name x)).0 e)) (word_utf8 (schema_name x) all.0.words.schema)
+    by others false e is = others is
 
 found_utf8 : (schemas : List Checked) (name : List ℕ) (schema : Checked) → AllAccepted schemas → schema_named schemas name ≡ Some schema → IsUtf8 name
 found_utf8 schemas name schema all is = let it = found schemas name schema all is in subst IsUtf8 (sym it.1) (word_utf8 (schema_name schema) it.0.words.schema)

@@ -83,10 +83,8 @@ impl From<NewFault> for RestoreFault {
     fn from(fault: NewFault) -> RestoreFault {
         match fault {
             NewFault::NoMemory => RestoreFault::NoMemory,
-            NewFault::TwoSchemas
-            | NewFault::TwoPartners
-            | NewFault::BadName
-            | NewFault::TooMany => RestoreFault::New(fault),
+            NewFault::TwoSchemas | NewFault::TwoPartners | NewFault::BadName | NewFault::TooMany =>
+                RestoreFault::New(fault),
         }
     }
 }

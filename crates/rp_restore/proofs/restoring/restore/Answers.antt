@@ -7,12 +7,12 @@ use Rattle.rp_restore.proofs.restoring.restore.Goals as goal
 
 pub returns-in_err-holdings-clause-new : goal.returns-in_err-holdings-clause-new
 returns-in_err-holdings-clause-new c =
-    let p = err_from_is_err_and c.from_residual-in_err-holdings.result c.from_residual-in_err-holdings.ensures.1 in
-    refused_new c.from_residual-in_err-holdings.result p.0 (new_fault c.args.schemas.now c.args.partners.items) c.in_err-holdings.field-0.0 p.1 p.2 c.in_err-holdings.ensures.err
+    let p = err_from_is_err_and c.from_residual.result c.from_residual.ensures.1 in
+    refused_new c.from_residual.result p.0 (new_fault c.args.schemas.now c.args.partners.items) c.in_err-holdings.field-0.0 p.1 p.2 c.in_err-holdings.ensures.err
 
 pub returns-in_err-holdings-clause-again : goal.returns-in_err-holdings-clause-again
 returns-in_err-holdings-clause-again c r valid schemas partners is =
-    let p = err_from_is_err_and c.from_residual-in_err-holdings.result c.from_residual-in_err-holdings.ensures.1 in
+    let p = err_from_is_err_and c.from_residual.result c.from_residual.ensures.1 in
     let none = (λ i. new_fault (sym schemas i) (sym partners i)) ∙ valid.opens in
     rw p.1 (wanting_new p.0 (new_fault c.args.schemas.now c.args.partners.items) c.in_err-holdings.field-0.0 p.2 none c.in_err-holdings.ensures.err)
 
