@@ -49,13 +49,11 @@ name_utf8 t e = IsUtf8-from_ascii t (bytes_ascii t (and_parts _ (list_all is_byt
 -- a text that stands among others passes where they do
 among : (p : List ℕ → Bool) (ts : List (List ℕ)) (s : List ℕ) → list_all p ts ≡ true → has_text ts s ≡ true → p s ≡ true
 among p [] s all there = cc
-among p (t ∷ ts) s all there = by (bytes_eq s t) refl there
+among p (t ∷ ts) s all there = let both = and_parts (p t) (list_all p ts) all in by both.0 (among p ts s both.1) (bytes_eq s t) refl there
   where
-    both = and_parts (p t) (list_all p ts) all
-
-    by : (same : Bool) → bytes_eq s t ≡ same → (same || has_text ts s) ≡ true → p s ≡ true
-    by true e is = ap p ((bytes_eq-Decides s t).0 e) ∙ both.0
-    by false e is = among p ts s both.1 is
+    by : p t ≡ true → (has_text ts s ≡ true → p s ≡ true) → (same : Bool) → bytes_eq s t ≡ same → (same || has_text ts s) ≡ true → p s ≡ true
+    by first others true e is = ap p ((bytes_eq-Decides s t).0 e) ∙ first
+    by first others false e is = others is
 
 -- ---- schemas
 
