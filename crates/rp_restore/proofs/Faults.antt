@@ -1,5 +1,5 @@
 -- Which fault is told.
-use Rattle.std.proofs.Common.{◌≡◌, ◌≢◌, Option, Some, None, Result, Ok, Err, refl, sym, ◌∙◌, ap, subst}
+use Rattle.std.proofs.Common.{◌≡◌, ◌≢◌, Option, Some, None, Result, Err, refl, sym, ◌∙◌, ap, subst}
 use Rattle.plain_data.specs.declared.failure.Failure.{Failure}
 use Rattle.plain_data.specs.declared.failure.Failure.TheVariants as failure
 use Rattle.rp_plain.specs.declared.messages.NewFault.{NewFault}

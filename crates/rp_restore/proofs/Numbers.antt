@@ -1,5 +1,5 @@
 -- The numbers of a valid model are of 64 bits.
-use Rattle.std.proofs.Common.{◌≡◌, ◌≤◌, ◌<◌, ◌^◌, List, [], ◌∷◌, arith}
+use Rattle.std.proofs.Common.{◌≤◌, List, [], ◌∷◌, arith}
 use Rattle.std.specs.List.{AllByRecursion}
 use Rattle.ex_types.specs.Checked.{Checked}
 use Rattle.rp_content.specs.declared.link.Link.{Link}

@@ -1,12 +1,12 @@
 -- The rows of a valid repository are texts: their names and their files are UTF-8, and their numbers are of 64 bits.
-use Rattle.std.proofs.Common.{◌≡◌, ◌≤◌, ◌<◌, ◌^◌, ◌||◌, ℕ, zero, suc, Bool, true, false, List, [], ◌∷◌, Some, None, IsUtf8, refl, sym, ap, ◌∙◌, subst, arith}
+use Rattle.std.proofs.Common.{◌≡◌, ◌<◌, ◌||◌, ℕ, zero, suc, Bool, true, false, List, [], ◌∷◌, Some, None, IsUtf8, refl, sym, ap, ◌∙◌, subst, arith}
 use Rattle.std.specs.Prelude.{if◌then◌else◌, length, map, nat_lt, not}
-use Rattle.std.specs.List.{AllByRecursion, find, list_all}
+use Rattle.std.specs.List.{AllByRecursion, list_all}
 use Rattle.std.specs.Str.{bytes_eq, IsAscii}
 use Rattle.std.proofs.lemmas.Bool.{and_parts}
 use Rattle.std.proofs.lemmas.Bool.Decides.{nat_tests}
 use Rattle.std.proofs.lemmas.Slice.Eq.{bytes_eq-Decides}
-use Rattle.std.proofs.lemmas.Str.{IsUtf8-from_ascii, IsUtf8-nil}
+use Rattle.std.proofs.lemmas.Str.{IsUtf8-from_ascii}
 use Rattle.ex_types.specs.Checked.{Checked}
 use Rattle.p21_canonical.specs.Trees.{canonical}
 use Rattle.p21_spelling.specs.Tokens.{is_word}
@@ -17,16 +17,13 @@ use Rattle.p21_laws.specs.Schemas.{IsAccepted}
 use Rattle.rp_content.specs.declared.content.Content.{Content}
 use Rattle.rp_content.specs.declared.link.Link.{Link}
 use Rattle.rp_rows.specs.declared.rows.Grant.{Grant}
-use Rattle.rp_rows.specs.declared.rows.Key.{Key}
-use Rattle.rp_rows.specs.declared.rows.ModelContent.{ModelContent}
 use Rattle.rp_rows.specs.Contents.{link_names}
 use Rattle.rp_rows.specs.Names.{is_byte_of_name, is_name}
 use Rattle.rp_rows.specs.Rows.{Text, row_key, Model, GroupRow}
-use Rattle.rp_plain.specs.Plain.{Plain}
 use Rattle.rp_plain.specs.declared.messages.NewFault.TheVariants.{BadName, TooMany, TwoPartners, TwoSchemas}
 use Rattle.rp_plain.specs.Meaning.{first_some, has_text, has_schema, schema_name, schema_named}
 use Rattle.rp_plain.specs.Opening.{has_twice, max_partners, max_schemas, new_fault, when}
-use Rattle.rp_plain.specs.Valid.{IsValid, IsValidContent, IsValidGrant, IsValidGroup, IsValidLink, IsValidMember, IsValidModel}
+use Rattle.rp_plain.specs.Valid.{IsValidGrant, IsValidGroup, IsValidLink, IsValidMember, IsValidModel}
 use Rattle.rp_laws.proofs.ValidTables.{all_each}
 use Rattle.rp_laws.specs.Laws.{IsModelReadAgain}
 use Rattle.rp_restored_rows.specs.Models.{file_by, file_in}

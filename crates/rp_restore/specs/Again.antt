@@ -7,7 +7,7 @@ use Rattle.rp_rows.specs.declared.rows.ModelContent.{ModelContent}
 use Rattle.rp_rows.specs.Rows.{Model, GroupRow}
 use Rattle.rp_plain.specs.Plain.{Plain}
 use Rattle.rp_core.specs.Held.{Kept}
-use Rattle.rp_restore_laws.specs.Restoring.{with_models, with_rows}
+use Rattle.rp_restore_laws.specs.Restoring.{with_models}
 use Rattle.rp_restore_laws.specs.Laws.{MayTakeModels}
 use Rattle.rp_restored_rows.specs.declared.models.RestoredModel.{RestoredModel}
 use Rattle.rp_restored_rows.specs.Models.{model_of}

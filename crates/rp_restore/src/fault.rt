@@ -21,7 +21,8 @@ pub enum RestoreFault {
     BadSnapshot(SnapshotLack),
 }
 
-/// What bytes lack, so that they are no snapshot of a repository of these schemas and partners.
+/// What bytes lack, so that they are no snapshot of a repository of these schemas and partners. Places are counted from the
+/// first byte behind the first line.
 #[derive(Drop)]
 pub enum SnapshotLack {
     /// The first line of a snapshot.

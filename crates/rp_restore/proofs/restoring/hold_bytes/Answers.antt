@@ -1,11 +1,9 @@
-use Rattle.std.proofs.Common.{◌≡◌, ◌++◌, IsUtf8, sym, ap, ◌∙◌, subst}
+use Rattle.std.proofs.Common.{◌≡◌, ◌++◌, sym, ap, ◌∙◌, subst}
 use Rattle.json.specs.Lex.{tokens}
-use Rattle.rp_plain.specs.Opening.{opened}
 use Rattle.rp_restore_laws.specs.Laws.{MayTakeRows}
 use Rattle.rp_restore_laws.specs.Restoring.{with_rows}
 use Rattle.rp_restored_rows.specs.Models.{file_in}
 use Rattle.rp_snapshot_texts.specs.Again.{rows_tokens}
-use Rattle.rp_snapshot_texts.specs.Texts.{first_line}
 use Rattle.rp_restore.proofs.Snapshots.{begins_so, restores_same, text_of}
 use Rattle.rp_restore.proofs.Texts.{AllAccepted, groups_text, have_names, models_text}
 use Rattle.rp_restore.proofs.restoring.hold_bytes.Goals as goal
