@@ -61,15 +61,15 @@ fn refused(change: Change, reason: AccessFault) -> AccessFault
 }
 
 impl Access {
-    ghost use Rattle.std.specs.Prelude.{◌≡◌, ◌≢◌, [], Some, None, map, filter, IfOk, IfErr};
+    ghost use Rattle.std.specs.Prelude.{◌≡◌, ◌≢◌, [], Some, None, map, filter, OnOk, OnErr, IfOk, IfErr};
     ghost use Rattle.std.specs.List.{find};
-    ghost use Rattle.sorted_tables.specs.Table.{IsAscending};
+    ghost use Rattle.sorted_tables.specs.Table.{with_row, IsAscending};
     ghost use Rattle.rp_rows.specs.Rows.{key_cmp, row_key, is_row, key_of};
     ghost use Rattle.rp_rows.specs.Listings.{with_member, without_member};
     ghost use Rattle.rp_rows.specs.Sight as sight;
     ghost use Rattle.rp_rows.specs.Alterations.{altered};
     ghost use Rattle.rp_store.specs.Entries.{entry_key};
-    ghost use Rattle.rp_sight.specs.Stored.{joined};
+    ghost use Rattle.rp_sight.specs.Stored.{granted_row, joined};
     ghost use Rattle.rp_sight.specs.Listed.{members_in, member_of};
     ghost use Rattle.rp_sight.specs.Seen.{seen_model, seen_group, seen_of};
     ghost use Rattle.rp_access.specs.Changes.{models_after, groups_after, fault, granted, granted_on, regranted_on, grants_at, relisted_at, right_on_model, right_on_group};
@@ -390,5 +390,34 @@ impl Access {
             Prepared::Regrant(key, grants) => self.models.replace(&key, grants),
             Prepared::OfGroup(key, step) => make_group_step(&mut self.groups, key, step),
         }
+    }
+
+    // ---- what was kept elsewhere is held again
+
+    /// These are the grants on the model of the key from now on. Without memory nothing changes.
+    pub fn hold_model(&mut self, key: Key, grants: Rows<Grant>) -> Result<(), AllocError>
+        ensures held { OnOk result (self.new.models.entries ≡ with_row key_cmp entry_key key (Some (record { key = key; value = grants })) self.old.models.entries) }
+        ensures kept { OnErr result (self.new.models.entries ≡ self.old.models.entries) }
+        ensures groups { self.new.groups ≡ self.old.groups }
+    {
+        self.models.reserve()?;
+        self.models.put(key, grants);
+        Ok(())
+    }
+
+    /// A group that there isn't stands under its key from now on, with all the grants on it. Without memory no group changes.
+    pub fn hold_group(
+        &mut self,
+        alloc: Global,
+        key: Key,
+        listing: Listing,
+        grants: Rows<Grant>,
+    ) -> Result<(), AllocError>
+        requires { find (is_row key) self.old.groups.rows ≡ None }
+        ensures held { OnOk result (self.new.groups.rows ≡ with_row key_cmp row_key key (Some (granted_row key listing grants)) self.old.groups.rows) }
+        ensures kept { OnErr result (self.new.groups.rows ≡ self.old.groups.rows) }
+        ensures models { self.new.models ≡ self.old.models }
+    {
+        self.groups.hold(alloc, key, listing, grants)
     }
 }

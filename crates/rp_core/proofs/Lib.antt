@@ -6,3 +6,4 @@ pub mod Fitting
 pub mod Refusing
 pub mod Making
 pub mod Preparing
+pub mod Holding

@@ -5,17 +5,18 @@ use crate::opening::may_open;
 use crate::plans::plan;
 use crate::steps::{Pending, make_steps};
 use ex_loaded::LoadedSchema;
-use plain_data::Text;
+use plain_data::{Rows, Text};
 use rp_access::Access;
 use rp_plain::messages::{NewFault, Reply, Request};
 use rp_readers::{KeptLayouts, Readers, place_among};
 use rp_reports::SchemaRules;
-use rp_store::Store;
-use std::alloc::Global;
+use rp_rows::rows::{Grant, Key, Listing, ModelContent};
+use rp_sight::Table;
+use rp_store::{Prepared, Store};
+use std::alloc::{AllocError, Global};
 use std::marker::Model;
 
 /// What a repository holds, in memory.
-#[derive(Drop)]
 pub struct Holdings<'s> {
     schemas: &'s [LoadedSchema<'s>],
     layouts: KeptLayouts<'s>,
@@ -23,6 +24,24 @@ pub struct Holdings<'s> {
     partners: Vec<Text>,
     store: Store,
     access: Access,
+}
+
+impl Drop for Holdings<'_> {
+    fn drop(self) {
+        let Holdings {
+            schemas: _,
+            layouts,
+            rules,
+            partners,
+            store,
+            access,
+        } = self;
+        drop(layouts);
+        drop(rules);
+        drop(partners);
+        drop(store);
+        drop(access);
+    }
 }
 
 impl<'s> Model for Holdings<'s> {
@@ -47,13 +66,16 @@ impl<'s> Model for Holdings<'s> {
 }
 
 impl<'s> Holdings<'s> {
-    ghost use Rattle.std.specs.Prelude.{◌≡◌, ◌≢◌, ◌<◌, false, length, Some, None, IfOk, IfErr, MatchOption};
+    ghost use Rattle.std.specs.Prelude.{◌≡◌, ◌≢◌, ◌<◌, false, length, Some, None, OnOk, OnErr, IfOk, IfErr, MatchOption};
+    ghost use Rattle.std.specs.List.{find};
+    ghost use Rattle.rp_rows.specs.Rows.{is_row};
     ghost use Rattle.rp_plain.specs.Meaning.{has_text};
     ghost use Rattle.rp_plain.specs.Opening.{new_fault, opened};
     ghost use Rattle.rp_plain.specs.Valid.{IsOrdered};
     ghost use Rattle.rp_core.specs.Held.{partner_at, turn, made_of, Fits, IsPrepared};
     ghost use Rattle.rp_readers.specs.Named.{AreNamed};
     ghost use Rattle.rp_readers.specs.Listed.{AreListed};
+    ghost use Rattle.rp_restore_laws.specs.Restoring.{row_of, with_model, with_group};
 
     /// Nothing but these schemas and partners.
     ///
@@ -78,6 +100,34 @@ impl<'s> Holdings<'s> {
             store: Store::new(alloc),
             access: Access::new(alloc),
         })
+    }
+
+    /// The schemas, with what was found in them once.
+    pub fn schemas(&self) -> &'s [LoadedSchema<'s>]
+        ensures { result.now ≡ self.now.content.schemas }
+    {
+        self.schemas
+    }
+
+    /// The names of the partners, in the order of the partner table.
+    pub fn partners(&self) -> &[Text]
+        ensures { result.now ≡ self.now.content.partners }
+    {
+        &self.partners
+    }
+
+    /// The rows of models, in the order of owner and name.
+    pub fn models(&self) -> Table<'_, ModelContent>
+        ensures { result.rows ≡ self.now.content.models }
+    {
+        self.access.models(&self.store)
+    }
+
+    /// The rows of groups, in the order of owner and name.
+    pub fn groups(&self) -> Table<'_, Listing>
+        ensures { result.rows ≡ self.now.content.groups }
+    {
+        self.access.groups().table()
     }
 
     /// Where the partner of this name stands among the partners.
@@ -126,5 +176,39 @@ impl<'s> Holdings<'s> {
         let Pending { reply, steps } = pending;
         make_steps(&mut self.store, &mut self.access, steps);
         reply
+    }
+
+    /// The model of the key holds this from now on, with these grants on it. Without memory nothing that is held changes.
+    pub fn hold_model(
+        &mut self,
+        alloc: Global,
+        key: Key,
+        holds: ModelContent,
+        grants: Rows<Grant>,
+    ) -> Result<(), AllocError>
+        ensures held { OnOk result (self.new.content ≡ with_model (row_of key holds grants) self.old.content) }
+        ensures kept { OnErr result (self.new.content ≡ self.old.content) }
+    {
+        let again = key.copy(alloc)?;
+        self.store.reserve()?;
+        self.access.hold_model(again, grants)?;
+        self.store.commit(Prepared::Hold(key, holds));
+        Ok(())
+    }
+
+    /// A group that there isn't stands under its key from now on, with all the grants on it. Without memory nothing that is held
+    /// changes.
+    pub fn hold_group(
+        &mut self,
+        alloc: Global,
+        key: Key,
+        listing: Listing,
+        grants: Rows<Grant>,
+    ) -> Result<(), AllocError>
+        requires { find (is_row key) self.old.content.groups ≡ None }
+        ensures held { OnOk result (self.new.content ≡ with_group (row_of key listing grants) self.old.content) }
+        ensures kept { OnErr result (self.new.content ≡ self.old.content) }
+    {
+        self.access.hold_group(alloc, key, listing, grants)
     }
 }

@@ -164,7 +164,7 @@ module _ (schemas : List Checked) (partners : List (List ℕ)) (k : Key) (h : Mo
         (λ i e. tree_passes schema (is_among (names h.content.instances ++ link_names h.content.links)) i e) h.content.instances valid.sound;
   }
 
-abbrev AllAccepted : List Checked → Type 0
+abbrev pub AllAccepted : List Checked → Type 0
 AllAccepted = AllByRecursion (λ (schema : Checked). IsAccepted schema.named)
 
 -- a schema that is found is one of them
@@ -176,7 +176,7 @@ found_accepted test (x ∷ xs) schema all found = by (found_accepted test xs sch
     by rest true e = let same : x ≡ schema = cc in subst (λ (s : Checked). IsAccepted s.named) same all.0
     by rest false e = rest e
 
-model_again : (schemas : List Checked) (partners : List (List ℕ)) → AllAccepted schemas → (m : Model) → IsValidModel schemas partners m → IsModelReadAgain schemas m
+pub model_again : (schemas : List Checked) (partners : List (List ℕ)) → AllAccepted schemas → (m : Model) → IsValidModel schemas partners m → IsModelReadAgain schemas m
 model_again schemas partners all m valid schema found =
     let content = valid.content in
     let loaded : Some content.schema ≡ Some schema = sym content.loaded ∙ found in

@@ -15,7 +15,7 @@ use Rattle.rp_rows.specs.Alterations.{Holds, altered, grants_of}
 use Rattle.rp_rows.proofs.Keys.{key_total}
 use Rattle.rp_store.specs.declared.keyed.Entry.{Entry}
 use Rattle.rp_store.specs.Entries.{entry_key, is_entry, with_value, revalued, HasAt, standing}
-use Rattle.rp_sight.specs.Stored.{joined_row, joined, IsTable, rewritten, reheld, HasRowAt}
+use Rattle.rp_sight.specs.Stored.{joined_row, joined, IsTable, granted_row, rewritten, reheld, HasRowAt}
 use Rattle.rp_store.proofs.Finding.{keyed_ascends, none_ascends, standing_key, changed_ascends}
 use Rattle.rp_store.proofs.Counting.{is_owned}
 
@@ -43,7 +43,7 @@ abbrev after : {B : Type 0} → Key → List (Entry B) → List (Entry B)
 after k xs = filter (is_after key_cmp entry_key k) xs
 
 -- what is put at a key has the same key in both
-same_with : {A B : Type 0} (k : Key) (o : Option (Entry A)) (p : Option (Entry B)) (xs : List (Entry A)) (ys : List (Entry B)) → map entry_key xs ≡ map entry_key ys → map entry_key (option_to_list o) ≡ map entry_key (option_to_list p) → map entry_key (with_row key_cmp entry_key k o xs) ≡ map entry_key (with_row key_cmp entry_key k p ys)
+pub same_with : {A B : Type 0} (k : Key) (o : Option (Entry A)) (p : Option (Entry B)) (xs : List (Entry A)) (ys : List (Entry B)) → map entry_key xs ≡ map entry_key ys → map entry_key (option_to_list o) ≡ map entry_key (option_to_list p) → map entry_key (with_row key_cmp entry_key k o xs) ≡ map entry_key (with_row key_cmp entry_key k p ys)
 same_with k o p xs ys same alike =
     same_appended (before k xs ++ option_to_list o) (after k xs) (before k ys ++ option_to_list p) (after k ys)
     (same_appended (before k xs) (option_to_list o) (before k ys) (option_to_list p) (same_filtered (λ j. is_lt (key_cmp j k)) xs ys same) alike)
@@ -84,7 +84,7 @@ joined-option None p = refl
 joined-option (Some x) None = refl
 joined-option (Some x) (Some y) = refl
 
-joined-with : {A : Type 0} (k : Key) (o : Option (Entry A)) (p : Option (Entry (List Grant))) (xs : List (Entry A)) (ys : List (Entry (List Grant))) → map entry_key xs ≡ map entry_key ys → map entry_key (option_to_list o) ≡ map entry_key (option_to_list p) → joined (with_row key_cmp entry_key k o xs) (with_row key_cmp entry_key k p ys) ≡ with_row key_cmp row_key k (both o p) (joined xs ys)
+pub joined-with : {A : Type 0} (k : Key) (o : Option (Entry A)) (p : Option (Entry (List Grant))) (xs : List (Entry A)) (ys : List (Entry (List Grant))) → map entry_key xs ≡ map entry_key ys → map entry_key (option_to_list o) ≡ map entry_key (option_to_list p) → joined (with_row key_cmp entry_key k o xs) (with_row key_cmp entry_key k p ys) ≡ with_row key_cmp row_key k (both o p) (joined xs ys)
 joined-with k o p xs ys same alike =
     let first = same_filtered (λ j. is_lt (key_cmp j k)) xs ys same in
     joined-append (before k xs ++ option_to_list o) (after k xs) (before k ys ++ option_to_list p) (after k ys)
@@ -202,6 +202,19 @@ put_makes {A = A} k h xs ys table =
       };
     }
 
+hold_makes : {A : Type 0} (k : Key) (h : A) (gs : List Grant) (xs : List (Entry A)) (ys : List (Entry (List Grant))) → IsTable xs ys → Makes (with_row key_cmp entry_key k (Some (record { key = k; value = h })) xs) (with_row key_cmp entry_key k (Some (record { key = k; value = gs })) ys) (with_row key_cmp row_key k (Some (granted_row k h gs)) (joined xs ys))
+hold_makes {A = A} k h gs xs ys table =
+    let x : Entry A = record { key = k; value = h } in
+    let y : Entry (List Grant) = record { key = k; value = gs } in
+    record {
+      rows_are = joined-with k (Some x) (Some y) xs ys table.same refl;
+      table = record {
+        same = same_with k (Some x) (Some y) xs ys table.same refl;
+        order = keyed_ascends k x xs refl table.order;
+        right_order = keyed_ascends k y ys refl table.right_order;
+      };
+    }
+
 remove_makes : {A : Type 0} (k : Key) (xs : List (Entry A)) (ys : List (Entry (List Grant))) → IsTable xs ys → Makes (with_row key_cmp entry_key k None xs) (with_row key_cmp entry_key k None ys) (altered k (Holds None) (joined xs ys))
 remove_makes k xs ys table =
     record {
@@ -276,6 +289,10 @@ rehold_makes {A = A} k f xs ys table =
 pub put_rows : {A : Type 0} (k : Key) (h : A) (xs : List (Entry A)) (ys : List (Entry (List Grant))) (rows : List (Row A)) → IsTable xs ys → joined xs ys ≡ rows → Makes (with_row key_cmp entry_key k (Some (record { key = k; value = h })) xs) (with_row key_cmp entry_key k (Some (standing k [] (find (is_entry k) ys))) ys) (altered k (Holds (Some h)) rows)
 put_rows k h xs ys rows table are =
     subst (λ rs. Makes (with_row key_cmp entry_key k (Some (record { key = k; value = h })) xs) (with_row key_cmp entry_key k (Some (standing k [] (find (is_entry k) ys))) ys) (altered k (Holds (Some h)) rs)) are (put_makes k h xs ys table)
+
+pub hold_rows : {A : Type 0} (k : Key) (h : A) (gs : List Grant) (xs : List (Entry A)) (ys : List (Entry (List Grant))) (rows : List (Row A)) → IsTable xs ys → joined xs ys ≡ rows → Makes (with_row key_cmp entry_key k (Some (record { key = k; value = h })) xs) (with_row key_cmp entry_key k (Some (record { key = k; value = gs })) ys) (with_row key_cmp row_key k (Some (granted_row k h gs)) rows)
+hold_rows k h gs xs ys rows table are =
+    subst (λ rs. Makes (with_row key_cmp entry_key k (Some (record { key = k; value = h })) xs) (with_row key_cmp entry_key k (Some (record { key = k; value = gs })) ys) (with_row key_cmp row_key k (Some (granted_row k h gs)) rs)) are (hold_makes k h gs xs ys table)
 
 pub remove_rows : {A : Type 0} (k : Key) (xs : List (Entry A)) (ys : List (Entry (List Grant))) (rows : List (Row A)) → IsTable xs ys → joined xs ys ≡ rows → Makes (with_row key_cmp entry_key k None xs) (with_row key_cmp entry_key k None ys) (altered k (Holds None) rows)
 remove_rows k xs ys rows table are =

@@ -207,6 +207,12 @@ drop_past [] (suc i) h = refl
 drop_past (x ∷ xs) zero h = absurd (omega arith)
 drop_past (x ∷ xs) (suc i) h = drop_past xs i (omega arith)
 
+-- what is left from a place on begins with what stands there
+pub left_from : {X : Type 0} (xs : List X) (i : ℕ) (x : X) → i < length xs → x ≡ get_or xs i x → drop i xs ≡ x ∷ drop (i + 1) xs
+left_from xs i x within is =
+    let one : suc i ≡ i + 1 = omega arith in
+    drop_more xs i x within ∙ (λ j. sym is j ∷ drop (one j) xs)
+
 -- a loop over things, from its first turn to its last
 pub turn : {X : Type 0} (t : X → Model → Bool) (ms : List Model) (before now next : List Bool) (xs : List X) (i : ℕ) (x : X) → IsMarking t ms before now xs (drop i xs) → i < length xs → get_or xs i x ≡ x → next ≡ marked (t x) now ms → IsMarking t ms before next xs (drop (i + 1) xs)
 turn t ms before now next xs i x is within here are =

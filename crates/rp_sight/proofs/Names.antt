@@ -22,9 +22,9 @@ use Rattle.rp_rows.specs.Rows.{Text, text_cmp, grant_key, key_cmp, same_key, Row
 use Rattle.rp_rows.specs.Sight.{is_grant_to}
 use Rattle.rp_rows.specs.Alterations.{Holds, altered, grants_of, grant_for}
 use Rattle.rp_rows.proofs.Keys.{key_total, key_at, found_at}
-use Rattle.rp_store.specs.Entries.{entry_key, is_entry, revalued, without_name}
-use Rattle.rp_sight.specs.Stored.{rewritten}
-use Rattle.rp_store.proofs.Finding.{entry_at}
+use Rattle.rp_store.specs.Entries.{entry_key, is_entry, revalued, standing, with_name, without_name}
+use Rattle.rp_sight.specs.Stored.{granted_row, rewritten}
+use Rattle.rp_store.proofs.Finding.{entry_at, standing_key}
 use Rattle.rp_sight.proofs.Changed.{find-kept, find_other, find_same}
 use Rattle.rp_sight.specs.Granted.{Names, has_name, value_of, names_at, relisted, is_granted_at, KeepsGranted, granted_of, tells, TellsGranted}
 
@@ -167,6 +167,83 @@ drop_of q key p es same =
     let who : q ≡ p = (bytes_eq-Decides q p).0 same in
     ap (λ r. has_name key.name (names_at (key_of r key.owner) (dropped_at (key_of q key.owner) key.name es))) (sym who) ∙ drop_gone q key es
 
+-- ---- a name that is added under one partner and owner
+
+abbrev pub named_at : Key → Text → List Names → List Names
+named_at j n es = with_row key_cmp entry_key j (Some (revalued (with_name n) (standing j [] (find (is_entry j) es)))) es
+
+module _ (j : Key) (n : Text) (es : List Names) where
+  named_key : (x : Names) → Some (revalued (with_name n) (standing j [] (find (is_entry j) es))) ≡ Some x → entry_key x ≡ j
+  named_key x is =
+      let same : revalued (with_name n) (standing j [] (find (is_entry j) es)) ≡ x = cc in
+      ap entry_key (sym same) ∙ standing_key j [] es
+
+  standing_value : (o : Option Names) → (standing j [] o).value ≡ value_of o
+  standing_value None = refl
+  standing_value (Some x) = refl
+
+  named_there : names_at j (named_at j n es) ≡ with_name n (names_at j es)
+  named_there =
+      ap value_of (find_same key_cmp entry_key key_total j (Some (revalued (with_name n) (standing j [] (find (is_entry j) es)))) es named_key)
+      ∙ ap (with_name n) (standing_value (find (is_entry j) es))
+
+  named_elsewhere : (i : Key) → is_eq (key_cmp i j) ≡ false → names_at i (named_at j n es) ≡ names_at i es
+  named_elsewhere i e = ap value_of (find_other key_cmp entry_key key_total i j (Some (revalued (with_name n) (standing j [] (find (is_entry j) es)))) es named_key e)
+
+-- keys of one owner that aren't the same have other names
+other_name : (key k : Key) → same_key key k ≡ false → k.owner ≡ key.owner → bytes_eq key.name k.name ≡ false
+other_name key k other owner = by (bytes_eq key.name k.name) refl
+  where
+    by : (t : Bool) → bytes_eq key.name k.name ≡ t → t ≡ false
+    by false f = refl
+    by true f =
+        let names : key.name ≡ k.name = (bytes_eq-Decides key.name k.name).0 f in
+        let one : same_key key k ≡ true = (λ i. bytes_eq (owner i) key.owner && bytes_eq (sym names i) key.name) ∙ (λ i. itself key.owner i && itself key.name i) in
+        absurd (false≢true (sym other ∙ one))
+
+-- the names of another group stay
+pub add_keeps : (q : Text) (key k : Key) (p : Text) (es : List Names) → same_key key k ≡ false → has_name k.name (names_at (key_of p k.owner) (named_at (key_of q key.owner) key.name es)) ≡ has_name k.name (names_at (key_of p k.owner) es)
+add_keeps q key k p es other = by (is_eq (key_cmp (key_of p k.owner) (key_of q key.owner))) refl
+  where
+    j : Key
+    j = key_of q key.owner
+
+    or_no : (t u : Bool) → u ≡ false → (t || (u || false)) ≡ t
+    or_no true u e = refl
+    or_no false u e = ap (λ t. t || false) e
+
+    by : (t : Bool) → is_eq (key_cmp (key_of p k.owner) (key_of q key.owner)) ≡ t → has_name k.name (names_at (key_of p k.owner) (named_at (key_of q key.owner) key.name es)) ≡ has_name k.name (names_at (key_of p k.owner) es)
+    by false e = ap (has_name k.name) (named_elsewhere j key.name es (key_of p k.owner) e)
+    by true e =
+        let at : (key_of p k.owner) ≡ j = key_is (key_of p k.owner) j true e refl in
+        let owner : k.owner ≡ key.owner = ap (λ (i : Key). i.name) at in
+        ap (λ (i : Key). has_name k.name (names_at i (named_at j key.name es))) at
+        ∙ ap (has_name k.name) (named_there j key.name es)
+        ∙ has_append k.name (names_at j es) (key.name ∷ [])
+        ∙ or_no (has_name k.name (names_at j es)) (bytes_eq key.name k.name) (other_name key k other owner)
+        ∙ ap (λ (i : Key). has_name k.name (names_at i es)) (sym at)
+
+-- and so do those of other partners
+pub add_apart : (q : Text) (key : Key) (p : Text) (es : List Names) → bytes_eq q p ≡ false → has_name key.name (names_at (key_of p key.owner) (named_at (key_of q key.owner) key.name es)) ≡ has_name key.name (names_at (key_of p key.owner) es)
+add_apart q key p es other = ap (has_name key.name) (named_elsewhere (key_of q key.owner) key.name es (key_of p key.owner) (apart (is_eq (key_cmp (key_of p key.owner) (key_of q key.owner))) refl))
+  where
+    apart : (t : Bool) → is_eq (key_cmp (key_of p key.owner) (key_of q key.owner)) ≡ t → t ≡ false
+    apart false e = refl
+    apart true e =
+        let who : p ≡ q = ap (λ (i : Key). i.owner) (key_is (key_of p key.owner) (key_of q key.owner) true e refl) in
+        absurd (false≢true (sym other ∙ (bytes_eq-Decides q p).1 (sym who)))
+
+-- the name stands under the partner
+pub add_of : (q : Text) (key : Key) (p : Text) (es : List Names) → bytes_eq q p ≡ true → has_name key.name (names_at (key_of p key.owner) (named_at (key_of q key.owner) key.name es)) ≡ true
+add_of q key p es same =
+    let who : q ≡ p = (bytes_eq-Decides q p).0 same in
+    let j : Key = key_of q key.owner in
+    ap (λ r. has_name key.name (names_at (key_of r key.owner) (named_at j key.name es))) (sym who)
+    ∙ ap (has_name key.name) (named_there j key.name es)
+    ∙ has_append key.name (names_at j es) (key.name ∷ [])
+    ∙ ap (λ t. has_name key.name (names_at j es) || (t || false)) (itself key.name)
+    ∙ or_true (has_name key.name (names_at j es))
+
 -- ---- the rows of groups
 
 same_as : (j k : Key) → same_key k j ≡ is_eq (key_cmp j k)
@@ -231,6 +308,41 @@ module _ (k : Key) (es fs : List Names) (gs : List GroupRow) (kept : KeepsGrante
           ∙ with_nobody p
           ∙ ap (is_granted_at p) (sym (find_same key_cmp row_key key_total k None gs (no_row k)))
           ∙ ap (λ i. is_granted_at p (find (is_row i) (altered k (Holds None) gs))) (sym at)
+
+-- a group that there wasn't: the names under its owner are as before but for its own
+module _ (k : Key) (es fs : List Names) (gs : List GroupRow) (kept : KeepsGranted es gs) (none : find (is_row k) gs ≡ None)
+    (others : (p : Text) (j : Key) → same_key k j ≡ false → has_name j.name (names_at (key_of p j.owner) fs) ≡ has_name j.name (names_at (key_of p j.owner) es)) where
+  -- it isn't held, and its name is with nobody
+  pub unheld_keeps : ((p : Text) → has_name k.name (names_at (key_of p k.owner) fs) ≡ false) → KeepsGranted fs gs
+  unheld_keeps unlisted p j = by (is_eq (key_cmp j k)) refl
+    where
+      by : (t : Bool) → is_eq (key_cmp j k) ≡ t → has_name j.name (names_at (key_of p j.owner) fs) ≡ is_granted_at p (find (is_row j) gs)
+      by false e = others p j (same_as j k ∙ e) ∙ kept p j
+      by true e =
+          let at : j ≡ k = key_is j k true e refl in
+          ap (λ (i : Key). has_name i.name (names_at (key_of p i.owner) fs)) at
+          ∙ unlisted p
+          ∙ ap (is_granted_at p) (sym none)
+          ∙ ap (λ i. is_granted_at p (find (is_row i) gs)) (sym at)
+
+  -- it is held, and its name is with those who are granted it
+  pub held_keeps : (a : Listing) (grants : List Grant) → ((p : Text) → has_name k.name (names_at (key_of p k.owner) fs) ≡ list_any (is_grant_to p) grants) → KeepsGranted fs (with_row key_cmp row_key k (Some (granted_row k a grants)) gs)
+  held_keeps a grants listed p j = by (is_eq (key_cmp j k)) refl
+    where
+      row : GroupRow
+      row = granted_row k a grants
+
+      by : (t : Bool) → is_eq (key_cmp j k) ≡ t → has_name j.name (names_at (key_of p j.owner) fs) ≡ is_granted_at p (find (is_row j) (with_row key_cmp row_key k (Some row) gs))
+      by false e =
+          others p j (same_as j k ∙ e)
+          ∙ kept p j
+          ∙ ap (is_granted_at p) (sym (find_other key_cmp row_key key_total j k (Some row) gs (held_key k a grants) e))
+      by true e =
+          let at : j ≡ k = key_is j k true e refl in
+          ap (λ (i : Key). has_name i.name (names_at (key_of p i.owner) fs)) at
+          ∙ listed p
+          ∙ ap (is_granted_at p) (sym (find_same key_cmp row_key key_total k (Some row) gs (held_key k a grants)))
+          ∙ ap (λ i. is_granted_at p (find (is_row i) (with_row key_cmp row_key k (Some row) gs))) (sym at)
 
 -- ---- grants
 

@@ -27,6 +27,10 @@ pub record IsTable {A : Type 0} (held : List (Entry A)) (rights : List (Entry (L
   pub order : IsAscending key_cmp entry_key held
   pub right_order : IsAscending key_cmp entry_key rights
 
+-- the row of a key that holds this and has these grants
+abbrev pub granted_row : {A : Type 0} → Key → A → List Grant → Row A
+granted_row k a grants = record { owner = k.owner; name = k.name; holds = a; grants = grants }
+
 -- the row at a key, changed so
 abbrev pub rewritten : {A : Type 0} → Key → (Row A → Row A) → List (Row A) → List (Row A)
 rewritten k f rows = with_row key_cmp row_key k (option_map f (find (is_row k) rows)) rows

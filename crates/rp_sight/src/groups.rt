@@ -1,12 +1,13 @@
 //! Groups, and for each partner the names of those that he is granted.
 
-ghost use Rattle.std.specs.Prelude.{◌≡◌, true, false, ◌<◌, [], Some, None, OnOk};
+ghost use Rattle.std.specs.Prelude.{◌≡◌, true, false, ◌<◌, [], Some, None, OnOk, OnErr};
 ghost use Rattle.std.specs.List.{find, list_any};
+ghost use Rattle.sorted_tables.specs.Table.{with_row};
 ghost use Rattle.rp_rows.specs.declared.rows.Key.{Key as RowKey};
-ghost use Rattle.rp_rows.specs.Rows.{Text as Bytes, is_row, same_key, key_of};
+ghost use Rattle.rp_rows.specs.Rows.{Text as Bytes, key_cmp, row_key, is_row, same_key, key_of};
 ghost use Rattle.rp_rows.specs.Alterations.{Holds, altered, grant_for};
 ghost use Rattle.rp_rows.specs.Sight.{is_grant_to};
-ghost use Rattle.rp_sight.specs.Stored.{rewritten};
+ghost use Rattle.rp_sight.specs.Stored.{granted_row, rewritten};
 ghost use Rattle.rp_sight.specs.Granted.{granted_of, names_at, has_name, TellsGranted};
 ghost use Rattle.rp_sight.specs.Regrants.{RegrantFits};
 
@@ -64,6 +65,45 @@ fn forget(alloc: Global, granted: &mut Keyed<Rows<Text>>, grants: &[Grant], key:
 {
     for grant in grants {
         granted.drop_name(alloc, &grant.partner, &key.owner, &key.name);
+    }
+}
+
+/// The name of the group is added under all partners who have these grants: without memory, under some of them.
+fn add_names(
+    alloc: Global,
+    granted: &mut Keyed<Rows<Text>>,
+    grants: &[Grant],
+    key: &Key,
+) -> Result<(), AllocError>
+    ensures others { (p : Bytes) (k : RowKey) → same_key key.now k ≡ false → has_name k.name (names_at (key_of p k.owner) granted.new.entries) ≡ has_name k.name (names_at (key_of p k.owner) granted.old.entries) }
+    ensures apart { (p : Bytes) → list_any (is_grant_to p) grants.now ≡ false → has_name key.now.name (names_at (key_of p key.now.owner) granted.new.entries) ≡ has_name key.now.name (names_at (key_of p key.now.owner) granted.old.entries) }
+    ensures added { OnOk result ((p : Bytes) → list_any (is_grant_to p) grants.now ≡ true → has_name key.now.name (names_at (key_of p key.now.owner) granted.new.entries) ≡ true) }
+{
+    for grant in grants {
+        granted.add_name(alloc, &grant.partner, &key.owner, &key.name)?;
+    }
+    Ok(())
+}
+
+/// The name of a group that there isn't stands under all partners who have these grants from now on: without memory, under
+/// nobody.
+fn list_name(
+    alloc: Global,
+    granted: &mut Keyed<Rows<Text>>,
+    grants: &[Grant],
+    key: &Key,
+) -> Result<(), AllocError>
+    requires { (p : Bytes) → has_name key.now.name (names_at (key_of p key.now.owner) granted.old.entries) ≡ false }
+    ensures others { (p : Bytes) (k : RowKey) → same_key key.now k ≡ false → has_name k.name (names_at (key_of p k.owner) granted.new.entries) ≡ has_name k.name (names_at (key_of p k.owner) granted.old.entries) }
+    ensures listed { OnOk result ((p : Bytes) → has_name key.now.name (names_at (key_of p key.now.owner) granted.new.entries) ≡ list_any (is_grant_to p) grants.now) }
+    ensures unlisted { OnErr result ((p : Bytes) → has_name key.now.name (names_at (key_of p key.now.owner) granted.new.entries) ≡ false) }
+{
+    match add_names(alloc, granted, grants, key) {
+        Ok(()) => Ok(()),
+        Err(error) => {
+            forget(alloc, granted, grants, key);
+            Err(error)
+        }
     }
 }
 
@@ -160,5 +200,26 @@ impl Groups {
             self.granted.put(under, names);
         }
         self.rights.replace(key, grants);
+    }
+
+    /// The group stands under its key from now on, with all the grants on it: each partner's list of names is made longer, and
+    /// none is copied. Without memory no row changes.
+    pub fn hold(
+        &mut self,
+        alloc: Global,
+        key: Key,
+        listing: Listing,
+        grants: Rows<Grant>,
+    ) -> Result<(), AllocError>
+        requires { find (is_row key) self.old.rows ≡ None }
+        ensures held { OnOk result (self.new.rows ≡ with_row key_cmp row_key key (Some (granted_row key listing grants)) self.old.rows) }
+        ensures kept { OnErr result (self.new.rows ≡ self.old.rows) }
+    {
+        let again = key.copy(alloc)?;
+        self.reserve()?;
+        list_name(alloc, &mut self.granted, grants.as_slice(), &key)?;
+        self.rights.put(again, grants);
+        self.listings.put(key, listing);
+        Ok(())
     }
 }

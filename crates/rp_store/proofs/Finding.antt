@@ -1,6 +1,6 @@
 -- What is done to entries at the place of a key.
-use Rattle.std.proofs.Common.{◌≡◌, ℕ, Bool, true, false, List, [], set, get_or, Option, Some, None, is_some, refl, sym, ◌∙◌, ap, subst}
-use Rattle.std.specs.Prelude.{option_map}
+use Rattle.std.proofs.Common.{◌≡◌, ℕ, true, false, List, [], set, get_or, Option, Some, None, is_some, Result, Ok, Err, refl, sym, ◌∙◌, ap, subst}
+use Rattle.std.specs.Prelude.{option_map, OnOk, OnErr}
 use Rattle.std.specs.List.{find}
 use Rattle.sorted_tables.specs.Table.{with_row, IsAscending}
 use Rattle.sorted_tables.specs.Places.{IsThere, IsAbsent}
@@ -57,6 +57,21 @@ changed_there {B = B} k f same_key xs ys i x y same there here is =
 pub changed_absent : {B : Type 0} (k : Key) (f : Entry B → Entry B) (xs : List (Entry B)) (i : ℕ) → IsAbsent key_cmp entry_key k xs i → xs ≡ with_row key_cmp entry_key k (option_map f (find (is_entry k) xs)) xs
 changed_absent k f xs i absent =
     taken_absent key_cmp entry_key key_total k xs i absent ∙ ap (λ o. with_row key_cmp entry_key k (option_map f o) xs) (sym absent.none)
+
+-- an entry that is there gets another value, or stays, as memory is there or wanting
+pub revalued_there : {B T E : Type 0} (k : Key) (b : B) (f : B → B) (xs ys : List (Entry B)) (i : ℕ) (x y : Entry B) (r : Result T E)
+    → xs ≡ ys → IsThere key_cmp entry_key k ys i → get_or ys i x ≡ x → OnOk r (y ≡ revalued f x) → OnErr r (y ≡ x)
+    → IsAscending key_cmp entry_key (set xs i y) × OnOk r (set xs i y ≡ with_row key_cmp entry_key k (Some (revalued f (standing k b (find (is_entry k) ys)))) ys)
+revalued_there {B = B} k b f xs ys i x y (Ok t) same there here is stay =
+    let made = changed_there k (revalued f) (λ z. refl) xs ys i x y same there here is in
+    let found : find (is_entry k) ys ≡ Some x = found_is key_cmp entry_key key_total k ys i x there here in (
+      made.ascends,
+      made.are
+          ∙ ap (λ (o : Option (Entry B)). with_row key_cmp entry_key k (option_map (revalued f) o) ys) found
+          ∙ ap (λ (o : Option (Entry B)). with_row key_cmp entry_key k (Some (revalued f (standing k b o))) ys) (sym found),
+    )
+revalued_there k b f xs ys i x y (Err e) same there here is stay =
+    ((changed_there k (λ z. z) (λ z. refl) xs ys i x y same there here stay).ascends, tt)
 
 -- ---- one more, unless one stands there
 

@@ -1,5 +1,5 @@
 -- What stands under keys, in order.
-use Rattle.std.specs.Prelude.{◌≡◌, ℕ, Bool, not, List, filter, Option, Some, None}
+use Rattle.std.specs.Prelude.{◌≡◌, ℕ, Bool, not, List, [], ◌∷◌, ◌++◌, filter, Option, Some, None}
 use Rattle.std.specs.Str.{bytes_eq}
 use Rattle.std.specs.List.{find}
 use Rattle.sorted_tables.specs.Table.{is_at}
@@ -37,3 +37,6 @@ standing k b (Some x) = x
 
 abbrev pub without_name : Text → List Text → List Text
 without_name n names = filter (λ m. not (bytes_eq m n)) names
+
+abbrev pub with_name : Text → List Text → List Text
+with_name n names = names ++ n ∷ []

@@ -1,13 +1,13 @@
 //! What stands under keys, in the order of owner and name.
 
-ghost use Rattle.std.specs.Prelude.{◌≡◌, ◌<◌, ◌≤◌, ◌+◌, [], Some, None, length, take, drop, filter, not, is_some, get_or, OnOk, IfOk, MatchResult, option_copied, option_map};
+ghost use Rattle.std.specs.Prelude.{◌≡◌, ◌<◌, ◌≤◌, ◌+◌, [], ◌∷◌, Some, None, length, take, drop, filter, not, is_some, get_or, OnOk, OnErr, IfOk, MatchResult, option_copied, option_map};
 ghost use Rattle.std.specs.List.{find};
 ghost use Rattle.std.specs.Ordering.{is_lt, is_gt};
 ghost use Rattle.std.specs.Str.{bytes_eq};
 ghost use Rattle.sorted_tables.specs.Table.{with_row, IsAscending};
 ghost use Rattle.sorted_tables.specs.Places.{IsThere, IsAbsent};
 ghost use Rattle.rp_rows.specs.Rows.{text_cmp, key_cmp, key_of};
-ghost use Rattle.rp_store.specs.Entries.{entry_key, is_entry, with_value, revalued, standing, without_name};
+ghost use Rattle.rp_store.specs.Entries.{entry_key, is_entry, with_value, revalued, standing, with_name, without_name};
 
 use plain_data::{Rows, Text};
 use rp_rows::rows::Key;
@@ -269,6 +269,31 @@ fn drop_name(alloc: Global, entry: &mut Entry<Rows<Text>>, name: &Text)
     entry.value = others(names, name);
 }
 
+/// The name is added at the end of those of the entry. Without memory nothing changes.
+fn push_name(entry: &mut Entry<Rows<Text>>, name: Text) -> Result<(), AllocError>
+    ensures added { OnOk result (entry.new ≡ revalued (with_name name) entry.old) }
+    ensures kept { OnErr result (entry.new ≡ entry.old) }
+{
+    entry.value.push(name)
+}
+
+/// The entry of this owner and name under which this is the only name.
+fn first_name(
+    alloc: Global,
+    owner: &Text,
+    other: &Text,
+    name: Text,
+) -> Result<Entry<Rows<Text>>, AllocError>
+    ensures { IfOk result (λ entry. entry ≡ record { key = key_of owner.now other.now; value = name ∷ [] }) }
+{
+    let owner = owner.copy(alloc)?;
+    let other = other.copy(alloc)?;
+    let mut value = Rows::new(alloc);
+    value.push(name)?;
+    let key = Key { owner, name: other };
+    Ok(Entry { key, value })
+}
+
 impl Keyed<Rows<Text>> {
     /// The name isn't among those under the key of this owner and name from now on. It takes no memory.
     pub fn drop_name(&mut self, alloc: Global, owner: &Text, other: &Text, name: &Text)
@@ -277,5 +302,27 @@ impl Keyed<Rows<Text>> {
         if let Ok(place) = self.search_for(owner, other) {
             drop_name(alloc, &mut self.entries[place], name);
         }
+    }
+
+    /// The name is added at the end of those under the key of this owner and name, of which there may be none. Without memory
+    /// nothing changes.
+    pub fn add_name(
+        &mut self,
+        alloc: Global,
+        owner: &Text,
+        other: &Text,
+        name: &Text,
+    ) -> Result<(), AllocError>
+        ensures added { OnOk result (self.new.entries ≡ with_row key_cmp entry_key (key_of owner.now other.now) (Some (revalued (with_name name.now) (standing (key_of owner.now other.now) [] (find (is_entry (key_of owner.now other.now)) self.old.entries)))) self.old.entries) }
+        ensures kept { OnErr result (self.new.entries ≡ self.old.entries) }
+    {
+        let name = name.copy(alloc)?;
+        if let Ok(place) = self.search_for(owner, other) {
+            return push_name(&mut self.entries[place], name);
+        }
+        let entry = first_name(alloc, owner, other, name)?;
+        self.reserve()?;
+        sorted_tables::put(&mut self.entries, entry);
+        Ok(())
     }
 }

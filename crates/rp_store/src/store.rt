@@ -1,7 +1,7 @@
 //! The models, and what is done to them once room is made.
 #![tactic(auto, unfolding(crate::specs::Kept::Fits))]
 
-ghost use Rattle.std.specs.Prelude.{◌≡◌, [], option_copied};
+ghost use Rattle.std.specs.Prelude.{◌≡◌, ◌<◌, [], OnOk, option_copied};
 ghost use Rattle.std.specs.List.{find};
 ghost use Rattle.rp_store.specs.Entries.{is_entry};
 ghost use Rattle.rp_store.specs.Models.{instance_at};
@@ -11,7 +11,7 @@ use crate::changes::Prepared;
 use crate::keyed::{Entry, Keyed};
 use rp_content::Instance;
 use rp_rows::rows::{Key, ModelContent};
-use std::alloc::Global;
+use std::alloc::{AllocError, Global};
 use std::marker::Model;
 
 /// What models hold, in the order of owner and name, each key once.
@@ -65,6 +65,14 @@ impl Store {
             Some(model) => model.value.content.instances.get(name),
             None => None,
         }
+    }
+
+    /// Makes room for one model more.
+    pub fn reserve(&mut self) -> Result<(), AllocError>
+        ensures models { self.new.entries ≡ self.old.entries }
+        ensures room { OnOk result (0 < self.new.room) }
+    {
+        self.models.reserve()
     }
 
     /// Makes a prepared change, if nothing has changed since. It takes no memory.

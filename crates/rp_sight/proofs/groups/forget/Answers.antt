@@ -1,4 +1,4 @@
-use Rattle.std.proofs.Common.{◌≡◌, ◌+◌, ◌<◌, ℕ, suc, Bool, true, false, List, ◌∷◌, ◌||◌, drop, length, get_or, refl, sym, ◌∙◌, ap, arith}
+use Rattle.std.proofs.Common.{◌≡◌, ◌+◌, Bool, true, false, List, ◌∷◌, ◌||◌, drop, refl, ◌∙◌, ap}
 use Rattle.std.specs.List.{list_any}
 use Rattle.rp_rows.specs.declared.rows.Grant.{Grant}
 use Rattle.rp_rows.specs.declared.rows.Key.{Key}
@@ -6,14 +6,8 @@ use Rattle.rp_rows.specs.Rows.{Text, key_of}
 use Rattle.rp_rows.specs.Sight.{is_grant_to}
 use Rattle.rp_sight.specs.Granted.{Names, has_name, names_at}
 use Rattle.rp_sight.proofs.Names.{dropped_at, drop_keeps, drop_fewer, drop_of}
-use Rattle.rp_sight.proofs.Marking.{drop_more, drop_past}
+use Rattle.rp_sight.proofs.Marking.{left_from, drop_past}
 use Rattle.rp_sight.proofs.groups.forget.Goals as goal
-
--- the next grants, of which this one is the first
-left_is : (gs : List Grant) (i : ℕ) (g : Grant) → i < length gs → g ≡ get_or gs i g → drop i gs ≡ g ∷ drop (i + 1) gs
-left_is gs i g within is =
-    let one : suc i ≡ i + 1 = omega arith in
-    drop_more gs i g within ∙ (λ j. sym is j ∷ drop (one j) gs)
 
 dropped : (p : Text) (key : Key) (q : Grant) (es : List Names) (gs left : List Grant) (t : Bool) → is_grant_to p q ≡ t
     → (list_any (is_grant_to p) (q ∷ left) ≡ false → list_any (is_grant_to p) gs ≡ true → has_name key.name (names_at (key_of p key.owner) es) ≡ false)
@@ -38,7 +32,7 @@ loop-grant-preserved c =
       gone = λ p rest some.
           ap (λ fs. has_name key.name (names_at (key_of p key.owner) fs)) c.drop_name.ensures
           ∙ dropped p key c.grant-item.result es gs (drop (c.loop-grant.grant-index + 1) gs) (is_grant_to p c.grant-item.result) refl
-          (λ none. c.loop-grant.invariant.gone p (ap (list_any (is_grant_to p)) (left_is gs c.loop-grant.grant-index c.grant-item.result c.loop-grant-test.true c.grant-item.is) ∙ none)) rest some;
+          (λ none. c.loop-grant.invariant.gone p (ap (list_any (is_grant_to p)) (left_from gs c.loop-grant.grant-index c.grant-item.result c.loop-grant-test.true c.grant-item.is) ∙ none)) rest some;
     }
 
 pub returns-clause-gone : goal.returns-clause-gone

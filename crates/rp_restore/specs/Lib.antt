@@ -1,0 +1,4 @@
+pub mod Forms
+pub mod Faults
+pub mod Places
+pub mod Again

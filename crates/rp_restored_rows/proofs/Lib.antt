@@ -1,0 +1,7 @@
+pub mod Checks
+pub mod Orders
+pub mod Tested
+pub mod GroupRows
+pub mod LinkTests
+pub mod FileContents
+pub mod ModelRows

@@ -1,0 +1,46 @@
+//! What rows lack.
+
+use p21_tree::{FileFault, InstanceFault};
+
+/// What a row of a snapshot lacks, so that no repository of these schemas and partners has it.
+#[derive(Clone, Copy, PartialEq, Eq)]
+pub enum RowLack {
+    /// Its owner is no partner.
+    UnknownOwner,
+    BadName,
+    UnknownSchema,
+    /// Its grants don't stand in the order of partners, each partner's once.
+    GrantsOutOfOrder,
+    /// One is granted to nobody that is a partner.
+    UnknownGrantee,
+    GrantToOwner,
+    /// A group is granted at another level than to read.
+    GroupLevel,
+    TooManyMembers,
+    /// Its members don't stand in the order of owner and name, each once.
+    MembersOutOfOrder,
+    UnknownMemberOwner,
+    BadMemberName,
+    /// Its greatest name has more than 18 digits.
+    GreatestTooLong,
+    TooManyLinks,
+    /// Its links don't stand in the order of their names, each name once.
+    LinksOutOfOrder,
+    /// A link leads to nobody that is a partner.
+    UnknownLinkOwner,
+    BadLinkModel,
+    LinkToItself,
+    /// A link leads to an instance whose name has more than 18 digits.
+    LinkTargetTooLong,
+    /// A link's name is above the greatest.
+    LinkAboveGreatest,
+    /// A link has the name of an instance.
+    LinkDefined,
+    TooManyInstances,
+    /// An instance's name is above the greatest.
+    InstanceAboveGreatest,
+    /// What is wrong with the spelling of its file, and where.
+    File(FileFault),
+    /// The first faulty instance of its file, by the schema.
+    Instance(InstanceFault),
+}

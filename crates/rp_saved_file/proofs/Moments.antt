@@ -1,0 +1,17 @@
+-- What a crash leaves over several steps.
+use Rattle.std.proofs.Common.{◌⊎◌, inl, inr, ⊎_elim, ℕ, Option, arith}
+use Rattle.rp_saved_file.specs.Crashes.{Place, Is, Elapses, Meanwhile}
+
+module _ {P : Type 0} (moment : P → ℕ) (left_since : P → ℕ → Place → Type 0) (may_leave : P → Place → Type 0) (known : Option Place) where
+  -- before the first step
+  pub started : (old : P) → ((place : Place) → left_since old (moment old) place → may_leave old place) → Meanwhile moment left_since may_leave old old known
+  started old here = record { later = omega arith; each = λ place left. inl (here place left); before = λ t place le left. inl left }
+
+  -- one step more, after which a crash leaves what it could leave at first, or what is known
+  pub goes_on : (old mid new : P) → Meanwhile moment left_since may_leave old mid known → Elapses (moment mid) (moment new) (left_since mid) (left_since new) (may_leave new)
+      → ((place : Place) → may_leave new place → may_leave old place ⊎ Is known place) → Meanwhile moment left_since may_leave old new known
+  goes_on old mid new so_far time here = record {
+    later = omega (arith, so_far.later, time.later);
+    each = λ place left. ⊎_elim (so_far.each place) (here place) (time.nothing_else (moment old) place so_far.later left);
+    before = λ t place le left. ⊎_elim (so_far.before t place le) (λ now. inr (here place now)) (time.nothing_else t place (omega (arith, le, so_far.later)) left);
+  }

@@ -1,0 +1,12 @@
+//! A file that is replaced as a whole: it stays as it was until all of the new bytes are on the disk.
+#![tactic(auto)]
+
+mod fault;
+mod file_part;
+mod part;
+mod replacing;
+
+pub use fault::ReplaceFault;
+pub use file_part::FilePart;
+pub use part::Part;
+pub use replacing::{Replaced, Replacement, take_place};
