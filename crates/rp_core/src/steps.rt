@@ -1,6 +1,6 @@
 //! What a prepared request is still to do. No step takes memory.
 
-ghost use Rattle.std.specs.Prelude.{◌≡◌, ◌≢◌, [], Some, None, map, MatchResult, IfOk};
+ghost use Rattle.std.specs.Prelude.{◌≡◌, ◌≢◌, [], Some, None, length, map, nat_lt, MatchResult, IfOk};
 ghost use Rattle.rp_plain.specs.Meaning.{first_some};
 ghost use Rattle.rp_access.specs.Steps.{PreparedFits};
 ghost use Rattle.rp_plans.specs.Plans.{AreApart};
@@ -238,5 +238,12 @@ impl Pending {
         ensures { result.now ≡ self.now.reply }
     {
         &self.reply
+    }
+
+    /// Whether something is still to be done.
+    pub fn has_steps(&self) -> bool
+        ensures { result ≡ nat_lt 0 (length self.now.steps) }
+    {
+        0 < self.steps.len()
     }
 }

@@ -18,4 +18,8 @@ pub use rp_io::{DeviceFault, FromReader, Sink, Source, ToWriter};
 pub use rp_plain::messages::{NewFault, Refusal, Reply, Request};
 pub use rp_replies::reply_bytes;
 pub use rp_requests::{RequestLine, Unread, request_of};
+pub use rp_restore::{RefusedRow, RestoreFault, RowKind, RowReason, SnapshotLack};
+pub use rp_restored_rows::RowLack;
+pub use rp_snapshot_rows::Lack;
+pub use rp_snapshots::SaveFault;
 pub use run::{RunFault, run_lines};

@@ -3,8 +3,11 @@
 use ex_loaded::LoadedSchema;
 use plain_data::Text;
 use rp_core::{Holdings, Pending};
+use rp_io::Sink;
 use rp_laws::{model_text_again, one_run, step_keeps_validity};
 use rp_plain::messages::{NewFault, Reply, Request};
+use rp_restore::RestoreFault;
+use rp_snapshots::SaveFault;
 use std::alloc::{AllocError, Global};
 use std::marker::Model;
 
@@ -35,6 +38,17 @@ pub struct Call {
 #[derive(Drop)]
 pub struct Repository<'s> {
     holdings: Holdings<'s>,
+    /// How many requests changed something, from its making on.
+    changes: u64,
+}
+
+/// How many requests changed something, with this one.
+fn counted(changes: u64, pending: &Pending) -> u64 {
+    if pending.has_steps() {
+        changes.wrapping_add(1)
+    } else {
+        changes
+    }
 }
 
 impl<'s> Model for Repository<'s> {
@@ -59,13 +73,17 @@ impl<'s> Repository<'s> {
     ghost use Rattle.std.specs.Prelude.{◌≡◌, ◌≢◌, ◌<◌, ℕ, List, false, length, Some, None, IfOk, IfErr, OnErr, MatchOption};
     ghost use Rattle.std.specs.List.{AllByRecursion};
     ghost use Rattle.rp_laws.specs.Laws.{IsReadAgainWhole};
-    ghost use Rattle.rp_plain.specs.Plain.{part};
+    ghost use Rattle.rp_plain.specs.Plain.{Plain, part};
     ghost use Rattle.rp_plain.specs.Meaning.{has_text};
     ghost use Rattle.rp_plain.specs.Opening.{new_fault, opened};
     ghost use Rattle.rp_plain.specs.Runs.{MayReply};
     ghost use Rattle.rp_plain.specs.Turns.{effect, after, Run, OthersOutside, replies_to, requests_of, alone, alone_end};
     ghost use Rattle.rp_plain.specs.Valid.{IsValid};
     ghost use Rattle.rp_core.specs.Held.{partner_at, turn, made, IsPrepared};
+    ghost use Rattle.rp_restore.specs.Again.{ComesBack};
+    ghost use Rattle.rp_restore.specs.Faults.{OpensFirst};
+    ghost use Rattle.rp_snapshot_texts.specs.Saving.{Saves};
+    ghost use Rattle.rp_snapshots.specs.Snapshots.{snapshot_of};
     ghost use Rattle.rp_repo.specs.Calls.{turns_of};
     ghost use Rattle.rp_repo.specs.Ready.{IsReady};
 
@@ -87,7 +105,69 @@ impl<'s> Repository<'s> {
         step_keeps_validity();
         model_text_again(schemas);
         let holdings = Holdings::new(alloc, schemas, partners)?;
-        Ok(Repository { holdings })
+        Ok(Repository {
+            holdings,
+            changes: 0,
+        })
+    }
+
+    /// The repository of these schemas and partners of which the bytes are the snapshot.
+    ///
+    /// # Errors
+    ///
+    /// What [`new`](Repository::new) refuses. Then what the bytes lack, where they are the snapshot of no valid repository of these
+    /// schemas and partners; or `NoMemory`.
+    pub fn restore(
+        alloc: Global,
+        schemas: &'s [LoadedSchema<'s>],
+        partners: Vec<Text>,
+        bytes: &[u8],
+    ) -> Result<Repository<'s>, RestoreFault>
+        ensures new { OpensFirst result (new_fault schemas.now partners.items) }
+        ensures valid { IfOk result (λ repository. IsValid repository.content) }
+        ensures same { IfOk result (λ repository. bytes.now ≡ snapshot_of repository.content) }
+        ensures schemas { IfOk result (λ repository. repository.content.schemas ≡ schemas.now) }
+        ensures partners { IfOk result (λ repository. repository.content.partners ≡ partners.items) }
+        // From the snapshot of a valid repository of these schemas and partners it comes back, unless memory is wanting.
+        ensures again { (r : Plain) → IsValid r → r.schemas ≡ schemas.now → r.partners ≡ partners.items → bytes.now ≡ snapshot_of r → ComesBack result r }
+    {
+        model_text_again(schemas);
+        match rp_restore::restore(alloc, schemas, partners, bytes) {
+            Ok(holdings) => Ok(Repository {
+                holdings,
+                changes: 0,
+            }),
+            Err(fault) => Err(fault),
+        }
+    }
+
+    /// The snapshot of all that is held, from which it comes back.
+    ///
+    /// # Errors
+    ///
+    /// Want of memory.
+    pub fn snapshot(&self, alloc: Global) -> Result<Vec<u8>, AllocError>
+        ensures { IfOk result (λ bytes. bytes.items ≡ snapshot_of self.now.content) }
+    {
+        let (groups, models) = (self.holdings.groups(), self.holdings.models());
+        rp_snapshots::snapshot(alloc, self.holdings.schemas(), &groups, &models)
+    }
+
+    /// Writes the snapshot, a row at a time: all of it, or a front of it.
+    ///
+    /// # Errors
+    ///
+    /// A write failed, or there is no memory for the text of a row.
+    pub fn save<W: Sink>(&self, alloc: Global, writer: &mut W) -> Result<(), SaveFault>
+        ensures { Saves result (W.contents writer.old) (W.contents writer.new) (W.write_failures writer.old) (W.write_failures writer.new) (snapshot_of self.now.content) }
+    {
+        let (groups, models) = (self.holdings.groups(), self.holdings.models());
+        rp_snapshots::save(alloc, self.holdings.schemas(), &groups, &models, writer)
+    }
+
+    /// A number that is another once a request changed something.
+    pub fn changes(&self) -> u64 {
+        self.changes
     }
 
     /// What is held is valid, and in order; and what each model holds is read again of its canonical text, where the names of
@@ -138,6 +218,7 @@ impl<'s> Repository<'s> {
         ensures content { self.new.content ≡ made pending.steps self.old }
         ensures valid { IsValid self.new.content }
     {
+        self.changes = counted(self.changes, &pending);
         self.holdings.commit(pending)
     }
 
