@@ -72,6 +72,10 @@ LISTED = [
     Listed(f"{ACCESS}access.rt", "open", "self.models.reserve()?", ONE_MORE),
     Listed(f"{STORE}keyed.rt", "reserve", "self.entries.reserve(1)", ONE_MORE),
     Listed(f"{STORE}prepares.rt", "create", "self.models.reserve()?", ONE_MORE),
+    Listed(f"{STORE}store.rt", "reserve", "self.models.reserve()", ONE_MORE),
+    Listed(f"{STORE}keyed.rt", "add_name", "self.reserve()?", ONE_MORE),
+    Listed(f"{SIGHT_OF}groups.rt", "hold", "self.reserve()?", ONE_MORE),
+    Listed(f"{ACCESS}access.rt", "hold_model", "self.models.reserve()?", ONE_MORE),
 ]
 
 
