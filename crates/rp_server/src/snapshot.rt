@@ -18,8 +18,8 @@ impl fmt::Display for Lacking<'_> {
     fn fmt<W: fmt::Write>(&self, f: &mut fmt::Formatter<W>) -> fmt::Result {
         match self.lack {
             SnapshotLack::FirstLine => f.write_str("it doesn't begin with the line STEPREPO 1"),
-            SnapshotLack::Utf8 => f.write_str("it isn't UTF-8"),
-            SnapshotLack::Form(lack, at) => write!(f, "at byte {at}: {}", what_is_wanted(*lack)),
+            SnapshotLack::Utf8(at) => write!(f, "at byte {at}: it isn't UTF-8"),
+            SnapshotLack::Form(lack, at) => write_form(f, *lack, *at),
             SnapshotLack::Row(row) => write_row(f, row, self.kind),
             SnapshotLack::Differs => f.write_str(
                 "it isn't as it would be saved: another order, spelling, blank or byte behind the end",
@@ -28,28 +28,46 @@ impl fmt::Display for Lacking<'_> {
     }
 }
 
-/// What has to stand where something else does.
-fn what_is_wanted(lack: Lack) -> &'static str {
-    match lack {
-        Lack::Form => "a brace, a bracket, the next key, a text or a whole number is wanted",
-        Lack::Level => "a level is wanted: read, group or write",
+/// Writes what has to stand at a byte where something else does.
+fn write_form<W: fmt::Write>(f: &mut fmt::Formatter<W>, lack: Lack, at: usize) -> fmt::Result {
+    let wanted = match lack {
+        Lack::Form => "a brace, a bracket, the next key, a text or a whole number",
+        Lack::Level => "a level (read, group or write)",
+    };
+    write!(f, "at byte {at}: {wanted} is wanted")
+}
+
+/// What a row goes by, behind a blank; nothing where it couldn't be read. Owner and name may be any texts, so they are shown as
+/// paths are.
+#[derive(Clone, Copy, Drop)]
+struct Named<'a>(&'a RefusedRow);
+
+impl fmt::Display for Named<'_> {
+    fn fmt<W: fmt::Write>(&self, f: &mut fmt::Formatter<W>) -> fmt::Result {
+        match &self.0.key {
+            Some(key) => {
+                let owner = Shown(key.owner.as_str());
+                let name = Shown(key.name.as_str());
+                write!(f, " {owner}/{name}")
+            }
+            None => Ok(()),
+        }
     }
 }
 
-/// Writes which row isn't taken, and why. Its owner and its name may be any texts, so they are shown as paths are.
+/// Writes which row isn't taken, and why.
 fn write_row<W: fmt::Write>(
     f: &mut fmt::Formatter<W>,
     row: &RefusedRow,
     kind: &str,
 ) -> fmt::Result {
-    let owner = Shown(row.key.owner.as_str());
-    let name = Shown(row.key.name.as_str());
     let what = match row.kind {
         RowKind::Group => "group",
         RowKind::Model => "model",
     };
-    write!(f, "at byte {}, {what} {owner}/{name}: ", row.at)?;
+    write!(f, "at byte {}, {what}{}: ", row.at, Named(row))?;
     match row.reason {
+        RowReason::Form(lack, at) => write_form(f, lack, at),
         RowReason::Lacks(lack) => write_lack(f, lack, kind),
         RowReason::Twice => f.write_str("its owner has another one of this name"),
         RowReason::TooMany => write!(f, "its owner has over 100 {what}s"),
