@@ -1,7 +1,7 @@
 //! What a snapshot lacks that isn't taken, in words.
 use rp_config::Shown;
 use rp_repo::{
-    Lack, RefusedRow, Refusal, Reply, RowKind, RowLack, RowReason, SnapshotLack, reply_bytes,
+    Lack, Refusal, RefusedRow, Reply, RowKind, RowLack, RowReason, SnapshotLack, reply_bytes,
 };
 use std::alloc::{AllocError, Global};
 use std::{fmt, str};
@@ -85,7 +85,8 @@ fn write_lack<W: fmt::Write>(f: &mut fmt::Formatter<W>, lack: RowLack, kind: &st
         RowLack::GrantToOwner => "it is granted to its owner",
         RowLack::GroupLevel => "it is granted at another level than read",
         RowLack::TooManyMembers => "it has over 50 members",
-        RowLack::MembersOutOfOrder => "its members aren't in the order of owner and name, each once",
+        RowLack::MembersOutOfOrder =>
+            "its members aren't in the order of owner and name, each once",
         RowLack::UnknownMemberOwner => "a member's owner is no partner",
         RowLack::BadMemberName => "a member's name isn't 1 to 64 of A-Z a-z 0-9 _ . -",
         RowLack::GreatestTooLong => "its greatest name has over 18 digits",
