@@ -3,7 +3,7 @@ use Rattle.std.proofs.Common.{◌≡◌, ◌≢◌, ◌<◌, ◌≤◌, ◌+◌,
 use Rattle.std.proofs.lemmas.Grind.{common_steps}
 use Rattle.std.proofs.lemmas.Bool.Decides.{nat_tests}
 use Rattle.rp_files.specs.declared.fault.LoadFault.TheVariants.{TooLarge}
-use Rattle.rp_files.specs.Files.{Held, NeverFails, opened_of, front_of, whole_of}
+use Rattle.rp_files.specs.Files.{Held, NeverFails, opened_of, front_of, whole_of, all_of}
 use Rattle.rp_io.specs.declared.device.DeviceFault.{DeviceFault}
 use Rattle.plain_data.specs.declared.failure.Failure.{Failure}
 use Rattle.plain_data.specs.declared.failure.Failure.TheVariants.{NoMemory, Fault}
@@ -51,3 +51,11 @@ more_came limit path front (Some bytes) h e =
     let same : take (limit + 1) bytes ≡ front = cc in
     let long : limit < length bytes = omega (arith, length-take (limit + 1) bytes, ap length same) in
     rw (nat_le_false (length bytes) limit long) refl
+
+-- fewer bytes came than were asked for: all of them, however many may stand there
+pub every_came : (most : ℕ) (path front : List ℕ) (read : Option (List ℕ)) → length front < most → front_of most read ≡ Ok front → all_of path read ≡ Ok front
+every_came most path front None h e = cc
+every_came most path front (Some bytes) h e =
+    let same : take most bytes ≡ front = cc in
+    let all : bytes ≡ front = grind (arith, common_steps, same, length-take most bytes) in
+    ap Ok all

@@ -28,3 +28,10 @@ whole_of limit path (Some bytes) = if nat_le (length bytes) limit then Ok bytes 
 
 abbrev pub file_at : Held → List ℕ → Result (List ℕ) LoadFault
 file_at held path = whole_of file_limit path (held path)
+
+-- all bytes of a file, however many they are
+abbrev pub all_of : List ℕ → Option (List ℕ) → Result (List ℕ) LoadFault
+all_of path read = ok_or read (fault.Unreadable path)
+
+abbrev pub all_at : Held → List ℕ → Result (List ℕ) LoadFault
+all_at held path = all_of path (held path)

@@ -1,4 +1,4 @@
-//! Files that are read whole, up to a size.
+//! Files that are read whole: up to a size, or however large they are.
 ghost use Rattle.std.specs.Prelude.{◌≡◌, ◌≢◌, ◌≤◌, List, ℕ, length, take, Option, None, IfErr, IfOk, IfSome, OnOk};
 ghost use Rattle.plain_data.specs.Gives.{Gives};
 ghost use Rattle.rp_files.specs.Files.{NeverFails};
@@ -124,4 +124,26 @@ pub fn file_bytes<D: Folder>(
         return Err(Failure::Fault(LoadFault::TooLarge(path)));
     }
     Ok(bytes)
+}
+
+/// All bytes of the file of this path, however many they are.
+///
+/// # Errors
+///
+/// It can't be opened or read; or `NoMemory`.
+pub fn whole_file<D: Folder>(
+    alloc: Global,
+    folder: &D,
+    path: &str,
+) -> Result<Vec<u8>, Failure<LoadFault>>
+    ensures { IfSome (D.files folder.now) (λ held. Gives (λ bytes. bytes.items) result (spec.all_at held path.now)) }
+{
+    match front(alloc, folder, path, usize::MAX) {
+        Ok(bytes) => Ok(bytes),
+        Err(Failure::Fault(_)) => {
+            let path = Text::from_str(alloc, path)?;
+            Err(Failure::Fault(LoadFault::Unreadable(path)))
+        }
+        Err(Failure::NoMemory) => Err(Failure::NoMemory),
+    }
 }

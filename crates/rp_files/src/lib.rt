@@ -1,8 +1,8 @@
-//! Files that are read whole, up to a size, over any folder.
+//! Files that are read whole, over any folder.
 #![tactic(auto)]
 
 mod fault;
 mod files;
 
 pub use fault::LoadFault;
-pub use files::{Folder, FromFiles, file_bytes};
+pub use files::{Folder, FromFiles, file_bytes, whole_file};

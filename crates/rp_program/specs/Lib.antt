@@ -1,5 +1,6 @@
 pub mod Starts
 pub mod Runs
+pub mod Saved
 pub mod Checks
 pub mod Statuses
 pub mod Validations

@@ -1,5 +1,6 @@
 -- A run over the lines of an input.
-use Rattle.std.specs.Prelude.{ℕ}
+use Rattle.std.specs.Prelude.{◌≡◌, ◌⊎◌, ℕ, List, Option}
+use Rattle.rp_repo.specs.LineRuns.{IsWholeRun}
 use Rattle.rp_plain.specs.Plain.{Plain}
 use Rattle.rp_plain.specs.Valid.{IsValid}
 use Rattle.rp_program.specs.declared.ending.Done.{Done}
@@ -20,3 +21,8 @@ IsAnswered Helped Is = ⊥
 IsAnswered Served Is = ⊥
 IsAnswered (Checked verdict) Is = ⊥
 IsAnswered (Validated judgement) Is = ⊥
+
+-- All lines were answered; or nothing was done, and the reader and the writer are as they were.
+abbrev pub IsAllOrNothing : {R W : Type 0} → Plain → Plain → Option (List ℕ) → Option (List ℕ) → Option (List ℕ) → (reader reader_new : R) → (writer writer_new : W) → Type 0
+IsAllOrNothing old new input before after reader reader_new writer writer_new =
+    ((n : ℕ) × IsWholeRun old new input before after n) ⊎ ((new ≡ old) × (reader_new ≡ reader) × (writer_new ≡ writer))

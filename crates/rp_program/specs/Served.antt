@@ -1,8 +1,7 @@
--- Connections that are served from a repository as it is opened.
-use Rattle.std.specs.Prelude.{◌≡◌, ℕ, List, Option, Ok, Err, IfSome, Result}
+-- Connections that are served from the repository that a command starts with.
+use Rattle.std.specs.Prelude.{◌≡◌, ℕ, List, Option, Ok, Err, Result}
 use Rattle.std.specs.declared.net.socket_addr.SocketAddr.{SocketAddr}
 use Rattle.plain_data.specs.declared.failure.Failure.{Failure}
-use Rattle.rp_config.specs.Loading.{loaded_at}
 use Rattle.rp_config.specs.declared.loading.Loaded.{Loaded}
 use Rattle.rp_files.specs.Files.{Held}
 use Rattle.rp_http.specs.Turns.{Leaves}
@@ -12,24 +11,23 @@ use Rattle.rp_program.specs.declared.ending.Done.{Done}
 use Rattle.rp_program.specs.declared.ending.Done.TheVariants.{Helped, Answered, Served, Checked, Validated}
 use Rattle.rp_program.specs.declared.fault.StartFault.{StartFault}
 use Rattle.rp_program.specs.declared.fault.Fault.{Fault}
-use Rattle.rp_program.specs.declared.fault.Fault.TheVariants.{Start, Read, Write, Refused, Page, Listen, Serve}
-use Rattle.rp_program.specs.Starts.{repository_of}
+use Rattle.rp_program.specs.declared.fault.Fault.TheVariants.{Start, Read, Write, Refused, Page, Listen, Serve, Unsaved}
+use Rattle.rp_program.specs.Starts.{SnapshotFile, Starts, StartedWith}
 
--- messages of the partners by their tokens led from the repository of what was loaded to a valid one
-pub record Serves (loaded : Loaded) : Type 0 where
+-- messages of the partners by their tokens led from the repository that a command starts with to a valid one
+pub record Serves (loaded : Loaded) (given : Option SnapshotFile) : Type 0 where
   pub start : Plain
-  pub opened : repository_of loaded ≡ Ok start
+  pub is_start : Starts loaded given (Ok start)
   pub end : Plain
   pub run : Leaves loaded.tokens start end
   pub valid : IsValid end
 
--- the same from the repository that the configuration at a path opens, where the folder's files are known, and else from that of some
--- schemas and partners
-abbrev pub ServesFrom : Option Held → List ℕ → Type 0
-ServesFrom files path = (loaded : Loaded) × IfSome files (λ held. loaded_at held path ≡ Ok loaded) × Serves loaded
+-- the same with the configuration at a path, and the snapshot at another, if one is asked for
+abbrev pub ServesFrom : Option Held → List ℕ → Option (List ℕ) → Type 0
+ServesFrom files path asked = StartedWith files path asked Serves
 
 -- How the command ended that serves an address: there was no repository to serve, for this reason; or there was one, which was served until
--- that was to end or could no more be done; or this address can't be listened on.
+-- that was to end or could no more be done, or couldn't be saved; or this address can't be listened on.
 abbrev pub IsServed : (Failure StartFault → Type 0) → Type 0 → SocketAddr → Result Done Fault → Type 0
 IsServed Lacks It address (Ok Served) = It
 IsServed Lacks It address (Ok Helped) = ⊥
@@ -43,3 +41,4 @@ IsServed Lacks It address (Err Read) = ⊥
 IsServed Lacks It address (Err Write) = ⊥
 IsServed Lacks It address (Err (Refused path words)) = ⊥
 IsServed Lacks It address (Err (Page path error)) = ⊥
+IsServed Lacks It address (Err (Unsaved why)) = It

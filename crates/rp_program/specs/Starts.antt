@@ -1,5 +1,5 @@
--- What a command works on: the repository that a configuration opens, or the text of a file.
-use Rattle.std.specs.Prelude.{◌≡◌, ℕ, List, Option, Some, None, Result, Ok, Err}
+-- What a command works on: the repository that a configuration and a snapshot give, or the text of a file.
+use Rattle.std.specs.Prelude.{◌≡◌, ℕ, List, Option, Some, None, IfSome, option_map, Result, Ok, Err}
 use Rattle.plain_data.specs.declared.failure.Failure.{Failure}
 use Rattle.plain_data.specs.declared.failure.Failure.TheVariants as failure
 use Rattle.ex_types.specs.Checked.{Checked}
@@ -9,44 +9,94 @@ use Rattle.ex_check.specs.declared.report.CheckFault.{CheckFault}
 use Rattle.ex_check.specs.declared.report.CheckFault.TheVariants as checked
 use Rattle.rp_files.specs.Files.{Held, file_at}
 use Rattle.rp_files.specs.declared.fault.LoadFault.{LoadFault}
+use Rattle.rp_files.specs.declared.fault.LoadFault.TheVariants.{Unreadable}
 use Rattle.rp_config.specs.Loading.{loaded_at}
 use Rattle.rp_config.specs.declared.loading.Loaded.{Loaded}
 use Rattle.rp_plain.specs.declared.messages.NewFault.{NewFault}
 use Rattle.rp_plain.specs.declared.messages.NewFault.TheVariants as new
 use Rattle.rp_plain.specs.Opening.{new_fault, opened}
 use Rattle.rp_plain.specs.Plain.{Plain}
+use Rattle.rp_plain.specs.Valid.{IsValid}
+use Rattle.rp_snapshots.specs.Snapshots.{snapshot_of}
 use Rattle.rp_program.specs.declared.fault.StartFault.{StartFault}
-use Rattle.rp_program.specs.declared.fault.StartFault.TheVariants.{Load, New, Tokens}
+use Rattle.rp_program.specs.declared.fault.StartFault.TheVariants.{Load, New, Snapshot, Tokens}
 use Rattle.rp_program.specs.declared.fault.Fault.{Fault}
 use Rattle.rp_program.specs.declared.fault.Fault.TheVariants.{Start, Write}
 
 -- ---- a repository
 
-abbrev pub unless : Option NewFault → Option TokenFault → Plain → Result Plain StartFault
-unless None None r = Ok r
-unless None (Some fault) r = Err (Tokens fault)
-unless (Some fault) tokens r = Err (New fault)
+-- a snapshot that a command is given: the path of its file, and its bytes, or nothing where it can't be read
+pub record SnapshotFile : Type 0 where
+  pub path : List ℕ
+  pub bytes : Option (List ℕ)
 
--- the repository of these schemas and partners, empty, or why there is none: what is wrong with their tokens comes last
-abbrev pub repository_with : List Checked → List (List ℕ) → List (List ℕ) → Result Plain StartFault
-repository_with schemas partners tokens = unless (new_fault schemas partners) (token_fault tokens) (opened schemas partners)
+abbrev pub snapshot_at : Held → List ℕ → SnapshotFile
+snapshot_at held path = record { path = path; bytes = held path }
 
-abbrev pub repository_of : Loaded → Result Plain StartFault
-repository_of loaded = repository_with loaded.schemas loaded.partners loaded.tokens
+-- a snapshot is given if one is asked for: of the file at this path, where the folder's files are known
+abbrev pub IsGiven : Option Held → Option (List ℕ) → Option SnapshotFile → Type 0
+IsGiven files asked given = (option_map (λ s. s.path) given ≡ asked) × IfSome files (λ held. given ≡ option_map (snapshot_at held) asked)
 
-abbrev pub repository_if : Result Loaded LoadFault → Result Plain StartFault
-repository_if (Ok loaded) = repository_of loaded
-repository_if (Err fault) = Err (Load fault)
+-- a valid repository of these schemas and partners, of which the bytes are the snapshot
+pub record IsRestored (schemas : List Checked) (partners : List (List ℕ)) (bytes : List ℕ) (r : Plain) : Type 0 where
+  pub valid : IsValid r
+  pub of_schemas : r.schemas ≡ schemas
+  pub of_partners : r.partners ≡ partners
+  pub snapshot : bytes ≡ snapshot_of r
 
--- The repository that the configuration at a path opens. Else the first fault: of the configuration, or else of its schemas in
--- their order, or else of all that it names.
-abbrev pub opened_at : Held → List ℕ → Result Plain StartFault
-opened_at held path = repository_if (loaded_at held path)
+-- what a repository of these schemas and partners begins as: what is restored from the snapshot, or else empty
+abbrev pub BeginsAs : List Checked → List (List ℕ) → Option SnapshotFile → Plain → Type 0
+BeginsAs schemas partners None r = r ≡ opened schemas partners
+BeginsAs schemas partners (Some s) r = (bytes : List ℕ) × (s.bytes ≡ Some bytes) × IsRestored schemas partners bytes r
 
--- it is this repository, where the folder's files are known, and else that of some schemas and partners
-abbrev pub IsOpened : Option Held → List ℕ → Plain → Type 0
-IsOpened None path r = (loaded : Loaded) × (repository_of loaded ≡ Ok r)
-IsOpened (Some held) path r = opened_at held path ≡ Ok r
+-- the snapshot's file can't be read
+abbrev pub IsUnreadable : Option SnapshotFile → LoadFault → Type 0
+IsUnreadable None fault = ⊥
+IsUnreadable (Some s) fault = (s.bytes ≡ None) × (fault ≡ Unreadable s.path)
+
+-- the file at this path is the snapshot of no such repository
+abbrev pub IsBad : List Checked → List (List ℕ) → Option SnapshotFile → List ℕ → Type 0
+IsBad schemas partners None path = ⊥
+IsBad schemas partners (Some s) path = (s.path ≡ path) × (bytes : List ℕ) × (s.bytes ≡ Some bytes) × ((r : Plain) → IsRestored schemas partners bytes r → ⊥)
+
+-- Why a command starts with no repository: what speaks against the schemas and the partners comes first, then against the snapshot, and
+-- then against the tokens.
+abbrev pub Lacks : Loaded → Option SnapshotFile → StartFault → Type 0
+Lacks loaded given (New fault) = new_fault loaded.schemas loaded.partners ≡ Some fault
+Lacks loaded given (Load fault) = (new_fault loaded.schemas loaded.partners ≡ None) × IsUnreadable given fault
+Lacks loaded given (Snapshot path lack) = (new_fault loaded.schemas loaded.partners ≡ None) × IsBad loaded.schemas loaded.partners given path
+Lacks loaded given (Tokens fault) = (new_fault loaded.schemas loaded.partners ≡ None) × ((r : Plain) × BeginsAs loaded.schemas loaded.partners given r) × (token_fault loaded.tokens ≡ Some fault)
+
+-- how a command starts with what was loaded and the snapshot that is given: with a repository, or why with none
+abbrev pub Starts : Loaded → Option SnapshotFile → Result Plain StartFault → Type 0
+Starts loaded given (Ok r) = (new_fault loaded.schemas loaded.partners ≡ None) × BeginsAs loaded.schemas loaded.partners given r × (token_fault loaded.tokens ≡ None)
+Starts loaded given (Err fault) = Lacks loaded given fault
+
+abbrev pub StartsIf : Result Loaded LoadFault → Option SnapshotFile → Result Plain StartFault → Type 0
+StartsIf (Ok loaded) given outcome = Starts loaded given outcome
+StartsIf (Err fault) given outcome = outcome ≡ Err (Load fault)
+
+-- How a command starts with the configuration at a path, and the snapshot at another, if one is asked for. What is wrong with the
+-- configuration comes first, or else with its schemas in their order.
+abbrev pub StartsAt : Held → List ℕ → Option (List ℕ) → Result Plain StartFault → Type 0
+StartsAt held path asked outcome = StartsIf (loaded_at held path) (option_map (snapshot_at held) asked) outcome
+
+-- a failure is for a reason that holds, unless memory ran out
+abbrev pub FailsBy : Failure StartFault → (StartFault → Type 0) → Type 0
+FailsBy failure.NoMemory Holds = Unit {0}
+FailsBy (failure.Fault fault) Holds = Holds fault
+
+-- what a command was started with: of these files, where they are known, and else of some
+pub record StartedWith (files : Option Held) (path : List ℕ) (asked : Option (List ℕ)) (Told : Loaded → Option SnapshotFile → Type 0) : Type 0 where
+  pub loaded : Loaded
+  pub is_loaded : IfSome files (λ held. loaded_at held path ≡ Ok loaded)
+  pub given : Option SnapshotFile
+  pub is_given : IsGiven files asked given
+  pub told : Told loaded given
+
+-- it is the repository that a command starts with
+abbrev pub IsStart : Option Held → List ℕ → Option (List ℕ) → Plain → Type 0
+IsStart files path asked r = StartedWith files path asked (λ loaded given. Starts loaded given (Ok r))
 
 -- ---- a text
 

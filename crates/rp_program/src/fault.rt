@@ -3,11 +3,12 @@ use ex_check::CheckFault;
 use http_routes::TokenFault;
 use plain_data::{Failure, Text};
 use rp_files::LoadFault;
-use rp_repo::NewFault;
+use rp_repo::{NewFault, SnapshotLack};
+use rp_saved_file::ReplaceFault;
 use rp_sockets::ServeFault;
 use std::alloc::AllocError;
-use std::io;
 use std::net::SocketAddr;
+use std::{fmt, io};
 
 /// Why there is nothing to work on.
 #[derive(Drop)]
@@ -16,6 +17,8 @@ pub enum StartFault {
     Load(LoadFault),
     /// There is no repository of these schemas and partners.
     New(NewFault),
+    /// The file of this path is the snapshot of no repository of these schemas and partners.
+    Snapshot(Text, SnapshotLack),
     /// The partners' tokens are wrong.
     Tokens(TokenFault),
 }
@@ -37,6 +40,26 @@ pub enum Fault {
     Listen(SocketAddr, io::Error),
     /// Serving ended before its end.
     Serve(ServeFault),
+    /// The snapshot isn't saved: nothing was done yet, or all was and its end is lost.
+    Unsaved(Unsaved),
+}
+
+/// Why a snapshot isn't saved.
+#[derive(Clone, Copy, Drop)]
+pub enum Unsaved {
+    /// There is no memory for the text of a row.
+    NoMemory,
+    /// Its file can't be replaced.
+    File(ReplaceFault),
+}
+
+impl fmt::Display for Unsaved {
+    fn fmt<W: fmt::Write>(&self, f: &mut fmt::Formatter<W>) -> fmt::Result {
+        match self {
+            Unsaved::NoMemory => f.write_str("out of memory"),
+            Unsaved::File(fault) => fault.fmt(f),
+        }
+    }
 }
 
 impl From<Failure<LoadFault>> for Fault {

@@ -1,17 +1,18 @@
-//! The repository that what was loaded opens, with the tokens of its partners.
-ghost use Rattle.std.specs.Prelude.{◌≡◌, Ok, IfOk, IfErr, IsErrOf};
+//! The repository that a command begins with, and the tokens of its partners.
+ghost use Rattle.std.specs.Prelude.{◌≡◌, ℕ, List, Ok, IfOk, IfErr, IsErrOf, None, Some, option_copied};
 ghost use Rattle.plain_data.specs.declared.failure.Failure.{Failure};
-ghost use Rattle.plain_data.specs.Gives.{Fails};
+ghost use Rattle.rp_plain.specs.Opening.{new_fault};
 ghost use Rattle.rp_program.specs.declared.fault.StartFault.{StartFault};
-ghost use Rattle.rp_program.specs.Starts.{repository_with};
+ghost use Rattle.rp_program.specs.Starts.{IsGiven, BeginsAs, IsRestored, Lacks, Starts, FailsBy};
 
-use crate::fault::Fault;
+use crate::fault::{Fault, StartFault};
 use http_routes::{Tokens, is_token};
 use plain_data::{Failure, Rows, Text};
 use rp_config::{Shown, config_at};
-use rp_files::{Folder, LoadFault};
-use rp_repo::{Compiled, LoadedSchema, Repository};
+use rp_files::{Folder, LoadFault, whole_file};
+use rp_repo::{Compiled, LoadedSchema, Repository, RestoreFault};
 use std::alloc::{AllocError, Global};
+use std::marker::Model;
 
 /// The schemas, with what is found in them once. This isn't let go of, since the process is to end with what it is lent to.
 pub(crate) fn lent<'s>(
@@ -24,23 +25,116 @@ pub(crate) fn lent<'s>(
     Ok(loaded.leak())
 }
 
-/// The empty repository of these schemas and partners, whose tokens these are.
+/// The snapshot that a command is to begin with.
+#[derive(Drop)]
+pub(crate) struct Given<'a> {
+    path: &'a str,
+    /// Nothing where its file can't be read.
+    bytes: Option<Vec<u8>>,
+}
+
+impl<'a> Model for Given<'a> {
+    ghost use Rattle.std.specs.Prelude.{option_map};
+    ghost use Rattle.rp_program.specs.Starts as spec;
+
+    ghost Value = { spec.SnapshotFile };
+
+    ghost view = { λ g. record { path = g.path.now; bytes = option_map (λ bytes. bytes.items) g.bytes } };
+}
+
+/// The snapshot at this path, if one is asked for.
+pub(crate) fn given_at<'a, D: Folder>(
+    alloc: Global,
+    folder: &D,
+    path: Option<&'a str>,
+) -> Result<Option<Given<'a>>, AllocError>
+    ensures { IfOk result (λ given. IsGiven (D.files folder.now) (option_copied path) given) }
+{
+    let Some(path) = path else {
+        return Ok(None);
+    };
+    match whole_file(alloc, folder, path) {
+        Ok(bytes) => Ok(Some(Given {
+            path,
+            bytes: Some(bytes),
+        })),
+        Err(Failure::Fault(_)) => Ok(Some(Given { path, bytes: None })),
+        Err(Failure::NoMemory) => Err(AllocError),
+    }
+}
+
+/// The repository of these schemas and partners, whose tokens these are, as the snapshot says, or else empty.
 pub(crate) fn open<'s>(
     alloc: Global,
     schemas: &'s [Compiled],
     partners: Rows<Text>,
     tokens: Rows<Text>,
+    given: Option<Given<'_>>,
 ) -> Result<(Repository<'s>, Tokens), Fault>
-    ensures repository { IfOk result (λ opened. repository_with schemas.now partners tokens ≡ Ok opened.0.content) }
+    ensures repository { IfOk result (λ opened. Starts (record { partners = partners; tokens = tokens; schemas = schemas.now }) given (Ok opened.0.content)) }
     ensures partners { IfOk result (λ opened. opened.0.content.partners ≡ partners) }
     ensures tokens { IfOk result (λ opened. opened.1 ≡ tokens) }
-    ensures start { (why : Failure StartFault) → IsErrOf result (Fault.Start why) → Fails why (repository_with schemas.now partners tokens) }
+    ensures start { (why : Failure StartFault) → IsErrOf result (Fault.Start why) → FailsBy why (Lacks (record { partners = partners; tokens = tokens; schemas = schemas.now }) given) }
     ensures err { IfErr result (λ fault. (why : Failure StartFault) × (fault ≡ Fault.Start why)) }
 {
     let lent = lent(alloc, schemas)?;
-    let repository = Repository::new(alloc, lent, partners.into_vec())?;
+    let repository = begun(alloc, lent, partners.into_vec(), given)?;
     let tokens = Tokens::new(tokens.into_vec())?;
     Ok((repository, tokens))
+}
+
+/// The repository of these schemas and partners, as the snapshot says, or else empty.
+fn begun<'s>(
+    alloc: Global,
+    schemas: &'s [LoadedSchema<'s>],
+    partners: Vec<Text>,
+    given: Option<Given<'_>>,
+) -> Result<Repository<'s>, Fault>
+    ensures opens { IfOk result (λ repository. new_fault schemas.now partners.items ≡ None) }
+    ensures begins { IfOk result (λ repository. BeginsAs schemas.now partners.items given repository.content) }
+    ensures partners { IfOk result (λ repository. repository.content.partners ≡ partners.items) }
+    ensures start { (tokens : List (List ℕ)) (why : Failure StartFault) → IsErrOf result (Fault.Start why) → FailsBy why (Lacks (record { partners = partners.items; tokens = tokens; schemas = schemas.now }) given) }
+    ensures err { IfErr result (λ fault. (why : Failure StartFault) × (fault ≡ Fault.Start why)) }
+{
+    match given {
+        None => Ok(Repository::new(alloc, schemas, partners)?),
+        Some(
+            Given {
+                path,
+                bytes: Some(bytes),
+            },
+        ) => restored(alloc, schemas, partners, path, &bytes),
+        Some(Given { path, bytes: None }) => {
+            // What speaks against the schemas and the partners is told first.
+            Repository::new(alloc, schemas, partners)?;
+            let path = Text::from_str(alloc, path)?;
+            Err(Fault::from(Failure::Fault(LoadFault::Unreadable(path))))
+        }
+    }
+}
+
+/// The repository of these schemas and partners of which the bytes are the snapshot. They are of the file of this path.
+fn restored<'s>(
+    alloc: Global,
+    schemas: &'s [LoadedSchema<'s>],
+    partners: Vec<Text>,
+    path: &str,
+    bytes: &[u8],
+) -> Result<Repository<'s>, Fault>
+    ensures opens { IfOk result (λ repository. new_fault schemas.now partners.items ≡ None) }
+    ensures is { IfOk result (λ repository. IsRestored schemas.now partners.items bytes.now repository.content) }
+    ensures start { (tokens : List (List ℕ)) (why : Failure StartFault) → IsErrOf result (Fault.Start why) → FailsBy why (Lacks (record { partners = partners.items; tokens = tokens; schemas = schemas.now }) (Some (record { path = path.now; bytes = Some bytes.now }))) }
+    ensures err { IfErr result (λ fault. (why : Failure StartFault) × (fault ≡ Fault.Start why)) }
+{
+    match Repository::restore(alloc, schemas, partners, bytes) {
+        Ok(repository) => Ok(repository),
+        Err(RestoreFault::New(fault)) => Err(Fault::from(fault)),
+        Err(RestoreFault::NoMemory) => Err(Fault::Start(Failure::NoMemory)),
+        Err(RestoreFault::BadSnapshot(lack)) => {
+            let path = Text::from_str(alloc, path)?;
+            Err(Fault::Start(Failure::Fault(StartFault::Snapshot(path, lack))))
+        }
+    }
 }
 
 /// The first partner in the configuration at this path whose token is none. It is read once more, and nothing rests on it.

@@ -1,86 +1,167 @@
-//! All lines of an input, answered by the repository that a configuration opens.
-ghost use Rattle.std.specs.Prelude.{◌≡◌, ◌≢◌, ◌⊎◌, Ok, IfOk, IfSome, IsErrOf};
+//! All lines of an input, answered by the repository that a command starts with, and what it comes to saved.
+ghost use Rattle.std.specs.Prelude.{◌≡◌, ◌≢◌, ◌⊎◌, Ok, Err, IfOk, IfErr, IfSome, IsErrOf, option_copied};
 ghost use Rattle.plain_data.specs.declared.failure.Failure.{Failure};
-ghost use Rattle.plain_data.specs.Gives.{Fails};
+ghost use Rattle.plain_data.specs.declared.failure.Failure.TheVariants.{NoMemory};
 ghost use Rattle.rp_io.specs.Held.{unread, RunsOut};
+ghost use Rattle.rp_plain.specs.Valid.{IsValid};
 ghost use Rattle.rp_repo.specs.LineRuns.{max_reads, IsWholeRun, IsFirstRun, IsCutRun};
+ghost use Rattle.rp_snapshots.specs.Snapshots.{snapshot_of};
 ghost use Rattle.rp_program.specs.declared.fault.StartFault.{StartFault};
-ghost use Rattle.rp_program.specs.Starts.{repository_of, opened_at, IsOpened};
-ghost use Rattle.rp_program.specs.Runs.{RunsFrom, IsAnswered};
+ghost use Rattle.rp_program.specs.declared.fault.Unsaved.{Unsaved};
+ghost use Rattle.rp_program.specs.Starts.{IsStart, Starts, StartsAt, Lacks, FailsBy};
+ghost use Rattle.rp_program.specs.Runs.{RunsFrom, IsAnswered, IsAllOrNothing};
+ghost use Rattle.rp_program.specs.Saved.{IsSaved};
 
 use crate::ending::Done;
 use crate::fault::Fault;
-use crate::opening::open;
+use crate::opening::{Given, given_at, open};
+use crate::saving::{Snapshots, begin, cannot_begin, save};
 use rp_config::{Loaded, load_all};
 use rp_files::Folder;
-use rp_repo::{RunFault, Sink, Source, run_lines};
+use rp_repo::{Repository, RunFault, Sink, Source, run_lines};
+use rp_saved_file::Places;
 use std::alloc::Global;
 use std::mem;
 
 /// Answers all lines of the reader, by the repository of the partners and schemas that the configuration in the file of
-/// this path names. The process is to end then: what the repository holds isn't let go of.
-pub fn batch<D: Folder, R: Source, W: Sink>(
+/// this path names, and then saves it. It begins empty, or as a snapshot says. The process is to end then: what the repository
+/// holds isn't let go of.
+pub fn batch<D: Folder, F: Places + Drop, R: Source, W: Sink>(
     alloc: Global,
     folder: &D,
     path: &str,
+    snapshots: Snapshots<'_>,
+    files: F,
     reader: &mut R,
     writer: &mut W,
 ) -> Result<Done, Fault>
-    // All that was written are the replies of a run over all lines.
-    ensures whole { IfOk result (λ done. RunsFrom (IsOpened (D.files folder.now) path.now) (λ old new.
-        IsAnswered done (IsWholeRun old new (R.remaining reader.old) (W.contents writer.old) (W.contents writer.new)))) }
+    // All that was written are the replies of a run over all lines. What it comes to is saved, if that is asked for.
+    ensures whole { IfOk result (λ done. RunsFrom (IsStart (D.files folder.now) path.now (option_copied snapshots.load)) (λ old new.
+        IsAnswered done (IsWholeRun old new (R.remaining reader.old) (W.contents writer.old) (W.contents writer.new))
+        × IfSome (option_copied snapshots.save) (λ _. IsSaved F.Part.contents F.Part.moment F.Part.left_since F.Part.may_leave (snapshot_of new)))) }
 
     // After a read that failed, the replies to the lines before it are written whole.
-    ensures first { IsErrOf result Fault.Read → RunsFrom (IsOpened (D.files folder.now) path.now) (λ old new.
+    ensures first { IsErrOf result Fault.Read → RunsFrom (IsStart (D.files folder.now) path.now (option_copied snapshots.load)) (λ old new.
         IsFirstRun old new (R.remaining reader.old) (W.contents writer.old) (W.contents writer.new)) }
     ensures read_failed { IsErrOf result Fault.Read →
         (R.read_failures reader.new ≢ R.read_failures reader.old)
         ⊎ RunsOut (unread max_reads) (R.reads_made reader.old) (R.reads_made reader.new) (R.remaining reader.old) }
 
     // After a write that failed, they are but for the last.
-    ensures cut { IsErrOf result Fault.Write → RunsFrom (IsOpened (D.files folder.now) path.now) (λ old new.
+    ensures cut { IsErrOf result Fault.Write → RunsFrom (IsStart (D.files folder.now) path.now (option_copied snapshots.load)) (λ old new.
         IsCutRun old new (R.remaining reader.old) (W.contents writer.old) (W.contents writer.new)) }
     ensures write_failed { IsErrOf result Fault.Write → W.write_failures writer.new ≢ W.write_failures writer.old }
 
+    // Where it can't be saved all lines are answered, or none is read.
+    ensures unsaved { (why : Unsaved) → IsErrOf result (Fault.Unsaved why) → RunsFrom (IsStart (D.files folder.now) path.now (option_copied snapshots.load)) (λ old new.
+        IsAllOrNothing old new (R.remaining reader.old) (W.contents writer.old) (W.contents writer.new) reader.old reader.new writer.old writer.new) }
+
     // Else nothing was read or written, and the fault is the first that there is.
     ensures start { (why : Failure StartFault) → IsErrOf result (Fault.Start why) →
-        (reader.new ≡ reader.old) × (writer.new ≡ writer.old) × IfSome (D.files folder.now) (λ held. Fails why (opened_at held path.now)) }
+        (reader.new ≡ reader.old) × (writer.new ≡ writer.old)
+        × IfSome (D.files folder.now) (λ held. FailsBy why (λ fault. StartsAt held path.now (option_copied snapshots.load) (Err fault))) }
 {
     let loaded = load_all(alloc, folder, path)?;
-    run_loaded(alloc, loaded, reader, writer)
+    let given = given_at(alloc, folder, snapshots.load)?;
+    run_loaded(alloc, loaded, given, &files, snapshots.save, reader, writer)
 }
 
-/// The same, by the repository of what was loaded.
-fn run_loaded<R: Source, W: Sink>(
+/// The same, with what was loaded and the snapshot that is given.
+fn run_loaded<F: Places, R: Source, W: Sink>(
     alloc: Global,
     loaded: Loaded,
+    given: Option<Given<'_>>,
+    files: &F,
+    save: Option<&str>,
     reader: &mut R,
     writer: &mut W,
 ) -> Result<Done, Fault>
-    ensures whole { IfOk result (λ done. RunsFrom (λ r. repository_of loaded ≡ Ok r) (λ old new.
-        IsAnswered done (IsWholeRun old new (R.remaining reader.old) (W.contents writer.old) (W.contents writer.new)))) }
-    ensures first { IsErrOf result Fault.Read → RunsFrom (λ r. repository_of loaded ≡ Ok r) (λ old new.
+    ensures whole { IfOk result (λ done. RunsFrom (λ r. Starts loaded given (Ok r)) (λ old new.
+        IsAnswered done (IsWholeRun old new (R.remaining reader.old) (W.contents writer.old) (W.contents writer.new))
+        × IfSome (option_copied save) (λ _. IsSaved F.Part.contents F.Part.moment F.Part.left_since F.Part.may_leave (snapshot_of new)))) }
+    ensures first { IsErrOf result Fault.Read → RunsFrom (λ r. Starts loaded given (Ok r)) (λ old new.
         IsFirstRun old new (R.remaining reader.old) (W.contents writer.old) (W.contents writer.new)) }
     ensures read_failed { IsErrOf result Fault.Read →
         (R.read_failures reader.new ≢ R.read_failures reader.old)
         ⊎ RunsOut (unread max_reads) (R.reads_made reader.old) (R.reads_made reader.new) (R.remaining reader.old) }
-    ensures cut { IsErrOf result Fault.Write → RunsFrom (λ r. repository_of loaded ≡ Ok r) (λ old new.
+    ensures cut { IsErrOf result Fault.Write → RunsFrom (λ r. Starts loaded given (Ok r)) (λ old new.
         IsCutRun old new (R.remaining reader.old) (W.contents writer.old) (W.contents writer.new)) }
     ensures write_failed { IsErrOf result Fault.Write → W.write_failures writer.new ≢ W.write_failures writer.old }
+    ensures unsaved { (why : Unsaved) → IsErrOf result (Fault.Unsaved why) → RunsFrom (λ r. Starts loaded given (Ok r)) (λ old new.
+        IsAllOrNothing old new (R.remaining reader.old) (W.contents writer.old) (W.contents writer.new) reader.old reader.new writer.old writer.new) }
     ensures start { (why : Failure StartFault) → IsErrOf result (Fault.Start why) →
-        (reader.new ≡ reader.old) × (writer.new ≡ writer.old) × Fails why (repository_of loaded) }
+        (reader.new ≡ reader.old) × (writer.new ≡ writer.old) × FailsBy why (λ fault. Starts loaded given (Err fault)) }
 {
     let Loaded {
         partners,
         tokens,
         schemas,
     } = loaded;
-    let (mut repository, _tokens) = open(alloc, schemas.as_slice(), partners, tokens)?;
-    let ended = run_lines(alloc, &mut repository, reader, writer);
+    let (mut repository, _tokens) = open(alloc, schemas.as_slice(), partners, tokens, given)?;
+    let ended = match save {
+        Some(path) => run_and_save(alloc, &mut repository, files, path, reader, writer),
+        None => run(alloc, &mut repository, reader, writer),
+    };
+    repository.is_valid();
     // The process ends, and all of its memory goes with it. To give that back value by value would take long.
     mem::forget(repository);
     mem::forget(schemas);
-    match ended {
+    ended
+}
+
+/// Answers all lines, and saves what they lead to in the file of this path, which it begins to replace before.
+fn run_and_save<F: Places, R: Source, W: Sink>(
+    alloc: Global,
+    repository: &mut Repository<'_>,
+    files: &F,
+    path: &str,
+    reader: &mut R,
+    writer: &mut W,
+) -> Result<Done, Fault>
+    ensures whole { IfOk result (λ done. IsAnswered done (IsWholeRun repository.old.content repository.new.content (R.remaining reader.old) (W.contents writer.old) (W.contents writer.new))) }
+    ensures saved { IfOk result (λ done. IsSaved F.Part.contents F.Part.moment F.Part.left_since F.Part.may_leave (snapshot_of repository.new.content)) }
+    ensures first { IsErrOf result Fault.Read →
+        IsFirstRun repository.old.content repository.new.content (R.remaining reader.old) (W.contents writer.old) (W.contents writer.new) }
+    ensures read_failed { IsErrOf result Fault.Read →
+        (R.read_failures reader.new ≢ R.read_failures reader.old)
+        ⊎ RunsOut (unread max_reads) (R.reads_made reader.old) (R.reads_made reader.new) (R.remaining reader.old) }
+    ensures cut { IsErrOf result Fault.Write →
+        IsCutRun repository.old.content repository.new.content (R.remaining reader.old) (W.contents writer.old) (W.contents writer.new) }
+    ensures write_failed { IsErrOf result Fault.Write → W.write_failures writer.new ≢ W.write_failures writer.old }
+    ensures unsaved { (why : Unsaved) → IsErrOf result (Fault.Unsaved why) →
+        IsAllOrNothing repository.old.content repository.new.content (R.remaining reader.old) (W.contents writer.old) (W.contents writer.new) reader.old reader.new writer.old writer.new }
+    ensures start { (why : Failure StartFault) → IsErrOf result (Fault.Start why) → (reader.new ≡ reader.old) × (writer.new ≡ writer.old) × (why ≡ NoMemory) }
+{
+    let replacement = match begin(alloc, files, path) {
+        Ok(begun) => begun,
+        Err(unsaved) => return Err(cannot_begin(unsaved)),
+    };
+    let done = run(alloc, repository, reader, writer)?;
+    match save(alloc, repository, replacement) {
+        Ok(_) => Ok(done),
+        Err(unsaved) => Err(Fault::Unsaved(unsaved)),
+    }
+}
+
+/// Answers all lines.
+fn run<R: Source, W: Sink>(
+    alloc: Global,
+    repository: &mut Repository<'_>,
+    reader: &mut R,
+    writer: &mut W,
+) -> Result<Done, Fault>
+    ensures whole { IfOk result (λ done. IsAnswered done (IsWholeRun repository.old.content repository.new.content (R.remaining reader.old) (W.contents writer.old) (W.contents writer.new))) }
+    ensures first { IsErrOf result Fault.Read →
+        IsFirstRun repository.old.content repository.new.content (R.remaining reader.old) (W.contents writer.old) (W.contents writer.new) }
+    ensures read_failed { IsErrOf result Fault.Read →
+        (R.read_failures reader.new ≢ R.read_failures reader.old)
+        ⊎ RunsOut (unread max_reads) (R.reads_made reader.old) (R.reads_made reader.new) (R.remaining reader.old) }
+    ensures cut { IsErrOf result Fault.Write →
+        IsCutRun repository.old.content repository.new.content (R.remaining reader.old) (W.contents writer.old) (W.contents writer.new) }
+    ensures write_failed { IsErrOf result Fault.Write → W.write_failures writer.new ≢ W.write_failures writer.old }
+    ensures err { IfErr result (λ fault. (fault ≡ Fault.Read) ⊎ (fault ≡ Fault.Write)) }
+{
+    match run_lines(alloc, repository, reader, writer) {
         Ok(lines) => Ok(Done::Answered(lines)),
         Err(RunFault::ReadFault) => Err(Fault::Read),
         Err(RunFault::WriteFault) => Err(Fault::Write),

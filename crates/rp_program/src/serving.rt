@@ -1,63 +1,74 @@
-//! The connections of an address, answered by the repository that a configuration opens.
-ghost use Rattle.std.specs.Prelude.{◌≡◌, ◌≤◌, ⊤, length, IfSome};
-ghost use Rattle.plain_data.specs.Gives.{Fails};
-ghost use Rattle.rp_http.specs.Turns.{Leaves};
-ghost use Rattle.rp_program.specs.Starts.{repository_of, opened_at};
-ghost use Rattle.rp_program.specs.Served.{ServesFrom, Serves, IsServed};
+//! The connections of an address, answered by the repository that a command starts with, and what it comes to saved.
+ghost use Rattle.std.specs.Prelude.{◌≡◌, ◌≤◌, ⊤, length, Err, IfErr, IfSome, option_copied};
+ghost use Rattle.std.specs.declared.net.socket_addr.SocketAddr.{SocketAddr};
 ghost use Rattle.plain_data.specs.declared.failure.Failure.TheVariants.{NoMemory};
+ghost use Rattle.rp_http.specs.Turns.{Leaves};
+ghost use Rattle.rp_program.specs.declared.fault.Unsaved.{Unsaved};
+ghost use Rattle.rp_program.specs.Starts.{Starts, StartsAt, FailsBy};
+ghost use Rattle.rp_program.specs.Saved as saved;
+ghost use Rattle.rp_program.specs.Served.{ServesFrom, Serves, IsServed};
 
 use crate::ending::Done;
 use crate::fault::Fault;
-use crate::opening::open;
+use crate::keeping::SnapshotKeeper;
+use crate::opening::{Given, given_at, open};
+use crate::saving::{Snapshots, begin, cannot_begin, save_at};
 use http_routes::Tokens;
 use plain_data::Failure;
 use rp_config::{Loaded, load_all};
 use rp_files::Folder;
 use rp_repo::Repository;
-use rp_sockets::{Ends, Listening};
+use rp_sockets::{Ends, Listening, ServeFault};
 use std::alloc::Global;
+use std::fs::Files;
 use std::io::{Eprint, Input};
 use std::mem;
 use std::net::{Net, SocketAddr};
 use std::time::Clock;
 
 /// Serves the connections of an address, by the repository of the partners and schemas that the configuration in the file of this
-/// path names. Once it listens it says so on standard error. The process is to end then: what the repository holds isn't let
+/// path names, and then saves it; where it serves any number of connections, also in the meantime. It begins empty, or as a
+/// snapshot says. Once it listens it says so on standard error. The process is to end then: what the repository holds isn't let
 /// go of.
-pub fn serve<D: Folder, R: Net + Clock + Input + Eprint>(
+pub fn serve<D: Folder, R: Net + Clock + Input + Eprint + Files>(
     alloc: Global,
     folder: &D,
     path: &str,
+    snapshots: Snapshots<'_>,
     rt: &R,
     address: SocketAddr,
     ends: Ends,
 ) -> Result<Done, Fault>
     // However it ends, a run of messages of its partners is all that happened to the repository. Where there is none, the fault
     // is the first that there is.
-    ensures { IsServed (λ why. IfSome (D.files folder.now) (λ held. Fails why (opened_at held path.now))) (ServesFrom (D.files folder.now) path.now) address result }
+    ensures { IsServed (λ why. IfSome (D.files folder.now) (λ held. FailsBy why (λ fault. StartsAt held path.now (option_copied snapshots.load) (Err fault))))
+        (ServesFrom (D.files folder.now) path.now (option_copied snapshots.load)) address result }
 {
     let loaded = load_all(alloc, folder, path)?;
-    serve_loaded(alloc, loaded, rt, address, ends)
+    let given = given_at(alloc, folder, snapshots.load)?;
+    serve_loaded(alloc, loaded, given, snapshots.save, rt, address, ends)
 }
 
-/// The same, by the repository of what was loaded.
-fn serve_loaded<R: Net + Clock + Input + Eprint>(
+/// The same, with what was loaded and the snapshot that is given.
+fn serve_loaded<R: Net + Clock + Input + Eprint + Files>(
     alloc: Global,
     loaded: Loaded,
+    given: Option<Given<'_>>,
+    save: Option<&str>,
     rt: &R,
     address: SocketAddr,
     ends: Ends,
 ) -> Result<Done, Fault>
     requires { length loaded.tokens ≤ length loaded.partners }
-    ensures { IsServed (λ why. Fails why (repository_of loaded)) (Serves loaded) address result }
+    ensures { IsServed (λ why. FailsBy why (λ fault. Starts loaded given (Err fault))) (Serves loaded given) address result }
 {
     let Loaded {
         partners,
         tokens,
         schemas,
     } = loaded;
-    let (mut repository, tokens) = open(alloc, schemas.as_slice(), partners, tokens)?;
-    let ended = serve_at(alloc, &mut repository, &tokens, rt, address, ends);
+    let (mut repository, tokens) = open(alloc, schemas.as_slice(), partners, tokens, given)?;
+    let ended = serve_at(alloc, &mut repository, &tokens, save, rt, address, ends);
     repository.is_valid();
     // The process ends, and all of its memory goes with it. To give that back value by value would take long.
     mem::forget(repository);
@@ -65,11 +76,12 @@ fn serve_loaded<R: Net + Clock + Input + Eprint>(
     ended
 }
 
-/// Listens at an address, and serves its connections.
-fn serve_at<R: Net + Clock + Input + Eprint>(
+/// Listens at an address, serves its connections, and saves what they lead to in the file of this path, if there is one.
+fn serve_at<R: Net + Clock + Input + Eprint + Files>(
     alloc: Global,
     repository: &mut Repository<'_>,
     tokens: &Tokens,
+    save: Option<&str>,
     rt: &R,
     address: SocketAddr,
     ends: Ends,
@@ -82,11 +94,57 @@ fn serve_at<R: Net + Clock + Input + Eprint>(
         Ok(listening) => listening,
         Err(error) => return Err(Fault::Listen(address, error)),
     };
+    if let Err(fault) = try_place(alloc, rt, save) {
+        return Err(fault);
+    }
     tell(rt, listening.address());
-    match listening.serve(rt, alloc, repository, tokens, ends) {
+    let mut keeper = SnapshotKeeper::new(rt, meanwhile(save, ends), repository);
+    let ended = listening.serve(rt, alloc, repository, tokens, ends, &mut keeper);
+    at_end(alloc, repository, save, rt, ended)
+}
+
+/// The file that is saved in while connections are served: that of the path, where any number of them may come.
+fn meanwhile(save: Option<&str>, ends: Ends) -> Option<&str> {
+    match ends.connections {
+        Some(_) => None,
+        None => save,
+    }
+}
+
+/// Begins to replace the file of this path and lets go of it, so that a wrong place is told before any work is done.
+fn try_place<R: Files>(alloc: Global, rt: &R, save: Option<&str>) -> Result<(), Fault>
+    ensures { IfErr result (λ fault. (unsaved : Unsaved) × (fault ≡ saved.cannot_begin unsaved)) }
+{
+    let Some(path) = save else {
+        return Ok(());
+    };
+    match begin(alloc, &rt, path) {
+        Ok(_) => Ok(()),
+        Err(unsaved) => Err(cannot_begin(unsaved)),
+    }
+}
+
+/// Saves in the file of this path, if there is one, where serving came to its end.
+fn at_end<R: Files>(
+    alloc: Global,
+    repository: &Repository<'_>,
+    save: Option<&str>,
+    rt: &R,
+    ended: Result<(), Failure<ServeFault>>,
+) -> Result<Done, Fault>
+    ensures { (address : SocketAddr) → IsServed (λ why. why ≡ NoMemory) ⊤ address result }
+{
+    match ended {
+        Ok(()) => {}
+        Err(Failure::NoMemory) => return Err(Fault::Start(Failure::NoMemory)),
+        Err(Failure::Fault(fault)) => return Err(Fault::Serve(fault)),
+    }
+    let Some(path) = save else {
+        return Ok(Done::Served);
+    };
+    match save_at(alloc, &rt, path, repository) {
         Ok(()) => Ok(Done::Served),
-        Err(Failure::NoMemory) => Err(Fault::Start(Failure::NoMemory)),
-        Err(Failure::Fault(fault)) => Err(Fault::Serve(fault)),
+        Err(unsaved) => Err(Fault::Unsaved(unsaved)),
     }
 }
 

@@ -1,5 +1,6 @@
 //! Why a file isn't replaced.
-use std::io;
+use std::io::ErrorKind;
+use std::{fmt, io};
 
 /// The step at which a file couldn't be replaced, and why. But for [`Settle`](ReplaceFault::Settle) it
 /// is as it was.
@@ -25,4 +26,40 @@ pub enum ReplaceFault {
     Rename(io::Error),
     /// It is replaced, but its folder can't be synced: after a crash it may be as it was.
     Settle(io::Error),
+}
+
+impl fmt::Display for ReplaceFault {
+    fn fmt<W: fmt::Write>(&self, f: &mut fmt::Formatter<W>) -> fmt::Result {
+        match self {
+            ReplaceFault::NoFile => f.write_str("it is no regular file"),
+            ReplaceFault::Taken => f.write_str("another program replaces it too"),
+            ReplaceFault::Settle(error) => write!(
+                f,
+                "it is replaced, but its folder can't be synced: {}",
+                Told(*error)
+            ),
+            ReplaceFault::Look(error)
+            | ReplaceFault::Folder(error)
+            | ReplaceFault::Remove(error)
+            | ReplaceFault::Make(error)
+            | ReplaceFault::Write(error)
+            | ReplaceFault::Sync(error)
+            | ReplaceFault::Rename(error) => Told(*error).fmt(f),
+        }
+    }
+}
+
+/// Why a step failed.
+#[derive(Clone, Copy, Drop)]
+struct Told(io::Error);
+
+impl fmt::Display for Told {
+    fn fmt<W: fmt::Write>(&self, f: &mut fmt::Formatter<W>) -> fmt::Result {
+        match self.0.kind() {
+            ErrorKind::NotFound => f.write_str("there is no such folder"),
+            ErrorKind::NotADirectory => f.write_str("a part of its path is no folder"),
+            ErrorKind::PermissionDenied => f.write_str("permission is denied"),
+            _ => write!(f, "{}", self.0),
+        }
+    }
 }

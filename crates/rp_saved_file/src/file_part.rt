@@ -15,32 +15,33 @@ use std::os::unix::fs::{MetadataExt, OpenOptionsExt};
 ///
 /// No contract of `std` says what a file holds, so nothing is said of its bytes.
 #[derive(Drop)]
-pub struct FilePart<'p, R: Files> {
+pub struct FilePart<R: Files> {
     files: R,
     file: R::File,
     folder: R::File,
-    path: &'p str,
+    path: String,
     /// The path with `.part` behind it.
     beside: String,
     failures: u64,
 }
 
-impl<'p, R: Files + Drop> FilePart<'p, R> {
+impl<R: Files + Drop> FilePart<R> {
     /// Makes it anew, in place of what an earlier run may have left there.
     pub(crate) fn make(
         alloc: Global,
         files: R,
-        path: &'p str,
-    ) -> Result<FilePart<'p, R>, Failure<ReplaceFault>>
-        ensures { IfOk result (λ part. IsBeside path.now part.path.now (string_bytes part.beside)) }
+        path: &str,
+    ) -> Result<FilePart<R>, Failure<ReplaceFault>>
+        ensures { IfOk result (λ part. IsBeside path.now (string_bytes part.path) (string_bytes part.beside)) }
     {
         let beside = format!(in alloc; "{path}.part")?;
+        let place = String::from_str(alloc, path)?;
         match opened(&files, path, beside.as_str()) {
             Ok((folder, file)) => Ok(FilePart {
                 files,
                 file,
                 folder,
-                path,
+                path: place,
                 beside,
                 failures: 0,
             }),
@@ -121,7 +122,7 @@ fn made_anew<R: Files>(files: &R, path: &str) -> Result<R::File, ReplaceFault> {
     }
 }
 
-impl<R: Files> FilePart<'_, R> {
+impl<R: Files> FilePart<R> {
     /// Whether the file that was made still stands beside the other. Another program that replaces the same file takes it away.
     fn stands(&self) -> io::Result<bool> {
         let made = self.file.metadata()?;
@@ -137,7 +138,7 @@ impl<R: Files> FilePart<'_, R> {
             Err(error) if error.kind() == ErrorKind::NotFound => return Err(ReplaceFault::Taken),
             Err(error) => return Err(ReplaceFault::Rename(error)),
         }
-        match fs::rename(&self.files, self.beside.as_str(), self.path) {
+        match fs::rename(&self.files, self.beside.as_str(), self.path.as_str()) {
             Ok(()) => Ok(()),
             Err(error) => Err(ReplaceFault::Rename(error)),
         }
@@ -153,7 +154,7 @@ impl<R: Files> FilePart<'_, R> {
     }
 }
 
-impl<R: Files> Part for FilePart<'_, R> {
+impl<R: Files> Part for FilePart<R> {
     ghost contents = { λ _. None };
 
     ghost synced = { λ _. None };

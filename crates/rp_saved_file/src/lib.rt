@@ -4,9 +4,11 @@
 mod fault;
 mod file_part;
 mod part;
+mod places;
 mod replacing;
 
 pub use fault::ReplaceFault;
 pub use file_part::FilePart;
 pub use part::Part;
+pub use places::Places;
 pub use replacing::{Replaced, Replacement, take_place};

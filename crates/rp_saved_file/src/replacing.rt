@@ -39,14 +39,14 @@ impl<P: Part + Drop> Drop for Replacement<P> {
     }
 }
 
-impl<'p, R: Files + Drop> Replacement<FilePart<'p, R>> {
+impl<R: Files + Drop> Replacement<FilePart<R>> {
     /// Begins to replace the file of this path, or to make it where there is none.
     pub fn begin(
         alloc: Global,
         files: R,
-        path: &'p str,
-    ) -> Result<Replacement<FilePart<'p, R>>, Failure<ReplaceFault>>
-        ensures names { IfOk result (λ begun. IsBeside path.now begun.part.path.now (string_bytes begun.part.beside)) }
+        path: &str,
+    ) -> Result<Replacement<FilePart<R>>, Failure<ReplaceFault>>
+        ensures names { IfOk result (λ begun. IsBeside path.now (string_bytes begun.part.path) (string_bytes begun.part.beside)) }
         ensures none { IfOk result (λ begun. failures_of begun.failed ≡ 0) }
     {
         Ok(Replacement::new(FilePart::make(alloc, files, path)?))

@@ -7,10 +7,12 @@ mod arrivals;
 mod client;
 mod deadlines;
 mod input;
+mod keeper;
 mod listening;
 mod serving;
 mod socket;
 
 pub use deadlines::{Awaited, Times};
+pub use keeper::Keeper;
 pub use listening::{Listening, ServeFault};
 pub use serving::Ends;

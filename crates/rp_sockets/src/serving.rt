@@ -5,6 +5,7 @@ ghost use Rattle.rp_http.specs.Turns.{Leaves};
 
 use crate::client::{Client, Fate, Moment};
 use crate::input::{Watch, read_on, watched};
+use crate::keeper::Keeper;
 use crate::listening::{ARRIVALS, INPUT, Listening, ServeFault};
 use mio::net::TcpListener;
 use mio::{Events, Poll, Registry, Token};
@@ -23,7 +24,7 @@ pub(crate) const CLIENTS: usize = 512;
 /// How many sockets a poll tells of at most: all that there may be.
 const EVENTS: usize = 1_024;
 
-/// How many milliseconds pass until deadlines are looked at again.
+/// How many milliseconds pass until deadlines are looked at again, or what is still to be saved.
 const SWEEP: u64 = 500;
 
 /// When serving ends.
@@ -55,6 +56,8 @@ pub(crate) struct Serving {
     pub(crate) turn: u64,
     /// When deadlines were last looked at.
     pub(crate) swept: Duration,
+    /// Whether something is still to be saved.
+    pub(crate) unsaved: bool,
 }
 
 impl Serving {
@@ -74,6 +77,7 @@ impl Serving {
             now: Duration::ZERO,
             turn: 0,
             swept: Duration::ZERO,
+            unsaved: false,
         })
     }
 
@@ -86,7 +90,7 @@ impl Serving {
     fn patience(&self) -> Option<Duration> {
         if self.arrivals || self.input == Watch::Ready || self.input == Watch::Ended {
             Some(Duration::ZERO)
-        } else if self.clients.is_empty() {
+        } else if self.clients.is_empty() && !self.unsaved {
             None
         } else {
             Some(Duration::from_millis(SWEEP))
@@ -402,9 +406,15 @@ impl Serving {
         }
     }
 
+    /// Has the keeper look at what is held.
+    fn ask<K: Keeper>(&mut self, alloc: Global, repository: &Repository<'_>, keeper: &mut K) {
+        keeper.look(alloc, repository);
+        self.unsaved = keeper.waits();
+    }
+
     /// Serves until no connection is left, and none may come.
     #[tactic(auto, using(crate::proofs::Running::leaves_more, crate::proofs::Running::leaves_none))]
-    fn serve_to_end<R: Clock + Input>(
+    fn serve_to_end<R: Clock + Input, K: Keeper>(
         &mut self,
         rt: &R,
         alloc: Global,
@@ -412,6 +422,7 @@ impl Serving {
         tokens: &Tokens,
         workspace: &mut Workspace,
         events: &mut Events<Global>,
+        keeper: &mut K,
     ) -> Result<(), ServeFault>
         requires few { length tokens.now ≤ length repository.old.content.partners }
         ensures run { Leaves tokens.now repository.old.content repository.new.content }
@@ -421,6 +432,8 @@ impl Serving {
             if self.is_over() {
                 break;
             }
+            // Before the wait and not behind what is done after it: at the end the caller saves, and one save is enough.
+            self.ask(alloc, repository, keeper);
             self.serve_next(rt, alloc, repository, tokens, workspace, events)?;
         }
         Ok(())
@@ -429,19 +442,20 @@ impl Serving {
 
 impl Listening {
     /// Serves the connections of the address until that ends. What messages of the partners with these tokens lead to is all that
-    /// happens to the repository, however it ends.
+    /// happens to the repository, however it ends. Meanwhile the keeper looks at it.
     ///
     /// # Errors
     ///
     /// `NoMemory` before any connection came; else why it ends before its end.
     #[tactic(auto, using(crate::proofs::Running::leaves_more, crate::proofs::Running::leaves_none))]
-    pub fn serve<R: Clock + Input>(
+    pub fn serve<R: Clock + Input, K: Keeper>(
         self,
         rt: &R,
         alloc: Global,
         repository: &mut Repository<'_>,
         tokens: &Tokens,
         ends: Ends,
+        keeper: &mut K,
     ) -> Result<(), Failure<ServeFault>>
         requires few { length tokens.now ≤ length repository.old.content.partners }
         ensures run { Leaves tokens.now repository.old.content repository.new.content }
@@ -451,7 +465,16 @@ impl Listening {
         let mut workspace = Workspace::new(alloc)?;
         let mut events = Events::with_capacity(alloc, EVENTS)?;
         let mut serving = Serving::new(alloc, self, ends)?;
-        match serving.serve_to_end(rt, alloc, repository, tokens, &mut workspace, &mut events) {
+        let ended = serving.serve_to_end(
+            rt,
+            alloc,
+            repository,
+            tokens,
+            &mut workspace,
+            &mut events,
+            keeper,
+        );
+        match ended {
             Ok(()) => Ok(()),
             Err(fault) => Err(Failure::Fault(fault)),
         }

@@ -7,7 +7,7 @@ use http_routes::{TokenFault, Tokens};
 use rp_http::{ServeFault, serve_connection};
 use rp_io::{DeviceFault, Sink, Source};
 use rp_repo::{LoadedSchema, Repository, Text};
-use rp_sockets::{Ends, Listening};
+use rp_sockets::{Ends, Keeper, Listening};
 use std::alloc::{AllocError, Global};
 use std::io::{Read, Write};
 use std::mem;
@@ -267,6 +267,18 @@ fn ask(rt: &HostRuntime, address: SocketAddr) -> std::io::Result<TcpStream> {
     Ok(stream)
 }
 
+/// Keeps nothing.
+#[derive(Drop)]
+struct Nothing;
+
+impl Keeper for Nothing {
+    fn look(&mut self, _alloc: Global, _repository: &Repository<'_>) {}
+
+    fn waits(&self) -> bool {
+        false
+    }
+}
+
 /// Serves one connection of an address. Answers whether it ended in order.
 fn serve_one(rt: &HostRuntime, listening: Listening) -> Result<bool, Fail> {
     let alloc = rt.alloc();
@@ -275,7 +287,7 @@ fn serve_one(rt: &HostRuntime, listening: Listening) -> Result<bool, Fail> {
         connections: Some(1),
         input: false,
     };
-    let ended = listening.serve(rt, alloc, &mut repository, &tokens, ends);
+    let ended = listening.serve(rt, alloc, &mut repository, &tokens, ends, &mut Nothing);
     mem::forget(repository);
     Ok(ended.is_ok())
 }
