@@ -5,7 +5,6 @@ use Rattle.plain_data.specs.declared.failure.Failure.TheVariants as failure
 use Rattle.rp_snapshot_rows.specs.declared.lack.Lack.{Lack}
 use Rattle.rp_restore.specs.declared.fault.SnapshotLack.{SnapshotLack}
 use Rattle.rp_restore.specs.declared.fault.SnapshotLack.TheVariants.{Form, Row}
-use Rattle.rp_restore.specs.declared.fault.RefusedRow.{RefusedRow}
 use Rattle.rp_restore.specs.declared.fault.RowKind.{RowKind}
 use Rattle.rp_restore.specs.declared.fault.RowReason.TheVariants as reason
 

@@ -47,6 +47,7 @@ pub struct RefusedRow {
     pub reason: RowReason,
 }
 
+/// What stands in a row.
 #[derive(Clone, Copy, PartialEq, Eq)]
 pub enum RowKind {
     Group,

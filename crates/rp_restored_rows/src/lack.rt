@@ -8,10 +8,11 @@ pub enum RowLack {
     /// Its owner is no partner.
     UnknownOwner,
     BadName,
+    /// No schema of its name is loaded.
     UnknownSchema,
     /// Its grants don't stand in the order of partners, each partner's once.
     GrantsOutOfOrder,
-    /// One is granted to nobody that is a partner.
+    /// It is granted to one that is no partner.
     UnknownGrantee,
     GrantToOwner,
     /// A group is granted at another level than to read.
@@ -26,7 +27,7 @@ pub enum RowLack {
     TooManyLinks,
     /// Its links don't stand in the order of their names, each name once.
     LinksOutOfOrder,
-    /// A link leads to nobody that is a partner.
+    /// A link leads to a model of one that is no partner.
     UnknownLinkOwner,
     BadLinkModel,
     LinkToItself,
@@ -39,7 +40,7 @@ pub enum RowLack {
     TooManyInstances,
     /// An instance's name is above the greatest.
     InstanceAboveGreatest,
-    /// What is wrong with the spelling of its file, and where.
+    /// What is wrong with the spelling of its file, and at which byte of the file.
     File(FileFault),
     /// The first faulty instance of its file, by the schema.
     Instance(InstanceFault),
