@@ -31,7 +31,7 @@ from typing import NamedTuple
 
 TOP = os.path.dirname(os.path.dirname(os.path.abspath(__file__)))
 PROGRAM = os.path.join(TOP, "crates/rp_server/out/rp_server")
-PAGES = ("README.md", "docs/DELIVERIES.md", "docs/HTTP.md", "docs/REQUESTS.md", "docs/REFUSALS.md", "docs/REPORTS.md", "docs/EXCHANGE-FILES.md", "docs/EXPRESS-PROFILE.md",
+PAGES = ("README.md", "docs/DELIVERIES.md", "docs/HTTP.md", "docs/REQUESTS.md", "docs/SNAPSHOTS.md", "docs/REFUSALS.md", "docs/REPORTS.md", "docs/EXCHANGE-FILES.md", "docs/EXPRESS-PROFILE.md",
          "example/session/README.md", "example/assembly/README.md")
 BATCH = "rp_server batch --config config.json"
 PORT = "127.0.0.1:8080"
