@@ -37,6 +37,13 @@ pub(crate) fn group_piece(
     Ok(out.into_inner())
 }
 
+/// Room for a file as JSON, with the rest of its row: where it grew, both blocks would be held beside the file. Each line has a byte
+/// more there, and 8 at least.
+fn room_for(file: &[u8]) -> usize {
+    let size = file.len();
+    size.saturating_add(size / 8).saturating_add(256)
+}
+
 pub(crate) fn model_piece<V: Version>(
     alloc: Global,
     version: &V,
@@ -46,7 +53,7 @@ pub(crate) fn model_piece<V: Version>(
     ensures { IfOk result (λ bytes. bytes.items ≡ piece later (model_by (V.writes version.now) (row_of row.now))) }
 {
     let file = version.file(alloc, row.holds)?;
-    let room = file.as_bytes().len();
+    let room = room_for(file.as_bytes());
     let mut out = Writer::new(begun(alloc, later, room)?);
     write_model(&mut out, file.as_str(), row.key, row.holds, row.grants)?;
     Ok(out.into_inner())
