@@ -48,6 +48,7 @@ SIGHT = re.compile(r"unseen|lacks|(own_)?(model|group)_right")
 TABLES = ("models", "groups", "partners", "schemas")
 
 ONE_MORE = "room for one row more, once a plan has passed its tests"
+RESTORED = "room for one row more, which is restored and which no request asks for"
 
 LISTED = [
     # what everyone may ask
@@ -72,6 +73,10 @@ LISTED = [
     Listed(f"{ACCESS}access.rt", "open", "self.models.reserve()?", ONE_MORE),
     Listed(f"{STORE}keyed.rt", "reserve", "self.entries.reserve(1)", ONE_MORE),
     Listed(f"{STORE}prepares.rt", "create", "self.models.reserve()?", ONE_MORE),
+    Listed(f"{STORE}store.rt", "reserve", "self.models.reserve()", RESTORED),
+    Listed(f"{STORE}keyed.rt", "add_name", "self.reserve()?", RESTORED),
+    Listed(f"{SIGHT_OF}groups.rt", "hold", "self.reserve()?", RESTORED),
+    Listed(f"{ACCESS}access.rt", "hold_model", "self.models.reserve()?", RESTORED),
 ]
 
 

@@ -1,6 +1,6 @@
 //! The names of groups that a partner is granted, with one more or one less.
 
-ghost use Rattle.std.specs.Prelude.{◌≡◌, ◌++◌, filter, OnOk, IfOk};
+ghost use Rattle.std.specs.Prelude.{◌≡◌, ◌++◌, OnOk, IfOk};
 ghost use Rattle.rp_store.specs.Entries.{without_name};
 ghost use Rattle.rp_sight.specs.Granted.{relisted as Relisted};
 

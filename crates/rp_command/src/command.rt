@@ -17,8 +17,8 @@ const MOST_FILES: usize = 50;
 pub enum Command<'a> {
     /// A text of help, which clap has as an error.
     Help(Error),
-    /// To answer the lines of standard input, by the configuration in the file of this path.
-    Batch(&'a str),
+    /// To answer the lines of standard input.
+    Batch(Run<'a>),
     /// To serve connections.
     Serve(Service<'a>),
     /// To tell whether the file of this path is a schema.
@@ -52,11 +52,25 @@ pub struct Delivery<'a> {
     pub page: Option<&'a str>,
 }
 
+/// The lines that are to be answered: the paths of what is read and saved.
+#[derive(Clone, Copy, Drop)]
+pub struct Run<'a> {
+    pub config: &'a str,
+    /// The snapshot that it begins with, if there is one.
+    pub load: Option<&'a str>,
+    /// Where a snapshot is saved, if one is wanted.
+    pub save: Option<&'a str>,
+}
+
 /// The connections that are to be served.
 #[derive(Clone, Copy, Drop)]
 pub struct Service<'a> {
     /// The path of the configuration.
     pub config: &'a str,
+    /// That of the snapshot that it begins with, if there is one.
+    pub load: Option<&'a str>,
+    /// Where a snapshot is saved, if one is wanted.
+    pub save: Option<&'a str>,
     /// Where they come.
     pub address: SocketAddr,
     /// How many, if there is an end to them.
@@ -75,12 +89,32 @@ fn config_option<'a>(alloc: Global) -> Arg<'a> {
         .action(ArgAction::Set)
 }
 
+/// A command with `--load` and `--save` too; when it saves is told so.
+fn with_snapshots<'a>(
+    alloc: Global,
+    command: clap::Command<'a>,
+    when: &'a str,
+) -> Result<clap::Command<'a>, AllocError> {
+    let load = Arg::new(alloc, "load")
+        .long("load")
+        .value_name("FILE")
+        .help("Begins with the snapshot in FILE")
+        .action(ArgAction::Set);
+    let save = Arg::new(alloc, "save")
+        .long("save")
+        .value_name("FILE")
+        .help(when)
+        .action(ArgAction::Set);
+    command.arg(load)?.arg(save)
+}
+
 /// `batch`, with its arguments.
 fn batch_command<'a>(alloc: Global) -> Result<clap::Command<'a>, AllocError> {
-    clap::Command::new(alloc, "batch")
+    let command = clap::Command::new(alloc, "batch")
         .about(BATCH_ABOUT)
         .after_help(BATCH_AFTER)
-        .arg(config_option(alloc))
+        .arg(config_option(alloc))?;
+    with_snapshots(alloc, command, "Saves a snapshot into FILE at the end")
 }
 
 /// `serve` with its configuration and its address.
@@ -98,6 +132,12 @@ fn with_address<'a>(alloc: Global) -> Result<clap::Command<'a>, AllocError> {
         .arg(address)
 }
 
+/// The same with its snapshots.
+fn with_saves<'a>(alloc: Global) -> Result<clap::Command<'a>, AllocError> {
+    let when = "Saves a snapshot into FILE, while it serves and at the end";
+    with_snapshots(alloc, with_address(alloc)?, when)
+}
+
 /// The same with `--connections`.
 fn with_connections<'a>(alloc: Global) -> Result<clap::Command<'a>, AllocError> {
     let connections = Arg::new(alloc, "connections")
@@ -105,7 +145,7 @@ fn with_connections<'a>(alloc: Global) -> Result<clap::Command<'a>, AllocError> 
         .value_name("N")
         .help("Ends after N connections, 1 to 4294967295")
         .action(ArgAction::Set);
-    with_address(alloc)?.arg(connections)
+    with_saves(alloc)?.arg(connections)
 }
 
 /// `serve`, with its arguments.
@@ -247,15 +287,24 @@ fn asked_in<'a>(
     match matches.subcommand() {
         Some(("validate", found)) => delivery_in(alloc, found),
         Some(("serve", found)) => Ok(Some(Command::Serve(service_in(found)?))),
+        Some(("batch", found)) => Ok(run_in(found).map(Command::Batch)),
         Some((name, found)) => Ok(one_file_in(name, found)),
         None => Ok(None),
     }
 }
 
+/// The lines that `batch` is asked for.
+fn run_in<'a>(found: &ArgMatches<'a>) -> Option<Run<'a>> {
+    Some(Run {
+        config: found.get_str("config")?,
+        load: found.get_str("load"),
+        save: found.get_str("save"),
+    })
+}
+
 /// What a command of this name asks for, which takes one file.
 fn one_file_in<'a>(name: &str, found: &ArgMatches<'a>) -> Option<Command<'a>> {
     match name {
-        "batch" => found.get_str("config").map(Command::Batch),
         "check" if found.get_flag("explain") => found.get_str("file").map(Command::Explain),
         "check" => found.get_str("file").map(Command::Check),
         _ => None,
@@ -276,6 +325,8 @@ fn service_in<'a>(found: &ArgMatches<'a>) -> Result<Service<'a>, CommandLineFaul
     };
     Ok(Service {
         config,
+        load: found.get_str("load"),
+        save: found.get_str("save"),
         address,
         connections,
         until_input_ends: found.get_flag("until-input-ends"),

@@ -5,5 +5,5 @@ mod command;
 mod fault;
 mod texts;
 
-pub use command::{Command, Delivery, Service, Telling, command_of};
+pub use command::{Command, Delivery, Run, Service, Telling, command_of};
 pub use fault::CommandLineFault;

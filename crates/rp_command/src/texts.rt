@@ -52,10 +52,15 @@ An empty role stands for all.
 
 A line has at most 16 MiB, a file or a text in it, the configuration and each schema 8 MiB. A model has at most
 200,000 instances and 10,000 links, an owner 100 models. A put of 8 MiB takes some 60 MB and half a second, a
-schema of 8 MiB some 160 MB and two seconds. All that is put stays in memory, and is gone at the end.
+schema of 8 MiB some 160 MB and two seconds.
+
+All that is put stays in memory, and is gone at the end. With --save FILE it is saved into FILE at the end of
+the input, once all lines are answered; where the input or the output fails nothing is saved. FILE is replaced
+as a whole by FILE.part beside it, which its owner alone may read. FILE may be that of --load, so that a run
+goes on where the one before it ended.
 
 The status is 0 at the end of the input. It is 2, with one line on standard error, where the command
-line or a file is wrong or where the input or the output fails.";
+line or a file is wrong, where the input or the output fails, or where FILE can't be saved.";
 
 pub const SERVE_ABOUT: &str =
     "Answers the same requests over HTTP, from any number of partners at a time.";
@@ -89,9 +94,19 @@ ended, and so is one whose head or body comes too slowly.
 
 It serves until it is killed; with --connections N until N connections have
 ended; with --until-input-ends until standard input has ended and what came
-whole is answered. Then the status is 0. All that is put stays in memory, and is
-gone at the end. The status is 2, with one line on standard error, where the
-command line, a file or a token is wrong or the address can't be listened on.";
+whole is answered. Then the status is 0. It is 2, with one line on standard
+error, where the command line, a file or a token is wrong, the address can't be
+listened on, or FILE can't be saved at the end.
+
+All that is put stays in memory, and is gone at the end. With --save FILE it is
+saved into FILE at the end, and while it serves: within 2 s of the first change,
+and what changes then a minute after that save, or ten times as long as it took
+if that is longer; with --connections at the end alone. What was changed since
+the last save is lost where the program is killed. A save is no step of a
+partner, but holds all of them up while it lasts, some 12 s for each GB. One
+that fails while it serves is told in a line on standard error. FILE is replaced
+as a whole by FILE.part beside it, which its owner alone may read. FILE may be
+that of --load.";
 
 pub const CHECK_ABOUT: &str = "Reads an EXPRESS schema, and tells its name or its first fault.";
 

@@ -43,7 +43,7 @@ impl<'a> Model for Given<'a> {
 }
 
 /// The snapshot at this path, if one is asked for.
-pub(crate) fn given<'a, D: Folder>(
+pub(crate) fn given_at<'a, D: Folder>(
     alloc: Global,
     folder: &D,
     path: Option<&'a str>,

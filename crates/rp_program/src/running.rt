@@ -14,7 +14,7 @@ ghost use Rattle.rp_program.specs.Saved.{IsSaved};
 
 use crate::ending::Done;
 use crate::fault::Fault;
-use crate::opening::{Given, given, open};
+use crate::opening::{Given, given_at, open};
 use crate::saving::{Snapshots, begin, cannot_begin, save};
 use rp_config::{Loaded, load_all};
 use rp_files::Folder;
@@ -62,7 +62,7 @@ pub fn batch<D: Folder, F: Places + Drop, R: Source, W: Sink>(
         × IfSome (D.files folder.now) (λ held. FailsBy why (λ fault. StartsAt held path.now (option_copied snapshots.load) (Err fault))) }
 {
     let loaded = load_all(alloc, folder, path)?;
-    let given = given(alloc, folder, snapshots.load)?;
+    let given = given_at(alloc, folder, snapshots.load)?;
     run_loaded(alloc, loaded, given, &files, snapshots.save, reader, writer)
 }
 

@@ -11,7 +11,7 @@ ghost use Rattle.rp_program.specs.Served.{ServesFrom, Serves, IsServed};
 use crate::ending::Done;
 use crate::fault::Fault;
 use crate::keeping::SnapshotKeeper;
-use crate::opening::{Given, given, open};
+use crate::opening::{Given, given_at, open};
 use crate::saving::{Snapshots, begin, cannot_begin, save_at};
 use http_routes::Tokens;
 use plain_data::Failure;
@@ -45,7 +45,7 @@ pub fn serve<D: Folder, R: Net + Clock + Input + Eprint + Files>(
         (ServesFrom (D.files folder.now) path.now (option_copied snapshots.load)) address result }
 {
     let loaded = load_all(alloc, folder, path)?;
-    let given = given(alloc, folder, snapshots.load)?;
+    let given = given_at(alloc, folder, snapshots.load)?;
     serve_loaded(alloc, loaded, given, snapshots.save, rt, address, ends)
 }
 

@@ -26,7 +26,7 @@ use Rattle.rp_plain.specs.Opening.{has_twice, max_partners, max_schemas, new_fau
 use Rattle.rp_plain.specs.Valid.{IsValidGrant, IsValidGroup, IsValidLink, IsValidMember, IsValidModel}
 use Rattle.rp_laws.proofs.ValidTables.{all_each}
 use Rattle.rp_laws.specs.Laws.{IsModelReadAgain}
-use Rattle.rp_restored_rows.specs.Models.{file_by, file_in}
+use Rattle.rp_snapshots.specs.Snapshots.{first_version, file_by, file_in}
 use Rattle.rp_restore.proofs.Numbers.{model_numbers}
 use Rattle.rp_snapshot_texts.specs.Again.{IsTextGrant, IsTextGroup, IsTextKey, IsTextLink, IsTextModel}
 
@@ -130,16 +130,16 @@ module _ (ascii : CanonicalUtf8) (schemas : List Checked) (partners : List Text)
     members = all_each (IsValidMember partners) IsTextKey (λ k member. (partner_utf8 k.owner member.owner, name_utf8 k.name member.name)) g.holds.members valid.members;
   }
 
-  file_utf8 : (m : Model) (valid : IsValidModel schemas partners m) → IsModelReadAgain schemas m → IsUtf8 (file_in schemas m.holds)
+  file_utf8 : (m : Model) (valid : IsValidModel schemas partners m) → IsModelReadAgain schemas m → IsUtf8 (file_in first_version schemas m.holds)
   file_utf8 m valid again =
       let schema = valid.content.schema in
       let loaded = valid.content.loaded in
       let c = m.holds.content in
       let it = found schemas m.holds.schema schema accepted loaded in
       let text : IsUtf8 (canonical schema c) = IsUtf8-from_ascii (canonical schema c) (ascii schema it.0 (link_names c.links) (canonical schema c) (record c { links = [] }) c.links (again schema loaded)) in
-      subst IsUtf8 (sym (ap (λ found. file_by found m.holds) loaded)) text
+      subst IsUtf8 (sym (ap (λ found. file_by first_version found m.holds) loaded)) text
 
-  pub model_text : (m : Model) → IsValidModel schemas partners m → IsModelReadAgain schemas m → IsTextModel (file_in schemas) m
+  pub model_text : (m : Model) → IsValidModel schemas partners m → IsModelReadAgain schemas m → IsTextModel (file_in first_version schemas) m
   model_text m valid again = record {
     owner = partner_utf8 m.owner valid.row.owner;
     name = name_utf8 m.name valid.row.name;
@@ -154,6 +154,6 @@ module _ (ascii : CanonicalUtf8) (schemas : List Checked) (partners : List Text)
   pub groups_text : (gs : List GroupRow) → AllByRecursion (IsValidGroup schemas partners) gs → AllByRecursion IsTextGroup gs
   groups_text gs all = all_each (IsValidGroup schemas partners) IsTextGroup group_text gs all
 
-  pub models_text : (ms : List Model) → AllByRecursion (IsValidModel schemas partners) ms → AllByRecursion (IsModelReadAgain schemas) ms → AllByRecursion (IsTextModel (file_in schemas)) ms
+  pub models_text : (ms : List Model) → AllByRecursion (IsValidModel schemas partners) ms → AllByRecursion (IsModelReadAgain schemas) ms → AllByRecursion (IsTextModel (file_in first_version schemas)) ms
   models_text [] all again = tt
   models_text (m ∷ ms) all again = (model_text m all.0 again.0, models_text ms all.1 again.1)

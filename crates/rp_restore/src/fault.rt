@@ -21,15 +21,15 @@ pub enum RestoreFault {
     BadSnapshot(SnapshotLack),
 }
 
-/// What bytes lack, so that they are no snapshot of a repository of these schemas and partners. Places are counted from the
-/// first byte behind the first line.
+/// What bytes lack, so that they are no snapshot of a repository of these schemas and partners. Each byte that is told is
+/// counted from the first of all, which is 0.
 #[derive(Drop)]
 pub enum SnapshotLack {
     /// The first line of a snapshot.
     FirstLine,
-    /// UTF-8 behind the first line.
-    Utf8,
-    /// Rows as JSON: what doesn't stand where it has to, and the byte that was reached.
+    /// UTF-8 from this byte on.
+    Utf8(usize),
+    /// What has to stand around the lists of rows, and the byte that was reached.
     Form(Lack, usize),
     Row(RefusedRow),
     /// The snapshot of the rows that they have is another one.
@@ -40,7 +40,8 @@ pub enum SnapshotLack {
 #[derive(Drop)]
 pub struct RefusedRow {
     pub kind: RowKind,
-    pub key: Key,
+    /// Its key, which stands near its end: none where it couldn't be read as a row.
+    pub key: Option<Key>,
     /// The byte where it begins.
     pub at: usize,
     pub reason: RowReason,
@@ -55,6 +56,8 @@ pub enum RowKind {
 /// Why a row isn't taken.
 #[derive(Clone, Copy, PartialEq, Eq)]
 pub enum RowReason {
+    /// It is no row as one is written: what doesn't stand where it has to, and the byte that was reached.
+    Form(Lack, usize),
     Lacks(RowLack),
     /// There is one of its key already.
     Twice,

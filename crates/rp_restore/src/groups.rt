@@ -12,6 +12,7 @@ ghost use Rattle.rp_snapshot_rows.specs.Tokens.{listed};
 ghost use Rattle.rp_restore.specs.Again.{group_tokens, HoldsAgain, GroupsHeld};
 
 use crate::fault::{RefusedRow, RowKind, RowReason, SnapshotLack};
+use crate::offsets::reached;
 use crate::places::no_place;
 use crate::rows::group_row;
 use json::Reader;
@@ -47,12 +48,13 @@ fn group<'s>(
     requires { IsValid holdings.old.content }
     ensures valid { IsValid holdings.new.content }
     ensures schemas { holdings.new.content.schemas ≡ holdings.old.content.schemas }
+    ensures partners { holdings.new.content.partners ≡ holdings.old.content.partners }
     ensures shorter { OnOk result (length reader.new < length reader.old) }
     ensures again { (g : SpecGroup) (rest : List SpecToken) → MayTakeGroup holdings.old.content g → reader.old ≡ group_tokens g ++ rest → HoldsAgain result (with_group g holdings.old.content) holdings.new.content reader.new rest }
 {
     restoring_keeps_validity();
-    let at = reader.offset();
-    let row = group_row(alloc, reader)?;
+    let at = reached(reader);
+    let row = group_row(alloc, reader, at)?;
     let key = row.key.copy(alloc)?;
     match tested(holdings, row) {
         Ok(row) => {
@@ -66,7 +68,7 @@ fn group<'s>(
         }
         Err(reason) => Err(Failure::Fault(SnapshotLack::Row(RefusedRow {
             kind: RowKind::Group,
-            key,
+            key: Some(key),
             at,
             reason,
         }))),
@@ -82,6 +84,7 @@ pub(crate) fn groups<'s>(
     requires { IsValid holdings.old.content }
     ensures valid { IsValid holdings.new.content }
     ensures schemas { holdings.new.content.schemas ≡ holdings.old.content.schemas }
+    ensures partners { holdings.new.content.partners ≡ holdings.old.content.partners }
     ensures again { (gs : List SpecGroup) (ms : List SpecModel) (rest : List SpecToken) → MayTakeRows gs ms holdings.old.content → reader.old ≡ listed group_tokens gs ++ rest → GroupsHeld result ms (with_rows gs ms holdings.old.content) holdings.new.content reader.new rest }
 {
     'groups: while !reader.take_end_array() {

@@ -7,6 +7,7 @@
 mod fault;
 mod groups;
 mod models;
+mod offsets;
 mod places;
 mod restoring;
 mod rows;

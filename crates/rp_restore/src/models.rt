@@ -6,12 +6,14 @@ ghost use Rattle.rp_rows.specs.Rows.{Model as SpecModel};
 ghost use Rattle.rp_plain.specs.Valid.{IsValid};
 ghost use Rattle.rp_restore_laws.specs.Laws.{MayTakeModel, MayTakeModels};
 ghost use Rattle.rp_restore_laws.specs.Restoring.{with_model, with_models};
-ghost use Rattle.rp_restored_rows.specs.Models.{model_of, file_in};
+ghost use Rattle.rp_restored_rows.specs.Models.{model_of};
 ghost use Rattle.rp_snapshot_rows.specs.Again.{saved_model};
 ghost use Rattle.rp_snapshot_rows.specs.Tokens.{listed};
+ghost use Rattle.rp_snapshots.specs.Snapshots.{first_version, file_in};
 ghost use Rattle.rp_restore.specs.Again.{model_tokens, HoldsAgain, TakesModel};
 
 use crate::fault::{RefusedRow, RowKind, RowReason, SnapshotLack};
+use crate::offsets::reached;
 use crate::places::no_place;
 use crate::rows::{model_file, model_row};
 use json::Reader;
@@ -32,7 +34,7 @@ fn tested(
     file: &str,
 ) -> Result<RestoredModel, Failure<RowReason>>
     ensures may { IfOk result (λ taken. MayTakeModel holdings.now.content (model_of taken)) }
-    ensures again { (m : SpecModel) → MayTakeModel holdings.now.content m → saved ≡ saved_model m → file.now ≡ file_in holdings.now.content.schemas m.holds → TakesModel result m }
+    ensures again { (m : SpecModel) → MayTakeModel holdings.now.content m → saved ≡ saved_model m → file.now ≡ file_in first_version holdings.now.content.schemas m.holds → TakesModel result m }
 {
     let model = match restored_model(alloc, holdings.schemas(), holdings.partners(), saved, file) {
         Ok(model) => model,
@@ -57,7 +59,7 @@ fn refused(key: Key, at: usize, failure: Failure<RowReason>) -> Failure<Snapshot
         Failure::NoMemory => Failure::NoMemory,
         Failure::Fault(reason) => Failure::Fault(SnapshotLack::Row(RefusedRow {
             kind: RowKind::Model,
-            key,
+            key: Some(key),
             at,
             reason,
         })),
@@ -73,13 +75,14 @@ fn model<'s>(
     requires { IsValid holdings.old.content }
     ensures valid { IsValid holdings.new.content }
     ensures schemas { holdings.new.content.schemas ≡ holdings.old.content.schemas }
+    ensures partners { holdings.new.content.partners ≡ holdings.old.content.partners }
     ensures shorter { OnOk result (length reader.new < length reader.old) }
-    ensures again { (m : SpecModel) (rest : List SpecToken) → MayTakeModel holdings.old.content m → reader.old ≡ model_tokens (file_in holdings.old.content.schemas) m ++ rest → HoldsAgain result (with_model m holdings.old.content) holdings.new.content reader.new rest }
+    ensures again { (m : SpecModel) (rest : List SpecToken) → MayTakeModel holdings.old.content m → reader.old ≡ model_tokens (file_in first_version holdings.old.content.schemas) m ++ rest → HoldsAgain result (with_model m holdings.old.content) holdings.new.content reader.new rest }
 {
     restoring_keeps_validity();
-    let at = reader.offset();
-    let file = model_file(reader)?;
-    let row = model_row(alloc, reader)?;
+    let at = reached(reader);
+    let file = model_file(reader, at)?;
+    let row = model_row(alloc, reader, at)?;
     let key = row.key.copy(alloc)?;
     match tested(alloc, holdings, row, file) {
         Ok(model) => {
@@ -100,7 +103,8 @@ pub(crate) fn models<'s>(
     requires { IsValid holdings.old.content }
     ensures valid { IsValid holdings.new.content }
     ensures schemas { holdings.new.content.schemas ≡ holdings.old.content.schemas }
-    ensures again { (ms : List SpecModel) (rest : List SpecToken) → MayTakeModels ms holdings.old.content → reader.old ≡ listed (model_tokens (file_in holdings.old.content.schemas)) ms ++ rest → HoldsAgain result (with_models ms holdings.old.content) holdings.new.content reader.new rest }
+    ensures partners { holdings.new.content.partners ≡ holdings.old.content.partners }
+    ensures again { (ms : List SpecModel) (rest : List SpecToken) → MayTakeModels ms holdings.old.content → reader.old ≡ listed (model_tokens (file_in first_version holdings.old.content.schemas)) ms ++ rest → HoldsAgain result (with_models ms holdings.old.content) holdings.new.content reader.new rest }
 {
     'models: while !reader.take_end_array() {
         model(alloc, holdings, reader)?;

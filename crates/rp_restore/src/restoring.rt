@@ -9,15 +9,15 @@ ghost use Rattle.rp_plain.specs.Opening.{new_fault, opened};
 ghost use Rattle.rp_plain.specs.Valid.{IsValid};
 ghost use Rattle.rp_restore_laws.specs.Laws.{MayTakeRows};
 ghost use Rattle.rp_restore_laws.specs.Restoring.{with_rows};
-ghost use Rattle.rp_restored_rows.specs.Models.{file_in};
 ghost use Rattle.rp_snapshot_texts.specs.Again.{rows_tokens};
-ghost use Rattle.rp_snapshots.specs.Snapshots.{snapshot_of};
+ghost use Rattle.rp_snapshots.specs.Snapshots.{first_version, file_in, snapshot_of};
 ghost use Rattle.rp_restore.specs.Again.{ComesBack, Gives, Restores};
 ghost use Rattle.rp_restore.specs.Faults.{OpensFirst};
 
 use crate::fault::{RestoreFault, SnapshotLack};
 use crate::groups::groups;
 use crate::models::models;
+use crate::offsets::behind_first_line;
 use crate::rows::{first_list, list};
 use ex_loaded::LoadedSchema;
 use json::{Reader, Scratch};
@@ -38,9 +38,9 @@ fn text_behind<'a>(bytes: &'a [u8], first_line: &[u8]) -> Result<&'a str, Snapsh
     let Some(rest) = behind(bytes, first_line) else {
         return Err(SnapshotLack::FirstLine);
     };
-    match simdutf8::basic::from_utf8(rest) {
+    match simdutf8::compat::from_utf8(rest) {
         Ok(text) => Ok(text),
-        Err(_) => Err(SnapshotLack::Utf8),
+        Err(error) => Err(SnapshotLack::Utf8(behind_first_line(error.valid_up_to()))),
     }
 }
 
@@ -52,7 +52,9 @@ fn hold_rows<'s>(
 ) -> Result<(), Failure<SnapshotLack>>
     requires { IsValid holdings.old.content }
     ensures valid { IsValid holdings.new.content }
-    ensures again { (gs : List SpecGroup) (ms : List SpecModel) → MayTakeRows gs ms holdings.old.content → reader.old ≡ rows_tokens (file_in holdings.old.content.schemas) gs ms → Restores result (with_rows gs ms holdings.old.content) holdings.new.content }
+    ensures schemas { holdings.new.content.schemas ≡ holdings.old.content.schemas }
+    ensures partners { holdings.new.content.partners ≡ holdings.old.content.partners }
+    ensures again { (gs : List SpecGroup) (ms : List SpecModel) → MayTakeRows gs ms holdings.old.content → reader.old ≡ rows_tokens (file_in first_version holdings.old.content.schemas) gs ms → Restores result (with_rows gs ms holdings.old.content) holdings.new.content }
 {
     first_list(reader, "groups")?;
     groups(alloc, holdings, reader)?;
@@ -60,6 +62,7 @@ fn hold_rows<'s>(
     models(alloc, holdings, reader)
 }
 
+/// The rows of the text behind the first line are held.
 fn hold_text<'s>(
     alloc: Global,
     holdings: &mut Holdings<'s>,
@@ -67,7 +70,9 @@ fn hold_text<'s>(
 ) -> Result<(), Failure<SnapshotLack>>
     requires { IsValid holdings.old.content }
     ensures valid { IsValid holdings.new.content }
-    ensures again { (gs : List SpecGroup) (ms : List SpecModel) → MayTakeRows gs ms holdings.old.content → tokens text.now ≡ rows_tokens (file_in holdings.old.content.schemas) gs ms → Restores result (with_rows gs ms holdings.old.content) holdings.new.content }
+    ensures schemas { holdings.new.content.schemas ≡ holdings.old.content.schemas }
+    ensures partners { holdings.new.content.partners ≡ holdings.old.content.partners }
+    ensures again { (gs : List SpecGroup) (ms : List SpecModel) → MayTakeRows gs ms holdings.old.content → tokens text.now ≡ rows_tokens (file_in first_version holdings.old.content.schemas) gs ms → Restores result (with_rows gs ms holdings.old.content) holdings.new.content }
 {
     let mut scratch = Scratch::new(alloc);
     let mut reader = Reader::new(text, &mut scratch)?;
@@ -82,6 +87,8 @@ fn hold_bytes<'s>(
 ) -> Result<(), Failure<SnapshotLack>>
     requires { IsValid holdings.old.content }
     ensures valid { IsValid holdings.new.content }
+    ensures schemas { holdings.new.content.schemas ≡ holdings.old.content.schemas }
+    ensures partners { holdings.new.content.partners ≡ holdings.old.content.partners }
     ensures again { (r : Plain) → IsValid r → holdings.old.content ≡ opened r.schemas r.partners → bytes.now ≡ snapshot_of r → Restores result r holdings.new.content }
 {
     rows_may_be_put();
@@ -126,6 +133,8 @@ pub fn restore<'s>(
     ensures new { OpensFirst result (new_fault schemas.now partners.items) }
     ensures valid { IfOk result (λ holdings. IsValid holdings.content) }
     ensures same { IfOk result (λ holdings. bytes.now ≡ snapshot_of holdings.content) }
+    ensures schemas { IfOk result (λ holdings. holdings.content.schemas ≡ schemas.now) }
+    ensures partners { IfOk result (λ holdings. holdings.content.partners ≡ partners.items) }
     // From the snapshot of a valid repository of these schemas and partners it comes back, unless memory is wanting.
     ensures again { (r : Plain) → IsValid r → r.schemas ≡ schemas.now → r.partners ≡ partners.items → bytes.now ≡ snapshot_of r → ComesBack result r }
 {

@@ -15,13 +15,14 @@ use Rattle.rp_plain.specs.Meaning.{schema_named}
 use Rattle.rp_plain.specs.Valid.{IsValidContent, IsValidModel}
 use Rattle.rp_snapshot_rows.specs.declared.rows.SavedModel.{SavedModel}
 use Rattle.rp_snapshot_rows.specs.Again.{saved_model}
+use Rattle.rp_snapshots.specs.Snapshots.{first_version, file_by, file_in}
 use Rattle.rp_laws.proofs.BoundFiles.{bound_refer}
 use Rattle.rp_laws.proofs.ByName.{within, all_within}
 use Rattle.rp_laws.proofs.FileInstances.{all_spelled}
 use Rattle.rp_laws.proofs.TextAgain.{AllAccepted, model_again}
 use Rattle.rp_laws.proofs.ValidTables.{all_each}
 use Rattle.rp_restored_rows.specs.declared.lack.RowLack.{RowLack}
-use Rattle.rp_restored_rows.specs.Models.{joins, content_lack, file_by, file_in, IsTaken, Reads, Takes}
+use Rattle.rp_restored_rows.specs.Models.{joins, content_lack, IsTaken, Reads, Takes}
 use Rattle.rp_restored_rows.proofs.Checks.{holds, passes, neither, both_none}
 use Rattle.rp_restored_rows.proofs.FileContents.{one_read, in_order, all_sound}
 use Rattle.rp_restored_rows.proofs.LinkTests.{are_linked, links_valid, links_pass, free_pass, all_within_test, are_within}
@@ -94,14 +95,14 @@ module _ (schemas : List Checked) (partners : List Text) (s : SavedModel) (file 
 abbrev pub unlinked : Model → Content
 unlinked m = record m.holds.content { links = [] }
 
-pub valid_taken : (schemas : List Checked) (partners : List Text) → AllAccepted schemas → (m : Model) → IsValidModel schemas partners m → (file : Text) → file ≡ file_in schemas m.holds
+pub valid_taken : (schemas : List Checked) (partners : List Text) → AllAccepted schemas → (m : Model) → IsValidModel schemas partners m → (file : Text) → file ≡ file_in first_version schemas m.holds
     → IsTaken schemas partners (saved_model m) file (unlinked m)
 valid_taken schemas partners accepted m valid file is =
     let x = valid.content in
     let h = m.holds in
     let lows = all_within link_name h.greatest (greatest_name 0 h.content.instances) h.content.links x.in_use in
     let low = all_within instance_name h.greatest 0 h.content.instances lows.0 in
-    let text = is ∙ ap (λ o. file_by o h) x.loaded in
+    let text = is ∙ ap (λ o. file_by first_version o h) x.loaded in
     record {
       head =
           both_none _ _ (row_passes partners m valid.row)

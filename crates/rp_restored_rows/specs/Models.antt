@@ -1,17 +1,15 @@
 -- Tests of models, and what is taken of their files.
-use Rattle.std.specs.Prelude.{◌≡◌, ℕ, not, nat_le, nat_lt, List, [], length, Option, Some, None, Result, Ok, Err}
+use Rattle.std.specs.Prelude.{◌≡◌, ℕ, not, nat_le, nat_lt, List, length, Option, Some, None, Result, Ok, Err}
 use Rattle.std.specs.List.{list_all}
 use Rattle.std.specs.Ordering.{nat_cmp}
 use Rattle.plain_data.specs.Numbers.{is_among}
 use Rattle.plain_data.specs.declared.failure.Failure.{Failure}
 use Rattle.plain_data.specs.declared.failure.Failure.TheVariants.{NoMemory}
 use Rattle.ex_types.specs.Checked.{Checked}
-use Rattle.p21_canonical.specs.Trees.{canonical}
 use Rattle.p21_laws.specs.Contents.{IsRead}
 use Rattle.rp_content.specs.declared.content.Content.{Content}
 use Rattle.rp_content.specs.declared.link.Link.{Link}
 use Rattle.rp_rows.specs.declared.rows.Key.{Key}
-use Rattle.rp_rows.specs.declared.rows.ModelContent.{ModelContent}
 use Rattle.rp_rows.specs.Contents.{names, link_name, link_names}
 use Rattle.rp_rows.specs.Instances.{max_instances, max_name}
 use Rattle.rp_rows.specs.Names.{is_name}
@@ -66,14 +64,6 @@ content_lack s c =
     None))
 
 -- ---- files
-
--- the canonical text of what a model holds, by its schema
-abbrev pub file_by : Option Checked → ModelContent → Text
-file_by None h = []
-file_by (Some schema) h = canonical schema h.content
-
-abbrev pub file_in : List Checked → ModelContent → Text
-file_in schemas h = file_by (schema_named schemas h.schema) h
 
 -- what is read of a text; where something can be, no fault is told
 abbrev pub Reads : Checked → List ℕ → Text → Result Content (Failure RowLack) → Type 0

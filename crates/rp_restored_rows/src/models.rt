@@ -5,8 +5,9 @@ ghost use Rattle.std.specs.List.{list_all};
 ghost use Rattle.rp_rows.specs.Rows.{Model};
 ghost use Rattle.rp_plain.specs.Valid.{IsValidModel};
 ghost use Rattle.rp_snapshot_rows.specs.Again.{saved_model};
+ghost use Rattle.rp_snapshots.specs.Snapshots.{first_version, file_in};
 ghost use Rattle.rp_restored_rows.specs.Models as of_models;
-ghost use Rattle.rp_restored_rows.specs.Models.{model_of, joins, file_in, Takes, Restores};
+ghost use Rattle.rp_restored_rows.specs.Models.{model_of, joins, Takes, Restores};
 
 use crate::files::read;
 use crate::lack::RowLack;
@@ -137,7 +138,7 @@ pub fn restored_model<'s>(
     file: &str,
 ) -> Result<RestoredModel, Failure<RowLack>>
     ensures valid { IfOk result (λ restored. IsValidModel schemas.now partners.now (model_of restored)) }
-    ensures again { (m : Model) → IsValidModel schemas.now partners.now m → saved ≡ saved_model m → file.now ≡ file_in schemas.now m.holds → Restores result m }
+    ensures again { (m : Model) → IsValidModel schemas.now partners.now m → saved ≡ saved_model m → file.now ≡ file_in first_version schemas.now m.holds → Restores result m }
 {
     accepted_schemas(schemas);
     match content_of(alloc, schemas, partners, &saved, file.as_bytes()) {

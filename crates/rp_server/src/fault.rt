@@ -1,5 +1,6 @@
 //! Why the program ends with status 2, and the line that it then writes on standard error.
 use crate::page::Unwritten;
+use crate::snapshot::Lacking;
 use plain_data::{Failure, Text};
 use rp_command::CommandLineFault;
 use rp_config::Shown;
@@ -19,7 +20,8 @@ pub enum Fault {
     Words,
     /// Memory is wanting, of which nothing else tells.
     NoMemory,
-    /// The command ended so, and what is told beside it.
+    /// The command ended so, and what is told beside it: of a bad snapshot the kind of a file's fault, of one that isn't saved the
+    /// path, of all else the words behind a colon.
     Command(CommandFault, Option<String>),
 }
 
@@ -38,6 +40,15 @@ impl fmt::Display for Fault {
 #[derive(Clone, Copy, Drop)]
 struct Beside<'a>(&'a Option<String>);
 
+impl<'a> Beside<'a> {
+    fn as_str(&self) -> &'a str {
+        match self.0 {
+            Some(words) => words.as_str(),
+            None => "",
+        }
+    }
+}
+
 impl fmt::Display for Beside<'_> {
     fn fmt<W: fmt::Write>(&self, f: &mut fmt::Formatter<W>) -> fmt::Result {
         match self.0 {
@@ -54,15 +65,7 @@ fn write_of_command<W: fmt::Write>(
     beside: &Beside<'_>,
 ) -> fmt::Result {
     match fault {
-        CommandFault::Start(Failure::Fault(StartFault::Load(fault))) => {
-            write_of_file(f, fault, beside)
-        }
-        CommandFault::Start(Failure::Fault(StartFault::New(fault))) => {
-            write!(f, "{}{beside}", why_none(*fault))
-        }
-        CommandFault::Start(Failure::Fault(StartFault::Tokens(fault))) => {
-            write!(f, "{}{beside}", why_unknown(*fault))
-        }
+        CommandFault::Start(Failure::Fault(fault)) => write_of_start(f, fault, beside),
         CommandFault::Start(Failure::NoMemory) => f.write_str("out of memory"),
         CommandFault::Read => f.write_str("standard input can't be read"),
         CommandFault::Write => f.write_str("standard output can't be written"),
@@ -76,6 +79,26 @@ fn write_of_command<W: fmt::Write>(
             write!(f, "{address} can't be listened on: {}", Unheard(*error))
         }
         CommandFault::Serve(fault) => write_of_serving(f, fault),
+        CommandFault::Unsaved(why) => {
+            write!(f, "{} can't be saved: {why}", Shown(beside.as_str()))
+        }
+    }
+}
+
+/// Writes why there is nothing to work on.
+fn write_of_start<W: fmt::Write>(
+    f: &mut fmt::Formatter<W>,
+    fault: &StartFault,
+    beside: &Beside<'_>,
+) -> fmt::Result {
+    match fault {
+        StartFault::Load(fault) => write_of_file(f, fault, beside),
+        StartFault::New(fault) => write!(f, "{}{beside}", why_none(*fault)),
+        StartFault::Snapshot(path, lack) => {
+            let kind = beside.as_str();
+            write!(f, "{}: {}", shown(path), Lacking { lack, kind })
+        }
+        StartFault::Tokens(fault) => write!(f, "{}{beside}", why_unknown(*fault)),
     }
 }
 

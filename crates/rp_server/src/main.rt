@@ -4,12 +4,13 @@
 mod fault;
 mod page;
 mod progress;
+mod snapshot;
 
 use fault::Fault;
 use page::PageFiles;
 use plain_data::Failure;
 use progress::Progress;
-use rp_command::{Command, Delivery, Service, Telling, command_of};
+use rp_command::{Command, Delivery, Run, Service, Telling, command_of};
 use rp_config::{
     Shown, is_read_again, partner_twice_in, schema_twice, schema_twice_in, token_twice_in,
     what_begins, why_unreadable, wrong_place,
@@ -17,10 +18,11 @@ use rp_config::{
 use rp_delivery::{Asked, Form};
 use rp_files::{FromFiles, LoadFault, file_bytes};
 use rp_program::{
-    Done, Ends, Fault as CommandFault, StartFault, TokenFault, Verdict, bad_token_in, batch, check,
-    explain, serve, status_of, validate,
+    Done, Ends, Fault as CommandFault, Snapshots, StartFault, TokenFault, Verdict, bad_token_in,
+    batch, check, explain, serve, status_of, validate,
 };
 use rp_repo::{FromReader, NewFault, ToWriter};
+use snapshot::kind_of;
 use std::alloc::Global;
 use std::io::IsTerminal;
 use std::net::Net;
@@ -51,9 +53,13 @@ fn run<R: AllocGlobal + Files + Env + Print + Eprint + Input + Clock + Net>(
             Ok(()) => Ok(Done::Helped),
             Err(_) => Err(Fault::from(CommandFault::Write)),
         },
-        Command::Batch(path) => told(rt, Naming::Config(path), batch_of(rt, path)),
+        Command::Batch(run) => {
+            let ended = batch_of(rt, &run);
+            told(rt, Naming::Config(run.config, run.save), ended)
+        }
         Command::Serve(service) => {
-            told(rt, Naming::Config(service.config), serve_of(rt, &service))
+            let ended = serve_of(rt, &service);
+            told(rt, Naming::Config(service.config, service.save), ended)
         }
         Command::Check(path) => {
             let mut writer = ToWriter::new(io::writer(rt));
@@ -108,17 +114,23 @@ fn validate_of<R: AllocGlobal + Files + Print + Eprint + Clock>(
     ended
 }
 
-/// Answers the lines of standard input, by the repository that the configuration in the file of this path tells.
+/// Answers the lines of standard input, by the repository that the configuration tells.
 fn batch_of<R: AllocGlobal + Files + Print + Input>(
     rt: &R,
-    path: &str,
+    run: &Run<'_>,
 ) -> Result<Done, CommandFault> {
+    let snapshots = Snapshots {
+        load: run.load,
+        save: run.save,
+    };
     let mut reader = FromReader::new(rt.reader());
     let mut writer = ToWriter::new(io::writer(rt));
     batch(
         rt.alloc(),
         &FromFiles::new(rt),
-        path,
+        run.config,
+        snapshots,
+        rt,
         &mut reader,
         &mut writer,
     )
@@ -129,6 +141,10 @@ fn serve_of<R: AllocGlobal + Files + Eprint + Input + Clock + Net>(
     rt: &R,
     service: &Service<'_>,
 ) -> Result<Done, CommandFault> {
+    let snapshots = Snapshots {
+        load: service.load,
+        save: service.save,
+    };
     let ends = Ends {
         connections: service.connections,
         input: service.until_input_ends,
@@ -137,6 +153,7 @@ fn serve_of<R: AllocGlobal + Files + Eprint + Input + Clock + Net>(
         rt.alloc(),
         &FromFiles::new(rt),
         service.config,
+        snapshots,
         rt,
         service.address,
         ends,
@@ -161,8 +178,8 @@ fn told_of_schema<R: AllocGlobal + Files + Eprint>(
 #[derive(Clone, Copy)]
 enum Naming<'a> {
     Nothing,
-    /// The configuration at this path.
-    Config(&'a str),
+    /// The configuration at the first path; a snapshot is saved at the second, if there is one.
+    Config(&'a str, Option<&'a str>),
     /// The command line, by these paths.
     Paths(&'a [&'a str]),
 }
@@ -189,17 +206,33 @@ fn beside<R: AllocGlobal + Files>(
     fault: &CommandFault,
 ) -> Result<Option<String>, Fault> {
     match fault {
-        CommandFault::Start(Failure::Fault(StartFault::Load(fault))) => beside_file(rt, fault),
-        CommandFault::Start(Failure::Fault(StartFault::New(fault))) => match naming {
-            Naming::Nothing => Ok(None),
-            Naming::Config(path) => beside_config(rt, path, *fault),
-            Naming::Paths(paths) => beside_paths(rt, paths, *fault),
-        },
-        CommandFault::Start(Failure::Fault(StartFault::Tokens(fault))) => match naming {
-            Naming::Config(path) => beside_tokens(rt, path, *fault),
+        CommandFault::Start(Failure::Fault(fault)) => beside_start(rt, naming, fault),
+        CommandFault::Unsaved(_) => match naming {
+            Naming::Config(_, Some(path)) => Ok(Some(String::from_str(rt.alloc(), path)?)),
             _ => Ok(None),
         },
         _ => Ok(None),
+    }
+}
+
+/// What is told beside the fault of what a command works on.
+fn beside_start<R: AllocGlobal + Files>(
+    rt: &R,
+    naming: Naming<'_>,
+    fault: &StartFault,
+) -> Result<Option<String>, Fault> {
+    match fault {
+        StartFault::Load(fault) => beside_file(rt, fault),
+        StartFault::New(fault) => match naming {
+            Naming::Nothing => Ok(None),
+            Naming::Config(path, _) => beside_config(rt, path, *fault),
+            Naming::Paths(paths) => beside_paths(rt, paths, *fault),
+        },
+        StartFault::Snapshot(_, lack) => Ok(kind_of(rt.alloc(), lack)?),
+        StartFault::Tokens(fault) => match naming {
+            Naming::Config(path, _) => beside_tokens(rt, path, *fault),
+            _ => Ok(None),
+        },
     }
 }
 

@@ -5,7 +5,7 @@ ghost use Rattle.std.specs.List.{find, list_any};
 ghost use Rattle.sorted_tables.specs.Table.{with_row};
 ghost use Rattle.rp_rows.specs.declared.rows.Key.{Key as RowKey};
 ghost use Rattle.rp_rows.specs.Rows.{Text as Bytes, key_cmp, row_key, is_row, same_key, key_of};
-ghost use Rattle.rp_rows.specs.Alterations.{Holds, altered, grant_for};
+ghost use Rattle.rp_rows.specs.Alterations.{Holds, altered};
 ghost use Rattle.rp_rows.specs.Sight.{is_grant_to};
 ghost use Rattle.rp_sight.specs.Stored.{granted_row, rewritten};
 ghost use Rattle.rp_sight.specs.Granted.{granted_of, names_at, has_name, TellsGranted};

@@ -2,7 +2,7 @@
 //! counts but what is his or granted to him.
 
 ghost use Rattle.std.specs.Prelude.{◌≡◌, false, None, if◌then◌else◌};
-ghost use Rattle.std.specs.List.{find, list_any};
+ghost use Rattle.std.specs.List.{find};
 ghost use Rattle.sorted_tables.specs.Table.{IsAscending};
 ghost use Rattle.rp_rows.specs.Rows.{key_cmp, row_key, is_row, key_of};
 ghost use Rattle.rp_rows.specs.Sight as sight;

@@ -1,6 +1,6 @@
 //! What stands under keys, in the order of owner and name.
 
-ghost use Rattle.std.specs.Prelude.{◌≡◌, ◌<◌, ◌≤◌, ◌+◌, [], ◌∷◌, Some, None, length, take, drop, filter, not, is_some, get_or, OnOk, OnErr, IfOk, MatchResult, option_copied, option_map};
+ghost use Rattle.std.specs.Prelude.{◌≡◌, ◌<◌, ◌≤◌, [], ◌∷◌, Some, None, length, take, drop, filter, not, is_some, get_or, OnOk, OnErr, IfOk, MatchResult, option_copied, option_map};
 ghost use Rattle.std.specs.List.{find};
 ghost use Rattle.std.specs.Ordering.{is_lt, is_gt};
 ghost use Rattle.std.specs.Str.{bytes_eq};

@@ -1,7 +1,7 @@
 //! How changes are prepared.
 #![tactic(auto, unfolding(crate::specs::Kept::Fits))]
 
-ghost use Rattle.std.specs.Prelude.{◌≡◌, ◌+◌, ◌<◌, Some, None, MatchResult, IfOk, length, nat_lt, ◌||◌, option_map};
+ghost use Rattle.std.specs.Prelude.{◌≡◌, ◌+◌, ◌<◌, Some, None, MatchResult, IfOk, ◌||◌, option_map};
 ghost use Rattle.rp_store.specs.declared.changes.Change.TheVariants as c;
 ghost use Rattle.rp_store.specs.Entries.{HasAt};
 ghost use Rattle.rp_store.specs.Models.{held_at};

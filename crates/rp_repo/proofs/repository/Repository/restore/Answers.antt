@@ -1,5 +1,4 @@
 use Rattle.std.proofs.Common.{sym, subst}
-use Rattle.ex_types.specs.Checked.{Checked}
 use Rattle.rp_laws.specs.Laws.{TextAgain}
 use Rattle.rp_repo.proofs.repository.Repository.restore.Goals as goal
 
