@@ -4,7 +4,6 @@ use Rattle.std.specs.Prelude.{⊤}
 use Rattle.std.specs.declared.net.socket_addr.SocketAddr.{SocketAddr}
 use Rattle.plain_data.specs.declared.failure.Failure.{Failure}
 use Rattle.plain_data.specs.declared.failure.Failure.TheVariants.{NoMemory}
-use Rattle.plain_data.specs.Gives.{Fails}
 use Rattle.rp_files.specs.Files.{Held}
 use Rattle.rp_config.specs.Loading.{loaded_at}
 use Rattle.rp_config.specs.declared.loading.Loaded.{Loaded}
@@ -15,8 +14,8 @@ use Rattle.rp_program.specs.declared.ending.Done.{Done}
 use Rattle.rp_program.specs.declared.ending.Done.TheVariants.{Helped, Answered, Served, Checked, Validated}
 use Rattle.rp_program.specs.declared.fault.StartFault.{StartFault}
 use Rattle.rp_program.specs.declared.fault.Fault.{Fault}
-use Rattle.rp_program.specs.declared.fault.Fault.TheVariants.{Start, Read, Write, Refused, Page, Listen, Serve}
-use Rattle.rp_program.specs.Starts.{repository_of, opened_at}
+use Rattle.rp_program.specs.declared.fault.Fault.TheVariants.{Start, Read, Write, Refused, Page, Listen, Serve, Unsaved}
+use Rattle.rp_program.specs.Starts.{SnapshotFile, IsGiven, Starts, StartsAt, StartedWith, FailsBy}
 use Rattle.rp_program.specs.Served.{Serves, ServesFrom, IsServed}
 use Rattle.rp_program.proofs.StartLemmas.{start_fails}
 
@@ -34,20 +33,23 @@ module _ (Lacks More : Failure StartFault → Type 0) (It Then : Type 0) (lacks 
   served_so address (Err Write) is = is
   served_so address (Err (Refused path words)) is = is
   served_so address (Err (Page path error)) is = is
+  served_so address (Err (Unsaved why)) is = it is
 
--- the repository of what was loaded was served
-pub served_of : (loaded : Loaded) (start end : Plain) (tokens : List (List ℕ)) → repository_of loaded ≡ Ok start → tokens ≡ loaded.tokens → Leaves tokens start end → IsValid end
+-- the repository that was started with was served
+pub served_of : (loaded : Loaded) (given : Option SnapshotFile) (start end : Plain) (tokens : List (List ℕ)) → Starts loaded given (Ok start) → tokens ≡ loaded.tokens → Leaves tokens start end → IsValid end
     → (address : SocketAddr) (result : Result Done Fault) → IsServed (λ why. why ≡ NoMemory) ⊤ address result
-    → IsServed (λ why. Fails why (repository_of loaded)) (Serves loaded) address result
-served_of loaded start end tokens opened same run valid address result is =
-    served_so (λ why. why ≡ NoMemory) (λ why. Fails why (repository_of loaded)) ⊤ (Serves loaded)
-    (λ why none. subst (λ w. Fails w (repository_of loaded)) (sym none) tt)
-    (λ it. record { start = start; opened = opened; end = end; run = subst (λ t. Leaves t start end) same run; valid = valid })
+    → IsServed (λ why. FailsBy why (λ fault. Starts loaded given (Err fault))) (Serves loaded given) address result
+served_of loaded given start end tokens starts same run valid address result is =
+    served_so (λ why. why ≡ NoMemory) (λ why. FailsBy why (λ fault. Starts loaded given (Err fault))) ⊤ (Serves loaded given)
+    (λ why none. subst (λ w. FailsBy w (λ fault. Starts loaded given (Err fault))) (sym none) tt)
+    (λ it. record { start = start; is_start = starts; end = end; run = subst (λ t. Leaves t start end) same run; valid = valid })
     address result is
 
-pub served_from : (files : Option Held) (path : List ℕ) (loaded : Loaded) (address : SocketAddr) (result : Result Done Fault) → IfSome files (λ held. loaded_at held path ≡ Ok loaded)
-    → IsServed (λ why. Fails why (repository_of loaded)) (Serves loaded) address result
-    → IsServed (λ why. IfSome files (λ held. Fails why (opened_at held path))) (ServesFrom files path) address result
-served_from files path loaded address result known is =
-    served_so (λ why. Fails why (repository_of loaded)) (λ why. IfSome files (λ held. Fails why (opened_at held path))) (Serves loaded) (ServesFrom files path)
-    (λ why. start_fails files path loaded why known) (λ served. (loaded, known, served)) address result is
+pub served_from : (files : Option Held) (path : List ℕ) (asked : Option (List ℕ)) (loaded : Loaded) (given : Option SnapshotFile) (address : SocketAddr) (result : Result Done Fault)
+    → IfSome files (λ held. loaded_at held path ≡ Ok loaded) → IsGiven files asked given
+    → IsServed (λ why. FailsBy why (λ fault. Starts loaded given (Err fault))) (Serves loaded given) address result
+    → IsServed (λ why. IfSome files (λ held. FailsBy why (λ fault. StartsAt held path asked (Err fault)))) (ServesFrom files path asked) address result
+served_from files path asked loaded given address result known is_given is =
+    served_so (λ why. FailsBy why (λ fault. Starts loaded given (Err fault))) (λ why. IfSome files (λ held. FailsBy why (λ fault. StartsAt held path asked (Err fault)))) (Serves loaded given) (ServesFrom files path asked)
+    (λ why. start_fails files path asked loaded given why known is_given)
+    (λ served. record { loaded = loaded; is_loaded = known; given = given; is_given = is_given; told = served }) address result is
