@@ -877,7 +877,7 @@ def test_command_line_faults():
     wrong = [
         [], [""], ["batch"], ["--config", "config.json"], ["config.json"], ["Batch", *given[1:]],
         ["batch", "config.json"], ["batch", "--config"], ["batch", "--config", "--config"], ["batch", "--config", "-x"],
-        [*given, "--config", "config.json"], [*given, "more"], [*given, "--load", "x"], [*given, "--save", "x"],
+        [*given, "--config", "config.json"], [*given, "more"], [*given, "--load"], [*given, "--save"], [*given, "--load", "-x"], [*given, "--save", "-x"],
         [*given, "--listen", "127.0.0.1:0"], ["check"], ["check", "t.exp", "t.exp"], ["serve", *given[1:]],
         ["batch", "-c", "config.json"], ["batch", "--conf", "config.json"], ["batch", "--config", "config.json", "--", "x"],
         ["two", "batch", "--config", "config.json"], [b"b\xff"], [b"\xc3", *given], ["batch", "--config", b"config.json\xff"], ["check", b"\xa0.exp"],

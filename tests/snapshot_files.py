@@ -1,0 +1,595 @@
+#!/usr/bin/env python3
+"""Runs the built program with `--save` where files fail, where it is killed, and where something else stands in the place: what is saved is
+replaced as a whole or not at all.
+
+    tests/snapshot_files.py [PROGRAM]
+
+tools/file_faults.c has each of the program's calls on files fail, and kills it at each; tools/refuse.c refuses its allocations. The last
+line is 'snapshot files: N passed, M failed', and the status is 0 only if none failed.
+"""
+import collections
+import copy
+import errno
+import os
+import random
+import re
+import resource
+import shutil
+import signal
+import socket
+import subprocess
+import sys
+import tempfile
+import time
+from concurrent.futures import ThreadPoolExecutor
+
+from lib.harness import TOP, Folder, LeftOut, Wrong, run_tests, shortened
+from lib.messages import MIB, OK, T, add, added, create, create_group, file_of, grant, include, instances, link, list_of, listed, named, names, put
+from lib.plain_binding import Entity, Schema
+from lib.plain_files import read, read_mapping
+from lib.plain_model import Repository as PlainRepository
+from lib.plain_snapshots import model, snapshot, snapshot_of
+from lib.saving import OLD, Saving, difference, each, files_in, replies_of, until
+
+sys.path.insert(0, os.path.join(TOP, "tools"))
+
+from each_refusal import NO_MEMORY, Failure, run, shim_in  # noqa: E402
+
+CONFIG = {"partners": [{"name": "ann", "token": "ta"}, {"name": "bob", "token": "tb"}], "schemas": ["t.exp"]}
+# the lines of a run, their replies, and what it saves
+LINES = [create("ann", "m"), put("ann", "ann", "m", file_of("#1=P(1.,'" + "x" * 3000 + "');")), create("bob", "b"), list_of("bob")]
+REPLIES = replies_of([OK, instances(1), OK, listed((b"owner", b"b", b"bob"))])
+NEW = snapshot([], [model("ann", "m", "#1=P(1.,'" + "x" * 3000 + "');"), model("bob", "b")])
+LINE = re.compile(rb"rp_server: [^\n]+\n")
+BATCH = ("batch", "--config", "config.json")
+
+
+def saving(folder, name, env=None, lines=LINES, **devices):
+    """A run that saves in this folder."""
+    return folder.ended(name, *BATCH, "--save", f"{name}/kept", text=b"".join(it + b"\n" for it in lines), **({"env": env} if env else {}), **devices)
+
+
+def expect_new(seen, data=NEW, replies=REPLIES):
+    if seen[:3] != (0, replies, b"") or seen.files != {"kept": data}:
+        raise Wrong(f"{seen[:3]}, {sorted(seen.files)} are left, and {difference(seen.files.get('kept'), data)} is saved")
+
+
+def expect_fault(seen, output, files):
+    """Status 2, one line, these replies, and these files."""
+    if (seen.status, seen.output) != (2, output) or not LINE.fullmatch(seen.errors) or seen.files != files:
+        raise Wrong(f"{seen[:3]}, and {shown(seen.files)} is left")
+
+
+def shown(files):
+    return {name: shortened(it) if isinstance(it, bytes) else it for name, it in files.items()}
+
+
+class Faults:
+    """A folder with a shim that has the calls of a run on its files fail."""
+
+    def __init__(self):
+        self.folder = Saving(CONFIG)
+        self.shim = shim_in(self.folder.folder.name, "file_faults")
+
+    def __enter__(self):
+        return self
+
+    def __exit__(self, *_):
+        self.folder.__exit__()
+
+    def run(self, files, lines=LINES, **faults):
+        """A run whose folder has these files, and the calls that it made there."""
+        name = self.folder.place(**files)
+        log = self.folder.path(f"log-{name}")
+        env = {"LD_PRELOAD": self.shim, "FAULT_IN": name, "FAULT_LOG": log, **{f"FAULT_{key.upper()}": str(it) for key, it in faults.items()}}
+        seen = saving(self.folder, name, env, lines)
+        with open(log, encoding="utf-8") as it:
+            calls = [(call, os.path.relpath(path, name)) for call, path in (line.rstrip("\n").split(" ", 1) for line in it)]
+        return name, seen, calls
+
+
+def test_the_order_of_calls():
+    """All is written and synced before it is renamed, and the folder is synced behind that: a crash at any moment leaves the old or the new
+    text."""
+    with Faults() as faults:
+        for files in ({}, {"kept": OLD}, {"kept": OLD, "kept.part": b"left"}):
+            _, seen, calls = faults.run(files)
+            expect_new(seen)
+            of = collections.defaultdict(list)
+            for at, call in enumerate(calls):
+                of[call].append(at)
+            try:
+                (renamed,), made = of["rename", "kept.part"], of["create", "kept.part"][-1]
+                is_in_order = (made < min(of["write", "kept.part"]) and max(of["write", "kept.part"]) < min(of["sync", "kept.part"])
+                               and max(of["sync", "kept.part"]) < renamed < max(of["sync", "."]))
+            except (IndexError, ValueError):
+                is_in_order = False
+            touched = [call for call in calls if call[1] == "kept" and call[0] not in ("look",)]
+            if not is_in_order or touched:
+                raise Wrong(f"the calls are {calls}")
+
+
+def test_each_call_fails():
+    """Status 2 and one line: nothing is answered where it is begun, or all; the old text is there, or the new one where only its folder
+    wasn't synced. Nothing is left beside it."""
+    with Faults() as faults:
+        for files in ({"kept": OLD}, {"kept": OLD, "kept.part": b"left"}):
+            _, _, calls = faults.run(files)
+            synced = max(at for at, call in enumerate(calls) if call == ("sync", "."))
+
+            def look(row, files=files, calls=calls, synced=synced):
+                at, error = row
+                name, seen, made = faults.run(files, at=at + 1, error=error)
+                call, path = calls[at]
+                if call == "close":
+                    expect_new(seen)
+                    return
+                is_begun = any(it[0] == "write" for it in made[:at + 1])
+                wanted = {"kept": NEW if at == synced else OLD}
+                if call == "remove":
+                    wanted["kept.part"] = b"left"
+                if call in ("open", "create", "look", "remove") and not is_begun and error == errno.ENOENT:
+                    # (what isn't there need not be)
+                    return
+                expect_fault(seen, REPLIES if is_begun else b"", wanted)
+                if files_in(faults.folder.path(name)) != wanted:
+                    raise Wrong("something changes behind the end")
+
+            each(look, [(at, error) for at in range(len(calls)) for error in (errno.EIO, errno.ENOSPC, errno.EACCES)])
+        writes = [at for at, call in enumerate(calls) if call[0] == "write"]
+
+        def takes_nothing(row):
+            _, seen, _ = faults.run({"kept": OLD}, at=row[0] + 1, error=0)
+            expect_fault(seen, REPLIES, {"kept": OLD})
+
+        each(takes_nothing, [(at,) for at in writes[:20]])
+
+
+def test_a_full_disk():
+    """Where there is room for only so many bytes, the old text stays, and nothing is left; with more room it is replaced."""
+    with Faults() as faults:
+        def look(row):
+            room, error = row
+            _, seen, _ = faults.run({"kept": OLD}, bytes=room, error=error)
+            if room >= len(NEW):
+                expect_new(seen)
+            else:
+                expect_fault(seen, REPLIES, {"kept": OLD})
+
+        each(look, [(room, error) for error in (errno.ENOSPC, errno.EDQUOT, errno.EFBIG) for room in [*range(0, len(NEW), 397), len(NEW) - 1, len(NEW)]])
+
+    def limited(room):
+        signal.signal(signal.SIGXFSZ, signal.SIG_IGN)
+        resource.setrlimit(resource.RLIMIT_FSIZE, (room, room))
+
+    def under_limit(row):
+        name = folder.place(kept=OLD)
+        seen = saving(folder, name, preexec_fn=lambda: limited(row[0]))
+        if row[0] < len(NEW):
+            expect_fault(seen, REPLIES, {"kept": OLD})
+        else:
+            expect_new(seen)
+
+    with Saving(CONFIG) as folder:
+        each(under_limit, [(0,), (1,), (100,), (len(NEW) // 2,), (len(NEW) - 1,), (len(NEW),)])
+
+
+MOUNTED = """mount -t tmpfs -o size=64k tmpfs full && cp old full/kept || exit 99
+"$@" --save full/kept <large; echo "status $?"; ls full; cmp old full/kept; "$@" --save full/kept <small; echo "status $?"; ls full; cmp new full/kept"""
+
+
+def test_a_disk_that_is_full():
+    """The same on a disk of 64 KiB, where one may be mounted: a text of 200 KB isn't saved, and then one of 30 KB is."""
+    if Folder.stand_in:
+        raise LeftOut
+    with Saving(CONFIG) as folder:
+        large, small = (create("ann", "m") + b"\n" + put("ann", "ann", "m", file_of("#1=P(1.,'" + "x" * size + "');")) + b"\n" for size in (200_000, 30_000))
+        folder.write("large", large)
+        folder.write("small", small)
+        folder.write("old", OLD)
+        folder.write("new", snapshot([], [model("ann", "m", "#1=P(1.,'" + "x" * 30_000 + "');")]))
+        os.mkdir(folder.path("full"))
+        done = subprocess.run(["unshare", "--mount", *(["--map-root-user"] if os.geteuid() else []), "sh", "-c", MOUNTED, "sh", Folder.program, *BATCH],
+                              cwd=folder.folder.name, capture_output=True, check=False) if shutil.which("unshare") else None
+        if done is None or done.returncode in (1, 99) and b"status" not in done.stdout:
+            print(f"snapshot files: no disk may be mounted here, so the row of a mounted one is left out: {done and done.stderr.decode().strip()}")
+            return
+        told = OK.decode() + '\n{"ok":{"instances":1}}\n'
+        if done.stdout.decode() != f"{told}status 2\nkept\n{told}status 0\nkept\n" or not LINE.fullmatch(done.stderr):
+            raise Wrong(f"{done.stdout!r}, {done.stderr!r}")
+
+
+# ---- killed
+
+def expect_old_or_new(files, *texts):
+    """One of these texts is there whole, and at most what was begun beside it."""
+    if files.get("kept") not in texts or not set(files) <= {"kept", "kept.part"}:
+        raise Wrong(f"{shown(files)} is left")
+
+
+def test_killed_at_each_call():
+    """The old or the new text is there, whole. What was begun may be left, and the next save takes it away."""
+    with Faults() as faults:
+        left = []
+
+        def look(row):
+            files, fault = row[1:]
+            name, seen, made = faults.run(files, **fault)
+            if seen.status != -signal.SIGKILL:
+                raise Wrong(f"it ended with status {seen.status}")
+            expect_old_or_new(seen.files, OLD, NEW)
+            if (seen.files["kept"] == NEW) != (("rename", "kept.part") in made[:-1]):
+                raise Wrong(f"{shown(seen.files)} is there after {made}")
+            left.append("kept.part" in seen.files)
+            expect_new(saving(faults.folder, name))
+
+        for files in ({"kept": OLD}, {"kept": OLD, "kept.part": b"left" * 5000}):
+            _, _, calls = faults.run(files)
+            rows = [(f"at call {at} of {len(calls)}, {calls[at - 1]}", files, {"at": at}) for at in range(1, len(calls) + 1)]
+            rows += [(f"after {count} bytes", files, {"bytes": count}) for count in [*range(0, len(NEW), 211), len(NEW) - 1]]
+            each(look, rows)
+        if not any(left) or all(left):
+            raise Wrong("of all that were killed none left what it had begun, or all did")
+
+
+# a text that is saved in a tenth of a second or more
+LARGE = [f"#{k}=P({k}.5,'{'a b c d e f g ' * 8}');" for k in range(1, 60_001)]
+
+
+def test_killed_at_any_moment():
+    """A hundred times, at a random moment of a save: the old or the new text is there, and the next save is whole."""
+    if Folder.stand_in:
+        raise LeftOut
+    chance = random.Random(3)
+    # (what is put has the same names and values in the canonical spelling)
+    lines = [re.sub(r"\((\d+)\.5,", lambda it: f"({it[1]}5.E-1,", it) for it in LARGE]
+    old = snapshot([], [model("ann", "m", *lines)])
+    new = snapshot([], [model("ann", "m", *lines), model("ann", "n")])
+    counts = collections.Counter()
+    with Saving(CONFIG) as folder:
+        folder.write("old", old)
+
+        def begun(name):
+            process = folder.start(*BATCH, "--load", "old", "--save", f"{name}/kept")
+            process.stdin.write(create("ann", "n") + b"\n")
+            if process.stdout.readline() != OK + b"\n":
+                raise Wrong(f"it doesn't answer: {process.communicate()!r}")
+            process.stdin.close()
+            return process, time.monotonic()
+
+        def whole():
+            """How long a save takes here and now, about."""
+            process, begin = begun(folder.place(kept=old))
+            with process:
+                status = process.wait()
+            if status:
+                raise Wrong(f"status {status}")
+            return time.monotonic() - begin
+
+        seconds = max(whole(), whole())
+
+        def look(row):
+            name = folder.place(kept=old)
+            process, _ = begun(name)
+            with process:
+                time.sleep(row[1])
+                process.kill()
+                status = process.wait()
+            files = files_in(folder.path(name))
+            expect_old_or_new(files, old, new)
+            counts["new" if files["kept"] == new else "old"] += 1
+            counts["left"] += "kept.part" in files
+            if status == 0 and files != {"kept": new}:
+                raise Wrong(f"it ended, and {sorted(files)} are there")
+            if row[0] % 10 == 0:
+                expect_new(saving(folder, name))
+            shutil.rmtree(folder.path(name))
+
+        each(look, [(k, chance.random() * seconds * 1.1) for k in range(100)], 2)
+    if min(counts["old"], counts["left"]) < 5:
+        raise Wrong(f"of a hundred kills {dict(counts)}: they missed the saves")
+
+
+# ---- what stands there
+
+def test_what_is_no_file():
+    """A symbolic link, one that leads nowhere, a folder, a pipe, a socket and a device are refused before the first line; what they are or
+    lead to is as it was."""
+    with Saving(CONFIG) as folder:
+        name = folder.place(target=OLD)
+        place = folder.path(name)
+        os.symlink("target", f"{place}/link")
+        os.symlink("nowhere", f"{place}/dangling")
+        os.mkdir(f"{place}/folder")
+        os.mkfifo(f"{place}/pipe")
+        with socket.socket(socket.AF_UNIX) as it:
+            # (a relative path, since those of sockets are short)
+            before = os.getcwd()
+            os.chdir(place)
+            it.bind("socket")
+            os.chdir(before)
+        files = files_in(place)
+        for path in ("link", "dangling", "folder", "folder/", "pipe", "socket", ".", "link/", "target/", "target/x", "absent/x", ""):
+            seen = folder.ended(name, *BATCH, "--save", f"{name}/{path}" if path else "", text=LINES[0], seconds=20)
+            try:
+                expect_fault(seen, b"", files)
+            except Wrong as fault:
+                raise Wrong(f"{path}: {fault}") from fault
+        for path in ("/dev/null", "/dev/full", "/", "/proc/self/status"):
+            seen = folder.ended(name, *BATCH, "--save", path, text=LINES[0], seconds=20)
+            expect_fault(seen, b"", files)
+        if os.path.exists("/dev/null.part") or os.listdir(f"{place}/folder"):
+            raise Wrong("something is made beside what is no file")
+        # of a path that is too long, and of one whose part would be
+        for length, is_made in ((250, True), (251, False), (256, False)):
+            seen = folder.ended(name, *BATCH, "--save", f"{name}/" + "n" * length, text=LINES[0])
+            wanted = {**files, "n" * length: snapshot([], [model("ann", "m")])} if is_made else files
+            if (seen.status, seen.files) != (0 if is_made else 2, wanted):
+                raise Wrong(f"a name of {length} bytes: {seen[:3]}, {sorted(seen.files)}")
+            if is_made:
+                os.remove(f"{place}/{'n' * length}")
+
+
+def test_what_an_earlier_run_left():
+    """What stands where it is begun is removed, and not written over: a longer file that all may read, a link, whose target stays. A folder
+    there is a fault."""
+    with Saving(CONFIG) as folder:
+        name = folder.place(kept=OLD, **{"kept.part": b"x" * 100_000})
+        place = folder.path(name)
+        os.chmod(f"{place}/kept.part", 0o666)
+        expect_new(saving(folder, name))
+        name = folder.place(kept=OLD, target=b"target")
+        place = folder.path(name)
+        os.symlink("target", f"{place}/kept.part")
+        seen = saving(folder, name)
+        if seen[:3] != (0, REPLIES, b"") or seen.files != {"kept": NEW, "target": b"target"}:
+            raise Wrong(f"{seen[:3]}, {shown(seen.files)}")
+        os.link(f"{place}/target", f"{place}/kept.part")
+        seen = saving(folder, name)
+        if seen[:3] != (0, REPLIES, b"") or seen.files != {"kept": NEW, "target": b"target"}:
+            raise Wrong(f"{seen[:3]}, {shown(seen.files)}")
+        os.mkdir(f"{place}/kept.part")
+        expect_fault(saving(folder, name), b"", {"kept": NEW, "target": b"target", "kept.part": "d"})
+
+
+def mode_of(path):
+    return os.stat(path).st_mode & 0o7777
+
+
+def test_modes_and_other_names():
+    """Only its owner may read what is saved, whatever the mask is and what stood there. Another name of what stood there keeps it."""
+    with Saving(CONFIG) as folder:
+        for mask, mode in ((0, None), (0o22, 0o644), (0, 0o777), (0o777, 0o400), (0o22, 0o000)):
+            name = folder.place(**({} if mode is None else {"kept": OLD}))
+            place = folder.path(f"{name}/kept")
+            if mode is not None:
+                os.chmod(place, mode)
+                os.link(place, folder.path(f"{name}/other"))
+            seen = saving(folder, name, preexec_fn=lambda mask=mask: os.umask(mask))
+            files = {"kept": NEW, **({} if mode is None else {"other": OLD})}
+            if seen[:3] != (0, REPLIES, b"") or seen.files != files or mode_of(place) != 0o600 & ~mask:
+                raise Wrong(f"mask {mask:o}: {seen[:3]}, {sorted(seen.files)}, mode {mode_of(place):o}")
+
+
+def test_paths():
+    """From the working directory, from the root, through a folder that is a link, and with points and slashes."""
+    with Saving(CONFIG) as folder:
+        name = folder.place()
+        place = folder.path(name)
+        os.symlink(name, folder.path("linked"))
+        for path in (f"{name}/kept", f"./{name}/kept", f"{name}//kept", f"{name}/./kept", f"{name}/../{name}/kept", f"{place}/kept", "linked/kept"):
+            expect_new(folder.ended(name, *BATCH, "--save", path, text=b"".join(it + b"\n" for it in LINES)))
+            os.remove(f"{place}/kept")
+        seen = folder.ended(".", *BATCH, "--save", "kept here", text=b"".join(it + b"\n" for it in LINES))
+        if seen[:3] != (0, REPLIES, b"") or seen.files["kept here"] != NEW or "kept here.part" in seen.files:
+            raise Wrong(f"{seen[:3]}, {sorted(seen.files)}")
+
+
+# ---- who may
+
+def another():
+    """Who else runs the program, where this one may write everywhere."""
+    return {"user": 65_534, "group": 65_534, "extra_groups": []} if os.geteuid() == 0 else {}
+
+
+def as_another(folder, name, *words):
+    done = subprocess.run([folder.path("program"), *BATCH, *words], cwd=folder.folder.name, input=b"".join(it + b"\n" for it in LINES), capture_output=True, check=False, **another())
+    return done.returncode, done.stdout, done.stderr, files_in(folder.path(name))
+
+
+def test_who_may_not():
+    """In a folder that may not be written, or not be searched, nothing is begun. Where the folder may be written, what another one's file
+    stood for is replaced, and is one's own. What may not be read isn't loaded."""
+    if Folder.stand_in:
+        raise LeftOut
+    with Saving(CONFIG) as folder:
+        shutil.copy(Folder.program, folder.path("program"))
+        for it, mode in ((".", 0o755), ("program", 0o755), ("config.json", 0o644), ("t.exp", 0o644)):
+            os.chmod(folder.path(it), mode)
+        for mode in (0o555, 0o444, 0o000):
+            name = folder.place(kept=OLD)
+            os.chmod(folder.path(f"{name}/kept"), 0o666)
+            if os.geteuid() == 0:
+                os.chown(folder.path(name), 65_534, 65_534)
+            os.chmod(folder.path(name), mode)
+            status, output, errors, _ = as_another(folder, name, "--save", f"{name}/kept") if os.geteuid() == 0 else (*as_another(folder, ".", "--save", f"{name}/kept")[:3], None)
+            os.chmod(folder.path(name), 0o755)
+            if (status, output) != (2, b"") or not LINE.fullmatch(errors) or b"ermission" not in errors or files_in(folder.path(name)) != {"kept": OLD}:
+                raise Wrong(f"folder {mode:o}: {(status, output, errors)}, {files_in(folder.path(name))}")
+        name = folder.place(kept=OLD, snap=NEW)
+        os.chmod(folder.path(name), 0o777)
+        status, output, errors, files = as_another(folder, name, "--save", f"{name}/kept")
+        if (status, output, errors) != (0, REPLIES, b"") or files != {"kept": NEW, "snap": NEW} or mode_of(folder.path(f"{name}/kept")) != 0o600:
+            raise Wrong(f"a folder that all may write: {(status, output, errors)}, {sorted(files)}")
+        os.chmod(folder.path(f"{name}/snap"), 0o200)
+        status, output, errors, files = as_another(folder, name, "--load", f"{name}/snap", "--save", f"{name}/kept")
+        if (status, output) != (2, b"") or not re.fullmatch(rb"rp_server: [^\n]*/snap[^\n]* can't be read: permission is denied\n", errors) or files["kept"] != NEW:
+            raise Wrong(f"a snapshot that may not be read: {(status, output, errors)}")
+
+
+def test_what_cant_be_loaded():
+    """It is told why. What a link leads to is loaded, and so is a pipe."""
+    rows = [("absent", "there is no such file"), ("", "there is no such file"), ("sub/absent", "there is no such file"), (".", "it is a folder"), ("sub", "it is a folder"),
+            ("snap/", "a part of its path is no folder"), ("snap/x", "a part of its path is no folder"), ("x" * 256, "its path is too long"), ("circle", "its links lead in a circle")]
+    with Saving(CONFIG) as folder:
+        folder.write("snap", NEW)
+        os.mkdir(folder.path("sub"))
+        os.symlink("circle", folder.path("circle"))
+        os.symlink("snap", folder.path("link"))
+        for path, why in rows:
+            name = folder.place(kept=OLD)
+            seen = folder.ended(name, *BATCH, "--load", path, "--save", f"{name}/kept", text=LINES[0])
+            if seen[:2] != (2, b"") or seen.files != {"kept": OLD} or not re.fullmatch(rb"rp_server: \"?%s\"? can't be read: %s\n" % (re.escape(path.encode()), why.encode()), seen.errors):
+                raise Wrong(f"{path}: {seen[:3]}, {seen.files}")
+        name = folder.place()
+        expect_new(folder.ended(name, *BATCH, "--load", "link", "--save", f"{name}/kept"), replies=b"")
+        os.mkfifo(folder.path("pipe"))
+        name = folder.place()
+        with subprocess.Popen(["sh", "-c", "cat snap >pipe"], cwd=folder.folder.name):
+            expect_new(folder.ended(name, *BATCH, "--load", "pipe", "--save", f"{name}/kept", seconds=20), replies=b"")
+
+
+# ---- two at once
+
+def test_two_at_once():
+    """Of two runs that replace one file the later takes the place where it is begun; the other one saves nothing, and takes nothing away."""
+    if Folder.stand_in:
+        raise LeftOut
+    with Saving(CONFIG) as folder:
+        name = folder.place(kept=OLD)
+        part = folder.path(f"{name}/kept.part")
+        with folder.start(*BATCH, "--save", f"{name}/kept") as one:
+            if not until(lambda: os.path.exists(part)):
+                raise Wrong("nothing is begun")
+            before = os.stat(part).st_ino
+            with folder.start(*BATCH, "--save", f"{name}/kept") as other:
+                if not until(lambda: os.path.exists(part) and os.stat(part).st_ino != before):
+                    raise Wrong("nothing is begun anew")
+                _, errors = one.communicate(create("ann", "lost") + b"\n")
+                if one.returncode != 2 or not LINE.fullmatch(errors) or files_in(folder.path(name)) != {"kept": OLD, "kept.part": b""}:
+                    raise Wrong(f"the first ends with status {one.returncode}, {errors!r}, {files_in(folder.path(name))}")
+                output, errors = other.communicate(b"".join(it + b"\n" for it in LINES))
+        if (other.returncode, output, errors) != (0, REPLIES, b"") or files_in(folder.path(name)) != {"kept": NEW}:
+            raise Wrong(f"the second ends with status {other.returncode}, {errors!r}, {shown(files_in(folder.path(name)))}")
+
+
+def test_what_changes_meanwhile():
+    """The file becomes a folder, its folder is removed, or another one stands in its place, between the begin and the end: nothing is saved
+    then, and nothing is lost."""
+    if Folder.stand_in:
+        raise LeftOut
+
+    def meanwhile(change):
+        name = folder.place(kept=OLD)
+        place = folder.path(name)
+        with folder.start(*BATCH, "--save", f"{name}/kept") as process:
+            if not until(lambda: os.path.exists(f"{place}/kept.part")):
+                raise Wrong("nothing is begun")
+            change(place)
+            output, errors = process.communicate(LINES[0] + b"\n")
+        if (process.returncode, output) != (2, OK + b"\n") or not LINE.fullmatch(errors):
+            raise Wrong(f"status {process.returncode}, {output!r}, {errors!r}")
+        return place
+
+    def folder_there(place):
+        os.remove(f"{place}/kept")
+        os.mkdir(f"{place}/kept")
+
+    def moved(place):
+        os.rename(place, f"{place}-moved")
+        os.mkdir(place)
+
+    with Saving(CONFIG) as folder:
+        if files_in(meanwhile(folder_there)) != {"kept": "d"}:
+            raise Wrong("something is left beside the folder")
+        if os.path.exists(meanwhile(shutil.rmtree)):
+            raise Wrong("the folder is there again")
+        place = meanwhile(moved)
+        if os.listdir(place) or files_in(f"{place}-moved") not in ({"kept": OLD}, {"kept": OLD, "kept.part": b""}):
+            raise Wrong(f"{files_in(place)}, {files_in(f'{place}-moved')}")
+        if files_in(meanwhile(lambda place: os.remove(f"{place}/kept.part"))) != {"kept": OLD}:
+            raise Wrong("it is saved though what was begun is gone")
+
+
+# ---- memory
+
+SMALL = Schema("S", {}, {"e": Entity({"a": "e"}, optional=["a"])})
+HELD = [create("ann", "m", "S"), put("ann", "ann", "m", file_of("#1=E($);#2=E(#1);", "S")), grant("ann", "m", "bob", "write"), create_group("ann", "g", "S"), include("ann", "g", "ann", "m"),
+        create("bob", "b", "S"), put("bob", "bob", "b", file_of("#1=E(#9);", "S"), link(9, "ann", "m", 1))]
+ASKED = [names("ann", "ann", "m"), add("bob", "ann", "m", "E(#2)"), create("bob", "c", "S"), list_of("bob")]
+
+
+def plain(lines):
+    """The plain repository behind these lines."""
+    repository = PlainRepository(["ann", "bob"], [SMALL], read, read_mapping, None)
+    for it in lines:
+        _, change = repository.step(it)
+        if change:
+            change()
+    return repository
+
+
+def told_and_saved(repository, replies):
+    """What is to be saved where these lines got these replies, each the exact one or NoMemory; and how many got NoMemory."""
+    repository, count = copy.deepcopy(repository), 0
+    for asked, reply in zip(ASKED, replies):
+        if reply == NO_MEMORY:
+            count += 1
+            continue
+        wanted, change = repository.step(asked)
+        if reply != wanted:
+            raise Wrong(f"{asked!r} is answered {reply!r} in place of {wanted!r} or NoMemory")
+        if change:
+            change()
+    return snapshot_of(repository), count
+
+
+def test_each_refusal_of_memory():
+    """Each allocation of a run that loads and saves is refused, alone and with all behind it: what is asked is answered or NoMemory, and saved
+    accordingly; or the run ends with status 2 and one line, before the first line or behind the last, and saves nothing."""
+    if Folder.stand_in:
+        raise LeftOut
+    before = plain(HELD)
+    data = snapshot_of(before)
+    seen = collections.Counter()
+    with Saving({**CONFIG, "schemas": ["s.exp"]}, s="SCHEMA S; ENTITY e; a : OPTIONAL e; END_ENTITY; END_SCHEMA;") as folder:
+        shim_in(folder.folder.name)
+        folder.write("snap", data)
+        top = folder.folder.name
+        alone = run(Folder.program, top, ASKED)
+        load = ["--load", "snap"]
+
+        def one(**refusal):
+            name = folder.place(kept=OLD)
+            done = run(Folder.program, top, ASKED, [*BATCH, *load, "--save", f"{name}/kept"], **refusal)
+            return done, files_in(folder.path(name))
+
+        whole, files = one()
+        if whole.status or whole.errors or files != {"kept": told_and_saved(before, whole.output.split(b"\n")[:-1])[0]}:
+            raise Wrong(f"without a refusal: {whole}, {shown(files)}")
+
+        def look(row):
+            key, at = row
+            done, files = one(**{key: str(at)})
+            replies = done.output.split(b"\n")[:-1]
+            if not done.refusals:
+                raise Wrong("nothing is refused")
+            if done.status == 2 and LINE.fullmatch(done.errors) and files == {"kept": OLD} and len(replies) in (0, len(ASKED)):
+                told_and_saved(before, replies)
+                seen["before" if not replies else "behind"] += 1
+                return
+            if len(replies) != len(ASKED) or done.status or done.errors:
+                raise Wrong(f"status {done.status}, {done.output!r}, {done.errors!r}, {shown(files)}")
+            saved, count = told_and_saved(before, replies)
+            if files != {"kept": saved} or count > done.refusals:
+                raise Wrong(f"{done.output!r}, and {difference(files.get('kept'), saved)} is saved, {sorted(files)}")
+            seen["saved"] += 1
+
+        first = max(1, alone.before_input - 40)
+        each(look, [*(("REFUSE_NTH", at) for at in range(first, whole.allocations + 1)), *(("REFUSE_FROM", at) for at in range(first, whole.allocations + 1))])
+    if min(seen["before"], seen["behind"], seen["saved"]) < 5:
+        raise Wrong(f"of {whole.allocations} allocations, {alone.before_input} of them before a run that loads nothing reads: {dict(seen)}")
+
+
+if __name__ == "__main__":
+    run_tests("snapshot files", globals(), sys.argv[1:])

@@ -1,0 +1,922 @@
+#!/usr/bin/env python3
+"""Runs the built program with `--load` and `--save`: what it saves, byte for byte, what it loads, and what it refuses to load.
+
+    tests/snapshots.py [PROGRAM]
+
+Snapshots are written by hand, or by lib/plain_snapshots.py, which tells too which bytes are one. What is loaded has to be saved again as
+the same bytes. What is refused ends the program with status 2 and one line, and leaves what was saved before. The last line is
+'snapshots: N passed, M failed', and the status is 0 only if none failed.
+"""
+import itertools
+import json
+import os
+import random
+import re
+import socket
+import subprocess
+import sys
+import tempfile
+import time
+from concurrent.futures import ThreadPoolExecutor
+
+import random_lines
+from lib.harness import TOP, Folder, LeftOut, Wrong, run_tests, shortened, unmarked
+from lib.messages import (
+    ATTRIBUTES_HOLD, BAD_NAME, CONFIG, E, EXISTS, FIRST, FIRST_EXPORT, HAS_LINKS, L, MIB, NO_RIGHT, NO_SUCH_INSTANCE, NO_SUCH_ITEM, OK, TOO_MANY, T, add, added, canonical,
+    check_is, create, create_group, delete, drop, exclude, export, exported, extent, extent_is, file_of, get, got, grant, grant_group, include, instances,
+    line, link, link_fault, linked, list_of, listed, members, members_are, named, names, put, report_is, revoke, users, users_are, validate,
+)
+from lib.plain_binding import Entity, Schema, Select, express
+from lib.plain_snapshots import FIRST_LINE, compact, group, is_snapshot, model, row_at, snapshot, snapshot_of
+from lib.saving import OLD, THREE, Saving, difference, each, expect_saved, expect_untouched, files_in, replies_of, shown, until
+from lib.serving import Server
+
+sys.path.insert(0, os.path.join(TOP, "tools"))
+
+from each_refusal import shim_in  # noqa: E402
+
+PARTNERS = ["ann", "bob", "cyd"]
+# the schemas of the configuration, and another one, as they are read in Python
+PLAIN = [
+    Schema("T", {}, {"p": Entity({"x": "REAL", "n": "STRING"}, optional=["n"]), "q": Entity({"a": "p"})}), Schema("L", {}, {"e": Entity()}),
+    Schema("E", {}, {"e": Entity(is_abstract=True, expression=("ANDOR", ("ONEOF", "a", "b"), "c")), **{it: Entity(supertypes=["e"]) for it in "abc"}}),
+    Schema("B", {"len": "REAL", "any": Select(["len"])}, {"r": Entity({"b": "BINARY"}), "s": Entity({"a": "any"})}),
+]
+EMPTY = b'STEPREPO 1\n{"groups":[],"models":[]}'
+GREATEST = 999_999_999_999_999_999
+
+
+def expect_kept(folder, data, turns=(), **given):
+    """What is loaded is answered so by turns that change nothing, and is saved as the same bytes."""
+    if len(data) < MIB and not is_snapshot(data, PARTNERS, PLAIN):
+        raise AssertionError(f"{data!r} is no snapshot")
+    lines, replies = [it for it, _ in turns], [it for _, it in turns]
+    expect_saved(folder.ask(lines, load=data, **given), data, replies)
+
+
+# ---- what is saved, by hand
+
+def test_an_empty_repository():
+    """What is saved of it, and that it is loaded. No bytes are no snapshot."""
+    with Saving(e=E) as folder:
+        expect_saved(folder.ask(), EMPTY)
+        expect_kept(folder, EMPTY, [(list_of("ann"), b'{"ok":{"groups":[],"models":[]}}')])
+        expect_untouched(folder.ask(load=b""), re.compile(rb": .+"))
+
+
+# a model that bob reads, in ann's group, and a model of his that has a link to it
+GROUPED = [*FIRST, (create_group("ann", "g"), OK), (include("ann", "g", "ann", "m"), OK)]
+ANSWERS = [
+    (validate("ann", "ann", "g"), report_is(7, *ATTRIBUTES_HOLD, check_is("where", "P", "W1"), check_is("inverse", "P", "U"))),
+    (users("ann", "ann", "g", ["ann", "m", 1], "T.Q.A"), users_are(("ann", "m", 2))),
+]
+LINKED = [*GROUPED, *ANSWERS, (grant("ann", "m", "bob", "read"), OK), (create("bob", "b"), OK),
+          (put("bob", "bob", "b", file_of("#1=Q(#9);"), link(9, "ann", "m", 1)), instances(1)), *ANSWERS]
+SAVED = (
+    b'STEPREPO 1\n{"groups":[{"grants":[],"members":[["ann","m"]],"name":"g","owner":"ann","schema":"T"}],"models":['
+    b'{"file":"ISO-10303-21;\\nHEADER;\\nFILE_DESCRIPTION((\'\'),\'2;1\');\\nFILE_NAME(\'\',\'\',(\'\'),(\'\'),\'\',\'\',\'\');\\n'
+    b'FILE_SCHEMA((\'T\'));\\nENDSEC;\\nDATA;\\n#1=P(1.E-1,\'a\');\\n#2=Q(#1);\\nENDSEC;\\nEND-ISO-10303-21;\\n",'
+    b'"grants":[["bob","read"]],"greatest":2,"links":[],"name":"m","owner":"ann","schema":"T"},'
+    b'{"file":"ISO-10303-21;\\nHEADER;\\nFILE_DESCRIPTION((\'\'),\'2;1\');\\nFILE_NAME(\'\',\'\',(\'\'),(\'\'),\'\',\'\',\'\');\\n'
+    b'FILE_SCHEMA((\'T\'));\\nENDSEC;\\nDATA;\\n#1=Q(#9);\\nENDSEC;\\nEND-ISO-10303-21;\\n",'
+    b'"grants":[],"greatest":9,"links":[{"instance":1,"model":"m","name":9,"owner":"ann"}],"name":"b","owner":"bob","schema":"T"}]}'
+)
+# what is asked of it: everything that is told of what is there
+AFTER = [
+    *ANSWERS, (FIRST[0][0], EXISTS), (export("ann", "ann", "m"), FIRST_EXPORT), (names("ann", "ann", "m"), named((1, "P"), (2, "Q"))),
+    (get("bob", "ann", "m", 1), got("#1=P(1.E-1,'a');")), (export("bob", "bob", "b"), HAS_LINKS),
+    (export("bob", "bob", "b", links=True), linked(canonical("#1=Q(#9);"), link(9, "ann", "m", 1))),
+    (members("ann", "ann", "g"), members_are(("ann", "m", True))), (extent("ann", "ann", "g", "P"), extent_is(("ann", "m", 1))),
+    (names("ann", "bob", "b"), NO_SUCH_ITEM), (add("bob", "ann", "m", "P(1.,$)"), NO_RIGHT),
+    (list_of("ann"), listed((b"owner", b"m", b"ann"), groups=[(b"owner", b"g", b"ann")])),
+    (list_of("bob"), listed((b"read", b"m", b"ann"), (b"owner", b"b", b"bob"))),
+]
+
+
+def test_what_requests_made():
+    """What they made is saved, and after a restart the same requests get the same replies; what is added is named as before."""
+    with Saving(e=E) as folder:
+        lines, replies = zip(*LINKED)
+        expect_saved(folder.ask(lines), SAVED, replies)
+        expect_kept(folder, SAVED, AFTER)
+        seen = folder.ask([add("ann", "ann", "m", "P(2.,$)"), add("bob", "bob", "b", "Q(#9)")], load=SAVED)
+        then = SAVED.replace(b"#2=Q(#1);\\n", b"#2=Q(#1);\\n#3=P(2.,$);\\n").replace(b'"greatest":2', b'"greatest":3')
+        then = then.replace(b"#1=Q(#9);\\n", b"#1=Q(#9);\\n#10=Q(#9);\\n").replace(b'"greatest":9', b'"greatest":10')
+        expect_saved(seen, then, [added(3), added(10)])
+
+
+def in_runs(folder, parts, load=None):
+    """The replies to lines in several runs, each of which loads what the one before has saved, and what the last one saves."""
+    output = b""
+    for part in parts:
+        seen = folder.ask(part, load=load)
+        if (seen.status, seen.errors) != (0, b""):
+            raise Wrong(f"status {seen.status}, {seen.errors!r} after {output[-200:]!r}")
+        output, load = output + seen.output, seen.files["kept"]
+    return output, load
+
+
+# ann's model comes and goes in bob's group
+COUNTED = (members("bob", "bob", "g"), extent("bob", "bob", "g", "P"))
+HERE = [*zip(COUNTED, (members_are(("ann", "m", True)), extent_is(("ann", "m", 1))))]
+GONE = [*zip(COUNTED, (members_are(("ann", "m", False)), extent_is()))]
+COMES_AND_GOES = [
+    *FIRST, (grant("ann", "m", "bob", "group"), OK), (create_group("bob", "g"), OK), (include("bob", "g", "ann", "m"), OK), *HERE,
+    (revoke("ann", "m", "bob"), OK), *GONE, (grant("ann", "m", "bob", "group"), OK), *HERE,
+    (delete("ann", "m"), OK), *GONE, *FIRST, *GONE,
+]
+
+
+def test_a_restart_at_each_place():
+    """Requests on a model that comes and goes in another's group get the same replies wherever the program is ended between them, and
+    what is saved in the end is the same."""
+    lines, replies = zip(*COMES_AND_GOES)
+    last = snapshot([group("bob", "g", members=[["ann", "m"]])], [model("ann", "m", "#1=P(1.E-1,'a');", "#2=Q(#1);")])
+    cuts = [*itertools.combinations(range(len(lines) + 1), 1), *itertools.combinations(range(1, len(lines)), 2)]
+
+    def look(cut):
+        places = [0, *cut, len(lines)]
+        output, data = in_runs(folder, [lines[begin:end] for begin, end in zip(places, places[1:])])
+        if output != replies_of(replies) or data != last:
+            raise Wrong(f"{shortened(output)!r} is answered, and {difference(data, last)} is saved")
+
+    with Saving(e=E) as folder:
+        each(look, [*cuts[:len(lines) + 1], *random.Random(4).sample(cuts[len(lines) + 1:], 40)])
+
+
+# An instance whose string has signs that JSON escapes, or Part 21, or both; and how its line is saved.
+SAID = r"""#1=P(0.,'a"b\\c''d/\X2\00E900E90041\X0\e');"""
+ESCAPED = r"""#1=P(0.,'a\"b\\\\c''d/\\X2\\00E900E9\\X0\\Ae');\n"""
+LONG = "x" * 64
+# what is said of numbers, and how it is saved
+NUMBERS = "#2=P(2.0,$);#3=P(-0.10,'');#4=P(12.5,$);#5=P(1000,$);#6=P(12345678901234567,$);#999999999999999998=Q(#1);"
+WRITTEN = r"#2=P(2.,$);\n#3=P(-1.E-1,'');\n#4=P(125.E-1,$);\n#5=P(1.E3,$);\n#6=P(12345678901234567.,$);\n#999999999999999998=Q(#1);\n"
+# how a model's file begins and ends
+HEAD_OF = r"""ISO-10303-21;\nHEADER;\nFILE_DESCRIPTION((''),'2;1');\nFILE_NAME('','',(''),(''),'','','');\nFILE_SCHEMA(('T'));\nENDSEC;\nDATA;\n"""
+HEAD_OF_L = HEAD_OF.replace("'T'", "'L'")
+FOOT_OF = r"ENDSEC;\nEND-ISO-10303-21;\n"
+NAMED = HEAD_OF.replace("FILE_NAME('',''", r"""FILE_NAME('\"x\"\\\\','\\X2\\00E9\\X0\\'""")
+ROWS = [
+    f'{{"grants":["bob","cyd"],"members":[["ann","M"],["ann","m"],["bob","{LONG}"]],"name":"G","owner":"ann","schema":"T"}}',
+    '{"grants":[],"members":[],"name":"h","owner":"ann","schema":"L"}',
+    '{"grants":[],"members":[],"name":"g","owner":"bob","schema":"T"}',
+    f'{{"file":"{HEAD_OF}{FOOT_OF}","grants":[],"greatest":0,"links":[],"name":"-","owner":"ann","schema":"T"}}',
+    f'{{"file":"{HEAD_OF}{FOOT_OF}","grants":[],"greatest":0,"links":[],"name":"1.0","owner":"ann","schema":"T"}}',
+    f'{{"file":"{HEAD_OF}#1=Q(#20);\\n{FOOT_OF}","grants":[["bob","read"],["cyd","group"]],"greatest":20,"links":[{{"instance":1,"model":"m",'
+    f'"name":3,"owner":"ann"}},{{"instance":1,"model":"{LONG}","name":20,"owner":"bob"}}],"name":"M","owner":"ann","schema":"T"}}',
+    f'{{"file":"{HEAD_OF}{FOOT_OF}","grants":[],"greatest":0,"links":[],"name":"_","owner":"ann","schema":"T"}}',
+    f'{{"file":"{NAMED}{ESCAPED}{WRITTEN}{FOOT_OF}","grants":[["bob","write"],["cyd","read"]],"greatest":999999999999999999,"links":[],'
+    '"name":"m","owner":"ann","schema":"T"}',
+    f'{{"file":"{HEAD_OF}{FOOT_OF}","grants":[],"greatest":7,"links":[],"name":"old","owner":"ann","schema":"T"}}',
+    f'{{"file":"{HEAD_OF}#1=P(1.,$);\\n{FOOT_OF}","grants":[["ann","group"]],"greatest":1,"links":[],"name":"{LONG}","owner":"bob","schema":"T"}}',
+    f'{{"file":"{HEAD_OF_L}{FOOT_OF}","grants":[],"greatest":0,"links":[],"name":"m","owner":"cyd","schema":"L"}}',
+]
+MADE = [
+    (create("cyd", "m", "L"), OK), *((create("ann", name), OK) for name in ("m", "-", "_", "old", "M", "1.0")), (create("bob", LONG), OK),
+    (put("ann", "ann", "m", file_of(SAID + NUMBERS).replace("FILE_NAME('',''", r"""FILE_NAME('"x"\\','é'""")), instances(7)),
+    (add("ann", "ann", "m", "P(1.,$)"), added(GREATEST)), (drop("ann", "ann", "m", GREATEST), OK),
+    (grant("ann", "m", "cyd", "read"), OK), (grant("ann", "m", "bob", "write"), OK), (grant("ann", "M", "cyd", "group"), OK), (grant("ann", "M", "bob", "read"), OK),
+    (grant("bob", LONG, "ann", "group"), OK), (put("bob", "bob", LONG, file_of("#1=P(1.,$);")), instances(1)),
+    (put("ann", "ann", "M", file_of("#1=Q(#20);"), link(20, "bob", LONG, 1), link(3, "ann", "m", 1)), instances(1)),
+    (create_group("bob", "g"), OK), (create_group("ann", "h", "l"), OK), (create_group("ann", "G"), OK),
+    (grant_group("ann", "G", "cyd"), OK), (grant_group("ann", "G", "bob"), OK), (grant_group("ann", "G", "ann"), OK),
+    *((include("ann", "G", *it), OK) for it in (("bob", LONG), ("ann", "m"), ("ann", "M"))),
+    (put("ann", "ann", "old", file_of("#7=P(1.,$);")), instances(1)), (put("ann", "ann", "old", file_of("")), instances(0)),
+]
+
+
+def test_how_rows_are_written():
+    """Grants of each level, links and members in their order, signs that are escaped, numbers, the longest name, and a greatest name that
+    no instance has any more: the whole text by hand."""
+    data = f'STEPREPO 1\n{{"groups":[{",".join(ROWS[:3])}],"models":[{",".join(ROWS[3:])}]}}'.encode()
+    lines, replies = zip(*MADE)
+    with Saving(e=E) as folder:
+        expect_saved(folder.ask(lines), data, replies)
+        expect_kept(folder, data, [(add("ann", "ann", "m", "P(1.,$)"), TOO_MANY), (get("bob", "ann", "m", 1), got(SAID.replace(r"0041\X0\e", r"\X0\Ae")))])
+
+
+# ---- what is refused
+
+# a group of ann's that bob reads, with a model of hers and one of bob's; and these two models
+G = group("ann", "g", grants=["bob"], members=[["ann", "m"], ["bob", "b"]])
+M = model("ann", "m", "#1=P(1.E-1,'a');", "#2=Q(#1);", grants=[["bob", "group"], ["cyd", "read"]], greatest=9)
+TO_M, TO_GONE = link(9, "ann", "m", 1), link(10, "cyd", "gone", 7)
+B = model("bob", "b", "#1=Q(#9);", "#3=Q(#10);", greatest=10, links=[TO_M, TO_GONE])
+BASE = snapshot([G], [M, B])
+ANY = ".+"
+# what is told of a text that isn't what is saved of its rows
+DIFFERS = ": it isn't as it would be saved: another order, spelling, blank or byte behind the end"
+
+
+def edited(old, new, data=BASE):
+    """A text with something in place of what stands there once."""
+    if data.count(old) != 1:
+        raise AssertionError(f"{old!r} stands {data.count(old)} times in {data!r}")
+    return data.replace(old, new)
+
+
+def told(data, row, words):
+    """What is told of a row: the byte where it begins, its kind, its owner and its name."""
+    kind = "model" if "file" in row else "group"
+    return f": at byte {row_at(data, row)}, {kind} {shown(row['owner'])}/{shown(row['name'])}: {words}"
+
+
+def lacks(what, row, words, others=()):
+    """A row that is refused, with others that are none behind it."""
+    groups, models = [[it for it in (row, *others) if ("file" in it) == is_model] for is_model in (False, True)]
+    data = snapshot(groups, models)
+    return what, data, told(data, row, words)
+
+
+def differs(what, data):
+    return what, data, DIFFERS
+
+
+def refuse(rows, config=None, **files):
+    """Each text is refused with its words."""
+    with Saving(config, e=E, **files) as folder:
+        def look(row):
+            _, data, words = row
+            if len(data) < MIB and is_snapshot(data, PARTNERS, PLAIN):
+                raise AssertionError(f"{row[0]} is a snapshot")
+            seen = folder.ask([list_of("ann")], load=data)
+            expect_untouched(seen, re.compile(words.encode()) if ANY in words else words)
+
+        each(look, rows)
+
+
+def test_first_lines():
+    """The first line is that of the first version, to the byte."""
+    rest = EMPTY.partition(b"\n")[2]
+    lines = [b"", b"STEPREPO 1", b"STEPREPO 1\r\n" + rest, b"STEPREPO 2\n" + rest, b"STEPREPO 10\n" + rest, b"STEPREPO 1 \n" + rest, b"STEPREPO 1" + rest,
+             b"steprepo 1\n" + rest, b"STEPREPO  1\n" + rest, b"\nSTEPREPO 1\n" + rest, b" STEPREPO 1\n" + rest, b"\xef\xbb\xbf" + EMPTY, rest, b"STEPREPO\n1\n" + rest,
+             b"STEPREPO 01\n" + rest, b"S", b"\0" + EMPTY, EMPTY.decode().encode("utf-16"), EMPTY[1:]]
+    refuse([(f"{it!r}", it, ": it doesn't begin with the line STEPREPO 1") for it in lines])
+
+
+def test_what_is_no_json():
+    """What stands behind the first line has to be JSON, and that alone: UTF-8, to its last byte, with nothing behind it."""
+    begun = [b"", b"\n", b"x", b"[]", b"null", b"{}", b"{", b'"x"', b"1", b"{}{}"]
+    behind = [b"\n", b" ", b"\r\n", b"\0", b"x", b"}", b"]", b",", b"{}", b"//", b"\xff", b"\xef\xbb\xbf"]
+    within = [(b'"name":"m"', b'"name":"\xff"'), (b'"name":"m"', b'"name":"\xc3"'), (b"#2=Q(#1)", b"#2=Q(#1\xed\xa0\x80)"), (b'"name":"g"', b'"name":g'),
+              (b'"name":"g"', b"'name':'g'"), (b'"greatest":9,', b'"greatest":9,,'), (b'["bob","group"]', b'["bob","group",]'), (b'"links":[],', b'"links":[,],'),
+              (b'"greatest":9,', b'"greatest":NaN,'), (b'"greatest":9,', b'"greatest":Infinity,'), (b'"greatest":9,', b'"greatest":0x9,'), (b'"greatest":9,', b'"greatest":,'),
+              (b'"name":"g"', b'"name":"\\ud800"'), (b'"name":"g"', b'"name":"\\g"'), (b'"name":"g"', b'"name":"g\n"'), (b'"name":"g",', b'"name":"g,'),
+              (b'"links":[],', b'"links":' + b"[" * 200 + b"]" * 200 + b","), (b'"links":[],', b'"links":' + b"[" * 100_000)]
+    refuse([*((f"{it!r}", FIRST_LINE + it, ": " + ANY) for it in begun), *((f"{it!r} behind it", BASE + it, ": " + ANY) for it in behind),
+            *((f"{old!r} as {new[:40]!r}", edited(old, new), ": " + ANY) for old, new in within),
+            *((f"without its last {count}", BASE[:-count], ": " + ANY) for count in (1, 2, 3, 10, 100))])
+
+
+# a value of each kind, in place of another one
+KINDS = [None, True, 0, "", [], {}, [None], [[]], [{}], [0], ["bob"], [["bob"]], "read", 1.5]
+
+
+def test_keys_and_kinds():
+    """A row has its keys, no other, each once and in their order, and each value is of its kind."""
+    text = BASE[len(FIRST_LINE):].decode()
+    value = json.loads(text)
+    rows = []
+
+    def with_rows(what, groups, models):
+        rows.append((what, snapshot(groups, models), ": " + ANY))
+
+    for key in ("groups", "models"):
+        rows += [(f"no {key}", FIRST_LINE + compact({it: value[it] for it in value if it != key}), ": " + ANY)]
+        rows += [(f"{key} as {it}", FIRST_LINE + compact({**value, key: it}), ": " + ANY) for it in KINDS if it != []]
+        rows += [(f"{key} have {it}", FIRST_LINE + compact({**value, key: [it]}), ": " + ANY) for it in KINDS]
+    rows += [("one key more", FIRST_LINE + compact({**value, "version": 1}), ": " + ANY), ("one key more in front", FIRST_LINE + compact({**value, "a": 1}), ": " + ANY),
+             ("models in front", FIRST_LINE + b'{"models":' + compact(value["models"]) + b',"groups":' + compact(value["groups"]) + b"}", ": " + ANY),
+             ("groups twice", FIRST_LINE + b'{"groups":[],' + text[1:].encode(), ": " + ANY)]
+    for name in G:
+        with_rows(f"a group without {name}", [{key: it for key, it in G.items() if key != name}], [M, B])
+        for it in KINDS:
+            if type(it) is not type(G[name]) or it in ([None], [[]], [{}], [0], [["bob"]]):
+                with_rows(f"a group with {name} as {it}", [{**G, name: it}], [M, B])
+    for row, others in ((M, [B]), (B, [])):
+        for name in row:
+            with_rows(f"a model without {name}", [], [{key: it for key, it in row.items() if key != name}, *others])
+            for it in KINDS:
+                if type(it) is not type(row[name]) or it in ([None], [[]], [{}], [0], ["bob"], [["bob"]]):
+                    with_rows(f"a model with {name} as {it}", [], [{**row, name: it}, *others])
+    for name in TO_M:
+        with_rows(f"a link without {name}", [], [{**B, "links": [{key: it for key, it in TO_M.items() if key != name}, TO_GONE]}])
+        for it in KINDS:
+            if type(it) is not type(TO_M[name]):
+                with_rows(f"a link with {name} as {it}", [], [{**B, "links": [{**TO_M, name: it}, TO_GONE]}])
+    for name in ("a", "fil", "z", "kind", "File", "", "é"):
+        with_rows(f"a group with {name}", [{**G, name: []}], [M, B])
+        with_rows(f"a model with {name}", [], [{**M, name: []}, B])
+        with_rows(f"a link with {name}", [], [{**B, "links": [{**TO_M, name: 1}, TO_GONE]}])
+    for given in (["bob"], ["bob", "read", "x"], ["bob", None], [None, "read"], ["bob", ["read"]], {"bob": "read"}, "bob", []):
+        with_rows(f"a model with the grant {given}", [], [{**M, "grants": [given]}, B])
+    for given in (["bob"], ["bob", "read"], {"bob": "read"}, []):
+        with_rows(f"a group with the grant {given}", [{**G, "grants": [given]}], [M, B])
+    for given in (["ann"], ["ann", "m", "x"], ["ann", 1], [1, "m"], {"ann": "m"}, "m", {"model": "m", "owner": "ann"}):
+        with_rows(f"a group with the member {given}", [{**G, "members": [given]}], [M, B])
+    refuse(rows)
+    for old, new in (('"name":"m","owner":"ann"', '"owner":"ann","name":"m"'), ('"greatest":9,', '"greatest":9,"greatest":9,'), ('"schema":"T"}]', '"schema":"T","schema":"T"}]'),
+                     ('{"instance":7,"model":"gone"', '{"model":"gone","instance":7'), ('"name":10,', '"name":10,"name":10,'), ('"links":[],', '"links":[],"links":[],')):
+        refuse([(f"{old} as {new}", edited(old.encode(), new.encode()) if BASE.count(old.encode()) == 1 else BASE.replace(old.encode(), new.encode(), 1), ": " + ANY)])
+
+
+def test_how_it_is_spelled():
+    """Blanks, escapes by code or that aren't due, and numbers that are spelled otherwise, aren't what is saved."""
+    rows = [
+        ("a blank behind a colon", b'"greatest":9', b'"greatest": 9'), ("a blank before a colon", b'"greatest":9', b'"greatest" :9'), ("a blank behind a comma", b"},{\"file\"", b"}, {\"file\""),
+        ("a line feed", b'{"groups":', b'{\n"groups":'), ("a tab", b'"links":[]', b'"links":[\t]'), ("a blank in front", b'{"groups":', b' {"groups":'), ("a carriage return", b'],"models":', b'],\r"models":'),
+        ("a letter by its code", b'"name":"g"', b'"name":"\\u0067"'), ("a key by its code", b'{"groups":', b'{"\\u0067roups":'), ("a slash with its escape", b'"name":"g"', b'"name":"\\/g"'),
+        ("a line feed by its code", b"#1=P(1.E-1,'a');\\n", b"#1=P(1.E-1,'a');\\u000a"), ("a quotation mark by its code", b"(1.E-1,'a')", b"(1.E-1,'\\u0022')"),
+        ("a backslash by its code", b"(1.E-1,'a')", b"(1.E-1,'\\u005c\\u005c')"), ("a pair by its codes", b"(1.E-1,'a')", b"(1.E-1,'\\ud83d\\ude00')"),
+        ("a sign as it is", b"(1.E-1,'a')", "(1.E-1,'é')".encode()), ("a delete as it is", b"(1.E-1,'a')", b"(1.E-1,'\x7f')"),
+        *((f"the greatest name {it}", b'"greatest":9,', b'"greatest":%s,' % it)
+          for it in (b"9.0", b"9e0", b"90e-1", b"09", b"+9", b"-0", b"-9", b'"9"', b"9.", b"9E0", b"0.9e1", b"9.5", b"18446744073709551616", b"1e400", b"9" * 400)),
+        *((f"the name of a link {it}", b'"name":10,', b'"name":%s,' % it) for it in (b"10.0", b"1e1", b"010", b"-10", b'"10"')),
+        *((f"the instance of a link {it}", b'"instance":7,', b'"instance":%s,' % it) for it in (b"7.0", b"07", b"-0", b"7e0", b"-7")),
+    ]
+    refuse([(what, edited(old, new), ": " + ANY) for what, old, new in rows])
+
+
+# names that are none; of what a name may be more is told by the rows of requests
+NO_NAMES = ["", "a b", "y" * 65, "é", "a/b", "m\n", "\0", " m", "x" * 100_000, "a\"b", "\u202e", "a\\"]
+
+
+def test_owners_names_and_schemas():
+    """An owner is a partner, a name is one, and a schema is loaded, by its name in upper case."""
+    rows = []
+    for row, others in ((G, ()), (M, (B,))):
+        rows += [lacks(f"of {it[:70]!r}", {**row, "owner": it}, "its owner is no partner", others) for it in ("dan", "ANN", "", "ann ", "x\ny", "z" * 1000, "é" * 200)]
+        rows += [lacks(f"of the name {it[:70]!r}", {**row, "name": it}, "its name isn't 1 to 64 of A-Z a-z 0-9 _ . -", others) for it in NO_NAMES]
+        rows += [lacks(f"of the schema {it!r}", {**row, "schema": it}, "its schema isn't loaded", others) for it in ("Z", "t", "", "T ", "TT", "\n")]
+    refuse(rows)
+
+
+def test_grants():
+    """To partners, in their order, each once, none to the owner, and at a level that there is."""
+    order, nobody, owner = "its grants aren't in the order of partners, each once", "it is granted to no partner", "it is granted to its owner"
+    rows = [lacks(f"grants {given}", {**row, "grants": [[it, "read"] for it in given] if row is M else given}, words, others)
+            for row, others in ((G, ()), (M, (B,)))
+            for words, lists in ((nobody, (["dan"], [""], ["bob", "dan"], ["BOB"], ["ann", "dan"])), (owner, (["ann"], ["ann", "bob"])), (order, (["bob", "bob"], ["cyd", "bob"], ["bob", "cyd", "bob"], ["cyd", "ann"])))
+            for given in lists]
+    rows.append(lacks("two levels of one", {**M, "grants": [["bob", "group"], ["bob", "read"]]}, order, (B,)))
+    for it in ("owner", "Read", "", "none", "write ", "x" * 1000, "r\nd"):
+        data = snapshot([G], [{**M, "grants": [["bob", it]]}, B])
+        rows.append((f"a level {it!r}", data, ": " + ANY))
+    refuse(rows)
+
+
+def test_members():
+    """Of partners, with names, in their order, each once, and at most 50."""
+    nobody, no_name, order = "a member's owner is no partner", "a member's name isn't 1 to 64 of A-Z a-z 0-9 _ . -", "its members aren't in the order of owner and name, each once"
+    refuse([lacks(f"members {given}", {**G, "members": given}, words) for given, words in (
+        ([["dan", "m"]], nobody), ([["ann", "m"], ["dan", "m"]], nobody), ([["ann", ""]], no_name), ([["ann", "a b"]], no_name), ([["bob", "y" * 65]], no_name), ([["ann", "m"], ["bob", "\n"]], no_name),
+        ([["ann", "m"], ["ann", "m"]], order), ([["bob", "a"], ["ann", "b"]], order), ([["ann", "b"], ["ann", "a"]], order), ([["ann", "a"], ["ann", "M"]], order),
+        ([["ann", f"m{k}"] for k in range(10, 61)], "it has over 50 members"))])
+
+
+def test_order_of_rows():
+    """Groups and models stand in the order of their owners and names, each once."""
+    again = {**M, "grants": []}
+    refuse([differs(what, snapshot(*given)) for what, *given in (
+        ("models of one owner", [], [{**M, "name": "n"}, M]), ("models by case", [], [M, {**M, "name": "M"}]), ("owners of models", [], [B, M]), ("models with bob's first", [], [B, M, {**B, "name": "c"}]),
+        ("groups of one owner", [{**G, "name": "h"}, G], []), ("owners of groups", [{**G, "owner": "bob", "grants": []}, G], []), ("three models", [], [M, {**M, "name": "o"}, {**M, "name": "n"}]))])
+    twice = [("a model twice", snapshot([G], [M, again]), again), ("a model twice, apart", snapshot([], [M, {**M, "name": "n"}, again]), again),
+             ("a group twice", snapshot([{**G, "members": []}, G], [M]), G)]
+    refuse([(what, data, told(data, row, "its owner has another one of this name")) for what, data, row in twice])
+
+
+def test_counts():
+    """At most 100 models and 100 groups of an owner, 200,000 instances and 10,000 links of a model."""
+    models = [model("ann", f"m{k}") for k in range(100, 201)]
+    groups = [group("ann", f"g{k}") for k in range(100, 201)]
+    file = canonical(schema="L").replace("DATA;\n", "DATA;\n" + "".join(f"#{k}=E();\n" for k in range(1, 200_002)))
+    links = [link(k, "cyd", "x", 1) for k in range(1, 10_002)]
+    rows = [("101 models", snapshot([G], [*models, B]), models[-1], "its owner has over 100 models"), ("101 groups", snapshot(groups, [M]), groups[-1], "its owner has over 100 groups")]
+    refuse([*((what, data, told(data, row, words)) for what, data, row, words in rows),
+            lacks("200,001 instances", model("ann", "m", schema="L", file=file, greatest=200_001), "it has over 200,000 instances"),
+            lacks("10,001 links", model("ann", "m", links=links, greatest=10_001), "it has over 10,000 links")])
+
+
+def test_greatest_names():
+    """It is at least each name of an instance and of a link, and has at most 18 digits."""
+    instance, of_link, long = "an instance's name is above the greatest name", "a link's name is above the greatest name", "its greatest name has over 18 digits"
+    rows = [lacks(f"{row['name']}'s greatest name {it}", {**row, "greatest": it}, words, () if row is B else (B,))
+            for row, given in ((M, {0: instance, 1: instance, 10**18: long, 2**63: long, 2**64 - 1: long}), (B, {0: of_link, 2: of_link, 9: of_link, 10**18: long, 10**19 - 1: long}))
+            for it, words in given.items()]
+    rows.append(lacks("an instance above it", model("ann", "m", f"#{GREATEST}=P(1.,$);", greatest=GREATEST - 1), instance))
+    refuse([*rows, *((f"the greatest name {it}", snapshot([G], [{**M, "greatest": it}, B]), ": " + ANY) for it in (2**64, 10**30, -1))])
+
+
+def linking(words, what, *links, row=B, greatest=None):
+    """A model with these links."""
+    return lacks(what, {**row, "links": [*links], "greatest": row["greatest"] if greatest is None else greatest}, words)
+
+
+def test_links():
+    """A link's name is free, its links stand in order, each once, and none is above the greatest. It leads to another model of a partner, whether
+    it is there or not. What refers to a name that is no link's has none."""
+    defined, itself, nobody = "a link has the name of an instance", "a link leads to the model itself", "a link leads to the model of no partner"
+    no_name, long = "a link leads to a model whose name isn't 1 to 64 of A-Z a-z 0-9 _ . -", "a link leads to an instance whose name has over 18 digits"
+    order, above = "its links aren't in the order of their names, each once", "a link's name is above the greatest name"
+    refuse([
+        linking(defined, "the name of an instance", link(1, "ann", "m", 1), TO_M, TO_GONE), linking(defined, "an instance's name, behind", link(2, "bob", "b", 1), row=M),
+        linking(itself, "to its own model", link(9, "bob", "b", 1), TO_GONE), linking(itself, "to what its own model hasn't", TO_M, link(10, "bob", "b", 99)),
+        linking(nobody, "to no partner", link(9, "dan", "m", 1), TO_GONE), linking(nobody, "to no partner, unused", link(5, "", "m", 1), TO_M, TO_GONE),
+        *(linking(no_name, f"to {it[:70]!r}", link(9, "ann", it, 1), TO_GONE) for it in ("", "a b", "y" * 65, "é", "m\n")),
+        *(linking(long, f"to the instance {it}", link(9, "ann", "m", it), TO_GONE) for it in (10**18, 2**63, 2**64 - 1)),
+        linking(order, "not in order", TO_GONE, TO_M), linking(order, "one name twice", TO_M, TO_M, TO_GONE), linking(order, "one name twice, to others", TO_M, link(9, "ann", "n", 1), TO_GONE),
+        linking(above, "above the greatest", TO_M, TO_GONE, greatest=9), linking(above, "above the greatest, unused", TO_M, TO_GONE, link(11, "ann", "m", 1)),
+        linking("its greatest name has over 18 digits", "of 19 digits", TO_M, TO_GONE, link(10**18, "ann", "m", 1), greatest=10**18),
+        linking("its file: Undefined at instance 3", "one that isn't there", TO_M), linking("its file: Undefined at instance 1", "none"),
+    ])
+
+
+# ---- files
+
+def filed(what, marked, schema="T", links=()):
+    """A model whose file has a marked fault of its spelling."""
+    text, marks = unmarked(marked)
+    words = f"its file: {marks[0][0]} at byte {marks[0][1]} of it"
+    return lacks(what, model("ann", "m", file=text.decode(), schema=schema, greatest=99, links=links), words)
+
+
+WHOLE = canonical("#1=P(1.E-1,'a');", "#2=Q(#1);")
+
+
+def test_faults_of_files():
+    """The first fault of a file's tokens, strings and grammar."""
+    rows = [("#1=P(1.E-1,'a');", it) for it in (
+        "#1=P(⟦Token⟧.5,$);", "#1=P(1.,⟦Open⟧'ab);", "#1=P(1.,$);⟦Open⟧/* x", r"#1=P(1.,⟦Escape⟧'\X2\0E9\X0\');", r"#1=P(1.,⟦Page⟧'\PB\a');", r"#1=P(1.,⟦Code⟧'\X2\D800\X0\');",
+        "#1=P(⟦Number⟧1.E1001,$);", "#⟦Syntax⟧1=P(1.,$);".replace("#⟦Syntax⟧1", "⟦Number⟧#1000000000000000000"), "#1=P(1.,$⟦Syntax⟧;", "#1⟦Syntax⟧P(1.,$);", "#1=P(" + "(" * 16 + "⟦Deep⟧(1.",
+        "#1=P(1.,$);ENDSEC;\n⟦Sections⟧DATA;", "⟦Syntax⟧ENTITY;", "#1=(⟦Syntax⟧);", "⟦Token⟧é", "⟦Token⟧!P(1.);")]
+    heads = [("ISO-10303-21;", "⟦Syntax⟧HEADER;"), ("ISO-10303-21;\nHEADER", "⟦Token⟧ISO-10303-2"), ("'2;1'", "'2;1'⟦Syntax⟧,$"), ("(''),'2;1')", "('')⟦Syntax⟧)"), ("('T')", "('T'⟦Syntax⟧,'L')"),
+             ("END-ISO-10303-21;\n", "⟦Syntax⟧"), ("END-ISO-10303-21;\n", "END-ISO-10303-21;\n⟦Syntax⟧#1"), ("FILE_NAME", "⟦Syntax⟧FILE_DESCRIPTION"), (WHOLE, "⟦Syntax⟧"), (WHOLE, "\n ⟦Syntax⟧"),
+             ("ISO-10303-21;", "\ufeff⟦Token⟧\ufeffISO-10303-21;")]
+    refuse([filed(new, WHOLE.replace(old, new, 1)) for old, new in [*rows, *heads]])
+
+
+def bound(kind, name, *lines, schema="T", links=()):
+    """A model with a faulty instance."""
+    row = model("ann", "m", *lines, schema=schema, greatest=99, links=links)
+    return lacks(f"{kind} {lines}", row, f"its file: {kind} at instance {name}")
+
+
+def test_faults_of_instances():
+    """The first instance that the schema doesn't take, and its first fault."""
+    one = "#1=P(1.E-1,'a');"
+    refuse([
+        bound("Twice", 1, one, "#1=P(2.,$);"), bound("Twice", 2, one, "#2=(P(2.,$)P(2.,$));"), bound("UnknownEntity", 5, one, "#5=R(#1);"), bound("UnknownEntity", 5, "#5=E();"),
+        bound("WrongCount", 2, one, "#2=P(1.);"), bound("WrongCount", 2, one, "#2=Q(#1,$);"), bound("NotDerived", 1, "#1=P(*,$);"), bound("WrongKind", 3, one, "#3=P('x',$);"),
+        bound("WrongKind", 3, one, "#3=Q(1);"), bound("Undefined", 2, one, "#2=Q(#3);"), bound("Undefined", 1, "#1=Q(#9);", links=[link(8, "bob", "b", 1)]),
+        bound("IllegalCombination", 1, "#1=E();", schema="E"), bound("IllegalCombination", 4, "#4=(A()B()E());", schema="E"), bound("IllegalCombination", 1, "#1=(P(1.,$)Q(#1));"),
+        bound("UnknownEntity", 2, "#2=R();", "#1=P(*,$);"), bound("UnknownEntity", 5, one, "#5=R();")[:1] + lacks("", {**M, "schema": "L", "greatest": 99}, "its file: UnknownEntity at instance 1", (B,))[1:],
+    ])
+
+
+def test_files_that_are_not_canonical():
+    """What spells the same model otherwise isn't what is saved."""
+    one, rows = "#1=P(1.E-1,'a');\n", []
+    for new in ("#1=P(1.E-1, 'a');\n", " #1=P(1.E-1,'a');\n", "#1 =P(1.E-1,'a');\n", "#1=P(1.E-1,'a') ;\n", "#1=P(1.E-1,'a');\r\n", "#1=P(1.E-1,'a');", "\n#1=P(1.E-1,'a');\n", "#1=p(1.E-1,'a');\n",
+                "#01=P(1.E-1,'a');\n", "#1=P(0.1,'a');\n", "#1=P(.1E0,'a');\n".replace(".1E0", "10.E-2"), "#1=P(1.e-1,'a');\n", "#1=P(1.E-01,'a');\n", "#1=P(+1.E-1,'a');\n", "#1=P(1.0,'a');\n",
+                "#1=P(1,'a');\n", "#1=P(-0.,'a');\n", "#1=P(0.E5,'a');\n", "#1=(P(1.E-1,'a'));\n", "/* x */#1=P(1.E-1,'a');\n", "#1=P(1.E-1,/**/'a');\n", "\\N\\#1=P(1.E-1,'a');\n",
+                "#1=P(1.E-1,'\\X2\\0061\\X0\\');\n", "#1=P(1.E-1,'\\X\\61');\n", "#1=P(1.E-1,'\\X2\\00e9\\X0\\');\n", "#1=P(1.E-1,'\\X\\E9');\n", "#1=P(1.E-1,'\\S\\i');\n",
+                "#1=P(1.E-1,'\\X4\\000000E9\\X0\\');\n", "#1=P(1.E-1,'\\X2\\00E9\\X0\\\\X2\\00E9\\X0\\');\n", "#1=P(1.E-1,'\\X2\\D83DDE00\\X0\\');\n", "#1=P(1.E-1,'\\PA\\a');\n", "#1=P(1.E-1,'é');\n",
+                "#1=P(1.E-1,'\t');\n", "#1=P(1.E-1,'a\nb');\n", "#1=P(1.E-1,'\\N\\a');\n"):
+        rows.append((new, WHOLE.replace(one, new)))
+    rows.append(("the order of instances", WHOLE.replace(one + "#2=Q(#1);\n", "#2=Q(#1);\n" + one)))
+    for old, new in (("ISO-10303-21;\n", "\ufeffISO-10303-21;\n"), ("ISO-10303-21;\n", " ISO-10303-21;\n"), ("ISO-10303-21;\nHEADER", "iso-10303-21;\nheader"), ("ISO-10303-21;\n", "ISO-10303-21;"), ("END-ISO-10303-21;\n", "END-ISO-10303-21;"),
+                     ("END-ISO-10303-21;\n", "END-ISO-10303-21;\n\n"), ("END-ISO-10303-21;\n", "END-ISO-10303-21;\r\n"), ("END-ISO-10303-21;\n", "END-ISO-10303-21;\n/* x */"), ("('T')", "('t')"), ("('T')", "('L')"),
+                     ("('T')", "('T {1 0 10303}')"), ("('T')", "('')"), ("DATA;", "data;"), ("DATA;", "DATA('',('T'));"), ("DATA;", "DATA('s',('T'));"), ("'2;1'", "'2;1' "), ("(('')", "( ('')"),
+                     ("(('T'));\n", "(('T'));\nFILE_POPULATION();\n"), ("(('T'));\n", "(('T'));\nSECTION_LANGUAGE('en',$);\n"), ("'2;1'", "'\\X2\\0032\\X0\\;1'")):
+        rows.append((f"{old!r} as {new!r}", WHOLE.replace(old, new)))
+    bits = []
+    for new in ('"0a"', '"1F"', '"23b"', '"3F"'):
+        bits.append((new, canonical(f"#1=R({new});", schema="B"), "B"))
+    for new in ("#1=(A()E());", "#1=(E()A());", "#1=a();"):
+        bits.append((new, canonical(new, schema="E"), "E"))
+    for new in ("#1=S(1.5);", "#1=S(LEN(1.5));", "#1=S(len(15.E-1));"):
+        bits.append((new, canonical(new, schema="B"), "B"))
+    config = {**THREE, "schemas": [*THREE["schemas"], "b.exp"]}
+    refuse([differs(what, snapshot([], [model("ann", "m", file=file, schema=(more or ["T"])[0], greatest=9)])) for what, file, *more in [*rows, *bits]], config, b=express(PLAIN[3]))
+
+
+# ---- what no request's work loads
+
+def test_what_no_requests_make():
+    """Links to what never was, to another schema's model and to what their owner doesn't see; members of these kinds; a greatest name above
+    all; a model's grants to all others, and a group's. What is asked of them is answered."""
+    sees_not = model("ann", "hidden", "#1=P(1.,$);")
+    other = model("ann", "other", "#1=E();", schema="L")
+    far = [link(5, "ann", "hidden", 1), link(6, "ann", "other", 1), link(7, "cyd", "never", GREATEST), link(8, "bob", "c", 0)]
+    near = model("bob", "b", "#1=Q(#5);", "#2=Q(#6);", "#3=Q(#7);", greatest=GREATEST, links=far)
+    everyone = model("cyd", "z", grants=[["ann", "write"], ["bob", "read"]], greatest=17)
+    groups = [group("bob", "g", members=[["ann", "hidden"], ["ann", "other"], ["bob", "b"], ["cyd", "never"], ["cyd", "z"]]),
+              group("cyd", "empty", "L", grants=["ann", "bob"], members=[["ann", "other"], ["bob", "b"]])]
+    data = snapshot(groups, [sees_not, other, near, everyone])
+    turns = [
+        (export("bob", "bob", "b", links=True), linked(canonical("#1=Q(#5);", "#2=Q(#6);", "#3=Q(#7);"), *far)),
+        (members("bob", "bob", "g"), members_are(("ann", "hidden", False), ("ann", "other", False), ("bob", "b", True), ("cyd", "never", False), ("cyd", "z", False))),
+        (extent("bob", "bob", "g", "Q"), extent_is(*(("bob", "b", k) for k in (1, 2, 3)))), (users("bob", "bob", "g", ["bob", "b", 1], ""), users_are()),
+        (extent("bob", "bob", "g", "P"), extent_is()), (add("bob", "bob", "b", "Q(#8)"), TOO_MANY), (names("bob", "ann", "hidden"), NO_SUCH_ITEM),
+        (put("bob", "bob", "b", file_of("#1=Q(#5);"), far[0]), link_fault("NotSeen", 5)), (members("ann", "cyd", "empty"), members_are(("ann", "other", False), ("bob", "b", False))),
+        (list_of("ann"), listed((b"owner", b"hidden", b"ann"), (b"owner", b"other", b"ann", b"L"), (b"write", b"z", b"cyd"), groups=[(b"read", b"empty", b"cyd", b"L")])),
+    ]
+    with Saving(e=E) as folder:
+        expect_kept(folder, data, turns)
+        seen = folder.ask([add("ann", "cyd", "z", "P(1.,$)"), grant("ann", "hidden", "bob", "group"), extent("bob", "bob", "g", "P"),
+                           users("bob", "bob", "g", ["ann", "hidden", 1], "T.Q.A"), create("bob", "c"), add("bob", "bob", "c", "P(1.,$)"), exclude("bob", "g", "cyd", "never")], load=data)
+        then = snapshot([{**groups[0], "members": [it for it in groups[0]["members"] if it[1] != "never"]}, groups[1]],
+                        [{**sees_not, "grants": [["bob", "group"]]}, other, near, model("bob", "c", "#1=P(1.,$);"), {**everyone, "file": canonical("#18=P(1.,$);"), "greatest": 18}])
+        expect_saved(seen, then, [added(18), OK, extent_is(("ann", "hidden", 1)), users_are(("bob", "b", 1)), OK, added(1), OK])
+
+
+def test_other_headers():
+    """The header of a file that was put stays."""
+    rows = [r"FILE_DESCRIPTION($,$);\nFILE_NAME($,$,$,$,$,$,$);", r"FILE_DESCRIPTION(('a','b'),'1');\nFILE_NAME('x','2026-11-30T00:00:00',('A','B'),(),'p','s','');",
+            "FILE_DESCRIPTION(()," + "(" * 16 + "''" + ")" * 16 + r");\nFILE_NAME('\X2\00E9\X0\','it''s',$,($,'\\'),'',('',()),'\X4\0001F600\X0\');"]
+    head = r"FILE_DESCRIPTION((''),'2;1');\nFILE_NAME('','',(''),(''),'','','');".replace("\\n", "\n")
+
+    def look(row):
+        expect_kept(folder, snapshot([], [model("ann", "m", file=WHOLE.replace(head, row[0].replace("\\n", "\n")), greatest=2)]))
+
+    with Saving(e=E) as folder:
+        each(look, [(it,) for it in rows])
+
+
+def test_as_much_as_there_may_be():
+    """100 models and groups of each owner, 50 members, 10,000 links, 200,000 instances, a text of over 8 MiB, and all grants of 1,000 partners."""
+    partners = sorted(f"p{k:03}" for k in range(1000))
+    config = {**CONFIG, "partners": [{"name": name, "token": name} for name in partners]}
+    many = canonical(schema="L").replace("DATA;\n", "DATA;\n" + "".join(f"#{k}=E();\n" for k in range(1, 200_001)))
+    long = canonical("#1=P(1.,'" + "x\\\\" * (3 * MIB) + "');")
+    others = [[it, ("read", "group", "write")[k % 3]] for k, it in enumerate(partners[1:])]
+    rows = [
+        ("models", snapshot([], [model(owner, f"m{k}") for owner in partners[:3] for k in range(100, 200)])),
+        ("groups and members", snapshot([group(owner, f"g{k}", members=[["p007", f"m{n}"] for n in range(50)] if k == 150 else []) for owner in partners[:3] for k in range(100, 200)])),
+        ("links", snapshot([], [model("p000", "m", links=[link(k, "p001", f"m{k % 7}", GREATEST - k) for k in range(1, 10_001)], greatest=10_000)])),
+        ("instances", snapshot([], [model("p000", "m", schema="L", file=many, greatest=200_000)])),
+        ("a long text", snapshot([], [model("p000", "m", file=long, greatest=1)])),
+        ("grants", snapshot([group("p000", "g", grants=partners[1:])], [model("p000", "m", "#1=P(1.,$);", grants=others)])),
+    ]
+    with Saving(config) as folder:
+        each(lambda row: expect_saved(folder.ask(load=row[1]), row[1]), rows)
+        seen = folder.ask([names("p000", "p000", "m"), export("p000", "p000", "m"), get("p000", "p000", "m", 2)], load=rows[4][1])
+        expect_saved(seen, rows[4][1], [named((1, "P")), exported(long), NO_SUCH_INSTANCE])
+        seen = folder.ask([create("p001", "more"), create("p003", "more"), create("p001", "m100")], load=rows[0][1], save=False)
+        if seen.output != replies_of([TOO_MANY, OK, EXISTS]):
+            raise Wrong(f"{seen.output!r} is answered where an owner has 100 models")
+
+
+# ---- random requests, in runs
+
+def turns_of(seed, count):
+    """Random lines, the reply to each and the snapshot of the plain repository behind it."""
+    it = random_lines.Maker(seed)
+    turns = []
+    for _ in range(count):
+        made = random_lines.no_request(it) if it.happens(0.05) else random_lines.line_of(it, random_lines.request(it))
+        reply, change = it.repository.step(made)
+        if change:
+            change()
+        turns.append((made, reply, snapshot_of(it.repository)))
+    return turns
+
+
+def test_random_requests_in_three_runs():
+    """Each of three runs loads what the one before has saved: the replies are those of one run, and what each saves is the snapshot of the
+    plain repository."""
+    def look(row):
+        seed, turns, cuts = row
+        parts = [turns[begin:end] for begin, end in zip([0, *cuts], [*cuts, len(turns)])]
+        seen, load = [], None
+        for part in [turns, *parts]:
+            ended = folder.ask([it for it, _, _ in part], load=None if part is turns else load, config="random.json")
+            if part is not turns:
+                seen.append(ended.output)
+                load = ended.files.get("kept")
+            wanted = part[-1][2] if part else load
+            expect_saved(ended, wanted, [reply for _, reply, _ in part])
+        if not is_snapshot(load, random_lines.PARTNERS, random_lines.SCHEMAS):
+            raise AssertionError(f"seed {seed}: {load!r} is no snapshot")
+
+    rows = []
+    for seed in range(1, 13):
+        chance = random.Random(seed)
+        turns = turns_of(seed, 250)
+        rows.append((seed, turns, sorted(chance.sample(range(1, 250), 2))))
+    with Saving(random_lines.CONFIG, **{it.name.lower(): express(it) for it in random_lines.SCHEMAS}) as folder:
+        folder.write("random.json", json.dumps(random_lines.CONFIG))
+        each(look, rows)
+
+
+# ---- cuts and changes
+
+SIGNS = b"0123456789\"[]{},:abcdefghijklmnopqrstuvwxyzPQTE#()=;.$*\\' \n\t\0\xc3\xff-+_/"
+WORDS = [b"ann", b"bob", b"cyd", b"m", b"b", b"g", b"read", b"group", b"write", b"T", b"L", b"P", b"Q", b"#1", b"#2", b"#3", b"#9", b"#10", b"1", b"2", b"3", b"9", b"10", b"17", b"1.", b"0.", b"2.5",
+         b"25.E-1", b"$", b"'a'", b"'b'", b"''", b"[]", b"null", b"999999999999999999", b"1000000000000000000", b"true", b"{}", b'""', b",", b"\\n", b'"']
+
+
+def changed(chance, data):
+    """A text with a random change of its bytes."""
+    at = chance.randrange(len(data))
+    end = min(len(data), at + chance.choice([1, 1, 2, 3, 5, 10, 30, 100, 300]))
+    piece = data[at:end]
+    way = chance.choice(["cut", "drop", "twice", "sign", "sign", "in", "word", "word", "word", "move"])
+    if way == "cut":
+        return data[:at]
+    if way == "drop":
+        return data[:at] + data[end:]
+    if way == "twice":
+        return data[:end] + piece + data[end:]
+    if way == "sign":
+        return data[:at] + bytes([chance.choice(SIGNS)]) + data[at + 1:]
+    if way == "in":
+        return data[:at] + bytes([chance.choice(SIGNS)]) + data[at:]
+    if way == "word":
+        found = chance.choice([it for it in re.finditer(rb"[A-Za-z]+|[0-9]+|[^A-Za-z0-9]", data)])
+        return data[:found.start()] + chance.choice(WORDS) + data[found.end():]
+    to = chance.randrange(len(data) + 1)
+    rest = data[:at] + data[end:]
+    return rest[:to] + piece + rest[to:]
+
+
+def changed_rows(chance, groups, models):
+    """The snapshot of rows of which some have another value, are gone, stand twice or elsewhere."""
+    groups, models = [json.loads(json.dumps(it)) for it in (groups, models)]
+    for _ in range(chance.choice([1, 2, 2, 3])):
+        rows = chance.choice([groups, models, models]) or models
+        row = chance.choice(rows)
+        way = chance.choice(["value"] * 16 + ["gone", "moved", "twice"])
+        if way == "gone" and len(rows) > 1:
+            rows.remove(row)
+        elif way == "moved":
+            chance.shuffle(rows)
+        elif way == "twice":
+            rows.append(row)
+        else:
+            key = chance.choice(["links", "greatest", "greatest", "grants", "file", *row] if "file" in row else ["members", "members", "grants", *row])
+            row[key] = VALUES[key](chance, row)
+            if chance.random() < 0.9:
+                rows.sort(key=lambda it: (it["owner"], it["name"]))
+    return snapshot(groups, models)
+
+
+def some_name(chance, _row=None):
+    return chance.choice(["m", "b", "c", "n", "g", "x" * 64] * 3 + ["y" * 65, ""])
+
+
+def some_partner(chance, _row=None):
+    return chance.choice(PARTNERS * 5 + ["dan"])
+
+
+def some_grants(chance, row):
+    """Mostly to others, in their order."""
+    others = [it for it in PARTNERS if it != row["owner"] or chance.random() < 0.1]
+    to = sorted(chance.sample(others, chance.choice([0, 1, len(others)])))
+    return [[it, chance.choice(["read", "group", "write"] * 8 + ["owner"])] for it in to] if "file" in row else to
+
+
+def some_links(chance, row):
+    """The links that there are, and one more in their order, mostly of a new name."""
+    more = link(chance.choice([5, 7, 9, 11, 1]), some_partner(chance), some_name(chance), chance.choice([0, 1, GREATEST]))
+    return sorted([*row["links"], more], key=lambda it: it["name"])
+
+
+def some_file(chance, _row):
+    """Mostly a canonical one."""
+    number = chance.choice([*range(1, 10), 1.5, 2.5])
+    return canonical(*chance.choice([["#1=P(%s.,$);"], ["#2=Q(#%s);"], ["#1=P(25.E-1,'x');", "#2=Q(#1);", "#%s=Q(#1);"], ["#%s=P(1.,$);"], ["#1=P(2.5%s,$);"], ["#2=P(%s.,$);", "#1=P(1.,$);"],
+                                     ["#1=P(1.E-1,'%s');", "#2=Q(#1);", "#3=P(1.,$);"], ["#1=P(1.,$);", "#3=P(-%s.E5,$);"]])).replace("%s", str(number))
+
+
+# what may stand at a key of a row
+VALUES = {
+    "grants": some_grants, "links": some_links, "file": some_file, "name": some_name, "owner": some_partner,
+    "members": lambda chance, _: sorted([some_partner(chance), some_name(chance)] for _ in range(chance.choice([0, 1, 2, 3]))),
+    "greatest": lambda chance, _: chance.choice([0, 2, 3, 9, *(10 ** chance.randrange(1, 18) + chance.randrange(50) for _ in range(8)), GREATEST, GREATEST + 1]),
+    "schema": lambda chance, row: chance.choice(["T", "L", "E", "t", "Z"]),
+}
+
+
+def test_cuts_and_changes():
+    """A snapshot with groups and links is cut at each byte, and 1,000 times changed: what is a snapshot is loaded and saved as the same
+    bytes, and what is none is refused with status 2 and one line."""
+    chance = random.Random(11)
+    groups, models = [G, group("bob", "e", grants=["ann", "cyd"])], [M, B, model("bob", "c", "#1=P(25.E-1,$);", grants=[["ann", "write"]])]
+    whole = snapshot(groups, models)
+    texts = [whole[:at] for at in range(len(whole))]
+    texts += [changed(chance, whole) for _ in range(500)] + [changed_rows(chance, groups, models) for _ in range(600)]
+    count = [0, 0]
+
+    def look(row):
+        _, data, is_one = row
+        seen = folder.ask(load=data)
+        if is_one:
+            expect_saved(seen, data)
+        else:
+            expect_untouched(seen, re.compile(rb": .+"))
+
+    rows = []
+    for data in dict.fromkeys(texts):
+        is_one = is_snapshot(data, PARTNERS, PLAIN)
+        count[is_one] += 1
+        rows.append((repr(data), data, is_one))
+    if min(count) < 150:
+        raise AssertionError(f"{count[1]} of these texts are snapshots, and {count[0]} aren't")
+    with Saving(e=E) as folder:
+        each(look, rows)
+
+
+# ---- the configuration
+
+def test_other_configurations():
+    """More partners and schemas, in another order, with other tokens, and schemas with other rules and more entities: what is loaded is saved
+    as it was. With a partner or a schema less that it names, or an entity with another attribute, it is refused."""
+    config = {"partners": [{"name": name, "token": name * 2} for name in ("zoe", "cyd", "a", "bob", "ann", "carl")], "schemas": ["more.exp", "e.exp", "b.exp", "l.exp"]}
+    more = T.replace("END_SCHEMA", "ENTITY aa SUBTYPE OF (q); END_ENTITY; ENTITY z; END_ENTITY; END_SCHEMA").replace("<= 2", "< 1")
+    with Saving(config, e=E, more=more, b=express(PLAIN[3])) as folder:
+        expect_kept(folder, BASE, [(names("bob", "ann", "m"), named((1, "P"), (2, "Q")))])
+        for text in (T.replace("x : REAL;", "x : REAL; y : REAL;"), T.replace("x : REAL;", "x : STRING;"), T.replace("ENTITY q", "ENTITY r"), T.replace("ENTITY p;", "ENTITY p ABSTRACT SUPERTYPE;")):
+            folder.write("more.exp", text)
+            expect_untouched(folder.ask(load=BASE), re.compile(rb": .+"))
+        folder.write("more.exp", more)
+        for kind in ("partners", "schemas"):
+            for gone in config[kind]:
+                folder.write("less.json", json.dumps({**config, kind: [it for it in config[kind] if it is not gone]}))
+                seen = folder.ask(load=BASE, config="less.json")
+                if gone in ("more.exp",) or isinstance(gone, dict) and gone["name"] in PARTNERS:
+                    expect_untouched(seen, re.compile(rb": .+"))
+                else:
+                    expect_saved(seen, BASE)
+    rows = [("a grantee", snapshot([], [model("ann", "m", grants=[["dan", "read"]])])), ("a group's grantee", snapshot([group("ann", "g", grants=["dan"])])), ("an owner", snapshot([], [model("dan", "m")])),
+            ("a group's owner", snapshot([group("dan", "g")])), ("a member's owner", snapshot([group("ann", "g", members=[["dan", "m"]])])),
+            ("a link's owner", snapshot([], [model("ann", "m", links=[link(1, "dan", "m", 1)], greatest=1)]))]
+    with Saving({**THREE, "partners": [{"name": it, "token": it} for it in ("ann", "dan")]}, e=E) as folder:
+        folder.write("less.json", json.dumps({**THREE, "partners": [{"name": "ann", "token": "ta"}]}))
+
+        def look(row):
+            expect_saved(folder.ask(load=row[1]), row[1])
+            expect_untouched(folder.ask(load=row[1], config="less.json"), re.compile(rb": .+"))
+
+        each(look, rows)
+
+
+# ---- the program
+
+def test_command_line():
+    """Each of the options may stand once, with a value, in any order, and by either form."""
+    with Saving(e=E) as folder:
+        name = folder.place(snap=SAVED)
+        given = ["batch", "--config", "config.json"]
+        for words in (["--load", f"{name}/snap", "--save", f"{name}/kept"], ["--save", f"{name}/kept", "--load", f"{name}/snap"], [f"--load={name}/snap", f"--save={name}/kept"],
+                      ["--load", f"{name}/../{name}/snap", "--save", folder.path(f"{name}/kept")]):
+            expect_saved(folder.ended(name, *given, *words), SAVED)
+            os.remove(folder.path(f"{name}/kept"))
+        expect_saved(folder.ended(name, "batch", "--load", f"{name}/snap", "--config", "config.json", "--save", f"{name}/kept"), SAVED)
+        seen = folder.ended(name, *given, "--load", f"{name}/snap", "--save", f"{name}/snap", text=create("ann", "z") + b"\n")
+        then = SAVED.replace(b'"schema":"T"},{"file"', b'"schema":"T"},%s,{"file"' % compact(model("ann", "z")))
+        if seen[:3] != (0, OK + b"\n", b"") or seen.files["snap"] != then:
+            raise Wrong(f"it is loaded from where it is saved: {seen[:3]}, {difference(seen.files['snap'], then)}")
+        for option in ("--load", "--save"):
+            for words in ([option], [option, option], [option, "-x"], [option, f"{name}/snap", option, f"{name}/snap"], [option[:-1], f"{name}/snap"], [f"{option}x={name}/snap"], [option, f"{name}/snap", "x"]):
+                seen = folder.ended(name, *given, *words)
+                if (seen.status, seen.output, seen.errors.count(b"\n")) != (2, b"", 1):
+                    raise Wrong(f"{words}: {seen[:3]}")
+            seen = folder.ended(name, "check", option, f"{name}/snap", "t.exp")
+            if (seen.status, seen.output, seen.errors.count(b"\n")) != (2, b"", 1):
+                raise Wrong(f"check {option}: {seen[:3]}")
+        if set(files_in(folder.path(name))) != {"snap", "kept"}:
+            raise Wrong(f"{files_in(folder.path(name))} are left")
+
+
+# What may be wrong, in the order in which it is told: how it is made, and a pattern of the line.
+FAULTS = {
+    "command line": rb"rp_server: [^\n]+",
+    "configuration": rb'rp_server: "config.json" is no configuration: [^\n]+',
+    "schema": rb'rp_server: "l.exp" is no schema: [^\n]+',
+    "next schema": rb'rp_server: "e.exp" is no schema: [^\n]+',
+    "new": rb'rp_server: two partners have one name: "ann"',
+    "no snapshot": rb"rp_server: [^\n]*none[^\n]* can't be read: there is no such file",
+    "a folder": rb"rp_server: [^\n]*folder[^\n]* can't be read: it is a folder",
+    "bad snapshot": rb"rp_server: [^\n]*bad[^\n]*: [^\n]+",
+    "tokens": rb"rp_server: two partners have one token[^\n]*",
+    "listen": rb"rp_server: 192.0.2.1:9 can't be listened on: [^\n]+",
+    "saved in a folder": rb"rp_server: [^\n]*folder[^\n]* can't be saved[^\n]*",
+    "saved in a link": rb"rp_server: [^\n]*link[^\n]* can't be saved[^\n]*",
+    "no part": rb"rp_server: [^\n]*taken[^\n]* can't be saved[^\n]*",
+    "nowhere": rb"rp_server: [^\n]*absent/x[^\n]* can't be saved[^\n]*",
+}
+LOADS = {"no snapshot": "none", "a folder": "folder", "bad snapshot": "bad"}
+SAVES = {"saved in a folder": "folder", "saved in a link": "link", "no part": "taken", "nowhere": "absent/x"}
+
+
+def with_faults(command, faults):
+    """How a run with these faults ended, and what it left."""
+    partners = [{"name": "ann", "token": "ta"}, {"name": "ann" if "new" in faults else "bob", "token": "ta" if "tokens" in faults else "tb"}]
+    config = {"partners": partners, "schemas": ["t.exp", "l.exp", "e.exp"], **({"x": 1} if "configuration" in faults else {})}
+    with Saving(config, l="SCHEMA" if "schema" in faults else L, e="" if "next schema" in faults else E) as folder:
+        for name in ("folder", "taken.part/x"):
+            os.makedirs(folder.path(name))
+        folder.write("bad", "STEPREPO 1\n{}")
+        folder.write("target", OLD)
+        folder.write("taken", OLD)
+        folder.write("good", EMPTY)
+        os.symlink("target", folder.path("link"))
+        load = [word for it in faults if it in LOADS for word in ("--load", LOADS[it])] or ["--load", "good"]
+        save = [word for it in faults if it in SAVES for word in ("--save", SAVES[it])] or ["--save", "kept"]
+        listen = ["--listen", "192.0.2.1:9" if "listen" in faults else "127.0.0.1:0", "--connections", "1"] if command == "serve" else []
+        seen = folder.ended(".", command, "--config", "config.json", *load, *save, *listen, *(["more"] if "command line" in faults else []), seconds=20, text=list_of("ann"))
+        left = {name for name in seen.files if name not in folder.files}
+        if left - {"folder", "taken.part", "link", "taken", "target", "good", "bad"} or seen.files["target"] + seen.files["taken"] != OLD * 2:
+            raise Wrong(f"{left} are left")
+        if os.listdir(folder.path("folder")) or os.listdir(folder.path("taken.part")) != ["x"] or os.readlink(folder.path("link")) != "target":
+            raise Wrong("something is left of what is no file")
+        return seen
+
+
+def test_faults_in_their_order():
+    """Of two faults the earlier is told: the command line, the configuration, its schemas in their order, what they make together, the
+    snapshot, the tokens, the address, and where it is to be saved. Nothing is answered, and nothing left."""
+    def look(row):
+        pair, command = row
+        seen = with_faults(command, pair)
+        if (seen.status, seen.output) != (2, b"") or not re.fullmatch(FAULTS[pair[0]] + rb"\n", seen.errors):
+            raise Wrong(f"{command}: {seen[:3]}")
+
+    pairs = [pair for pair in itertools.combinations(FAULTS, 2) if not set(pair) <= set(LOADS) and not set(pair) <= set(SAVES)]
+    rows = [*((pair, "batch") for pair in pairs if "listen" not in pair), *((pair, "serve") for pair in pairs if "listen" in pair or set(pair) & {*LOADS, *SAVES})]
+    each(look, [*rows, *(((it,), command) for it in FAULTS for command in ("batch", "serve") if it != "listen" or command == "serve")])
+
+
+# ---- reads and writes that fail
+
+LINES = [create("ann", "m"), list_of("ann"), create("bob", "m")]
+REPLIES = replies_of([OK, listed((b"owner", b"m", b"ann")), OK])
+UNREAD = b"rp_server: standard input can't be read\n"
+UNWRITTEN = b"rp_server: standard output can't be written\n"
+
+
+def expect_unsaved(seen, wanted):
+    """The run ended so, and what was saved before is there alone."""
+    if seen[:3] != wanted or seen.files != {"kept": OLD}:
+        raise Wrong(f"{seen[:3]} in place of {wanted}, and {seen.files} is left")
+
+
+def test_what_a_fault_of_a_device_leaves():
+    """Where standard input or output fails nothing is saved, though all lines before were answered."""
+    lines = [it + b"\n" for it in LINES]
+    with Saving(e=E) as folder, tempfile.TemporaryDirectory() as place, open("/dev/full", "wb") as full:
+        expect_unsaved(folder.ask(LINES, stdout=full), (2, b"", UNWRITTEN))
+        begin, end = os.pipe()
+        os.close(begin)
+        expect_unsaved(folder.ask(LINES, stdout=end), (2, b"", UNWRITTEN))
+        os.close(end)
+        directory = os.open(place, os.O_RDONLY)
+        expect_unsaved(folder.ask(stdin=directory), (2, b"", UNREAD))
+        os.close(directory)
+        shim = {"LD_PRELOAD": shim_in(place, "fail"), "FAIL_SHORT": "1"}
+        text = b"".join(lines)
+        reads = [*range(1, len(text), 7), len(text), len(text) + 1]
+        rows = [(f"read {n}", "FAIL_READ", n, (2, b"".join(it + b"\n" for it in REPLIES.split(b"\n")[:text[:n - 1].count(b"\n")]), UNREAD)) for n in reads]
+        rows += [(f"write {n}", "FAIL_WRITE", n, (2, REPLIES[:n - 1], UNWRITTEN)) for n in [*range(1, len(REPLIES), 7), len(REPLIES)]]
+
+        def look(row):
+            _, name, n, wanted = row
+            expect_unsaved(folder.ask(LINES, env={**shim, name: str(n)}), wanted)
+
+        each(look, rows)
+        seen = folder.ask(LINES, env={**shim, "FAIL_READ": str(len(text) + 2), "FAIL_WRITE": str(len(REPLIES) + 1)})
+        expect_saved(seen, snapshot([], [model("ann", "m"), model("bob", "m")]), REPLIES.split(b"\n")[:-1])
+
+
+def test_what_is_saved_when():
+    """What is saved is begun before the first line is read, and takes its place behind the last reply. What only its owner may read is
+    made, and taken away where the run is given up."""
+    if Folder.stand_in:
+        raise LeftOut
+    with Saving(e=E) as folder:
+        name = folder.place(kept=OLD)
+        part = folder.path(f"{name}/kept.part")
+        with folder.start("batch", "--config", "config.json", "--save", f"{name}/kept") as process:
+            if not until(lambda: os.path.exists(part)):
+                raise Wrong("nothing is begun before the first line")
+            if os.stat(part).st_mode & 0o7777 != 0o600 or os.stat(part).st_size:
+                raise Wrong(f"what is begun has the mode {os.stat(part).st_mode:o} and {os.stat(part).st_size} bytes")
+            # replies that nobody reads yet: nothing is saved before they are written
+            text = create("ann", "m") + b"\n" + put("ann", "ann", "m", file_of("#1=P(1.,'" + "x" * 300_000 + "');")) + b"\n" + export("ann", "ann", "m") + b"\n"
+            process.stdin.write(text)
+            process.stdin.close()
+            time.sleep(0.5)
+            if files_in(folder.path(name)) != {"kept": OLD, "kept.part": b""} or process.poll() is not None:
+                raise Wrong("it is saved before the last reply is written")
+            output, errors = process.stdout.read(), process.stderr.read()
+            status = process.wait()
+        if (status, errors, output.count(b"\n")) != (0, b"", 3):
+            raise Wrong(f"status {status}, {errors!r}, {shortened(output)!r}")
+        data = snapshot([], [model("ann", "m", "#1=P(1.,'" + "x" * 300_000 + "');")])
+        if files_in(folder.path(name)) != {"kept": data} or os.stat(folder.path(f"{name}/kept")).st_mode & 0o7777 != 0o600:
+            raise Wrong(f"{difference(files_in(folder.path(name))['kept'], data)} is saved, with the mode {os.stat(folder.path(f'{name}/kept')).st_mode:o}")
+
+
+if __name__ == "__main__":
+    run_tests("snapshots", globals(), sys.argv[1:])
