@@ -29,7 +29,7 @@ from lib.plain_binding import Entity, Schema
 from lib.plain_files import read, read_mapping
 from lib.plain_model import Repository as PlainRepository
 from lib.plain_snapshots import model, snapshot, snapshot_of
-from lib.saving import OLD, Saving, difference, each, files_in, replies_of, until
+from lib.saving import OLD, Saving, difference, each, files_in, replies_of, shown, until
 
 sys.path.insert(0, os.path.join(TOP, "tools"))
 
@@ -44,9 +44,9 @@ LINE = re.compile(rb"rp_server: [^\n]+\n")
 BATCH = ("batch", "--config", "config.json")
 
 
-def saving(folder, name, env=None, lines=LINES, **devices):
+def saving(folder, name, env=None, lines=LINES, *words, **devices):
     """A run that saves in this folder."""
-    return folder.ended(name, *BATCH, "--save", f"{name}/kept", text=b"".join(it + b"\n" for it in lines), **({"env": env} if env else {}), **devices)
+    return folder.ended(name, *BATCH, *words, "--save", f"{name}/kept", text=b"".join(it + b"\n" for it in lines), **({"env": env} if env else {}), **devices)
 
 
 def expect_new(seen, data=NEW, replies=REPLIES):
@@ -57,10 +57,10 @@ def expect_new(seen, data=NEW, replies=REPLIES):
 def expect_fault(seen, output, files):
     """Status 2, one line, these replies, and these files."""
     if (seen.status, seen.output) != (2, output) or not LINE.fullmatch(seen.errors) or seen.files != files:
-        raise Wrong(f"{seen[:3]}, and {shown(seen.files)} is left")
+        raise Wrong(f"{seen[:3]}, and {files_shown(seen.files)} is left")
 
 
-def shown(files):
+def files_shown(files):
     return {name: shortened(it) if isinstance(it, bytes) else it for name, it in files.items()}
 
 
@@ -77,12 +77,13 @@ class Faults:
     def __exit__(self, *_):
         self.folder.__exit__()
 
-    def run(self, files, lines=LINES, **faults):
-        """A run whose folder has these files, and the calls that it made there."""
+    def run(self, files, lines=LINES, load=None, **faults):
+        """A run whose folder has these files, and the calls that it made there; or, where it loads a file, those that it made on this one."""
         name = self.folder.place(**files)
         log = self.folder.path(f"log-{name}")
-        env = {"LD_PRELOAD": self.shim, "FAULT_IN": name, "FAULT_LOG": log, **{f"FAULT_{key.upper()}": str(it) for key, it in faults.items()}}
-        seen = saving(self.folder, name, env, lines)
+        within = name if load is None else f"{name}/{load}"
+        env = {"LD_PRELOAD": self.shim, "FAULT_IN": within, "FAULT_LOG": log, **{f"FAULT_{key.upper()}": str(it) for key, it in faults.items()}}
+        seen = saving(self.folder, name, env, lines, *([] if load is None else ["--load", within]))
         with open(log, encoding="utf-8") as it:
             calls = [(call, os.path.relpath(path, name)) for call, path in (line.rstrip("\n").split(" ", 1) for line in it)]
         return name, seen, calls
@@ -145,6 +146,33 @@ def test_each_call_fails():
         each(takes_nothing, [(at,) for at in writes[:20]])
 
 
+def test_each_call_of_a_load_fails():
+    """Status 2 and one line; nothing is answered, and nothing saved."""
+    with Faults() as faults:
+        files = {"kept": OLD, "snap": NEW}
+        _, seen, calls = faults.run(files, [], "snap")
+        if seen[:3] != (0, b"", b"") or seen.files != {"kept": NEW, "snap": NEW} or not {("open", "snap"), ("read", "snap")} <= set(calls):
+            raise Wrong(f"{seen[:3]}, {calls}")
+
+        def look(row):
+            at, error, many = row
+            _, seen, _ = faults.run(files, LINES, "snap", at=at + 1, error=error, many=many)
+            if seen[:2] != (2, b"") or seen.files != files or not re.fullmatch(re.escape(f"rp_server: {shown(seen.path)} can't be read".encode()) + rb"[^\n]*\n", seen.errors):
+                raise Wrong(f"{calls[at]}: {seen[:3]}, {files_shown(seen.files)}")
+
+        each(look, [(at, error, many) for at, call in enumerate(calls) if call[0] in ("open", "read") for error in (errno.EIO, errno.EACCES, errno.EISDIR) for many in (1, 100)])
+
+
+def test_a_byte_at_a_time():
+    """Reads and writes that move a byte each load and save the same bytes."""
+    with Faults() as faults:
+        _, seen, _ = faults.run({"kept": OLD}, short=1)
+        expect_new(seen)
+        _, seen, _ = faults.run({"kept": OLD, "snap": NEW}, [], "snap", short=1)
+        if seen[:3] != (0, b"", b"") or seen.files != {"kept": NEW, "snap": NEW}:
+            raise Wrong(f"{seen[:3]}, {files_shown(seen.files)}")
+
+
 def test_a_full_disk():
     """Where there is room for only so many bytes, the old text stays, and nothing is left; with more room it is replaced."""
     with Faults() as faults:
@@ -204,7 +232,7 @@ def test_a_disk_that_is_full():
 def expect_old_or_new(files, *texts):
     """One of these texts is there whole, and at most what was begun beside it."""
     if files.get("kept") not in texts or not set(files) <= {"kept", "kept.part"}:
-        raise Wrong(f"{shown(files)} is left")
+        raise Wrong(f"{files_shown(files)} is left")
 
 
 def test_killed_at_each_call():
@@ -219,7 +247,7 @@ def test_killed_at_each_call():
                 raise Wrong(f"it ended with status {seen.status}")
             expect_old_or_new(seen.files, OLD, NEW)
             if (seen.files["kept"] == NEW) != (("rename", "kept.part") in made[:-1]):
-                raise Wrong(f"{shown(seen.files)} is there after {made}")
+                raise Wrong(f"{files_shown(seen.files)} is there after {made}")
             left.append("kept.part" in seen.files)
             expect_new(saving(faults.folder, name))
 
@@ -343,11 +371,11 @@ def test_what_an_earlier_run_left():
         os.symlink("target", f"{place}/kept.part")
         seen = saving(folder, name)
         if seen[:3] != (0, REPLIES, b"") or seen.files != {"kept": NEW, "target": b"target"}:
-            raise Wrong(f"{seen[:3]}, {shown(seen.files)}")
+            raise Wrong(f"{seen[:3]}, {files_shown(seen.files)}")
         os.link(f"{place}/target", f"{place}/kept.part")
         seen = saving(folder, name)
         if seen[:3] != (0, REPLIES, b"") or seen.files != {"kept": NEW, "target": b"target"}:
-            raise Wrong(f"{seen[:3]}, {shown(seen.files)}")
+            raise Wrong(f"{seen[:3]}, {files_shown(seen.files)}")
         os.mkdir(f"{place}/kept.part")
         expect_fault(saving(folder, name), b"", {"kept": NEW, "target": b"target", "kept.part": "d"})
 
@@ -392,9 +420,9 @@ def another():
     return {"user": 65_534, "group": 65_534, "extra_groups": []} if os.geteuid() == 0 else {}
 
 
-def as_another(folder, name, *words):
+def as_another(folder, *words):
     done = subprocess.run([folder.path("program"), *BATCH, *words], cwd=folder.folder.name, input=b"".join(it + b"\n" for it in LINES), capture_output=True, check=False, **another())
-    return done.returncode, done.stdout, done.stderr, files_in(folder.path(name))
+    return done.returncode, done.stdout, done.stderr
 
 
 def test_who_may_not():
@@ -412,19 +440,20 @@ def test_who_may_not():
             if os.geteuid() == 0:
                 os.chown(folder.path(name), 65_534, 65_534)
             os.chmod(folder.path(name), mode)
-            status, output, errors, _ = as_another(folder, name, "--save", f"{name}/kept") if os.geteuid() == 0 else (*as_another(folder, ".", "--save", f"{name}/kept")[:3], None)
+            seen = as_another(folder, "--save", f"{name}/kept")
             os.chmod(folder.path(name), 0o755)
-            if (status, output) != (2, b"") or not LINE.fullmatch(errors) or b"ermission" not in errors or files_in(folder.path(name)) != {"kept": OLD}:
-                raise Wrong(f"folder {mode:o}: {(status, output, errors)}, {files_in(folder.path(name))}")
+            files = files_in(folder.path(name))
+            if seen != (2, b"", f"rp_server: {shown(f'{name}/kept')} can't be saved: permission is denied\n".encode()) or files != {"kept": OLD}:
+                raise Wrong(f"folder {mode:o}: {seen}, {files}")
         name = folder.place(kept=OLD, snap=NEW)
         os.chmod(folder.path(name), 0o777)
-        status, output, errors, files = as_another(folder, name, "--save", f"{name}/kept")
-        if (status, output, errors) != (0, REPLIES, b"") or files != {"kept": NEW, "snap": NEW} or mode_of(folder.path(f"{name}/kept")) != 0o600:
-            raise Wrong(f"a folder that all may write: {(status, output, errors)}, {sorted(files)}")
+        seen = as_another(folder, "--save", f"{name}/kept")
+        if seen != (0, REPLIES, b"") or files_in(folder.path(name)) != {"kept": NEW, "snap": NEW} or mode_of(folder.path(f"{name}/kept")) != 0o600:
+            raise Wrong(f"a folder that all may write: {seen}, {sorted(files_in(folder.path(name)))}")
         os.chmod(folder.path(f"{name}/snap"), 0o200)
-        status, output, errors, files = as_another(folder, name, "--load", f"{name}/snap", "--save", f"{name}/kept")
-        if (status, output) != (2, b"") or not re.fullmatch(rb"rp_server: [^\n]*/snap[^\n]* can't be read: permission is denied\n", errors) or files["kept"] != NEW:
-            raise Wrong(f"a snapshot that may not be read: {(status, output, errors)}")
+        seen = as_another(folder, "--load", f"{name}/snap", "--save", f"{name}/kept")
+        if seen != (2, b"", f"rp_server: {shown(f'{name}/snap')} can't be read: permission is denied\n".encode()) or files_in(folder.path(name)) != {"kept": NEW, "snap": NEW}:
+            raise Wrong(f"a snapshot that may not be read: {seen}")
 
 
 def test_what_cant_be_loaded():
@@ -439,7 +468,7 @@ def test_what_cant_be_loaded():
         for path, why in rows:
             name = folder.place(kept=OLD)
             seen = folder.ended(name, *BATCH, "--load", path, "--save", f"{name}/kept", text=LINES[0])
-            if seen[:2] != (2, b"") or seen.files != {"kept": OLD} or not re.fullmatch(rb"rp_server: \"?%s\"? can't be read: %s\n" % (re.escape(path.encode()), why.encode()), seen.errors):
+            if seen[:2] != (2, b"") or seen.files != {"kept": OLD} or seen.errors != f"rp_server: {shown(path)} can't be read: {why}\n".encode():
                 raise Wrong(f"{path}: {seen[:3]}, {seen.files}")
         name = folder.place()
         expect_new(folder.ended(name, *BATCH, "--load", "link", "--save", f"{name}/kept"), replies=b"")
@@ -470,7 +499,7 @@ def test_two_at_once():
                     raise Wrong(f"the first ends with status {one.returncode}, {errors!r}, {files_in(folder.path(name))}")
                 output, errors = other.communicate(b"".join(it + b"\n" for it in LINES))
         if (other.returncode, output, errors) != (0, REPLIES, b"") or files_in(folder.path(name)) != {"kept": NEW}:
-            raise Wrong(f"the second ends with status {other.returncode}, {errors!r}, {shown(files_in(folder.path(name)))}")
+            raise Wrong(f"the second ends with status {other.returncode}, {errors!r}, {files_shown(files_in(folder.path(name)))}")
 
 
 def test_what_changes_meanwhile():
@@ -505,8 +534,9 @@ def test_what_changes_meanwhile():
         if os.path.exists(meanwhile(shutil.rmtree)):
             raise Wrong("the folder is there again")
         place = meanwhile(moved)
-        if os.listdir(place) or files_in(f"{place}-moved") not in ({"kept": OLD}, {"kept": OLD, "kept.part": b""}):
-            raise Wrong(f"{files_in(place)}, {files_in(f'{place}-moved')}")
+        files = files_in(f"{place}-moved")
+        if os.listdir(place) or files.pop("kept") != OLD or set(files) - {"kept.part"}:
+            raise Wrong(f"{files_in(place)}, {sorted(files)}")
         if files_in(meanwhile(lambda place: os.remove(f"{place}/kept.part"))) != {"kept": OLD}:
             raise Wrong("it is saved though what was begun is gone")
 
@@ -566,7 +596,7 @@ def test_each_refusal_of_memory():
 
         whole, files = one()
         if whole.status or whole.errors or files != {"kept": told_and_saved(before, whole.output.split(b"\n")[:-1])[0]}:
-            raise Wrong(f"without a refusal: {whole}, {shown(files)}")
+            raise Wrong(f"without a refusal: {whole}, {files_shown(files)}")
 
         def look(row):
             key, at = row
@@ -579,7 +609,7 @@ def test_each_refusal_of_memory():
                 seen["before" if not replies else "behind"] += 1
                 return
             if len(replies) != len(ASKED) or done.status or done.errors:
-                raise Wrong(f"status {done.status}, {done.output!r}, {done.errors!r}, {shown(files)}")
+                raise Wrong(f"status {done.status}, {done.output!r}, {done.errors!r}, {files_shown(files)}")
             saved, count = told_and_saved(before, replies)
             if files != {"kept": saved} or count > done.refusals:
                 raise Wrong(f"{done.output!r}, and {difference(files.get('kept'), saved)} is saved, {sorted(files)}")

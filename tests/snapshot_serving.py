@@ -431,11 +431,85 @@ def many():
         place.expect(data)
 
 
+# ---- memory
+
+def one_reply(server, asked):
+    """The reply, or None where the connection ends without a byte of it."""
+    with Client(server) as client:
+        try:
+            client.socket.sendall(asked)
+            first = client.socket.recv(1)
+        except (BrokenPipeError, ConnectionResetError):
+            return None
+        return first + client.reply() if first else None
+
+
+def session(shim, names_of_models=("m", "n"), more=(), **refusal):
+    """Creates models one after the other, the second once the first is saved, and ends the input. What is saved in the end is what was answered,
+    or the end is a fault, and what was saved before is there. Answers how many lines told of a save that failed."""
+    env = {"LD_PRELOAD": shim, **{name: str(it) for name, it in refusal.items()}}
+    with Place() as place, place.serve("--until-input-ends", stdin=subprocess.PIPE, env=env, pass_fds=more) as server:
+        held = [()]
+        for name in names_of_models:
+            reply = one_reply(server, as_post(create("ann", name)))
+            if reply not in (DONE, NONE_LEFT, None):
+                raise Wrong(f"{reply!r} is answered")
+            held = [*(held if reply != DONE else []), *([(*it, name) for it in held] if reply in (DONE, None) else [])]
+            if reply == DONE and not until(lambda: place.saved() or select.select([server.process.stderr], [], [], 0)[0], 10):
+                raise Wrong("a change is neither saved, nor is it told that it can't be")
+        output, errors = server.process.communicate(timeout=60)
+        server.is_over = True
+        server.folder.__exit__()
+        lines = errors.split(b"\n")[:-1]
+        if output or any(not UNSAVED.fullmatch(it) for it in lines if it != b"rp_server: out of memory"):
+            raise Wrong(f"{output!r}, {errors!r}")
+        may = [models(*it) for it in held] if server.process.returncode == 0 else [None, EMPTY, *(models(*it[:k]) for it in held for k in (1, 2))]
+        if (server.process.returncode, place.files()) not in [(status, {} if it is None else {"kept": it}) for status in (0, 2) for it in may] or server.process.returncode and not lines:
+            raise Wrong(f"status {server.process.returncode}, {errors!r}, {place.files()}")
+        return len(lines)
+
+
+NONE_LEFT = answer(NO_MEMORY)
+UNSAVED = re.compile(rb"rp_server: [^\n]*kept[^\n]* can't be saved: [^\n]+")
+
+
+def counted(shim, names_of_models):
+    """How many allocations such a session makes."""
+    with tempfile.TemporaryFile() as report:
+        session(shim, names_of_models, (report.fileno(),), REFUSE_REPORT=report.fileno())
+        report.seek(0)
+        return int(report.read().split()[0])
+
+
+def refusals():
+    """Each allocation from the first connection on is refused, alone, and at times with all behind it."""
+    time.sleep(10)
+    with tempfile.TemporaryDirectory() as folder, ThreadPoolExecutor(2) as pool:
+        shim = shim_in(folder)
+        before, whole = counted(shim, ()), counted(shim, ("m", "n"))
+
+        def one(row):
+            key, at = row
+            try:
+                return session(shim, **{key: at})
+            except Wrong as fault:
+                # (before it listens it may end with status 2)
+                return 0 if at <= before and "doesn't listen" in str(fault) else f"{key}={at} of {whole}: {fault}"
+
+        first = max(1, before - 40)
+        seen = list(pool.map(one, [*(("REFUSE_NTH", at) for at in range(first, whole + 1)), *(("REFUSE_FROM", at) for at in range(first, whole + 1, 5))]))
+    faults = [it for it in seen if isinstance(it, str)]
+    if faults:
+        raise Wrong("\n  ".join([f"{len(faults)} refusals:", *faults[:20]]))
+    if sum(it == 1 for it in seen) < 5:
+        raise Wrong(f"of {len(seen)} refusals {sum(it == 1 for it in seen)} made a save fail")
+
+
 # ---- running them side by side
 
 PARTS = {
     "changes": functools.partial(changes, False), "changes_in_silence": functools.partial(changes, True), "reading": reading, "by_a_folder": failing_by_a_folder, "by_rights": failing_by_rights,
-    "deadlines": deadlines, "ten_times": ten_times, "another": another_server, "counted": counted_connections, "end_of_input": end_of_input, "killed": killed, "large": large, "many": many,
+    "refusals": refusals, "deadlines": deadlines, "ten_times": ten_times, "another": another_server, "counted": counted_connections, "end_of_input": end_of_input, "killed": killed, "large": large, "many": many,
 }
 
 
@@ -509,6 +583,11 @@ def test_killed_while_it_saves():
 def test_a_large_repository():
     """Silent connections outlive its save."""
     result("large")
+
+
+def test_each_refusal_of_memory():
+    """A save that finds no memory is told, or the request isn't done; the next one, or the one at the end, is whole."""
+    result("refusals")
 
 
 def test_many_connections():

@@ -12,24 +12,23 @@ import json
 import os
 import random
 import re
-import socket
-import subprocess
 import sys
 import tempfile
 import time
-from concurrent.futures import ThreadPoolExecutor
 
 import random_lines
-from lib.harness import TOP, Folder, LeftOut, Wrong, run_tests, shortened, unmarked
+from lib.harness import TOP, Wrong, run_tests, shortened, unmarked
 from lib.messages import (
-    ATTRIBUTES_HOLD, BAD_NAME, CONFIG, E, EXISTS, FIRST, FIRST_EXPORT, HAS_LINKS, L, MIB, NO_RIGHT, NO_SUCH_INSTANCE, NO_SUCH_ITEM, OK, TOO_MANY, T, add, added, canonical,
-    check_is, create, create_group, delete, drop, exclude, export, exported, extent, extent_is, file_of, get, got, grant, grant_group, include, instances,
-    line, link, link_fault, linked, list_of, listed, members, members_are, named, names, put, report_is, revoke, users, users_are, validate,
+    ATTRIBUTES_HOLD, CONFIG, EXISTS, FIRST, FIRST_EXPORT, HAS_LINKS, MIB, NO_RIGHT, NO_SUCH_INSTANCE, NO_SUCH_ITEM, OK, TOO_MANY, E, L, T, add, added,
+    canonical, check_is, create, create_group, delete, drop, exclude, export, exported, extent, extent_is, file_of, get, got, grant, grant_group,
+    include, instances, link, link_fault, linked, list_of, listed, members, members_are, named, names, put, report_is, revoke, users, users_are,
+    validate,
 )
 from lib.plain_binding import Entity, Schema, Select, express
 from lib.plain_snapshots import FIRST_LINE, compact, group, is_snapshot, model, row_at, snapshot, snapshot_of
-from lib.saving import OLD, THREE, Saving, difference, each, expect_saved, expect_untouched, files_in, replies_of, shown, until
-from lib.serving import Server
+from lib.saving import (
+    OLD, THREE, Saving, difference, each, expect_saved, expect_untouched, files_in, replies_of, shown, until,
+)
 
 sys.path.insert(0, os.path.join(TOP, "tools"))
 
@@ -38,8 +37,10 @@ from each_refusal import shim_in  # noqa: E402
 PARTNERS = ["ann", "bob", "cyd"]
 # the schemas of the configuration, and another one, as they are read in Python
 PLAIN = [
-    Schema("T", {}, {"p": Entity({"x": "REAL", "n": "STRING"}, optional=["n"]), "q": Entity({"a": "p"})}), Schema("L", {}, {"e": Entity()}),
-    Schema("E", {}, {"e": Entity(is_abstract=True, expression=("ANDOR", ("ONEOF", "a", "b"), "c")), **{it: Entity(supertypes=["e"]) for it in "abc"}}),
+    Schema("T", {}, {"p": Entity({"x": "REAL", "n": "STRING"}, optional=["n"]), "q": Entity({"a": "p"})}),
+    Schema("L", {}, {"e": Entity()}),
+    Schema("E", {}, {"e": Entity(is_abstract=True, expression=("ANDOR", ("ONEOF", "a", "b"), "c")),
+                     **{it: Entity(supertypes=["e"]) for it in "abc"}}),
     Schema("B", {"len": "REAL", "any": Select(["len"])}, {"r": Entity({"b": "BINARY"}), "s": Entity({"a": "any"})}),
 ]
 EMPTY = b'STEPREPO 1\n{"groups":[],"models":[]}'
@@ -61,7 +62,7 @@ def test_an_empty_repository():
     with Saving(e=E) as folder:
         expect_saved(folder.ask(), EMPTY)
         expect_kept(folder, EMPTY, [(list_of("ann"), b'{"ok":{"groups":[],"models":[]}}')])
-        expect_untouched(folder.ask(load=b""), re.compile(rb": .+"))
+        expect_untouched(folder.ask(load=b""), NO_FIRST_LINE)
 
 
 # a model that bob reads, in ann's group, and a model of his that has a link to it
@@ -132,16 +133,17 @@ def test_a_restart_at_each_place():
     what is saved in the end is the same."""
     lines, replies = zip(*COMES_AND_GOES)
     last = snapshot([group("bob", "g", members=[["ann", "m"]])], [model("ann", "m", "#1=P(1.E-1,'a');", "#2=Q(#1);")])
-    cuts = [*itertools.combinations(range(len(lines) + 1), 1), *itertools.combinations(range(1, len(lines)), 2)]
+    once = [(cut,) for cut in range(len(lines) + 1)]
+    twice = random.Random(4).sample([*itertools.combinations(range(1, len(lines)), 2)], 40)
 
-    def look(cut):
-        places = [0, *cut, len(lines)]
+    def look(cuts):
+        places = [0, *cuts, len(lines)]
         output, data = in_runs(folder, [lines[begin:end] for begin, end in zip(places, places[1:])])
         if output != replies_of(replies) or data != last:
             raise Wrong(f"{shortened(output)!r} is answered, and {difference(data, last)} is saved")
 
     with Saving(e=E) as folder:
-        each(look, [*cuts[:len(lines) + 1], *random.Random(4).sample(cuts[len(lines) + 1:], 40)])
+        each(look, once + twice)
 
 
 # An instance whose string has signs that JSON escapes, or Part 21, or both; and how its line is saved.
@@ -150,16 +152,20 @@ ESCAPED = r"""#1=P(0.,'a\"b\\\\c''d/\\X2\\00E900E9\\X0\\Ae');\n"""
 LONG = "x" * 64
 # what is said of numbers, and how it is saved
 NUMBERS = "#2=P(2.0,$);#3=P(-0.10,'');#4=P(12.5,$);#5=P(1000,$);#6=P(12345678901234567,$);#999999999999999998=Q(#1);"
-WRITTEN = r"#2=P(2.,$);\n#3=P(-1.E-1,'');\n#4=P(125.E-1,$);\n#5=P(1.E3,$);\n#6=P(12345678901234567.,$);\n#999999999999999998=Q(#1);\n"
+WRITTEN = (r"#2=P(2.,$);\n#3=P(-1.E-1,'');\n#4=P(125.E-1,$);\n#5=P(1.E3,$);\n#6=P(12345678901234567.,$);\n"
+           r"#999999999999999998=Q(#1);\n")
 # how a model's file begins and ends
-HEAD_OF = r"""ISO-10303-21;\nHEADER;\nFILE_DESCRIPTION((''),'2;1');\nFILE_NAME('','',(''),(''),'','','');\nFILE_SCHEMA(('T'));\nENDSEC;\nDATA;\n"""
+HEAD_OF = (r"""ISO-10303-21;\nHEADER;\nFILE_DESCRIPTION((''),'2;1');\nFILE_NAME('','',(''),(''),'','','');\n"""
+           r"""FILE_SCHEMA(('T'));\nENDSEC;\nDATA;\n""")
 HEAD_OF_L = HEAD_OF.replace("'T'", "'L'")
 FOOT_OF = r"ENDSEC;\nEND-ISO-10303-21;\n"
 NAMED = HEAD_OF.replace("FILE_NAME('',''", r"""FILE_NAME('\"x\"\\\\','\\X2\\00E9\\X0\\'""")
-ROWS = [
+GROUP_ROWS = [
     f'{{"grants":["bob","cyd"],"members":[["ann","M"],["ann","m"],["bob","{LONG}"]],"name":"G","owner":"ann","schema":"T"}}',
     '{"grants":[],"members":[],"name":"h","owner":"ann","schema":"L"}',
     '{"grants":[],"members":[],"name":"g","owner":"bob","schema":"T"}',
+]
+MODEL_ROWS = [
     f'{{"file":"{HEAD_OF}{FOOT_OF}","grants":[],"greatest":0,"links":[],"name":"-","owner":"ann","schema":"T"}}',
     f'{{"file":"{HEAD_OF}{FOOT_OF}","grants":[],"greatest":0,"links":[],"name":"1.0","owner":"ann","schema":"T"}}',
     f'{{"file":"{HEAD_OF}#1=Q(#20);\\n{FOOT_OF}","grants":[["bob","read"],["cyd","group"]],"greatest":20,"links":[{{"instance":1,"model":"m",'
@@ -175,11 +181,12 @@ MADE = [
     (create("cyd", "m", "L"), OK), *((create("ann", name), OK) for name in ("m", "-", "_", "old", "M", "1.0")), (create("bob", LONG), OK),
     (put("ann", "ann", "m", file_of(SAID + NUMBERS).replace("FILE_NAME('',''", r"""FILE_NAME('"x"\\','é'""")), instances(7)),
     (add("ann", "ann", "m", "P(1.,$)"), added(GREATEST)), (drop("ann", "ann", "m", GREATEST), OK),
-    (grant("ann", "m", "cyd", "read"), OK), (grant("ann", "m", "bob", "write"), OK), (grant("ann", "M", "cyd", "group"), OK), (grant("ann", "M", "bob", "read"), OK),
-    (grant("bob", LONG, "ann", "group"), OK), (put("bob", "bob", LONG, file_of("#1=P(1.,$);")), instances(1)),
+    (grant("ann", "m", "cyd", "read"), OK), (grant("ann", "m", "bob", "write"), OK), (grant("ann", "M", "cyd", "group"), OK),
+    (grant("ann", "M", "bob", "read"), OK), (grant("bob", LONG, "ann", "group"), OK),
+    (put("bob", "bob", LONG, file_of("#1=P(1.,$);")), instances(1)),
     (put("ann", "ann", "M", file_of("#1=Q(#20);"), link(20, "bob", LONG, 1), link(3, "ann", "m", 1)), instances(1)),
     (create_group("bob", "g"), OK), (create_group("ann", "h", "l"), OK), (create_group("ann", "G"), OK),
-    (grant_group("ann", "G", "cyd"), OK), (grant_group("ann", "G", "bob"), OK), (grant_group("ann", "G", "ann"), OK),
+    *((grant_group("ann", "G", it), OK) for it in ("cyd", "bob", "ann")),
     *((include("ann", "G", *it), OK) for it in (("bob", LONG), ("ann", "m"), ("ann", "M"))),
     (put("ann", "ann", "old", file_of("#7=P(1.,$);")), instances(1)), (put("ann", "ann", "old", file_of("")), instances(0)),
 ]
@@ -188,11 +195,12 @@ MADE = [
 def test_how_rows_are_written():
     """Grants of each level, links and members in their order, signs that are escaped, numbers, the longest name, and a greatest name that
     no instance has any more: the whole text by hand."""
-    data = f'STEPREPO 1\n{{"groups":[{",".join(ROWS[:3])}],"models":[{",".join(ROWS[3:])}]}}'.encode()
+    data = f'STEPREPO 1\n{{"groups":[{",".join(GROUP_ROWS)}],"models":[{",".join(MODEL_ROWS)}]}}'.encode()
     lines, replies = zip(*MADE)
     with Saving(e=E) as folder:
         expect_saved(folder.ask(lines), data, replies)
-        expect_kept(folder, data, [(add("ann", "ann", "m", "P(1.,$)"), TOO_MANY), (get("bob", "ann", "m", 1), got(SAID.replace(r"0041\X0\e", r"\X0\Ae")))])
+        expect_kept(folder, data, [(add("ann", "ann", "m", "P(1.,$)"), TOO_MANY),
+                                   (get("bob", "ann", "m", 1), got(SAID.replace(r"0041\X0\e", r"\X0\Ae")))])
 
 
 # ---- what is refused
@@ -203,9 +211,12 @@ M = model("ann", "m", "#1=P(1.E-1,'a');", "#2=Q(#1);", grants=[["bob", "group"],
 TO_M, TO_GONE = link(9, "ann", "m", 1), link(10, "cyd", "gone", 7)
 B = model("bob", "b", "#1=Q(#9);", "#3=Q(#10);", greatest=10, links=[TO_M, TO_GONE])
 BASE = snapshot([G], [M, B])
-ANY = ".+"
-# what is told of a text that isn't what is saved of its rows
+
+# what is told of the first line, of a text that isn't what is saved of its rows, and of what doesn't stand where it has to
+NO_FIRST_LINE = ": it doesn't begin with the line STEPREPO 1"
 DIFFERS = ": it isn't as it would be saved: another order, spelling, blank or byte behind the end"
+FORM = re.compile(rb": at byte \d+(?:, (?:group|model): at byte \d+)?: (?:a brace, a bracket, the next key, a text or a whole number|a level "
+                  rb"\(read, group or write\)) is wanted")
 
 
 def edited(old, new, data=BASE):
@@ -239,8 +250,7 @@ def refuse(rows, config=None, **files):
             _, data, words = row
             if len(data) < MIB and is_snapshot(data, PARTNERS, PLAIN):
                 raise AssertionError(f"{row[0]} is a snapshot")
-            seen = folder.ask([list_of("ann")], load=data)
-            expect_untouched(seen, re.compile(words.encode()) if ANY in words else words)
+            expect_untouched(folder.ask([list_of("ann")], load=data), words)
 
         each(look, rows)
 
@@ -248,138 +258,150 @@ def refuse(rows, config=None, **files):
 def test_first_lines():
     """The first line is that of the first version, to the byte."""
     rest = EMPTY.partition(b"\n")[2]
-    lines = [b"", b"STEPREPO 1", b"STEPREPO 1\r\n" + rest, b"STEPREPO 2\n" + rest, b"STEPREPO 10\n" + rest, b"STEPREPO 1 \n" + rest, b"STEPREPO 1" + rest,
-             b"steprepo 1\n" + rest, b"STEPREPO  1\n" + rest, b"\nSTEPREPO 1\n" + rest, b" STEPREPO 1\n" + rest, b"\xef\xbb\xbf" + EMPTY, rest, b"STEPREPO\n1\n" + rest,
-             b"STEPREPO 01\n" + rest, b"S", b"\0" + EMPTY, EMPTY.decode().encode("utf-16"), EMPTY[1:]]
-    refuse([(f"{it!r}", it, ": it doesn't begin with the line STEPREPO 1") for it in lines])
+    refuse([(f"{it!r}", it, NO_FIRST_LINE) for it in (
+        b"", b"STEPREPO 1", b"STEPREPO 1\r\n" + rest, b"STEPREPO 2\n" + rest, b"STEPREPO 10\n" + rest, b"STEPREPO 1 \n" + rest, b"STEPREPO 1" + rest,
+        b"steprepo 1\n" + rest, b"STEPREPO  1\n" + rest, b"\nSTEPREPO 1\n" + rest, b" STEPREPO 1\n" + rest, b"\xef\xbb\xbf" + EMPTY, rest,
+        b"STEPREPO\n1\n" + rest, b"STEPREPO 01\n" + rest, b"S", b"\0" + EMPTY, EMPTY.decode().encode("utf-16"), EMPTY[1:])])
 
 
 def test_what_is_no_json():
-    """What stands behind the first line has to be JSON, and that alone: UTF-8, to its last byte, with nothing behind it."""
-    begun = [b"", b"\n", b"x", b"[]", b"null", b"{}", b"{", b'"x"', b"1", b"{}{}"]
-    behind = [b"\n", b" ", b"\r\n", b"\0", b"x", b"}", b"]", b",", b"{}", b"//", b"\xff", b"\xef\xbb\xbf"]
-    within = [(b'"name":"m"', b'"name":"\xff"'), (b'"name":"m"', b'"name":"\xc3"'), (b"#2=Q(#1)", b"#2=Q(#1\xed\xa0\x80)"), (b'"name":"g"', b'"name":g'),
-              (b'"name":"g"', b"'name':'g'"), (b'"greatest":9,', b'"greatest":9,,'), (b'["bob","group"]', b'["bob","group",]'), (b'"links":[],', b'"links":[,],'),
-              (b'"greatest":9,', b'"greatest":NaN,'), (b'"greatest":9,', b'"greatest":Infinity,'), (b'"greatest":9,', b'"greatest":0x9,'), (b'"greatest":9,', b'"greatest":,'),
+    """What stands behind the first line has to be JSON, and that alone, to its last byte."""
+    within = [(b'"name":"g"', b'"name":g'), (b'"name":"g"', b"'name':'g'"), (b'"greatest":9,', b'"greatest":9,,'), (b'["bob","group"]', b'["bob","group",]'),
+              (b'"links":[],', b'"links":[,],'), *((b'"greatest":9,', b'"greatest":%s,' % it) for it in (b"NaN", b"Infinity", b"0x9", b"")),
               (b'"name":"g"', b'"name":"\\ud800"'), (b'"name":"g"', b'"name":"\\g"'), (b'"name":"g"', b'"name":"g\n"'), (b'"name":"g",', b'"name":"g,'),
               (b'"links":[],', b'"links":' + b"[" * 200 + b"]" * 200 + b","), (b'"links":[],', b'"links":' + b"[" * 100_000)]
-    refuse([*((f"{it!r}", FIRST_LINE + it, ": " + ANY) for it in begun), *((f"{it!r} behind it", BASE + it, ": " + ANY) for it in behind),
-            *((f"{old!r} as {new[:40]!r}", edited(old, new), ": " + ANY) for old, new in within),
-            *((f"without its last {count}", BASE[:-count], ": " + ANY) for count in (1, 2, 3, 10, 100))])
+    refuse([*((f"{it!r}", FIRST_LINE + it, FORM) for it in (b"", b"\n", b"x", b"[]", b"null", b"{}", b"{", b'"x"', b"1", b"{}{}")),
+            *((f"{old!r} as {new[:40]!r}", edited(old, new), FORM) for old, new in within),
+            *((f"without its last {count}", BASE[:-count], FORM if count > 1 else DIFFERS) for count in (1, 2, 3, 10, 100)),
+            *(differs(f"{it!r} behind it", BASE + it) for it in (b"\n", b" ", b"\r\n", b"\0", b"x", b"}", b"]", b",", b"{}", b"//", b"\xef\xbb\xbf"))])
+
+
+def test_what_is_no_utf8():
+    """The first byte is told that is none."""
+    rows = [(b'"name":"m"', b'"name":"\xff"', 8), (b'"name":"m"', b'"name":"\xc3"', 8), (b"#2=Q(#1)", b"#2=Q(#1\xed\xa0\x80)", 7),
+            (b'"name":"g"', b'"name":"\xc0\xaf"', 8)]
+    rows = [(f"{old!r} as {new!r}", edited(old, new), BASE.index(old) + at) for old, new, at in rows]
+    refuse([(what, data, f": at byte {at}: it isn't UTF-8") for what, data, at in [*rows, ("behind it", BASE + b"\xff", len(BASE))]])
 
 
 # a value of each kind, in place of another one
 KINDS = [None, True, 0, "", [], {}, [None], [[]], [{}], [0], ["bob"], [["bob"]], "read", 1.5]
+# lists whose items aren't what any row has, but for those of partners
+NO_ITEMS = [[None], [[]], [{}], [0], [["bob"]]]
+
+
+def others_than(row, name, *more):
+    """Values that a key of a row can't have."""
+    return [it for it in KINDS if type(it) is not type(row[name]) or it in [*NO_ITEMS, *more]]
+
+
+def without(row, name):
+    return {key: it for key, it in row.items() if key != name}
+
+
+def of_top():
+    """Texts whose object isn't one of groups and models."""
+    value = json.loads(BASE[len(FIRST_LINE):])
+    found = [(f"no {key}", without(value, key)) for key in value]
+    found += [(f"{key} as {it}", {**value, key: it}) for key in value for it in KINDS if it != []]
+    found += [(f"{key} have {it}", {**value, key: [it]}) for key in value for it in KINDS]
+    found += [(f"the key {it}", {**value, it: []}) for it in ("a", "h")]
+    return [(what, FIRST_LINE + compact(it)) for what, it in found] + [
+        ("models in front", FIRST_LINE + b'{"models":%s,"groups":%s}' % (compact(value["models"]), compact(value["groups"]))),
+        ("groups twice", FIRST_LINE + b'{"groups":[],' + BASE[len(FIRST_LINE) + 1:])]
+
+
+def of_rows(row, *more):
+    """Rows that lack a key, have one more, or another value. Lists of these values are such as this row may have."""
+    found = [(f"without {name}", without(row, name)) for name in row]
+    found += [(f"with {name} as {it}", {**row, name: it}) for name in row for it in others_than(row, name, *more)]
+    return found + [(f"with the key {it!r}", {**row, it: []}) for it in ("a", "fil", "kind", "File", "", "é")]
 
 
 def test_keys_and_kinds():
     """A row has its keys, no other, each once and in their order, and each value is of its kind."""
-    text = BASE[len(FIRST_LINE):].decode()
-    value = json.loads(text)
-    rows = []
+    rows = of_top()
+    rows += [(f"a group {what}", snapshot([it], [M, B])) for what, it in of_rows(G)]
+    rows += [(f"a model {what}", snapshot([], [it, B])) for what, it in of_rows(M, ["bob"])]
+    rows += [(f"a link {what}", snapshot([], [{**B, "links": [it, TO_GONE]}])) for what, it in of_rows(TO_M)]
+    rows += [(f"a model's grant {it}", snapshot([], [{**M, "grants": [it]}, B]))
+             for it in (["bob"], ["bob", "read", "x"], ["bob", None], [None, "read"], ["bob", ["read"]], {"bob": "read"}, "bob", [], ["bob", 1])]
+    rows += [(f"a group's grant {it}", snapshot([{**G, "grants": [it]}], [M, B])) for it in (["bob"], ["bob", "read"], {"bob": "read"}, [], 1)]
+    rows += [(f"a member {it}", snapshot([{**G, "members": [it]}], [M, B]))
+             for it in (["ann"], ["ann", "m", "x"], ["ann", 1], [1, "m"], {"ann": "m"}, "m", {"model": "m", "owner": "ann"}, [])]
+    rows += [(f"{old} as {new}", BASE.replace(old.encode(), new.encode(), 1)) for old, new in (
+        ('"name":"m","owner":"ann"', '"owner":"ann","name":"m"'), ('"greatest":9,', '"greatest":9,"greatest":9,'), ('"links":[],', '"links":[],"links":[],'),
+        ('{"instance":7,"model":"gone"', '{"model":"gone","instance":7'), ('"name":10,', '"name":10,"name":10,'))]
+    refuse([(what, data, FORM) for what, data in rows])
 
-    def with_rows(what, groups, models):
-        rows.append((what, snapshot(groups, models), ": " + ANY))
 
-    for key in ("groups", "models"):
-        rows += [(f"no {key}", FIRST_LINE + compact({it: value[it] for it in value if it != key}), ": " + ANY)]
-        rows += [(f"{key} as {it}", FIRST_LINE + compact({**value, key: it}), ": " + ANY) for it in KINDS if it != []]
-        rows += [(f"{key} have {it}", FIRST_LINE + compact({**value, key: [it]}), ": " + ANY) for it in KINDS]
-    rows += [("one key more", FIRST_LINE + compact({**value, "version": 1}), ": " + ANY), ("one key more in front", FIRST_LINE + compact({**value, "a": 1}), ": " + ANY),
-             ("models in front", FIRST_LINE + b'{"models":' + compact(value["models"]) + b',"groups":' + compact(value["groups"]) + b"}", ": " + ANY),
-             ("groups twice", FIRST_LINE + b'{"groups":[],' + text[1:].encode(), ": " + ANY)]
-    for name in G:
-        with_rows(f"a group without {name}", [{key: it for key, it in G.items() if key != name}], [M, B])
-        for it in KINDS:
-            if type(it) is not type(G[name]) or it in ([None], [[]], [{}], [0], [["bob"]]):
-                with_rows(f"a group with {name} as {it}", [{**G, name: it}], [M, B])
-    for row, others in ((M, [B]), (B, [])):
-        for name in row:
-            with_rows(f"a model without {name}", [], [{key: it for key, it in row.items() if key != name}, *others])
-            for it in KINDS:
-                if type(it) is not type(row[name]) or it in ([None], [[]], [{}], [0], ["bob"], [["bob"]]):
-                    with_rows(f"a model with {name} as {it}", [], [{**row, name: it}, *others])
-    for name in TO_M:
-        with_rows(f"a link without {name}", [], [{**B, "links": [{key: it for key, it in TO_M.items() if key != name}, TO_GONE]}])
-        for it in KINDS:
-            if type(it) is not type(TO_M[name]):
-                with_rows(f"a link with {name} as {it}", [], [{**B, "links": [{**TO_M, name: it}, TO_GONE]}])
-    for name in ("a", "fil", "z", "kind", "File", "", "é"):
-        with_rows(f"a group with {name}", [{**G, name: []}], [M, B])
-        with_rows(f"a model with {name}", [], [{**M, name: []}, B])
-        with_rows(f"a link with {name}", [], [{**B, "links": [{**TO_M, name: 1}, TO_GONE]}])
-    for given in (["bob"], ["bob", "read", "x"], ["bob", None], [None, "read"], ["bob", ["read"]], {"bob": "read"}, "bob", []):
-        with_rows(f"a model with the grant {given}", [], [{**M, "grants": [given]}, B])
-    for given in (["bob"], ["bob", "read"], {"bob": "read"}, []):
-        with_rows(f"a group with the grant {given}", [{**G, "grants": [given]}], [M, B])
-    for given in (["ann"], ["ann", "m", "x"], ["ann", 1], [1, "m"], {"ann": "m"}, "m", {"model": "m", "owner": "ann"}):
-        with_rows(f"a group with the member {given}", [{**G, "members": [given]}], [M, B])
-    refuse(rows)
-    for old, new in (('"name":"m","owner":"ann"', '"owner":"ann","name":"m"'), ('"greatest":9,', '"greatest":9,"greatest":9,'), ('"schema":"T"}]', '"schema":"T","schema":"T"}]'),
-                     ('{"instance":7,"model":"gone"', '{"model":"gone","instance":7'), ('"name":10,', '"name":10,"name":10,'), ('"links":[],', '"links":[],"links":[],')):
-        refuse([(f"{old} as {new}", edited(old.encode(), new.encode()) if BASE.count(old.encode()) == 1 else BASE.replace(old.encode(), new.encode(), 1), ": " + ANY)])
+def test_keys_at_the_end():
+    """What stands behind all that is read isn't what is saved."""
+    value = json.loads(BASE[len(FIRST_LINE):])
+    refuse([differs("one key more", FIRST_LINE + compact({**value, "version": 1})), differs("models twice", BASE[:-1] + b',"models":[]}'),
+            differs("a comma", BASE[:-1] + b",}"), differs("another bracket", BASE[:-1] + b"]")])
 
 
 def test_how_it_is_spelled():
     """Blanks, escapes by code or that aren't due, and numbers that are spelled otherwise, aren't what is saved."""
-    rows = [
-        ("a blank behind a colon", b'"greatest":9', b'"greatest": 9'), ("a blank before a colon", b'"greatest":9', b'"greatest" :9'), ("a blank behind a comma", b"},{\"file\"", b"}, {\"file\""),
-        ("a line feed", b'{"groups":', b'{\n"groups":'), ("a tab", b'"links":[]', b'"links":[\t]'), ("a blank in front", b'{"groups":', b' {"groups":'), ("a carriage return", b'],"models":', b'],\r"models":'),
-        ("a letter by its code", b'"name":"g"', b'"name":"\\u0067"'), ("a key by its code", b'{"groups":', b'{"\\u0067roups":'), ("a slash with its escape", b'"name":"g"', b'"name":"\\/g"'),
-        ("a line feed by its code", b"#1=P(1.E-1,'a');\\n", b"#1=P(1.E-1,'a');\\u000a"), ("a quotation mark by its code", b"(1.E-1,'a')", b"(1.E-1,'\\u0022')"),
-        ("a backslash by its code", b"(1.E-1,'a')", b"(1.E-1,'\\u005c\\u005c')"), ("a pair by its codes", b"(1.E-1,'a')", b"(1.E-1,'\\ud83d\\ude00')"),
-        ("a sign as it is", b"(1.E-1,'a')", "(1.E-1,'é')".encode()), ("a delete as it is", b"(1.E-1,'a')", b"(1.E-1,'\x7f')"),
-        *((f"the greatest name {it}", b'"greatest":9,', b'"greatest":%s,' % it)
-          for it in (b"9.0", b"9e0", b"90e-1", b"09", b"+9", b"-0", b"-9", b'"9"', b"9.", b"9E0", b"0.9e1", b"9.5", b"18446744073709551616", b"1e400", b"9" * 400)),
-        *((f"the name of a link {it}", b'"name":10,', b'"name":%s,' % it) for it in (b"10.0", b"1e1", b"010", b"-10", b'"10"')),
-        *((f"the instance of a link {it}", b'"instance":7,', b'"instance":%s,' % it) for it in (b"7.0", b"07", b"-0", b"7e0", b"-7")),
-    ]
-    refuse([(what, edited(old, new), ": " + ANY) for what, old, new in rows])
+    blanks = [(b'"greatest":9', b'"greatest": 9'), (b'"greatest":9', b'"greatest" :9'), (b'},{"file"', b'}, {"file"'), (b'{"groups":', b'{\n"groups":'),
+              (b'"links":[]', b'"links":[\t]'), (b'{"groups":', b' {"groups":'), (b'],"models":', b'],\r"models":')]
+    escapes = [(b'"name":"g"', b'"name":"\\u0067"'), (b'{"groups":', b'{"\\u0067roups":'), (b"#1=P(1.E-1,'a');\\n", b"#1=P(1.E-1,'a');\\u000a"),
+               *((b"(1.E-1,'a')", b"(1.E-1,'%s')" % it)
+                 for it in (b"\\u0022", b"\\u005c\\u005c", b"\\ud83d\\ude00", b"\\/", "é".encode(), b"\x7f", b"\\t"))]
+    refuse([differs(f"{old!r} as {new!r}", edited(old, new)) for old, new in blanks + escapes])
+    numbers = [(b'"greatest":9,', b'"greatest":%s,', (b"9.0", b"9e0", b"90e-1", b"09", b"+9", b"-0", b"-9", b'"9"', b"9.", b"9E0", b"9.5",
+                                                      b"18446744073709551616", b"1e400", b"9" * 400)),
+               (b'"name":10,', b'"name":%s,', (b"10.0", b"1e1", b"010", b"-10", b'"10"')),
+               (b'"instance":7,', b'"instance":%s,', (b"7.0", b"07", b"-0", b"7e0", b"-7"))]
+    refuse([(f"{new % it!r}", edited(old, new % it), FORM) for old, new, given in numbers for it in given])
 
 
 # names that are none; of what a name may be more is told by the rows of requests
 NO_NAMES = ["", "a b", "y" * 65, "é", "a/b", "m\n", "\0", " m", "x" * 100_000, "a\"b", "\u202e", "a\\"]
+NO_NAME = "isn't 1 to 64 of A-Z a-z 0-9 _ . -"
 
 
 def test_owners_names_and_schemas():
     """An owner is a partner, a name is one, and a schema is loaded, by its name in upper case."""
     rows = []
     for row, others in ((G, ()), (M, (B,))):
-        rows += [lacks(f"of {it[:70]!r}", {**row, "owner": it}, "its owner is no partner", others) for it in ("dan", "ANN", "", "ann ", "x\ny", "z" * 1000, "é" * 200)]
-        rows += [lacks(f"of the name {it[:70]!r}", {**row, "name": it}, "its name isn't 1 to 64 of A-Z a-z 0-9 _ . -", others) for it in NO_NAMES]
-        rows += [lacks(f"of the schema {it!r}", {**row, "schema": it}, "its schema isn't loaded", others) for it in ("Z", "t", "", "T ", "TT", "\n")]
+        for key, given, words in (("owner", ("dan", "ANN", "", "ann ", "x\ny", "z" * 1000, "é" * 200), "its owner is no partner"),
+                                  ("name", NO_NAMES, f"its name {NO_NAME}"), ("schema", ("Z", "t", "", "T ", "TT", "\n"), "its schema isn't loaded")):
+            rows += [lacks(f"the {key} {it[:70]!r}", {**row, key: it}, words, others) for it in given]
     refuse(rows)
 
 
 def test_grants():
     """To partners, in their order, each once, none to the owner, and at a level that there is."""
-    order, nobody, owner = "its grants aren't in the order of partners, each once", "it is granted to no partner", "it is granted to its owner"
-    rows = [lacks(f"grants {given}", {**row, "grants": [[it, "read"] for it in given] if row is M else given}, words, others)
-            for row, others in ((G, ()), (M, (B,)))
-            for words, lists in ((nobody, (["dan"], [""], ["bob", "dan"], ["BOB"], ["ann", "dan"])), (owner, (["ann"], ["ann", "bob"])), (order, (["bob", "bob"], ["cyd", "bob"], ["bob", "cyd", "bob"], ["cyd", "ann"])))
-            for given in lists]
+    order = "its grants aren't in the order of partners, each once"
+    given = [*((it, "it is granted to no partner") for it in (["dan"], [""], ["bob", "dan"], ["BOB"], ["ann", "dan"])),
+             *((it, "it is granted to its owner") for it in (["ann"], ["ann", "bob"])),
+             *((it, order) for it in (["bob", "bob"], ["cyd", "bob"], ["bob", "cyd", "bob"], ["cyd", "ann"]))]
+    rows = [lacks(f"a group's {to}", {**G, "grants": to}, words) for to, words in given]
+    rows += [lacks(f"a model's {to}", {**M, "grants": [[it, "read"] for it in to]}, words, (B,)) for to, words in given]
     rows.append(lacks("two levels of one", {**M, "grants": [["bob", "group"], ["bob", "read"]]}, order, (B,)))
-    for it in ("owner", "Read", "", "none", "write ", "x" * 1000, "r\nd"):
-        data = snapshot([G], [{**M, "grants": [["bob", it]]}, B])
-        rows.append((f"a level {it!r}", data, ": " + ANY))
-    refuse(rows)
+    levels = [(it, snapshot([G], [{**M, "grants": [["bob", it]]}, B])) for it in ("owner", "Read", "", "none", "write ", "x" * 1000, "r\nd")]
+    refuse([*rows, *((f"a level {it!r}", data, FORM) for it, data in levels)])
 
 
 def test_members():
     """Of partners, with names, in their order, each once, and at most 50."""
-    nobody, no_name, order = "a member's owner is no partner", "a member's name isn't 1 to 64 of A-Z a-z 0-9 _ . -", "its members aren't in the order of owner and name, each once"
-    refuse([lacks(f"members {given}", {**G, "members": given}, words) for given, words in (
-        ([["dan", "m"]], nobody), ([["ann", "m"], ["dan", "m"]], nobody), ([["ann", ""]], no_name), ([["ann", "a b"]], no_name), ([["bob", "y" * 65]], no_name), ([["ann", "m"], ["bob", "\n"]], no_name),
-        ([["ann", "m"], ["ann", "m"]], order), ([["bob", "a"], ["ann", "b"]], order), ([["ann", "b"], ["ann", "a"]], order), ([["ann", "a"], ["ann", "M"]], order),
-        ([["ann", f"m{k}"] for k in range(10, 61)], "it has over 50 members"))])
+    given = [*((it, "a member's owner is no partner") for it in ([["dan", "m"]], [["ann", "m"], ["dan", "m"]])),
+             *((it, f"a member's name {NO_NAME}") for it in ([["ann", ""]], [["ann", "a b"]], [["bob", "y" * 65]], [["ann", "m"], ["bob", "\n"]])),
+             *((it, "its members aren't in the order of owner and name, each once")
+               for it in ([["ann", "m"], ["ann", "m"]], [["bob", "a"], ["ann", "b"]], [["ann", "b"], ["ann", "a"]], [["ann", "a"], ["ann", "M"]])),
+             ([["ann", f"m{k}"] for k in range(10, 61)], "it has over 50 members")]
+    refuse([lacks(f"members {it}", {**G, "members": it}, words) for it, words in given])
 
 
 def test_order_of_rows():
     """Groups and models stand in the order of their owners and names, each once."""
-    again = {**M, "grants": []}
+    again, other = {**M, "grants": []}, {**G, "name": "h"}
     refuse([differs(what, snapshot(*given)) for what, *given in (
-        ("models of one owner", [], [{**M, "name": "n"}, M]), ("models by case", [], [M, {**M, "name": "M"}]), ("owners of models", [], [B, M]), ("models with bob's first", [], [B, M, {**B, "name": "c"}]),
-        ("groups of one owner", [{**G, "name": "h"}, G], []), ("owners of groups", [{**G, "owner": "bob", "grants": []}, G], []), ("three models", [], [M, {**M, "name": "o"}, {**M, "name": "n"}]))])
+        ("models of one owner", [], [{**M, "name": "n"}, M]), ("models by case", [], [M, {**M, "name": "M"}]), ("owners of models", [], [B, M]),
+        ("models with bob's first", [], [B, M, {**B, "name": "c"}]), ("groups of one owner", [other, G]),
+        ("owners of groups", [{**G, "owner": "bob", "grants": []}, G]), ("three models", [], [M, {**M, "name": "o"}, {**M, "name": "n"}]))])
     twice = [("a model twice", snapshot([G], [M, again]), again), ("a model twice, apart", snapshot([], [M, {**M, "name": "n"}, again]), again),
              ("a group twice", snapshot([{**G, "members": []}, G], [M]), G)]
     refuse([(what, data, told(data, row, "its owner has another one of this name")) for what, data, row in twice])
@@ -391,20 +413,25 @@ def test_counts():
     groups = [group("ann", f"g{k}") for k in range(100, 201)]
     file = canonical(schema="L").replace("DATA;\n", "DATA;\n" + "".join(f"#{k}=E();\n" for k in range(1, 200_002)))
     links = [link(k, "cyd", "x", 1) for k in range(1, 10_002)]
-    rows = [("101 models", snapshot([G], [*models, B]), models[-1], "its owner has over 100 models"), ("101 groups", snapshot(groups, [M]), groups[-1], "its owner has over 100 groups")]
+    rows = [("101 models", snapshot([G], [*models, B]), models[-1], "its owner has over 100 models"),
+            ("101 groups", snapshot(groups, [M]), groups[-1], "its owner has over 100 groups")]
     refuse([*((what, data, told(data, row, words)) for what, data, row, words in rows),
             lacks("200,001 instances", model("ann", "m", schema="L", file=file, greatest=200_001), "it has over 200,000 instances"),
             lacks("10,001 links", model("ann", "m", links=links, greatest=10_001), "it has over 10,000 links")])
 
 
+TOO_LONG = "its greatest name has over 18 digits"
+
+
 def test_greatest_names():
     """It is at least each name of an instance and of a link, and has at most 18 digits."""
-    instance, of_link, long = "an instance's name is above the greatest name", "a link's name is above the greatest name", "its greatest name has over 18 digits"
-    rows = [lacks(f"{row['name']}'s greatest name {it}", {**row, "greatest": it}, words, () if row is B else (B,))
-            for row, given in ((M, {0: instance, 1: instance, 10**18: long, 2**63: long, 2**64 - 1: long}), (B, {0: of_link, 2: of_link, 9: of_link, 10**18: long, 10**19 - 1: long}))
-            for it, words in given.items()]
-    rows.append(lacks("an instance above it", model("ann", "m", f"#{GREATEST}=P(1.,$);", greatest=GREATEST - 1), instance))
-    refuse([*rows, *((f"the greatest name {it}", snapshot([G], [{**M, "greatest": it}, B]), ": " + ANY) for it in (2**64, 10**30, -1))])
+    instance, of_link = "an instance's name is above the greatest name", "a link's name is above the greatest name"
+    of_m = {0: instance, 1: instance, 10**18: TOO_LONG, 2**63: TOO_LONG, 2**64 - 1: TOO_LONG}
+    of_b = {0: of_link, 2: of_link, 9: of_link, 10**18: TOO_LONG, 10**19 - 1: TOO_LONG}
+    refuse([*(lacks(f"ann's greatest name {it}", {**M, "greatest": it}, words, (B,)) for it, words in of_m.items()),
+            *(lacks(f"bob's greatest name {it}", {**B, "greatest": it}, words) for it, words in of_b.items()),
+            lacks("an instance above it", model("ann", "m", f"#{GREATEST}=P(1.,$);", greatest=GREATEST - 1), instance),
+            *((f"the greatest name {it}", snapshot([G], [{**M, "greatest": it}, B]), FORM) for it in (2**64, 10**30, -1))])
 
 
 def linking(words, what, *links, row=B, greatest=None):
@@ -413,46 +440,50 @@ def linking(words, what, *links, row=B, greatest=None):
 
 
 def test_links():
-    """A link's name is free, its links stand in order, each once, and none is above the greatest. It leads to another model of a partner, whether
-    it is there or not. What refers to a name that is no link's has none."""
+    """A link's name is free, its links stand in order, each once, and none is above the greatest. It leads to another model of a partner,
+    whether it is there or not. What refers to a name that is no link's has none."""
     defined, itself, nobody = "a link has the name of an instance", "a link leads to the model itself", "a link leads to the model of no partner"
-    no_name, long = "a link leads to a model whose name isn't 1 to 64 of A-Z a-z 0-9 _ . -", "a link leads to an instance whose name has over 18 digits"
+    no_name, long = f"a link leads to a model whose name {NO_NAME}", "a link leads to an instance whose name has over 18 digits"
     order, above = "its links aren't in the order of their names, each once", "a link's name is above the greatest name"
     refuse([
-        linking(defined, "the name of an instance", link(1, "ann", "m", 1), TO_M, TO_GONE), linking(defined, "an instance's name, behind", link(2, "bob", "b", 1), row=M),
-        linking(itself, "to its own model", link(9, "bob", "b", 1), TO_GONE), linking(itself, "to what its own model hasn't", TO_M, link(10, "bob", "b", 99)),
+        linking(defined, "the name of an instance", link(1, "ann", "m", 1), TO_M, TO_GONE),
+        linking(defined, "an instance's name, behind", link(2, "bob", "b", 1), row=M),
+        linking(itself, "to its own model", link(9, "bob", "b", 1), TO_GONE), linking(itself, "to what its own hasn't", TO_M, link(10, "bob", "b", 99)),
         linking(nobody, "to no partner", link(9, "dan", "m", 1), TO_GONE), linking(nobody, "to no partner, unused", link(5, "", "m", 1), TO_M, TO_GONE),
         *(linking(no_name, f"to {it[:70]!r}", link(9, "ann", it, 1), TO_GONE) for it in ("", "a b", "y" * 65, "é", "m\n")),
         *(linking(long, f"to the instance {it}", link(9, "ann", "m", it), TO_GONE) for it in (10**18, 2**63, 2**64 - 1)),
-        linking(order, "not in order", TO_GONE, TO_M), linking(order, "one name twice", TO_M, TO_M, TO_GONE), linking(order, "one name twice, to others", TO_M, link(9, "ann", "n", 1), TO_GONE),
-        linking(above, "above the greatest", TO_M, TO_GONE, greatest=9), linking(above, "above the greatest, unused", TO_M, TO_GONE, link(11, "ann", "m", 1)),
-        linking("its greatest name has over 18 digits", "of 19 digits", TO_M, TO_GONE, link(10**18, "ann", "m", 1), greatest=10**18),
+        linking(order, "not in order", TO_GONE, TO_M), linking(order, "one name twice", TO_M, TO_M, TO_GONE),
+        linking(order, "one name twice, to others", TO_M, link(9, "ann", "n", 1), TO_GONE),
+        linking(above, "above the greatest", TO_M, TO_GONE, greatest=9), linking(above, "above it, unused", TO_M, TO_GONE, link(11, "ann", "m", 1)),
+        linking(TOO_LONG, "of 19 digits", TO_M, TO_GONE, link(10**18, "ann", "m", 1), greatest=10**18),
         linking("its file: Undefined at instance 3", "one that isn't there", TO_M), linking("its file: Undefined at instance 1", "none"),
     ])
 
 
 # ---- files
 
-def filed(what, marked, schema="T", links=()):
-    """A model whose file has a marked fault of its spelling."""
-    text, marks = unmarked(marked)
-    words = f"its file: {marks[0][0]} at byte {marks[0][1]} of it"
-    return lacks(what, model("ann", "m", file=text.decode(), schema=schema, greatest=99, links=links), words)
-
-
 WHOLE = canonical("#1=P(1.E-1,'a');", "#2=Q(#1);")
+
+
+def filed(what, marked):
+    """A model whose file has a marked fault of its spelling."""
+    text, ((kind, at),) = unmarked(marked)
+    return lacks(what, model("ann", "m", file=text.decode(), greatest=99), f"its file: {kind} at byte {at} of it")
 
 
 def test_faults_of_files():
     """The first fault of a file's tokens, strings and grammar."""
     rows = [("#1=P(1.E-1,'a');", it) for it in (
-        "#1=P(⟦Token⟧.5,$);", "#1=P(1.,⟦Open⟧'ab);", "#1=P(1.,$);⟦Open⟧/* x", r"#1=P(1.,⟦Escape⟧'\X2\0E9\X0\');", r"#1=P(1.,⟦Page⟧'\PB\a');", r"#1=P(1.,⟦Code⟧'\X2\D800\X0\');",
-        "#1=P(⟦Number⟧1.E1001,$);", "#⟦Syntax⟧1=P(1.,$);".replace("#⟦Syntax⟧1", "⟦Number⟧#1000000000000000000"), "#1=P(1.,$⟦Syntax⟧;", "#1⟦Syntax⟧P(1.,$);", "#1=P(" + "(" * 16 + "⟦Deep⟧(1.",
-        "#1=P(1.,$);ENDSEC;\n⟦Sections⟧DATA;", "⟦Syntax⟧ENTITY;", "#1=(⟦Syntax⟧);", "⟦Token⟧é", "⟦Token⟧!P(1.);")]
-    heads = [("ISO-10303-21;", "⟦Syntax⟧HEADER;"), ("ISO-10303-21;\nHEADER", "⟦Token⟧ISO-10303-2"), ("'2;1'", "'2;1'⟦Syntax⟧,$"), ("(''),'2;1')", "('')⟦Syntax⟧)"), ("('T')", "('T'⟦Syntax⟧,'L')"),
-             ("END-ISO-10303-21;\n", "⟦Syntax⟧"), ("END-ISO-10303-21;\n", "END-ISO-10303-21;\n⟦Syntax⟧#1"), ("FILE_NAME", "⟦Syntax⟧FILE_DESCRIPTION"), (WHOLE, "⟦Syntax⟧"), (WHOLE, "\n ⟦Syntax⟧"),
-             ("ISO-10303-21;", "\ufeff⟦Token⟧\ufeffISO-10303-21;")]
-    refuse([filed(new, WHOLE.replace(old, new, 1)) for old, new in [*rows, *heads]])
+        "#1=P(⟦Token⟧.5,$);", "⟦Token⟧é", "⟦Token⟧!P(1.);", "#1=P(1.,⟦Open⟧'ab);", "#1=P(1.,$);⟦Open⟧/* x",
+        r"#1=P(1.,⟦Escape⟧'\X2\0E9\X0\');",
+        r"#1=P(1.,⟦Page⟧'\PB\a');", r"#1=P(1.,⟦Code⟧'\X2\D800\X0\');", "#1=P(⟦Number⟧1.E1001,$);", "⟦Number⟧#1000000000000000000=P(1.,$);",
+        "#1=P(1.,$⟦Syntax⟧;", "#1⟦Syntax⟧P(1.,$);", "⟦Syntax⟧ENTITY;", "#1=(⟦Syntax⟧);", "#1=P(1.,$);ENDSEC;\n⟦Sections⟧DATA;",
+        "#1=P(" + "(" * 16 + "⟦Deep⟧(1.")]
+    rows += [("ISO-10303-21;", "⟦Syntax⟧HEADER;"), ("ISO-10303-21;\nHEADER", "⟦Token⟧ISO-10303-2"), ("'2;1'", "'2;1'⟦Syntax⟧,$"),
+             ("(''),'2;1')", "('')⟦Syntax⟧)"), ("('T')", "('T'⟦Syntax⟧,'L')"), ("END-ISO-10303-21;\n", "⟦Syntax⟧"),
+             ("END-ISO-10303-21;\n", "END-ISO-10303-21;\n⟦Syntax⟧#1"), ("FILE_NAME", "⟦Syntax⟧FILE_DESCRIPTION"), (WHOLE, "⟦Syntax⟧"),
+             (WHOLE, "\n ⟦Syntax⟧"), ("ISO-10303-21;", "\ufeff⟦Token⟧\ufeffISO-10303-21;")]
+    refuse([filed(new, WHOLE.replace(old, new, 1)) for old, new in rows])
 
 
 def bound(kind, name, *lines, schema="T", links=()):
@@ -465,39 +496,47 @@ def test_faults_of_instances():
     """The first instance that the schema doesn't take, and its first fault."""
     one = "#1=P(1.E-1,'a');"
     refuse([
-        bound("Twice", 1, one, "#1=P(2.,$);"), bound("Twice", 2, one, "#2=(P(2.,$)P(2.,$));"), bound("UnknownEntity", 5, one, "#5=R(#1);"), bound("UnknownEntity", 5, "#5=E();"),
-        bound("WrongCount", 2, one, "#2=P(1.);"), bound("WrongCount", 2, one, "#2=Q(#1,$);"), bound("NotDerived", 1, "#1=P(*,$);"), bound("WrongKind", 3, one, "#3=P('x',$);"),
-        bound("WrongKind", 3, one, "#3=Q(1);"), bound("Undefined", 2, one, "#2=Q(#3);"), bound("Undefined", 1, "#1=Q(#9);", links=[link(8, "bob", "b", 1)]),
-        bound("IllegalCombination", 1, "#1=E();", schema="E"), bound("IllegalCombination", 4, "#4=(A()B()E());", schema="E"), bound("IllegalCombination", 1, "#1=(P(1.,$)Q(#1));"),
-        bound("UnknownEntity", 2, "#2=R();", "#1=P(*,$);"), bound("UnknownEntity", 5, one, "#5=R();")[:1] + lacks("", {**M, "schema": "L", "greatest": 99}, "its file: UnknownEntity at instance 1", (B,))[1:],
+        bound("Twice", 1, one, "#1=P(2.,$);"), bound("Twice", 2, one, "#2=(P(2.,$)P(2.,$));"), bound("UnknownEntity", 5, one, "#5=R(#1);"),
+        bound("UnknownEntity", 5, "#5=E();"), bound("WrongCount", 2, one, "#2=P(1.);"), bound("WrongCount", 2, one, "#2=Q(#1,$);"),
+        bound("NotDerived", 1, "#1=P(*,$);"), bound("WrongKind", 3, one, "#3=P('x',$);"), bound("WrongKind", 3, one, "#3=Q(1);"),
+        bound("Undefined", 2, one, "#2=Q(#3);"), bound("Undefined", 1, "#1=Q(#9);", links=[link(8, "bob", "b", 1)]),
+        bound("IllegalCombination", 1, "#1=E();", schema="E"), bound("IllegalCombination", 4, "#4=(A()B()E());", schema="E"),
+        bound("IllegalCombination", 1, "#1=(P(1.,$)Q(#1));"), bound("UnknownEntity", 2, "#2=R();", "#1=P(*,$);"),
+        lacks("the file of another schema", {**M, "schema": "L"}, "its file: UnknownEntity at instance 1", (B,)),
     ])
+
+
+# in place of the first instance of a file, what spells the same model, or one that isn't written so
+SPELLED_OTHERWISE = [
+    "#1=P(1.E-1, 'a');\n", " #1=P(1.E-1,'a');\n", "#1 =P(1.E-1,'a');\n", "#1=P(1.E-1,'a') ;\n", "#1=P(1.E-1,'a');\r\n", "#1=P(1.E-1,'a');",
+    "\n#1=P(1.E-1,'a');\n", "#1=p(1.E-1,'a');\n", "#01=P(1.E-1,'a');\n", "#1=P(0.1,'a');\n", "#1=P(10.E-2,'a');\n", "#1=P(1.e-1,'a');\n",
+    "#1=P(1.E-01,'a');\n", "#1=P(+1.E-1,'a');\n", "#1=P(1.0,'a');\n", "#1=P(1,'a');\n", "#1=P(-0.,'a');\n", "#1=P(0.E5,'a');\n",
+    "#1=(P(1.E-1,'a'));\n", "/* x */#1=P(1.E-1,'a');\n", "#1=P(1.E-1,/**/'a');\n", "\\N\\#1=P(1.E-1,'a');\n", "#1=P(1.E-1,'\\X2\\0061\\X0\\');\n",
+    "#1=P(1.E-1,'\\X\\61');\n", "#1=P(1.E-1,'\\X2\\00e9\\X0\\');\n", "#1=P(1.E-1,'\\X\\E9');\n", "#1=P(1.E-1,'\\S\\i');\n",
+    "#1=P(1.E-1,'\\X4\\000000E9\\X0\\');\n", "#1=P(1.E-1,'\\X2\\00E9\\X0\\\\X2\\00E9\\X0\\');\n", "#1=P(1.E-1,'\\X2\\D83DDE00\\X0\\');\n",
+    "#1=P(1.E-1,'\\PA\\a');\n", "#1=P(1.E-1,'é');\n", "#1=P(1.E-1,'\t');\n", "#1=P(1.E-1,'a\nb');\n", "#1=P(1.E-1,'\\N\\a');\n",
+]
+# the same of what stands around the instances
+AROUND = [
+    *(("ISO-10303-21;\nHEADER", it) for it in ("\ufeffISO-10303-21;\nHEADER", " ISO-10303-21;\nHEADER", "iso-10303-21;\nheader", "ISO-10303-21;HEADER")),
+    ("END-ISO-10303-21;\n", "END-ISO-10303-21;"), ("END-ISO-10303-21;\n", "END-ISO-10303-21;\n\n"),
+    ("END-ISO-10303-21;\n", "END-ISO-10303-21;\r\n"), ("END-ISO-10303-21;\n", "END-ISO-10303-21;\n/* x */"), ("('T')", "('t')"), ("('T')", "('L')"),
+    ("('T')", "('T {1 0 10303}')"), ("('T')", "('')"), ("DATA;", "data;"), ("DATA;", "DATA('',('T'));"), ("DATA;", "DATA('s',('T'));"),
+    ("'2;1'", "'2;1' "), ("(('')", "( ('')"), ("(('T'));\n", "(('T'));\nFILE_POPULATION();\n"), ("(('T'));\n", "(('T'));\nSECTION_LANGUAGE('en',$);\n"),
+    ("'2;1'", "'\\X2\\0032\\X0\\;1'"), ("#1=P(1.E-1,'a');\n#2=Q(#1);\n", "#2=Q(#1);\n#1=P(1.E-1,'a');\n"),
+]
+# and lines of other schemas
+OTHERS = [("B", it) for it in ('#1=R("0a");', '#1=R("1F");', '#1=R("23b");', '#1=R("3F");', "#1=S(1.5);", "#1=S(LEN(1.5));", "#1=S(len(15.E-1));")]
+OTHERS += [("E", it) for it in ("#1=(A()E());", "#1=(E()A());", "#1=a();")]
 
 
 def test_files_that_are_not_canonical():
     """What spells the same model otherwise isn't what is saved."""
-    one, rows = "#1=P(1.E-1,'a');\n", []
-    for new in ("#1=P(1.E-1, 'a');\n", " #1=P(1.E-1,'a');\n", "#1 =P(1.E-1,'a');\n", "#1=P(1.E-1,'a') ;\n", "#1=P(1.E-1,'a');\r\n", "#1=P(1.E-1,'a');", "\n#1=P(1.E-1,'a');\n", "#1=p(1.E-1,'a');\n",
-                "#01=P(1.E-1,'a');\n", "#1=P(0.1,'a');\n", "#1=P(.1E0,'a');\n".replace(".1E0", "10.E-2"), "#1=P(1.e-1,'a');\n", "#1=P(1.E-01,'a');\n", "#1=P(+1.E-1,'a');\n", "#1=P(1.0,'a');\n",
-                "#1=P(1,'a');\n", "#1=P(-0.,'a');\n", "#1=P(0.E5,'a');\n", "#1=(P(1.E-1,'a'));\n", "/* x */#1=P(1.E-1,'a');\n", "#1=P(1.E-1,/**/'a');\n", "\\N\\#1=P(1.E-1,'a');\n",
-                "#1=P(1.E-1,'\\X2\\0061\\X0\\');\n", "#1=P(1.E-1,'\\X\\61');\n", "#1=P(1.E-1,'\\X2\\00e9\\X0\\');\n", "#1=P(1.E-1,'\\X\\E9');\n", "#1=P(1.E-1,'\\S\\i');\n",
-                "#1=P(1.E-1,'\\X4\\000000E9\\X0\\');\n", "#1=P(1.E-1,'\\X2\\00E9\\X0\\\\X2\\00E9\\X0\\');\n", "#1=P(1.E-1,'\\X2\\D83DDE00\\X0\\');\n", "#1=P(1.E-1,'\\PA\\a');\n", "#1=P(1.E-1,'é');\n",
-                "#1=P(1.E-1,'\t');\n", "#1=P(1.E-1,'a\nb');\n", "#1=P(1.E-1,'\\N\\a');\n"):
-        rows.append((new, WHOLE.replace(one, new)))
-    rows.append(("the order of instances", WHOLE.replace(one + "#2=Q(#1);\n", "#2=Q(#1);\n" + one)))
-    for old, new in (("ISO-10303-21;\n", "\ufeffISO-10303-21;\n"), ("ISO-10303-21;\n", " ISO-10303-21;\n"), ("ISO-10303-21;\nHEADER", "iso-10303-21;\nheader"), ("ISO-10303-21;\n", "ISO-10303-21;"), ("END-ISO-10303-21;\n", "END-ISO-10303-21;"),
-                     ("END-ISO-10303-21;\n", "END-ISO-10303-21;\n\n"), ("END-ISO-10303-21;\n", "END-ISO-10303-21;\r\n"), ("END-ISO-10303-21;\n", "END-ISO-10303-21;\n/* x */"), ("('T')", "('t')"), ("('T')", "('L')"),
-                     ("('T')", "('T {1 0 10303}')"), ("('T')", "('')"), ("DATA;", "data;"), ("DATA;", "DATA('',('T'));"), ("DATA;", "DATA('s',('T'));"), ("'2;1'", "'2;1' "), ("(('')", "( ('')"),
-                     ("(('T'));\n", "(('T'));\nFILE_POPULATION();\n"), ("(('T'));\n", "(('T'));\nSECTION_LANGUAGE('en',$);\n"), ("'2;1'", "'\\X2\\0032\\X0\\;1'")):
-        rows.append((f"{old!r} as {new!r}", WHOLE.replace(old, new)))
-    bits = []
-    for new in ('"0a"', '"1F"', '"23b"', '"3F"'):
-        bits.append((new, canonical(f"#1=R({new});", schema="B"), "B"))
-    for new in ("#1=(A()E());", "#1=(E()A());", "#1=a();"):
-        bits.append((new, canonical(new, schema="E"), "E"))
-    for new in ("#1=S(1.5);", "#1=S(LEN(1.5));", "#1=S(len(15.E-1));"):
-        bits.append((new, canonical(new, schema="B"), "B"))
-    config = {**THREE, "schemas": [*THREE["schemas"], "b.exp"]}
-    refuse([differs(what, snapshot([], [model("ann", "m", file=file, schema=(more or ["T"])[0], greatest=9)])) for what, file, *more in [*rows, *bits]], config, b=express(PLAIN[3]))
+    rows = [(it, "T", WHOLE.replace("#1=P(1.E-1,'a');\n", it)) for it in SPELLED_OTHERWISE]
+    rows += [(f"{old!r} as {new!r}", "T", edited(old, new, WHOLE)) for old, new in AROUND]
+    rows += [(it, schema, canonical(it, schema=schema)) for schema, it in OTHERS]
+    refuse([differs(what, snapshot([], [model("ann", "m", file=file, schema=schema, greatest=9)])) for what, schema, file in rows],
+           {**THREE, "schemas": [*THREE["schemas"], "b.exp"]}, b=express(PLAIN[3]))
 
 
 # ---- what no request's work loads
@@ -505,34 +544,42 @@ def test_files_that_are_not_canonical():
 def test_what_no_requests_make():
     """Links to what never was, to another schema's model and to what their owner doesn't see; members of these kinds; a greatest name above
     all; a model's grants to all others, and a group's. What is asked of them is answered."""
-    sees_not = model("ann", "hidden", "#1=P(1.,$);")
-    other = model("ann", "other", "#1=E();", schema="L")
+    hidden, other = model("ann", "hidden", "#1=P(1.,$);"), model("ann", "other", "#1=E();", schema="L")
     far = [link(5, "ann", "hidden", 1), link(6, "ann", "other", 1), link(7, "cyd", "never", GREATEST), link(8, "bob", "c", 0)]
     near = model("bob", "b", "#1=Q(#5);", "#2=Q(#6);", "#3=Q(#7);", greatest=GREATEST, links=far)
     everyone = model("cyd", "z", grants=[["ann", "write"], ["bob", "read"]], greatest=17)
-    groups = [group("bob", "g", members=[["ann", "hidden"], ["ann", "other"], ["bob", "b"], ["cyd", "never"], ["cyd", "z"]]),
-              group("cyd", "empty", "L", grants=["ann", "bob"], members=[["ann", "other"], ["bob", "b"]])]
-    data = snapshot(groups, [sees_not, other, near, everyone])
+    given = [("ann", "hidden"), ("ann", "other"), ("bob", "b"), ("cyd", "never"), ("cyd", "z")]
+    of_b, empty = group("bob", "g", members=given), group("cyd", "empty", "L", grants=["ann", "bob"], members=[["ann", "other"], ["bob", "b"]])
+    data = snapshot([of_b, empty], [hidden, other, near, everyone])
     turns = [
         (export("bob", "bob", "b", links=True), linked(canonical("#1=Q(#5);", "#2=Q(#6);", "#3=Q(#7);"), *far)),
-        (members("bob", "bob", "g"), members_are(("ann", "hidden", False), ("ann", "other", False), ("bob", "b", True), ("cyd", "never", False), ("cyd", "z", False))),
+        (members("bob", "bob", "g"), members_are(*((*it, it == ("bob", "b")) for it in given))),
         (extent("bob", "bob", "g", "Q"), extent_is(*(("bob", "b", k) for k in (1, 2, 3)))), (users("bob", "bob", "g", ["bob", "b", 1], ""), users_are()),
         (extent("bob", "bob", "g", "P"), extent_is()), (add("bob", "bob", "b", "Q(#8)"), TOO_MANY), (names("bob", "ann", "hidden"), NO_SUCH_ITEM),
-        (put("bob", "bob", "b", file_of("#1=Q(#5);"), far[0]), link_fault("NotSeen", 5)), (members("ann", "cyd", "empty"), members_are(("ann", "other", False), ("bob", "b", False))),
-        (list_of("ann"), listed((b"owner", b"hidden", b"ann"), (b"owner", b"other", b"ann", b"L"), (b"write", b"z", b"cyd"), groups=[(b"read", b"empty", b"cyd", b"L")])),
+        (put("bob", "bob", "b", file_of("#1=Q(#5);"), far[0]), link_fault("NotSeen", 5)),
+        (members("ann", "cyd", "empty"), members_are(("ann", "other", False), ("bob", "b", False))),
+        (list_of("ann"), listed((b"owner", b"hidden", b"ann"), (b"owner", b"other", b"ann", b"L"), (b"write", b"z", b"cyd"),
+                                groups=[(b"read", b"empty", b"cyd", b"L")])),
     ]
+    changing = [
+        (add("ann", "cyd", "z", "P(1.,$)"), added(18)), (grant("ann", "hidden", "bob", "group"), OK),
+        (extent("bob", "bob", "g", "P"), extent_is(("ann", "hidden", 1))),
+        (users("bob", "bob", "g", ["ann", "hidden", 1], "T.Q.A"), users_are(("bob", "b", 1))), (create("bob", "c"), OK),
+        (add("bob", "bob", "c", "P(1.,$)"), added(1)), (exclude("bob", "g", "cyd", "never"), OK),
+    ]
+    models = [{**hidden, "grants": [["bob", "group"]]}, other, near, model("bob", "c", "#1=P(1.,$);"),
+              {**everyone, "file": canonical("#18=P(1.,$);"), "greatest": 18}]
+    then = snapshot([{**of_b, "members": [it for it in given if it[1] != "never"]}, empty], models)
     with Saving(e=E) as folder:
         expect_kept(folder, data, turns)
-        seen = folder.ask([add("ann", "cyd", "z", "P(1.,$)"), grant("ann", "hidden", "bob", "group"), extent("bob", "bob", "g", "P"),
-                           users("bob", "bob", "g", ["ann", "hidden", 1], "T.Q.A"), create("bob", "c"), add("bob", "bob", "c", "P(1.,$)"), exclude("bob", "g", "cyd", "never")], load=data)
-        then = snapshot([{**groups[0], "members": [it for it in groups[0]["members"] if it[1] != "never"]}, groups[1]],
-                        [{**sees_not, "grants": [["bob", "group"]]}, other, near, model("bob", "c", "#1=P(1.,$);"), {**everyone, "file": canonical("#18=P(1.,$);"), "greatest": 18}])
-        expect_saved(seen, then, [added(18), OK, extent_is(("ann", "hidden", 1)), users_are(("bob", "b", 1)), OK, added(1), OK])
+        lines, replies = zip(*changing)
+        expect_saved(folder.ask(lines, load=data), then, replies)
 
 
 def test_other_headers():
     """The header of a file that was put stays."""
-    rows = [r"FILE_DESCRIPTION($,$);\nFILE_NAME($,$,$,$,$,$,$);", r"FILE_DESCRIPTION(('a','b'),'1');\nFILE_NAME('x','2026-11-30T00:00:00',('A','B'),(),'p','s','');",
+    rows = [r"FILE_DESCRIPTION($,$);\nFILE_NAME($,$,$,$,$,$,$);",
+            r"FILE_DESCRIPTION(('a','b'),'1');\nFILE_NAME('x','2026-11-30T00:00:00',('A','B'),(),'p','s','');",
             "FILE_DESCRIPTION(()," + "(" * 16 + "''" + ")" * 16 + r");\nFILE_NAME('\X2\00E9\X0\','it''s',$,($,'\\'),'',('',()),'\X4\0001F600\X0\');"]
     head = r"FILE_DESCRIPTION((''),'2;1');\nFILE_NAME('','',(''),(''),'','','');".replace("\\n", "\n")
 
@@ -552,7 +599,8 @@ def test_as_much_as_there_may_be():
     others = [[it, ("read", "group", "write")[k % 3]] for k, it in enumerate(partners[1:])]
     rows = [
         ("models", snapshot([], [model(owner, f"m{k}") for owner in partners[:3] for k in range(100, 200)])),
-        ("groups and members", snapshot([group(owner, f"g{k}", members=[["p007", f"m{n}"] for n in range(50)] if k == 150 else []) for owner in partners[:3] for k in range(100, 200)])),
+        ("groups", snapshot([group(owner, f"g{k}") for owner in partners[:3] for k in range(100, 200)])),
+        ("members", snapshot([group("p000", "g", members=[["p007", f"m{k}"] for k in range(10, 60)])])),
         ("links", snapshot([], [model("p000", "m", links=[link(k, "p001", f"m{k % 7}", GREATEST - k) for k in range(1, 10_001)], greatest=10_000)])),
         ("instances", snapshot([], [model("p000", "m", schema="L", file=many, greatest=200_000)])),
         ("a long text", snapshot([], [model("p000", "m", file=long, greatest=1)])),
@@ -612,8 +660,9 @@ def test_random_requests_in_three_runs():
 # ---- cuts and changes
 
 SIGNS = b"0123456789\"[]{},:abcdefghijklmnopqrstuvwxyzPQTE#()=;.$*\\' \n\t\0\xc3\xff-+_/"
-WORDS = [b"ann", b"bob", b"cyd", b"m", b"b", b"g", b"read", b"group", b"write", b"T", b"L", b"P", b"Q", b"#1", b"#2", b"#3", b"#9", b"#10", b"1", b"2", b"3", b"9", b"10", b"17", b"1.", b"0.", b"2.5",
-         b"25.E-1", b"$", b"'a'", b"'b'", b"''", b"[]", b"null", b"999999999999999999", b"1000000000000000000", b"true", b"{}", b'""', b",", b"\\n", b'"']
+WORDS = [it.encode() for it in (
+    "ann bob cyd m b g read group write T L P Q #1 #2 #3 #9 #10 1 2 3 9 10 17 1. 0. 2.5 25.E-1 $ 'a' 'b' '' [] null true {} \"\" , \" \\n "
+    "999999999999999999 1000000000000000000").split()]
 
 
 def changed(chance, data):
@@ -685,26 +734,27 @@ def some_links(chance, row):
 def some_file(chance, _row):
     """Mostly a canonical one."""
     number = chance.choice([*range(1, 10), 1.5, 2.5])
-    return canonical(*chance.choice([["#1=P(%s.,$);"], ["#2=Q(#%s);"], ["#1=P(25.E-1,'x');", "#2=Q(#1);", "#%s=Q(#1);"], ["#%s=P(1.,$);"], ["#1=P(2.5%s,$);"], ["#2=P(%s.,$);", "#1=P(1.,$);"],
-                                     ["#1=P(1.E-1,'%s');", "#2=Q(#1);", "#3=P(1.,$);"], ["#1=P(1.,$);", "#3=P(-%s.E5,$);"]])).replace("%s", str(number))
+    lines = chance.choice([["#1=P(%s.,$);"], ["#2=Q(#%s);"], ["#1=P(25.E-1,'x');", "#2=Q(#1);", "#%s=Q(#1);"], ["#%s=P(1.,$);"], ["#1=P(2.5%s,$);"],
+                           ["#2=P(%s.,$);", "#1=P(1.,$);"], ["#1=P(1.E-1,'%s');", "#2=Q(#1);", "#3=P(1.,$);"], ["#1=P(1.,$);", "#3=P(-%s.E5,$);"]])
+    return canonical(*lines).replace("%s", str(number))
 
 
 # what may stand at a key of a row
 VALUES = {
     "grants": some_grants, "links": some_links, "file": some_file, "name": some_name, "owner": some_partner,
     "members": lambda chance, _: sorted([some_partner(chance), some_name(chance)] for _ in range(chance.choice([0, 1, 2, 3]))),
-    "greatest": lambda chance, _: chance.choice([0, 2, 3, 9, *(10 ** chance.randrange(1, 18) + chance.randrange(50) for _ in range(8)), GREATEST, GREATEST + 1]),
+    "greatest": lambda chance, _: chance.choice([0, 2, 9, *(10 ** chance.randrange(1, 18) + chance.randrange(50) for _ in range(8)), GREATEST, GREATEST + 1]),
     "schema": lambda chance, row: chance.choice(["T", "L", "E", "t", "Z"]),
 }
 
 
 def test_cuts_and_changes():
-    """A snapshot with groups and links is cut at each byte, and 1,000 times changed: what is a snapshot is loaded and saved as the same
+    """A snapshot with groups and links is cut at each third byte, and 1,100 times changed: what is a snapshot is loaded and saved as the same
     bytes, and what is none is refused with status 2 and one line."""
     chance = random.Random(11)
     groups, models = [G, group("bob", "e", grants=["ann", "cyd"])], [M, B, model("bob", "c", "#1=P(25.E-1,$);", grants=[["ann", "write"]])]
     whole = snapshot(groups, models)
-    texts = [whole[:at] for at in range(len(whole))]
+    texts = [whole[:at] for at in range(0, len(whole), 3)]
     texts += [changed(chance, whole) for _ in range(500)] + [changed_rows(chance, groups, models) for _ in range(600)]
     count = [0, 0]
 
@@ -732,12 +782,14 @@ def test_cuts_and_changes():
 def test_other_configurations():
     """More partners and schemas, in another order, with other tokens, and schemas with other rules and more entities: what is loaded is saved
     as it was. With a partner or a schema less that it names, or an entity with another attribute, it is refused."""
-    config = {"partners": [{"name": name, "token": name * 2} for name in ("zoe", "cyd", "a", "bob", "ann", "carl")], "schemas": ["more.exp", "e.exp", "b.exp", "l.exp"]}
+    config = {"partners": [{"name": name, "token": name * 2} for name in ("zoe", "cyd", "a", "bob", "ann", "carl")],
+              "schemas": ["more.exp", "e.exp", "b.exp", "l.exp"]}
     more = T.replace("END_SCHEMA", "ENTITY aa SUBTYPE OF (q); END_ENTITY; ENTITY z; END_ENTITY; END_SCHEMA").replace("<= 2", "< 1")
     with Saving(config, e=E, more=more, b=express(PLAIN[3])) as folder:
         expect_kept(folder, BASE, [(names("bob", "ann", "m"), named((1, "P"), (2, "Q")))])
-        for text in (T.replace("x : REAL;", "x : REAL; y : REAL;"), T.replace("x : REAL;", "x : STRING;"), T.replace("ENTITY q", "ENTITY r"), T.replace("ENTITY p;", "ENTITY p ABSTRACT SUPERTYPE;")):
-            folder.write("more.exp", text)
+        for old, new in (("x : REAL;", "x : REAL; y : REAL;"), ("x : REAL;", "x : STRING;"), ("ENTITY q", "ENTITY r"),
+                         ("ENTITY p;", "ENTITY p ABSTRACT SUPERTYPE;")):
+            folder.write("more.exp", T.replace(old, new))
             expect_untouched(folder.ask(load=BASE), re.compile(rb": .+"))
         folder.write("more.exp", more)
         for kind in ("partners", "schemas"):
@@ -748,8 +800,9 @@ def test_other_configurations():
                     expect_untouched(seen, re.compile(rb": .+"))
                 else:
                     expect_saved(seen, BASE)
-    rows = [("a grantee", snapshot([], [model("ann", "m", grants=[["dan", "read"]])])), ("a group's grantee", snapshot([group("ann", "g", grants=["dan"])])), ("an owner", snapshot([], [model("dan", "m")])),
-            ("a group's owner", snapshot([group("dan", "g")])), ("a member's owner", snapshot([group("ann", "g", members=[["dan", "m"]])])),
+    rows = [("a grantee", snapshot([], [model("ann", "m", grants=[["dan", "read"]])])), ("a group's grantee", snapshot([group("ann", "g", grants=["dan"])])),
+            ("an owner", snapshot([], [model("dan", "m")])), ("a group's owner", snapshot([group("dan", "g")])),
+            ("a member's owner", snapshot([group("ann", "g", members=[["dan", "m"]])])),
             ("a link's owner", snapshot([], [model("ann", "m", links=[link(1, "dan", "m", 1)], greatest=1)]))]
     with Saving({**THREE, "partners": [{"name": it, "token": it} for it in ("ann", "dan")]}, e=E) as folder:
         folder.write("less.json", json.dumps({**THREE, "partners": [{"name": "ann", "token": "ta"}]}))
@@ -763,48 +816,50 @@ def test_other_configurations():
 
 # ---- the program
 
+def expect_wrong_words(folder, name, *words):
+    seen = folder.ended(name, *words)
+    if (seen.status, seen.output, seen.errors.count(b"\n")) != (2, b"", 1):
+        raise Wrong(f"{words}: {seen[:3]}")
+
+
 def test_command_line():
-    """Each of the options may stand once, with a value, in any order, and by either form."""
+    """Each of the options may stand once, with a value, in any order, and in either form. What is loaded may be what is saved."""
     with Saving(e=E) as folder:
         name = folder.place(snap=SAVED)
-        given = ["batch", "--config", "config.json"]
-        for words in (["--load", f"{name}/snap", "--save", f"{name}/kept"], ["--save", f"{name}/kept", "--load", f"{name}/snap"], [f"--load={name}/snap", f"--save={name}/kept"],
-                      ["--load", f"{name}/../{name}/snap", "--save", folder.path(f"{name}/kept")]):
-            expect_saved(folder.ended(name, *given, *words), SAVED)
-            os.remove(folder.path(f"{name}/kept"))
-        expect_saved(folder.ended(name, "batch", "--load", f"{name}/snap", "--config", "config.json", "--save", f"{name}/kept"), SAVED)
-        seen = folder.ended(name, *given, "--load", f"{name}/snap", "--save", f"{name}/snap", text=create("ann", "z") + b"\n")
+        snap, kept, given = f"{name}/snap", f"{name}/kept", ["batch", "--config", "config.json"]
+        for words in ([*given, "--load", snap, "--save", kept], [*given, "--save", kept, "--load", snap], [*given, f"--load={snap}", f"--save={kept}"],
+                      ["batch", "--load", snap, *given[1:], "--save", kept], [*given, "--load", f"{name}/../{snap}", "--save", folder.path(kept)]):
+            expect_saved(folder.ended(name, *words), SAVED)
+            os.remove(folder.path(kept))
+        seen = folder.ended(name, *given, "--load", snap, "--save", snap, text=create("ann", "z") + b"\n")
         then = SAVED.replace(b'"schema":"T"},{"file"', b'"schema":"T"},%s,{"file"' % compact(model("ann", "z")))
-        if seen[:3] != (0, OK + b"\n", b"") or seen.files["snap"] != then:
+        if seen[:3] != (0, OK + b"\n", b"") or seen.files != {"snap": then}:
             raise Wrong(f"it is loaded from where it is saved: {seen[:3]}, {difference(seen.files['snap'], then)}")
-        for option in ("--load", "--save"):
-            for words in ([option], [option, option], [option, "-x"], [option, f"{name}/snap", option, f"{name}/snap"], [option[:-1], f"{name}/snap"], [f"{option}x={name}/snap"], [option, f"{name}/snap", "x"]):
-                seen = folder.ended(name, *given, *words)
-                if (seen.status, seen.output, seen.errors.count(b"\n")) != (2, b"", 1):
-                    raise Wrong(f"{words}: {seen[:3]}")
-            seen = folder.ended(name, "check", option, f"{name}/snap", "t.exp")
-            if (seen.status, seen.output, seen.errors.count(b"\n")) != (2, b"", 1):
-                raise Wrong(f"check {option}: {seen[:3]}")
-        if set(files_in(folder.path(name))) != {"snap", "kept"}:
-            raise Wrong(f"{files_in(folder.path(name))} are left")
+        for it in ("--load", "--save"):
+            for words in ([it], [it, it], [it, "-x"], [it, snap, it, snap], [it[:-1], snap], [f"{it}x={snap}"], [it, snap, "x"]):
+                expect_wrong_words(folder, name, *given, *words)
+            expect_wrong_words(folder, name, "check", it, snap, "t.exp")
+            expect_wrong_words(folder, name, "validate", it, snap, "--schema", "t.exp", "x.step")
+        if files_in(folder.path(name)) != {"snap": then}:
+            raise Wrong(f"{sorted(files_in(folder.path(name)))} are left")
 
 
 # What may be wrong, in the order in which it is told: how it is made, and a pattern of the line.
 FAULTS = {
-    "command line": rb"rp_server: [^\n]+",
-    "configuration": rb'rp_server: "config.json" is no configuration: [^\n]+',
-    "schema": rb'rp_server: "l.exp" is no schema: [^\n]+',
-    "next schema": rb'rp_server: "e.exp" is no schema: [^\n]+',
-    "new": rb'rp_server: two partners have one name: "ann"',
-    "no snapshot": rb"rp_server: [^\n]*none[^\n]* can't be read: there is no such file",
-    "a folder": rb"rp_server: [^\n]*folder[^\n]* can't be read: it is a folder",
-    "bad snapshot": rb"rp_server: [^\n]*bad[^\n]*: [^\n]+",
-    "tokens": rb"rp_server: two partners have one token[^\n]*",
-    "listen": rb"rp_server: 192.0.2.1:9 can't be listened on: [^\n]+",
-    "saved in a folder": rb"rp_server: [^\n]*folder[^\n]* can't be saved[^\n]*",
-    "saved in a link": rb"rp_server: [^\n]*link[^\n]* can't be saved[^\n]*",
-    "no part": rb"rp_server: [^\n]*taken[^\n]* can't be saved[^\n]*",
-    "nowhere": rb"rp_server: [^\n]*absent/x[^\n]* can't be saved[^\n]*",
+    "command line": "[^\n]+",
+    "configuration": '"config.json" is no configuration: [^\n]+',
+    "schema": '"l.exp" is no schema: Syntax line 1 column 7',
+    "next schema": '"e.exp" is no schema: Syntax line 1 column 1',
+    "new": 'two partners have one name: "ann"',
+    "no snapshot": """"none" can't be read: there is no such file""",
+    "a folder": """"folder" can't be read: it is a folder""",
+    "bad snapshot": '"bad": at byte [^\n]+',
+    "tokens": "two partners have one token[^\n]*",
+    "listen": "192.0.2.1:9 can't be listened on: it is none of this machine's",
+    "saved in a folder": """"folder" can't be saved: it is no regular file""",
+    "saved in a link": """"link" can't be saved: it is no regular file""",
+    "no part": """"taken" can't be saved: [^\n]+""",
+    "nowhere": """"absent/x" can't be saved: there is no such folder""",
 }
 LOADS = {"no snapshot": "none", "a folder": "folder", "bad snapshot": "bad"}
 SAVES = {"saved in a folder": "folder", "saved in a link": "link", "no part": "taken", "nowhere": "absent/x"}
@@ -825,7 +880,8 @@ def with_faults(command, faults):
         load = [word for it in faults if it in LOADS for word in ("--load", LOADS[it])] or ["--load", "good"]
         save = [word for it in faults if it in SAVES for word in ("--save", SAVES[it])] or ["--save", "kept"]
         listen = ["--listen", "192.0.2.1:9" if "listen" in faults else "127.0.0.1:0", "--connections", "1"] if command == "serve" else []
-        seen = folder.ended(".", command, "--config", "config.json", *load, *save, *listen, *(["more"] if "command line" in faults else []), seconds=20, text=list_of("ann"))
+        more = ["more"] if "command line" in faults else []
+        seen = folder.ended(".", command, "--config", "config.json", *load, *save, *listen, *more, seconds=20, text=list_of("ann"))
         left = {name for name in seen.files if name not in folder.files}
         if left - {"folder", "taken.part", "link", "taken", "target", "good", "bad"} or seen.files["target"] + seen.files["taken"] != OLD * 2:
             raise Wrong(f"{left} are left")
@@ -840,12 +896,13 @@ def test_faults_in_their_order():
     def look(row):
         pair, command = row
         seen = with_faults(command, pair)
-        if (seen.status, seen.output) != (2, b"") or not re.fullmatch(FAULTS[pair[0]] + rb"\n", seen.errors):
+        if (seen.status, seen.output) != (2, b"") or not re.fullmatch(f"rp_server: {FAULTS[pair[0]]}\n".encode(), seen.errors):
             raise Wrong(f"{command}: {seen[:3]}")
 
     pairs = [pair for pair in itertools.combinations(FAULTS, 2) if not set(pair) <= set(LOADS) and not set(pair) <= set(SAVES)]
-    rows = [*((pair, "batch") for pair in pairs if "listen" not in pair), *((pair, "serve") for pair in pairs if "listen" in pair or set(pair) & {*LOADS, *SAVES})]
-    each(look, [*rows, *(((it,), command) for it in FAULTS for command in ("batch", "serve") if it != "listen" or command == "serve")])
+    rows = [(pair, "batch") for pair in [*pairs, *((it,) for it in FAULTS)] if "listen" not in pair]
+    rows += [(pair, "serve") for pair in [*pairs, *((it,) for it in FAULTS)] if "listen" in pair or set(pair) & {*LOADS, *SAVES}]
+    each(look, rows)
 
 
 # ---- reads and writes that fail
@@ -892,8 +949,6 @@ def test_what_a_fault_of_a_device_leaves():
 def test_what_is_saved_when():
     """What is saved is begun before the first line is read, and takes its place behind the last reply. What only its owner may read is
     made, and taken away where the run is given up."""
-    if Folder.stand_in:
-        raise LeftOut
     with Saving(e=E) as folder:
         name = folder.place(kept=OLD)
         part = folder.path(f"{name}/kept.part")

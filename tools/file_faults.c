@@ -7,6 +7,7 @@
    FAULT_BYTES=N    it is killed once N bytes were written by them
    FAULT_ERROR=E    in place of that they fail by the error of this number; where it is 0, a write takes nothing, and says so
    FAULT_MANY=M     so do the M - 1 calls behind it
+   FAULT_SHORT=1    each of their reads and writes moves a byte at most
    FAULT_SLOW=S     each sync of a file takes S seconds more */
 #define _GNU_SOURCE
 #include <errno.h>
@@ -149,6 +150,7 @@ ssize_t write(int descriptor, const void *bytes, size_t size) {
   long room = number("FAULT_BYTES", -1) - written;
   if (!path) return syscall(SYS_write, descriptor, bytes, size);
   if (is_last("write", path)) return ends();
+  if (size > 1 && number("FAULT_SHORT", 0)) size = 1;
   if (number("FAULT_BYTES", -1) < 0 || (long)size <= room) {
     ssize_t taken = syscall(SYS_write, descriptor, bytes, size);
     if (taken > 0) written += taken;
@@ -159,6 +161,13 @@ ssize_t write(int descriptor, const void *bytes, size_t size) {
   ssize_t taken = syscall(SYS_write, descriptor, bytes, (size_t)room);
   if (taken > 0) written += taken;
   return number("FAULT_ERROR", -1) < 0 ? ends() : taken;
+}
+
+ssize_t read(int descriptor, void *bytes, size_t size) {
+  const char *path = path_of(descriptor);
+  if (!path) return syscall(SYS_read, descriptor, bytes, size);
+  if (is_last("read", path)) return ends();
+  return syscall(SYS_read, descriptor, bytes, size > 1 && number("FAULT_SHORT", 0) ? 1 : size);
 }
 
 int close(int descriptor) {

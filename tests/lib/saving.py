@@ -30,6 +30,8 @@ class Saving(Repository):
     """A folder with a configuration and schemas, in which `batch` loads and saves. Several runs may go on at a time."""
 
     def __init__(self, config=None, **files):
+        if Folder.stand_in:
+            raise LeftOut
         super().__init__(THREE if config is None else config, **files)
         self.numbers = itertools.count(1)
 
@@ -50,8 +52,6 @@ class Saving(Repository):
 
     def ended(self, name, *words, **given):
         """How a run ended, and what it left in a folder."""
-        if Folder.stand_in:
-            raise LeftOut
         status, output, errors = self.run(*words, **given)
         return Ended(status, output or b"", errors, f"{name}/snap", files_in(self.path(name)))
 
