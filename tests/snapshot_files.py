@@ -19,12 +19,10 @@ import signal
 import socket
 import subprocess
 import sys
-import tempfile
 import time
-from concurrent.futures import ThreadPoolExecutor
 
-from lib.harness import TOP, Folder, LeftOut, Wrong, run_tests, shortened
-from lib.messages import MIB, OK, T, add, added, create, create_group, file_of, grant, include, instances, link, list_of, listed, named, names, put
+from lib.harness import TOP, Folder, Wrong, run_tests, shortened
+from lib.messages import OK, add, create, create_group, file_of, grant, include, instances, link, list_of, listed, names, put
 from lib.plain_binding import Entity, Schema
 from lib.plain_files import read, read_mapping
 from lib.plain_model import Repository as PlainRepository
@@ -33,7 +31,7 @@ from lib.saving import OLD, Saving, difference, each, files_in, replies_of, show
 
 sys.path.insert(0, os.path.join(TOP, "tools"))
 
-from each_refusal import NO_MEMORY, Failure, run, shim_in  # noqa: E402
+from each_refusal import NO_MEMORY, run, shim_in  # noqa: E402
 
 CONFIG = {"partners": [{"name": "ann", "token": "ta"}, {"name": "bob", "token": "tb"}], "schemas": ["t.exp"]}
 # the lines of a run, their replies, and what it saves
@@ -121,17 +119,13 @@ def test_each_call_fails():
             def look(row, files=files, calls=calls, synced=synced):
                 at, error = row
                 name, seen, made = faults.run(files, at=at + 1, error=error)
-                call, path = calls[at]
-                if call == "close":
+                if calls[at][0] == "close":
                     expect_new(seen)
                     return
                 is_begun = any(it[0] == "write" for it in made[:at + 1])
-                wanted = {"kept": NEW if at == synced else OLD}
-                if call == "remove":
-                    wanted["kept.part"] = b"left"
-                if call in ("open", "create", "look", "remove") and not is_begun and error == errno.ENOENT:
-                    # (what isn't there need not be)
-                    return
+                # (what an earlier run left is there until it is removed)
+                is_left = "kept.part" in files and ("remove", "kept.part") not in calls[:at]
+                wanted = {"kept": NEW if at == synced else OLD, **({"kept.part": b"left"} if is_left else {})}
                 expect_fault(seen, REPLIES if is_begun else b"", wanted)
                 if files_in(faults.folder.path(name)) != wanted:
                     raise Wrong("something changes behind the end")
@@ -157,10 +151,12 @@ def test_each_call_of_a_load_fails():
         def look(row):
             at, error, many = row
             _, seen, _ = faults.run(files, LINES, "snap", at=at + 1, error=error, many=many)
-            if seen[:2] != (2, b"") or seen.files != files or not re.fullmatch(re.escape(f"rp_server: {shown(seen.path)} can't be read".encode()) + rb"[^\n]*\n", seen.errors):
+            line = re.escape(f"rp_server: {shown(seen.path)} can't be read".encode()) + rb"[^\n]*\n"
+            if seen[:2] != (2, b"") or seen.files != files or not re.fullmatch(line, seen.errors):
                 raise Wrong(f"{calls[at]}: {seen[:3]}, {files_shown(seen.files)}")
 
-        each(look, [(at, error, many) for at, call in enumerate(calls) if call[0] in ("open", "read") for error in (errno.EIO, errno.EACCES, errno.EISDIR) for many in (1, 100)])
+        each(look, [(at, error, many) for at, call in enumerate(calls) if call[0] in ("open", "read")
+                    for error in (errno.EIO, errno.EACCES, errno.EISDIR) for many in (1, 100)])
 
 
 def test_a_byte_at_a_time():
@@ -184,7 +180,8 @@ def test_a_full_disk():
             else:
                 expect_fault(seen, REPLIES, {"kept": OLD})
 
-        each(look, [(room, error) for error in (errno.ENOSPC, errno.EDQUOT, errno.EFBIG) for room in [*range(0, len(NEW), 397), len(NEW) - 1, len(NEW)]])
+        rooms = [*range(0, len(NEW), 397), len(NEW) - 1, len(NEW)]
+        each(look, [(room, error) for error in (errno.ENOSPC, errno.EDQUOT, errno.EFBIG) for room in rooms])
 
     def limited(room):
         signal.signal(signal.SIGXFSZ, signal.SIG_IGN)
@@ -208,19 +205,17 @@ MOUNTED = """mount -t tmpfs -o size=64k tmpfs full && cp old full/kept || exit 9
 
 def test_a_disk_that_is_full():
     """The same on a disk of 64 KiB, where one may be mounted: a text of 200 KB isn't saved, and then one of 30 KB is."""
-    if Folder.stand_in:
-        raise LeftOut
     with Saving(CONFIG) as folder:
-        large, small = (create("ann", "m") + b"\n" + put("ann", "ann", "m", file_of("#1=P(1.,'" + "x" * size + "');")) + b"\n" for size in (200_000, 30_000))
-        folder.write("large", large)
-        folder.write("small", small)
+        for name, size in (("large", 200_000), ("small", 30_000)):
+            folder.write(name, create("ann", "m") + b"\n" + put("ann", "ann", "m", file_of("#1=P(1.,'" + "x" * size + "');")) + b"\n")
         folder.write("old", OLD)
         folder.write("new", snapshot([], [model("ann", "m", "#1=P(1.,'" + "x" * 30_000 + "');")]))
         os.mkdir(folder.path("full"))
-        done = subprocess.run(["unshare", "--mount", *(["--map-root-user"] if os.geteuid() else []), "sh", "-c", MOUNTED, "sh", Folder.program, *BATCH],
-                              cwd=folder.folder.name, capture_output=True, check=False) if shutil.which("unshare") else None
-        if done is None or done.returncode in (1, 99) and b"status" not in done.stdout:
-            print(f"snapshot files: no disk may be mounted here, so the row of a mounted one is left out: {done and done.stderr.decode().strip()}")
+        alone = ["unshare", "--mount", *(["--map-root-user"] if os.geteuid() else [])]
+        done = subprocess.run(["sh", "-c", '"$@"', "sh", *alone, "sh", "-c", MOUNTED, "sh", Folder.program, *BATCH], cwd=folder.folder.name,
+                              capture_output=True, check=False)
+        if b"status" not in done.stdout:
+            print(f"snapshot files: no disk may be mounted here, so the row of one that is full is left out: {done.stderr.decode().strip()}")
             return
         told = OK.decode() + '\n{"ok":{"instances":1}}\n'
         if done.stdout.decode() != f"{told}status 2\nkept\n{told}status 0\nkept\n" or not LINE.fullmatch(done.stderr):
@@ -266,8 +261,6 @@ LARGE = [f"#{k}=P({k}.5,'{'a b c d e f g ' * 8}');" for k in range(1, 60_001)]
 
 def test_killed_at_any_moment():
     """A hundred times, at a random moment of a save: the old or the new text is there, and the next save is whole."""
-    if Folder.stand_in:
-        raise LeftOut
     chance = random.Random(3)
     # (what is put has the same names and values in the canonical spelling)
     lines = [re.sub(r"\((\d+)\.5,", lambda it: f"({it[1]}5.E-1,", it) for it in LARGE]
@@ -421,15 +414,15 @@ def another():
 
 
 def as_another(folder, *words):
-    done = subprocess.run([folder.path("program"), *BATCH, *words], cwd=folder.folder.name, input=b"".join(it + b"\n" for it in LINES), capture_output=True, check=False, **another())
+    """How a run of another ended."""
+    done = subprocess.run([folder.path("program"), *BATCH, *words], cwd=folder.folder.name, input=b"".join(it + b"\n" for it in LINES),
+                          capture_output=True, check=False, **another())
     return done.returncode, done.stdout, done.stderr
 
 
 def test_who_may_not():
     """In a folder that may not be written, or not be searched, nothing is begun. Where the folder may be written, what another one's file
     stood for is replaced, and is one's own. What may not be read isn't loaded."""
-    if Folder.stand_in:
-        raise LeftOut
     with Saving(CONFIG) as folder:
         shutil.copy(Folder.program, folder.path("program"))
         for it, mode in ((".", 0o755), ("program", 0o755), ("config.json", 0o644), ("t.exp", 0o644)):
@@ -448,18 +441,21 @@ def test_who_may_not():
         name = folder.place(kept=OLD, snap=NEW)
         os.chmod(folder.path(name), 0o777)
         seen = as_another(folder, "--save", f"{name}/kept")
-        if seen != (0, REPLIES, b"") or files_in(folder.path(name)) != {"kept": NEW, "snap": NEW} or mode_of(folder.path(f"{name}/kept")) != 0o600:
-            raise Wrong(f"a folder that all may write: {seen}, {sorted(files_in(folder.path(name)))}")
+        files = files_in(folder.path(name))
+        if seen != (0, REPLIES, b"") or files != {"kept": NEW, "snap": NEW} or mode_of(folder.path(f"{name}/kept")) != 0o600:
+            raise Wrong(f"a folder that all may write: {seen}, {sorted(files)}")
         os.chmod(folder.path(f"{name}/snap"), 0o200)
         seen = as_another(folder, "--load", f"{name}/snap", "--save", f"{name}/kept")
-        if seen != (2, b"", f"rp_server: {shown(f'{name}/snap')} can't be read: permission is denied\n".encode()) or files_in(folder.path(name)) != {"kept": NEW, "snap": NEW}:
+        line = f"rp_server: {shown(f'{name}/snap')} can't be read: permission is denied\n".encode()
+        if seen != (2, b"", line) or files_in(folder.path(name)) != {"kept": NEW, "snap": NEW}:
             raise Wrong(f"a snapshot that may not be read: {seen}")
 
 
 def test_what_cant_be_loaded():
     """It is told why. What a link leads to is loaded, and so is a pipe."""
-    rows = [("absent", "there is no such file"), ("", "there is no such file"), ("sub/absent", "there is no such file"), (".", "it is a folder"), ("sub", "it is a folder"),
-            ("snap/", "a part of its path is no folder"), ("snap/x", "a part of its path is no folder"), ("x" * 256, "its path is too long"), ("circle", "its links lead in a circle")]
+    folders = "a part of its path is no folder"
+    rows = [("absent", "there is no such file"), ("", "there is no such file"), ("sub/absent", "there is no such file"), (".", "it is a folder"),
+            ("sub", "it is a folder"), ("snap/", folders), ("snap/x", folders), ("x" * 256, "its path is too long"), ("circle", "its links lead in a circle")]
     with Saving(CONFIG) as folder:
         folder.write("snap", NEW)
         os.mkdir(folder.path("sub"))
@@ -468,7 +464,7 @@ def test_what_cant_be_loaded():
         for path, why in rows:
             name = folder.place(kept=OLD)
             seen = folder.ended(name, *BATCH, "--load", path, "--save", f"{name}/kept", text=LINES[0])
-            if seen[:2] != (2, b"") or seen.files != {"kept": OLD} or seen.errors != f"rp_server: {shown(path)} can't be read: {why}\n".encode():
+            if seen[:3] != (2, b"", f"rp_server: {shown(path)} can't be read: {why}\n".encode()) or seen.files != {"kept": OLD}:
                 raise Wrong(f"{path}: {seen[:3]}, {seen.files}")
         name = folder.place()
         expect_new(folder.ended(name, *BATCH, "--load", "link", "--save", f"{name}/kept"), replies=b"")
@@ -482,8 +478,6 @@ def test_what_cant_be_loaded():
 
 def test_two_at_once():
     """Of two runs that replace one file the later takes the place where it is begun; the other one saves nothing, and takes nothing away."""
-    if Folder.stand_in:
-        raise LeftOut
     with Saving(CONFIG) as folder:
         name = folder.place(kept=OLD)
         part = folder.path(f"{name}/kept.part")
@@ -505,8 +499,6 @@ def test_two_at_once():
 def test_what_changes_meanwhile():
     """The file becomes a folder, its folder is removed, or another one stands in its place, between the begin and the end: nothing is saved
     then, and nothing is lost."""
-    if Folder.stand_in:
-        raise LeftOut
 
     def meanwhile(change):
         name = folder.place(kept=OLD)
@@ -544,8 +536,9 @@ def test_what_changes_meanwhile():
 # ---- memory
 
 SMALL = Schema("S", {}, {"e": Entity({"a": "e"}, optional=["a"])})
-HELD = [create("ann", "m", "S"), put("ann", "ann", "m", file_of("#1=E($);#2=E(#1);", "S")), grant("ann", "m", "bob", "write"), create_group("ann", "g", "S"), include("ann", "g", "ann", "m"),
-        create("bob", "b", "S"), put("bob", "bob", "b", file_of("#1=E(#9);", "S"), link(9, "ann", "m", 1))]
+HELD = [create("ann", "m", "S"), put("ann", "ann", "m", file_of("#1=E($);#2=E(#1);", "S")), grant("ann", "m", "bob", "write"),
+        create_group("ann", "g", "S"), include("ann", "g", "ann", "m"), create("bob", "b", "S"),
+        put("bob", "bob", "b", file_of("#1=E(#9);", "S"), link(9, "ann", "m", 1))]
 ASKED = [names("ann", "ann", "m"), add("bob", "ann", "m", "E(#2)"), create("bob", "c", "S"), list_of("bob")]
 
 
@@ -577,8 +570,6 @@ def told_and_saved(repository, replies):
 def test_each_refusal_of_memory():
     """Each allocation of a run that loads and saves is refused, alone and with all behind it: what is asked is answered or NoMemory, and saved
     accordingly; or the run ends with status 2 and one line, before the first line or behind the last, and saves nothing."""
-    if Folder.stand_in:
-        raise LeftOut
     before = plain(HELD)
     data = snapshot_of(before)
     seen = collections.Counter()
@@ -616,7 +607,7 @@ def test_each_refusal_of_memory():
             seen["saved"] += 1
 
         first = max(1, alone.before_input - 40)
-        each(look, [*(("REFUSE_NTH", at) for at in range(first, whole.allocations + 1)), *(("REFUSE_FROM", at) for at in range(first, whole.allocations + 1))])
+        each(look, [(key, at) for key in ("REFUSE_NTH", "REFUSE_FROM") for at in range(first, whole.allocations + 1)])
     if min(seen["before"], seen["behind"], seen["saved"]) < 5:
         raise Wrong(f"of {whole.allocations} allocations, {alone.before_input} of them before a run that loads nothing reads: {dict(seen)}")
 

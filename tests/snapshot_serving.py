@@ -18,17 +18,17 @@ import stat
 import subprocess
 import sys
 import tempfile
-import threading
 import time
 from concurrent.futures import ThreadPoolExecutor
 
-from lib.harness import TOP, Folder, LeftOut, Wrong, run_tests, shortened, take_program
+from lib.harness import TOP, Folder, LeftOut, Wrong, run_tests, take_program
 from lib.messages import (
-    BAD_REQUEST, CONFIG, EXISTS, NO_SUCH_ITEM, OK, add, added, canonical, create, create_group, export, exported, file_of, get as get_instance, got, grant, include, instances, link, list_of,
-    listed, names, named, put, refused,
+    CONFIG, EXISTS, NO_SUCH_ITEM, OK, add, added, canonical, create, create_group, export, exported, file_of, got, grant, include, instances, link,
+    list_of, listed, named, names, put,
 )
+from lib.messages import get as get_instance
 from lib.plain_http import answer
-from lib.plain_snapshots import group, model, snapshot
+from lib.plain_snapshots import compact, group, model, snapshot
 from lib.saving import OLD, difference, files_in, until
 from lib.serving import Client, Server, as_post, get
 
@@ -70,7 +70,8 @@ class Place:
 
     def serve(self, *words, loads=False, config=ONE_SCHEMA, env=None, **given):
         load = ["--load", self.kept] if loads else []
-        return Server(*load, "--save", self.kept, *words, config=config, **({"env": {**os.environ, **env}} if env else {}), **given)
+        more = {"env": {**os.environ, **env}} if env else {}
+        return Server(*load, "--save", self.kept, *words, config=config, **more, **given)
 
     def slow(self, seconds, *words, **given):
         """A server whose saves take so many seconds."""
@@ -171,8 +172,9 @@ def changes(stays_silent):
 def reading():
     """What changes nothing saves nothing, not at first and not a minute after a save."""
     data = snapshot([group("ann", "g", members=[["ann", "m"]])], [model("ann", "m", "#1=P(1.,$);"), model("ann", "n")])
-    asked = [(list_of("ann"), listed((b"owner", b"m", b"ann"), (b"owner", b"n", b"ann"), groups=[(b"owner", b"g", b"ann")])), (names("ann", "ann", "m"), named((1, "P"))),
-             (create("ann", "m"), EXISTS), (names("bob", "ann", "m"), NO_SUCH_ITEM), (export("ann", "ann", "m"), exported(canonical("#1=P(1.,$);")))]
+    asked = [(list_of("ann"), listed((b"owner", b"m", b"ann"), (b"owner", b"n", b"ann"), groups=[(b"owner", b"g", b"ann")])),
+             (names("ann", "ann", "m"), named((1, "P"))), (create("ann", "m"), EXISTS), (names("bob", "ann", "m"), NO_SUCH_ITEM),
+             (export("ann", "ann", "m"), exported(canonical("#1=P(1.,$);")))]
     with Place(kept=data) as place:
         before = place.identity()
         with place.serve(loads=True) as server:
@@ -184,7 +186,7 @@ def reading():
             if place.identity() != before:
                 raise Wrong("it is saved though nothing was changed")
             ask(server, (create("bob", "b"), OK))
-            then = snapshot([group("ann", "g", members=[["ann", "m"]])], [model("ann", "m", "#1=P(1.,$);"), model("ann", "n"), model("bob", "b")])
+            then = data[:-2] + b",%s]}" % compact(model("bob", "b"))
             place.expect_soon(then)
             before, end = place.identity(), time.monotonic() + 64
             while time.monotonic() < end:
@@ -295,9 +297,10 @@ def another_server():
         before = place.identity()
         address = f"{server.address[0]}:{server.address[1]}"
         for listen in (address, "192.0.2.1:9"):
-            done = subprocess.run([Folder.program, "serve", "--config", "config.json", "--listen", listen, "--save", place.kept], cwd=server.folder.folder.name, stdin=subprocess.DEVNULL,
-                                  capture_output=True, timeout=20, check=False)
-            if (done.returncode, done.stdout) != (2, b"") or not re.fullmatch(rb"rp_server: %s can't be listened on: [^\n]+\n" % re.escape(listen.encode()), done.stderr):
+            done = subprocess.run([Folder.program, "serve", "--config", "config.json", "--listen", listen, "--save", place.kept],
+                                  cwd=server.folder.folder.name, stdin=subprocess.DEVNULL, capture_output=True, timeout=20, check=False)
+            line = re.escape(f"rp_server: {listen} can't be listened on: ".encode()) + rb"[^\n]+\n"
+            if (done.returncode, done.stdout) != (2, b"") or not re.fullmatch(line, done.stderr):
                 raise Wrong(f"status {done.returncode}, {done.stdout!r}, {done.stderr!r}")
             place.expect(models("m"))
             if place.identity() != before:
@@ -401,7 +404,8 @@ def large():
             raise Wrong("it is the same file")
         for it in silent:
             it.ask(ASKED, SCHEMAS)
-        ask(server, (names("ann", "ann", "n"), named()), (get_instance("ann", "ann", "m4", 90_000), got(f"#90000=P(900005.E-1,'{'a' * 60}');")))
+        last = f"#90000=P(900005.E-1,'{'a' * 60}');"
+        ask(server, (names("ann", "ann", "n"), named()), (get_instance("ann", "ann", "m4", 90_000), got(last)))
 
 
 def many():
@@ -414,7 +418,8 @@ def many():
 
             list(pool.map(work, range(60)))
             with Client(server) as client:
-                client.ask(as_post(grant("ann", "m00", "bob", "group")) + as_post(create_group("bob", "g")) + as_post(include("bob", "g", "ann", "m00")), DONE * 3)
+                for asked in (grant("ann", "m00", "bob", "group"), create_group("bob", "g"), include("bob", "g", "ann", "m00")):
+                    client.ask(as_post(asked), DONE)
                 client.ask(as_post(put("bob", "bob", "m01", file_of("#1=Q(#7);"), link(7, "ann", "m00", 2))), answer(instances(1)))
             server.expect_ended()
         lines = [f"#{n}=P({n}.,$);" for n in range(1, 4)]
@@ -463,9 +468,10 @@ def session(shim, names_of_models=("m", "n"), more=(), **refusal):
         lines = errors.split(b"\n")[:-1]
         if output or any(not UNSAVED.fullmatch(it) for it in lines if it != b"rp_server: out of memory"):
             raise Wrong(f"{output!r}, {errors!r}")
-        may = [models(*it) for it in held] if server.process.returncode == 0 else [None, EMPTY, *(models(*it[:k]) for it in held for k in (1, 2))]
-        if (server.process.returncode, place.files()) not in [(status, {} if it is None else {"kept": it}) for status in (0, 2) for it in may] or server.process.returncode and not lines:
-            raise Wrong(f"status {server.process.returncode}, {errors!r}, {place.files()}")
+        status = server.process.returncode
+        may = [models(*it) for it in held] if status == 0 else [None, EMPTY, *(models(*it[:k]) for it in held for k in (1, 2))]
+        if status not in (0, 2) or status and not lines or place.files() not in [{} if it is None else {"kept": it} for it in may]:
+            raise Wrong(f"status {status}, {errors!r}, {place.files()}")
         return len(lines)
 
 
@@ -508,8 +514,9 @@ def refusals():
 # ---- running them side by side
 
 PARTS = {
-    "changes": functools.partial(changes, False), "changes_in_silence": functools.partial(changes, True), "reading": reading, "by_a_folder": failing_by_a_folder, "by_rights": failing_by_rights,
-    "refusals": refusals, "deadlines": deadlines, "ten_times": ten_times, "another": another_server, "counted": counted_connections, "end_of_input": end_of_input, "killed": killed, "large": large, "many": many,
+    "changes": functools.partial(changes, False), "changes in silence": functools.partial(changes, True), "reading": reading,
+    "by a folder": failing_by_a_folder, "by rights": failing_by_rights, "refusals": refusals, "deadlines": deadlines, "ten times": ten_times,
+    "another": another_server, "counted": counted_connections, "end of input": end_of_input, "killed": killed, "large": large, "many": many,
 }
 
 
@@ -532,7 +539,7 @@ def test_changes_over_a_connection_that_stays_open():
 
 def test_changes_while_nothing_moves():
     """So it is where no connection moves any more."""
-    result("changes_in_silence")
+    result("changes in silence")
 
 
 def test_what_changes_nothing():
@@ -542,12 +549,12 @@ def test_what_changes_nothing():
 
 def test_a_folder_in_the_way():
     """One line tells of a save that fails, all others are served, and a later save succeeds."""
-    result("by_a_folder")
+    result("by a folder")
 
 
 def test_a_folder_that_may_not_be_written():
     """So it is where rights are wanting."""
-    result("by_rights")
+    result("by rights")
 
 
 def test_deadlines():
@@ -557,7 +564,7 @@ def test_deadlines():
 
 def test_the_time_between_two_saves():
     """It is ten times what a save took, where that is more than a minute."""
-    result("ten_times")
+    result("ten times")
 
 
 def test_a_second_server():
@@ -572,7 +579,7 @@ def test_counted_connections():
 
 def test_the_end_of_input():
     """With `--until-input-ends` it is saved then."""
-    result("end_of_input")
+    result("end of input")
 
 
 def test_killed_while_it_saves():

@@ -150,7 +150,8 @@ class Reader:
         except (ValueError, LookupError, RecursionError, InstanceFault):
             raise NoSnapshot from None
         need(len(found.header.description) == 2, len(found.header.name) == 7, *map(is_header_value, [*found.header.description, *found.header.name]))
-        need(*(is_value(value) for it in found.instances for _, values in it.parts for value in values), *(it.name <= GREATEST_NUMBER for it in found.instances))
+        need(*(is_value(value) for it in found.instances for _, values in it.parts for value in values))
+        need(*(it.name <= GREATEST_NUMBER for it in found.instances))
         need(text == plain_binding.canonical_text(schema, found.header, bound))
         return [it.name for it in bound]
 
