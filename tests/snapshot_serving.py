@@ -389,9 +389,9 @@ def killed():
 
 
 def large():
-    """A repository of 40 MB: it is loaded, a change is saved, silent connections outlive that, and others are answered behind it."""
-    text = canonical(*(f"#{k}=P({k}5.E-1,'{'a' * 60}');" for k in range(1, 90_001)))
-    held = [model("ann", f"m{k}", file=text, greatest=90_000) for k in range(5)]
+    """A repository of 12 MB: it is loaded, a change is saved, silent connections outlive that, and others are answered behind it."""
+    text = canonical(*(f"#{k}=P({k}5.E-1,'{'a' * 60}');" for k in range(1, 30_001)))
+    held = [model("ann", f"m{k}", file=text, greatest=30_000) for k in range(5)]
     data = snapshot([], held)
     with Place(kept=data) as place, place.serve(loads=True) as server:
         silent = [Client(server, seconds=60) for _ in range(200)]
@@ -404,8 +404,8 @@ def large():
             raise Wrong("it is the same file")
         for it in silent:
             it.ask(ASKED, SCHEMAS)
-        last = f"#90000=P(900005.E-1,'{'a' * 60}');"
-        ask(server, (names("ann", "ann", "n"), named()), (get_instance("ann", "ann", "m4", 90_000), got(last)))
+        last = f"#30000=P(300005.E-1,'{'a' * 60}');"
+        ask(server, (names("ann", "ann", "n"), named()), (get_instance("ann", "ann", "m4", 30_000), got(last)))
 
 
 def many():
@@ -449,26 +449,36 @@ def one_reply(server, asked):
         return first + client.reply() if first else None
 
 
-def session(shim, names_of_models=("m", "n"), more=(), **refusal):
-    """Creates models one after the other, the second once the first is saved, and ends the input. What is saved in the end is what was answered,
-    or the end is a fault, and what was saved before is there. Answers how many lines told of a save that failed."""
+def create_each(server, place, names_of_models):
+    """Creates models one after the other, the second once the first is saved or a save has failed: what may be held then."""
+    held = [()]
+    for name in names_of_models:
+        reply = one_reply(server, as_post(create("ann", name)))
+        if reply not in (DONE, NONE_LEFT, None):
+            raise Wrong(f"{reply!r} is answered")
+        held = [*(held if reply != DONE else []), *([(*it, name) for it in held] if reply != NONE_LEFT else [])]
+        if reply == DONE and not until(lambda: place.saved() or select.select([server.process.stderr], [], [], 0)[0], 10):
+            raise Wrong("a change is neither saved, nor is it told that it can't be")
+    return held
+
+
+def session(shim, names_of_models=("m", "n"), may_end=False, more=(), **refusal):
+    """Creates models and ends the input: what is saved in the end is what was answered, or the end is a fault and what was saved before is
+    there. Answers how many lines told of a save that failed."""
     env = {"LD_PRELOAD": shim, **{name: str(it) for name, it in refusal.items()}}
     with Place() as place, place.serve("--until-input-ends", stdin=subprocess.PIPE, env=env, pass_fds=more) as server:
-        held = [()]
-        for name in names_of_models:
-            reply = one_reply(server, as_post(create("ann", name)))
-            if reply not in (DONE, NONE_LEFT, None):
-                raise Wrong(f"{reply!r} is answered")
-            held = [*(held if reply != DONE else []), *([(*it, name) for it in held] if reply in (DONE, None) else [])]
-            if reply == DONE and not until(lambda: place.saved() or select.select([server.process.stderr], [], [], 0)[0], 10):
-                raise Wrong("a change is neither saved, nor is it told that it can't be")
+        try:
+            held = create_each(server, place, names_of_models)
+        except ConnectionRefusedError:
+            if not may_end:
+                raise Wrong("it ended") from None
+            held = [()]
         output, errors = server.process.communicate(timeout=60)
         server.is_over = True
         server.folder.__exit__()
-        lines = errors.split(b"\n")[:-1]
+        lines, status = errors.split(b"\n")[:-1], server.process.returncode
         if output or any(not UNSAVED.fullmatch(it) for it in lines if it != b"rp_server: out of memory"):
             raise Wrong(f"{output!r}, {errors!r}")
-        status = server.process.returncode
         may = [models(*it) for it in held] if status == 0 else [None, EMPTY, *(models(*it[:k]) for it in held for k in (1, 2))]
         if status not in (0, 2) or status and not lines or place.files() not in [{} if it is None else {"kept": it} for it in may]:
             raise Wrong(f"status {status}, {errors!r}, {place.files()}")
@@ -482,7 +492,7 @@ UNSAVED = re.compile(rb"rp_server: [^\n]*kept[^\n]* can't be saved: [^\n]+")
 def counted(shim, names_of_models):
     """How many allocations such a session makes."""
     with tempfile.TemporaryFile() as report:
-        session(shim, names_of_models, (report.fileno(),), REFUSE_REPORT=report.fileno())
+        session(shim, names_of_models, more=(report.fileno(),), REFUSE_REPORT=report.fileno())
         report.seek(0)
         return int(report.read().split()[0])
 
@@ -497,13 +507,13 @@ def refusals():
         def one(row):
             key, at = row
             try:
-                return session(shim, **{key: at})
+                return session(shim, may_end=at <= before, **{key: at})
             except Wrong as fault:
                 # (before it listens it may end with status 2)
                 return 0 if at <= before and "doesn't listen" in str(fault) else f"{key}={at} of {whole}: {fault}"
 
         first = max(1, before - 40)
-        seen = list(pool.map(one, [*(("REFUSE_NTH", at) for at in range(first, whole + 1)), *(("REFUSE_FROM", at) for at in range(first, whole + 1, 5))]))
+        seen = list(pool.map(one, [(key, at) for key, step in (("REFUSE_NTH", 1), ("REFUSE_FROM", 5)) for at in range(first, whole + 1, step)]))
     faults = [it for it in seen if isinstance(it, str)]
     if faults:
         raise Wrong("\n  ".join([f"{len(faults)} refusals:", *faults[:20]]))

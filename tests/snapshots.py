@@ -219,6 +219,18 @@ FORM = re.compile(rb": at byte \d+(?:, (?:group|model): at byte \d+)?: (?:a brac
                   rb"\(read, group or write\)) is wanted")
 
 
+def expect_places(data, line):
+    """The places that are told of what doesn't stand where it has to: where the row begins, and a byte near what differs from BASE."""
+    begin, *within = [int(it) for it in re.findall(rb"at byte (\d+)", line)]
+    front = len(os.path.commonprefix([data, BASE]))
+    back = len(os.path.commonprefix([data[front:][::-1], BASE[front:][::-1]]))
+    kind = b"model" if begin > data.find(b'"models":[') > 0 else b"group"
+    if within and (b", %s: at" % kind not in line or data[begin - 1:begin] not in (b"[", b",", b"}")):
+        raise Wrong(f"no {kind.decode()} begins at byte {begin}: {data[begin - 20:begin]!r}")
+    if not front - 20 <= [begin, *within][-1] <= len(data) - back + 20:
+        raise Wrong(f"{line!r} is told, and bytes {front} to {len(data) - back} are others: {data[front - 20:front]!r}, {data[front:][:60]!r}")
+
+
 def edited(old, new, data=BASE):
     """A text with something in place of what stands there once."""
     if data.count(old) != 1:
@@ -250,7 +262,10 @@ def refuse(rows, config=None, **files):
             _, data, words = row
             if len(data) < MIB and is_snapshot(data, PARTNERS, PLAIN):
                 raise AssertionError(f"{row[0]} is a snapshot")
-            expect_untouched(folder.ask([list_of("ann")], load=data), words)
+            seen = folder.ask([list_of("ann")], load=data)
+            expect_untouched(seen, words)
+            if words is FORM:
+                expect_places(data, seen.errors)
 
         each(look, rows)
 
@@ -597,22 +612,23 @@ def test_as_much_as_there_may_be():
     many = canonical(schema="L").replace("DATA;\n", "DATA;\n" + "".join(f"#{k}=E();\n" for k in range(1, 200_001)))
     long = canonical("#1=P(1.,'" + "x\\\\" * (3 * MIB) + "');")
     others = [[it, ("read", "group", "write")[k % 3]] for k, it in enumerate(partners[1:])]
-    rows = [
-        ("models", snapshot([], [model(owner, f"m{k}") for owner in partners[:3] for k in range(100, 200)])),
-        ("groups", snapshot([group(owner, f"g{k}") for owner in partners[:3] for k in range(100, 200)])),
-        ("members", snapshot([group("p000", "g", members=[["p007", f"m{k}"] for k in range(10, 60)])])),
-        ("links", snapshot([], [model("p000", "m", links=[link(k, "p001", f"m{k % 7}", GREATEST - k) for k in range(1, 10_001)], greatest=10_000)])),
-        ("instances", snapshot([], [model("p000", "m", schema="L", file=many, greatest=200_000)])),
-        ("a long text", snapshot([], [model("p000", "m", file=long, greatest=1)])),
-        ("grants", snapshot([group("p000", "g", grants=partners[1:])], [model("p000", "m", "#1=P(1.,$);", grants=others)])),
-    ]
+    links = [link(k, "p001", f"m{k % 7}", GREATEST - k) for k in range(1, 10_001)]
+    rows = {
+        "models": snapshot([], [model(owner, f"m{k}") for owner in partners[:3] for k in range(100, 200)]),
+        "groups": snapshot([group(owner, f"g{k}") for owner in partners[:3] for k in range(100, 200)]),
+        "members": snapshot([group("p000", "g", members=[["p007", f"m{k}"] for k in range(10, 60)])]),
+        "links": snapshot([], [model("p000", "m", links=links, greatest=10_000)]),
+        "instances": snapshot([], [model("p000", "m", schema="L", file=many, greatest=200_000)]),
+        "a long text": snapshot([], [model("p000", "m", file=long, greatest=1)]),
+        "grants": snapshot([group("p000", "g", grants=partners[1:])], [model("p000", "m", "#1=P(1.,$);", grants=others)]),
+    }
     with Saving(config) as folder:
-        each(lambda row: expect_saved(folder.ask(load=row[1]), row[1]), rows)
-        seen = folder.ask([names("p000", "p000", "m"), export("p000", "p000", "m"), get("p000", "p000", "m", 2)], load=rows[4][1])
-        expect_saved(seen, rows[4][1], [named((1, "P")), exported(long), NO_SUCH_INSTANCE])
-        seen = folder.ask([create("p001", "more"), create("p003", "more"), create("p001", "m100")], load=rows[0][1], save=False)
-        if seen.output != replies_of([TOO_MANY, OK, EXISTS]):
-            raise Wrong(f"{seen.output!r} is answered where an owner has 100 models")
+        each(lambda row: expect_saved(folder.ask(load=row[1]), row[1]), rows.items())
+        seen = folder.ask([names("p000", "p000", "m"), export("p000", "p000", "m"), get("p000", "p000", "m", 2)], load=rows["a long text"])
+        expect_saved(seen, rows["a long text"], [named((1, "P")), exported(long), NO_SUCH_INSTANCE])
+        seen = folder.ask([create("p001", "more"), create("p003", "more"), create("p001", "m100")], load=rows["models"], save=False)
+        if seen[:3] != (0, replies_of([TOO_MANY, OK, EXISTS]), b""):
+            raise Wrong(f"{seen[:3]} where an owner has 100 models")
 
 
 # ---- random requests, in runs
@@ -787,9 +803,8 @@ def test_other_configurations():
     more = T.replace("END_SCHEMA", "ENTITY aa SUBTYPE OF (q); END_ENTITY; ENTITY z; END_ENTITY; END_SCHEMA").replace("<= 2", "< 1")
     with Saving(config, e=E, more=more, b=express(PLAIN[3])) as folder:
         expect_kept(folder, BASE, [(names("bob", "ann", "m"), named((1, "P"), (2, "Q")))])
-        for old, new in (("x : REAL;", "x : REAL; y : REAL;"), ("x : REAL;", "x : STRING;"), ("ENTITY q", "ENTITY r"),
-                         ("ENTITY p;", "ENTITY p ABSTRACT SUPERTYPE;")):
-            folder.write("more.exp", T.replace(old, new))
+        for old, new in (("x : REAL;", "x : REAL; y : REAL;"), ("x : REAL;", "x : STRING;"), (r"\bq\b", "r"), ("ENTITY p;", "ENTITY p ABSTRACT SUPERTYPE;")):
+            folder.write("more.exp", re.sub(old, new, T))
             expect_untouched(folder.ask(load=BASE), re.compile(rb": .+"))
         folder.write("more.exp", more)
         for kind in ("partners", "schemas"):
