@@ -897,7 +897,8 @@ def test_help():
     """The help is printed on standard output with status 0, and names what there is to type."""
     with Repository() as folder:
         for words, mentioned in ([["--help"], ["batch", "--help"]], [["batch", "--help"], ["--config", "FILE", "--load", "--save"]],
-                                 [["serve", "--help"], ["--config", "--listen", "--load", "--save"]], [["help"], ["batch"]], [["help", "batch"], ["--config"]], [["-h"], ["batch"]]):
+                                 [["serve", "--help"], ["--config", "--listen", "--load", "--save"]], [["help"], ["batch"]],
+                                 [["help", "batch"], ["--config"]], [["-h"], ["batch"]]):
             status, output, errors = folder.run(*words)
             if status != 0 or errors or any(it.encode() not in output for it in mentioned):
                 raise Wrong(f"{words}: status {status}, {output!r}, {errors!r}")

@@ -22,7 +22,7 @@ import sys
 import time
 
 from lib.harness import TOP, Folder, Wrong, run_tests, shortened
-from lib.messages import OK, add, create, create_group, file_of, grant, include, instances, link, list_of, listed, names, put
+from lib.messages import MIB, OK, add, create, create_group, file_of, grant, include, instances, link, list_of, listed, names, put
 from lib.plain_binding import Entity, Schema
 from lib.plain_files import read, read_mapping
 from lib.plain_model import Repository as PlainRepository
@@ -348,6 +348,7 @@ def test_what_is_no_file():
         for path, it in why.items():
             path = f"{name}/{path}"
             expect_fault(folder.ended(name, *BATCH, "--save", path, text=LINES[0], seconds=20), b"", files, it, path)
+        expect_fault(folder.ended(name, *BATCH, "--save", "a\nb/c", text=LINES[0]), b"", files, "there is no such folder", "a\nb/c")
         for path in ("/dev/null", "/dev/full", "/", "/proc/self", "", "."):
             expect_fault(folder.ended(name, *BATCH, "--save", path, text=LINES[0], seconds=20), b"", files, NO_FILE, path)
         if os.path.exists("/dev/null.part") or os.listdir(f"{place}/folder"):
@@ -465,7 +466,8 @@ def test_what_cant_be_loaded():
     """It is told why. What a link leads to is loaded, and so is a pipe."""
     folders = "a part of its path is no folder"
     rows = [("absent", "there is no such file"), ("", "there is no such file"), ("sub/absent", "there is no such file"), (".", "it is a folder"),
-            ("sub", "it is a folder"), ("snap/", folders), ("snap/x", folders), ("x" * 256, "its path is too long"), ("circle", "its links lead in a circle")]
+            ("sub", "it is a folder"), ("snap/", folders), ("snap/x", folders), ("x" * 256, "its path is too long"), ("circle", "its links lead in a circle"),
+            ("a\nb", "there is no such file"), ('"', "there is no such file")]
     with Saving(CONFIG) as folder:
         folder.write("snap", NEW)
         os.mkdir(folder.path("sub"))
@@ -620,6 +622,25 @@ def test_each_refusal_of_memory():
         each(look, [(key, at) for key in ("REFUSE_NTH", "REFUSE_FROM") for at in range(first, whole.allocations + 1)])
     if min(seen["before"], seen["behind"], seen["saved"]) < 5:
         raise Wrong(f"of {whole.allocations} allocations, {alone.before_input} of them before a run that loads nothing reads: {dict(seen)}")
+
+
+def test_limits_of_memory():
+    """Under a limit of its address space a snapshot that has no room isn't loaded, and what has none when it is written isn't saved, though
+    all lines were answered; what was saved before is there."""
+    def limited():
+        resource.setrlimit(resource.RLIMIT_AS, (112 * MIB, 112 * MIB))
+
+    with Saving(CONFIG) as folder:
+        folder.write("snap", snapshot([], [model("ann", f"m{k}", "#1=P(1.,'" + "x" * (10 * MIB) + "');") for k in range(4)]))
+        name = folder.place(kept=OLD)
+        seen = saving(folder, name, None, LINES, "--load", "snap", preexec_fn=limited)
+        if seen[:3] != (2, b"", b"rp_server: out of memory\n") or seen.files != {"kept": OLD}:
+            raise Wrong(f"{seen[:3]}, {files_shown(seen.files)}")
+        # (each of the other letters takes 16 bytes of what is saved)
+        lines = [create("ann", "m"), put("ann", "ann", "m", file_of("#1=P(1.,'" + "aé" * (2 * MIB) + "');")), list_of("bob")]
+        seen = saving(folder, name, None, lines, preexec_fn=limited)
+        expect_fault(seen, replies_of([OK, instances(1), listed()]), {"kept": OLD}, "out of memory")
+        expect_new(saving(folder, name, preexec_fn=limited))
 
 
 if __name__ == "__main__":

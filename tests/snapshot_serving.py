@@ -18,6 +18,7 @@ import stat
 import subprocess
 import sys
 import tempfile
+import threading
 import time
 from concurrent.futures import ThreadPoolExecutor
 
@@ -263,7 +264,8 @@ def deadlines():
         half.send(ASKED[:-1])
         time.sleep(0.5)
         busy.ask(as_post(create("ann", "m")), DONE)
-        # (it is being saved for so long)
+        if not until(lambda: os.path.exists(place.path("kept.part")), SOON):
+            raise Wrong("no save is begun")
         busy.ask(ASKED, SCHEMAS)
         if time.monotonic() < begin + 35:
             raise Wrong("it answers while it saves")
@@ -436,6 +438,28 @@ def many():
         place.expect(data)
 
 
+def busy():
+    """It is saved as soon though requests come without a pause, one after the other and many at once."""
+    with Place() as place, place.serve() as server, ThreadPoolExecutor(4) as pool:
+        stop = threading.Event()
+
+        def work(many):
+            with Client(server) as client:
+                while not stop.is_set():
+                    client.ask(ASKED * many, SCHEMAS * many)
+
+        working = [pool.submit(work, many) for many in (1, 1, 50, 1000)]
+        try:
+            time.sleep(0.5)
+            ask(server, (create("ann", "m"), OK))
+            place.expect_soon(models("m"))
+        finally:
+            stop.set()
+        for it in working:
+            it.result()
+        place.expect(models("m"))
+
+
 # ---- memory
 
 def one_reply(server, asked):
@@ -526,7 +550,7 @@ def refusals():
 PARTS = {
     "changes": functools.partial(changes, False), "changes in silence": functools.partial(changes, True), "reading": reading,
     "by a folder": failing_by_a_folder, "by rights": failing_by_rights, "refusals": refusals, "deadlines": deadlines, "ten times": ten_times,
-    "another": another_server, "counted": counted_connections, "end of input": end_of_input, "killed": killed, "large": large, "many": many,
+    "another": another_server, "counted": counted_connections, "end of input": end_of_input, "killed": killed, "large": large, "many": many, "busy": busy,
 }
 
 
@@ -610,6 +634,11 @@ def test_each_refusal_of_memory():
 def test_many_connections():
     """What was answered is there after a restart."""
     result("many")
+
+
+def test_requests_without_a_pause():
+    """A change among them is saved as soon."""
+    result("busy")
 
 
 def main(words):

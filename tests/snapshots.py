@@ -580,11 +580,14 @@ def test_what_no_requests_make():
         (add("ann", "cyd", "z", "P(1.,$)"), added(18)), (grant("ann", "hidden", "bob", "group"), OK),
         (extent("bob", "bob", "g", "P"), extent_is(("ann", "hidden", 1))),
         (users("bob", "bob", "g", ["ann", "hidden", 1], "T.Q.A"), users_are(("bob", "b", 1))), (create("bob", "c"), OK),
-        (add("bob", "bob", "c", "P(1.,$)"), added(1)), (exclude("bob", "g", "cyd", "never"), OK),
+        (add("bob", "bob", "c", "P(1.,$)"), added(1)), (create("cyd", "never"), OK),
+        (put("cyd", "cyd", "never", file_of(f"#{GREATEST}=P(1.,$);")), instances(1)), (grant("cyd", "never", "bob", "group"), OK),
+        (users("bob", "bob", "g", ["cyd", "never", GREATEST], "T.Q.A"), users_are(("bob", "b", 3))), (exclude("bob", "g", "cyd", "z"), OK),
     ]
     models = [{**hidden, "grants": [["bob", "group"]]}, other, near, model("bob", "c", "#1=P(1.,$);"),
+              model("cyd", "never", f"#{GREATEST}=P(1.,$);", greatest=GREATEST, grants=[["bob", "group"]]),
               {**everyone, "file": canonical("#18=P(1.,$);"), "greatest": 18}]
-    then = snapshot([{**of_b, "members": [it for it in given if it[1] != "never"]}, empty], models)
+    then = snapshot([{**of_b, "members": given[:4]}, empty], models)
     with Saving(e=E) as folder:
         expect_kept(folder, data, turns)
         lines, replies = zip(*changing)
@@ -606,11 +609,12 @@ def test_other_headers():
 
 
 def test_as_much_as_there_may_be():
-    """100 models and groups of each owner, 50 members, 10,000 links, 200,000 instances, a text of over 8 MiB, and all grants of 1,000 partners."""
+    """100 models and groups of each owner, 50 members, 10,000 links, 200,000 instances, two texts of over 8 MiB, and all grants of 1,000
+    partners."""
     partners = sorted(f"p{k:03}" for k in range(1000))
     config = {**CONFIG, "partners": [{"name": name, "token": name} for name in partners]}
     many = canonical(schema="L").replace("DATA;\n", "DATA;\n" + "".join(f"#{k}=E();\n" for k in range(1, 200_001)))
-    long = canonical("#1=P(1.,'" + "x\\\\" * (3 * MIB) + "');")
+    long = canonical("#1=P(1.,'" + ("x" * 1000 + "\\\\") * (9 * MIB // 1002) + "');")
     others = [[it, ("read", "group", "write")[k % 3]] for k, it in enumerate(partners[1:])]
     links = [link(k, "p001", f"m{k % 7}", GREATEST - k) for k in range(1, 10_001)]
     rows = {
@@ -619,13 +623,13 @@ def test_as_much_as_there_may_be():
         "members": snapshot([group("p000", "g", members=[["p007", f"m{k}"] for k in range(10, 60)])]),
         "links": snapshot([], [model("p000", "m", links=links, greatest=10_000)]),
         "instances": snapshot([], [model("p000", "m", schema="L", file=many, greatest=200_000)]),
-        "a long text": snapshot([], [model("p000", "m", file=long, greatest=1)]),
+        "long texts": snapshot([], [model("p000", name, file=long, greatest=1) for name in "mn"]),
         "grants": snapshot([group("p000", "g", grants=partners[1:])], [model("p000", "m", "#1=P(1.,$);", grants=others)]),
     }
     with Saving(config) as folder:
         each(lambda row: expect_saved(folder.ask(load=row[1]), row[1]), rows.items())
-        seen = folder.ask([names("p000", "p000", "m"), export("p000", "p000", "m"), get("p000", "p000", "m", 2)], load=rows["a long text"])
-        expect_saved(seen, rows["a long text"], [named((1, "P")), exported(long), NO_SUCH_INSTANCE])
+        seen = folder.ask([names("p000", "p000", "m"), export("p000", "p000", "m"), get("p000", "p000", "m", 2)], load=rows["long texts"])
+        expect_saved(seen, rows["long texts"], [named((1, "P")), exported(long), NO_SUCH_INSTANCE])
         seen = folder.ask([create("p001", "more"), create("p003", "more"), create("p001", "m100")], load=rows["models"], save=False)
         if seen[:3] != (0, replies_of([TOO_MANY, OK, EXISTS]), b""):
             raise Wrong(f"{seen[:3]} where an owner has 100 models")
@@ -633,43 +637,42 @@ def test_as_much_as_there_may_be():
 
 # ---- random requests, in runs
 
-def turns_of(seed, count):
-    """Random lines, the reply to each and the snapshot of the plain repository behind it."""
+def parts_of(seed, sizes):
+    """Random lines and the replies to them in parts of these sizes, each with the snapshot of the plain repository behind it."""
     it = random_lines.Maker(seed)
-    turns = []
-    for _ in range(count):
-        made = random_lines.no_request(it) if it.happens(0.05) else random_lines.line_of(it, random_lines.request(it))
-        reply, change = it.repository.step(made)
-        if change:
-            change()
-        turns.append((made, reply, snapshot_of(it.repository)))
-    return turns
+    parts = []
+    for size in sizes:
+        turns = []
+        for _ in range(size):
+            made = random_lines.no_request(it) if it.happens(0.05) else random_lines.line_of(it, random_lines.request(it))
+            reply, change = it.repository.step(made)
+            if change:
+                change()
+            turns.append((made, reply))
+        parts.append((turns, snapshot_of(it.repository)))
+    return parts
 
 
 def test_random_requests_in_three_runs():
     """Each of three runs loads what the one before has saved: the replies are those of one run, and what each saves is the snapshot of the
     plain repository."""
     def look(row):
-        seed, turns, cuts = row
-        parts = [turns[begin:end] for begin, end in zip([0, *cuts], [*cuts, len(turns)])]
-        seen, load = [], None
-        for part in [turns, *parts]:
-            ended = folder.ask([it for it, _, _ in part], load=None if part is turns else load, config="random.json")
-            if part is not turns:
-                seen.append(ended.output)
-                load = ended.files.get("kept")
-            wanted = part[-1][2] if part else load
-            expect_saved(ended, wanted, [reply for _, reply, _ in part])
+        _, parts = row
+        load = None
+        for turns, data in parts:
+            expect_saved(folder.ask([line for line, _ in turns], load=load), data, [reply for _, reply in turns])
+            load = data
+        turns = [turn for its, _ in parts for turn in its]
+        expect_saved(folder.ask([line for line, _ in turns]), load, [reply for _, reply in turns])
         if not is_snapshot(load, random_lines.PARTNERS, random_lines.SCHEMAS):
-            raise AssertionError(f"seed {seed}: {load!r} is no snapshot")
+            raise AssertionError(f"{load!r} is no snapshot")
 
-    rows = []
-    for seed in range(1, 13):
-        chance = random.Random(seed)
-        turns = turns_of(seed, 250)
-        rows.append((seed, turns, sorted(chance.sample(range(1, 250), 2))))
     with Saving(random_lines.CONFIG, **{it.name.lower(): express(it) for it in random_lines.SCHEMAS}) as folder:
-        folder.write("random.json", json.dumps(random_lines.CONFIG))
+        chance = random.Random(7)
+        rows = []
+        for seed in range(1, 13):
+            begin, end = sorted(chance.sample(range(1, 300), 2))
+            rows.append((f"seed {seed}", parts_of(seed, (begin, end - begin, 300 - end))))
         each(look, rows)
 
 
@@ -767,13 +770,6 @@ VALUES = {
 def test_cuts_and_changes():
     """A snapshot with groups and links is cut at each third byte, and 1,100 times changed: what is a snapshot is loaded and saved as the same
     bytes, and what is none is refused with status 2 and one line."""
-    chance = random.Random(11)
-    groups, models = [G, group("bob", "e", grants=["ann", "cyd"])], [M, B, model("bob", "c", "#1=P(25.E-1,$);", grants=[["ann", "write"]])]
-    whole = snapshot(groups, models)
-    texts = [whole[:at] for at in range(0, len(whole), 3)]
-    texts += [changed(chance, whole) for _ in range(500)] + [changed_rows(chance, groups, models) for _ in range(600)]
-    count = [0, 0]
-
     def look(row):
         _, data, is_one = row
         seen = folder.ask(load=data)
@@ -782,14 +778,16 @@ def test_cuts_and_changes():
         else:
             expect_untouched(seen, re.compile(rb": .+"))
 
-    rows = []
-    for data in dict.fromkeys(texts):
-        is_one = is_snapshot(data, PARTNERS, PLAIN)
-        count[is_one] += 1
-        rows.append((repr(data), data, is_one))
-    if min(count) < 150:
-        raise AssertionError(f"{count[1]} of these texts are snapshots, and {count[0]} aren't")
     with Saving(e=E) as folder:
+        chance = random.Random(11)
+        groups, models = [G, group("bob", "e", grants=["ann", "cyd"])], [M, B, model("bob", "c", "#1=P(25.E-1,$);", grants=[["ann", "write"]])]
+        whole = snapshot(groups, models)
+        texts = [whole[:at] for at in range(0, len(whole), 3)]
+        texts += [changed(chance, whole) for _ in range(500)] + [changed_rows(chance, groups, models) for _ in range(600)]
+        rows = [(repr(it), it, is_snapshot(it, PARTNERS, PLAIN)) for it in dict.fromkeys(texts)]
+        count = sum(is_one for _, _, is_one in rows)
+        if not 150 < count < len(rows) - 150:
+            raise AssertionError(f"{count} of {len(rows)} texts are snapshots")
         each(look, rows)
 
 
