@@ -25,7 +25,7 @@ from lib.messages import (
     validate,
 )
 from lib.plain_binding import Entity, Schema, Select, express
-from lib.plain_snapshots import FIRST_LINE, compact, group, is_snapshot, model, row_at, snapshot, snapshot_of
+from lib.plain_snapshots import FIRST_LINE, compact, group, is_snapshot, model, row_at, saved_again, snapshot, snapshot_of
 from lib.saving import (
     OLD, THREE, Saving, difference, each, expect_saved, expect_untouched, files_in, replies_of, shown, until,
 )
@@ -214,18 +214,18 @@ BASE = snapshot([G], [M, B])
 
 # what is told of the first line, of a text that isn't what is saved of its rows, and of what doesn't stand where it has to
 NO_FIRST_LINE = ": it doesn't begin with the line STEPREPO 1"
-DIFFERS = ": it isn't as it would be saved: another order, spelling, blank or byte behind the end"
-FORM = re.compile(rb": at byte \d+(?:, (?:group|model): at byte \d+)?: (?:a brace, a bracket, the next key, a text or a whole number|a level "
+DIFFERS = "it isn't as it would be saved: another order, spelling, blank or byte behind the end"
+FORM = re.compile(rb": (?:at byte \d+, (?:group|model): )?before byte \d+: (?:a brace, a bracket, the next key, a text or a whole number|a level "
                   rb"\(read, group or write\)) is wanted")
 
 
 def expect_places(data, line):
     """The places that are told of what doesn't stand where it has to: where the row begins, and a byte near what differs from BASE."""
-    begin, *within = [int(it) for it in re.findall(rb"at byte (\d+)", line)]
+    begin, *within = [int(it) for it in re.findall(rb"(?:at|before) byte (\d+)", line)]
     front = len(os.path.commonprefix([data, BASE]))
     back = len(os.path.commonprefix([data[front:][::-1], BASE[front:][::-1]]))
     kind = b"model" if begin > data.find(b'"models":[') > 0 else b"group"
-    if within and (b", %s: at" % kind not in line or data[begin - 1:begin] not in (b"[", b",", b"}")):
+    if within and (b", %s: before" % kind not in line or data[begin - 1:begin] not in (b"[", b",", b"}")):
         raise Wrong(f"no {kind.decode()} begins at byte {begin}: {data[begin - 20:begin]!r}")
     if not front - 20 <= [begin, *within][-1] <= len(data) - back + 20:
         raise Wrong(f"{line!r} is told, and bytes {front} to {len(data) - back} are others: {data[front - 20:front]!r}, {data[front:][:60]!r}")
@@ -251,8 +251,12 @@ def lacks(what, row, words, others=()):
     return what, data, told(data, row, words)
 
 
-def differs(what, data):
-    return what, data, DIFFERS
+def differs(what, data, saved=None):
+    """A text that isn't what is saved of its rows: the first byte is told that is another one."""
+    saved = saved_again(data, PLAIN) if saved is None else saved
+    if not is_snapshot(saved, PARTNERS, PLAIN):
+        raise AssertionError(f"{saved!r} isn't what is saved of {data!r}")
+    return what, data, f": at byte {len(os.path.commonprefix([data, saved]))}: {DIFFERS}"
 
 
 def refuse(rows, config=None, **files):
@@ -287,8 +291,8 @@ def test_what_is_no_json():
               (b'"links":[],', b'"links":' + b"[" * 200 + b"]" * 200 + b","), (b'"links":[],', b'"links":' + b"[" * 100_000)]
     refuse([*((f"{it!r}", FIRST_LINE + it, FORM) for it in (b"", b"\n", b"x", b"[]", b"null", b"{}", b"{", b'"x"', b"1", b"{}{}")),
             *((f"{old!r} as {new[:40]!r}", edited(old, new), FORM) for old, new in within),
-            *((f"without its last {count}", BASE[:-count], FORM if count > 1 else DIFFERS) for count in (1, 2, 3, 10, 100)),
-            *(differs(f"{it!r} behind it", BASE + it) for it in (b"\n", b" ", b"\r\n", b"\0", b"x", b"}", b"]", b",", b"{}", b"//", b"\xef\xbb\xbf"))])
+            *((f"without its last {count}", BASE[:-count], FORM) for count in (2, 3, 10, 100)), differs("without its last", BASE[:-1], BASE),
+            *(differs(f"{it!r} behind it", BASE + it, BASE) for it in (b"\n", b" ", b"\r\n", b"\0", b"x", b"}", b"]", b",", b"{}", b"//", b"\xef\xbb\xbf"))])
 
 
 def test_what_is_no_utf8():
@@ -354,7 +358,7 @@ def test_keys_at_the_end():
     """What stands behind all that is read isn't what is saved."""
     value = json.loads(BASE[len(FIRST_LINE):])
     refuse([differs("one key more", FIRST_LINE + compact({**value, "version": 1})), differs("models twice", BASE[:-1] + b',"models":[]}'),
-            differs("a comma", BASE[:-1] + b",}"), differs("another bracket", BASE[:-1] + b"]")])
+            differs("a comma", BASE[:-1] + b",}", BASE), differs("another bracket", BASE[:-1] + b"]", BASE)])
 
 
 def test_how_it_is_spelled():
@@ -547,11 +551,13 @@ OTHERS += [("E", it) for it in ("#1=(A()E());", "#1=(E()A());", "#1=a();")]
 
 def test_files_that_are_not_canonical():
     """What spells the same model otherwise isn't what is saved."""
-    rows = [(it, "T", WHOLE.replace("#1=P(1.E-1,'a');\n", it)) for it in SPELLED_OTHERWISE]
-    rows += [(f"{old!r} as {new!r}", "T", edited(old, new, WHOLE)) for old, new in AROUND]
-    rows += [(it, schema, canonical(it, schema=schema)) for schema, it in OTHERS]
-    refuse([differs(what, snapshot([], [model("ann", "m", file=file, schema=schema, greatest=9)])) for what, schema, file in rows],
-           {**THREE, "schemas": [*THREE["schemas"], "b.exp"]}, b=express(PLAIN[3]))
+    def having(file, schema="T"):
+        return snapshot([], [model("ann", "m", file=file, schema=schema, greatest=9)])
+
+    rows = [differs(it, having(WHOLE.replace("#1=P(1.E-1,'a');\n", it))) for it in SPELLED_OTHERWISE]
+    rows += [differs(f"{old!r} as {new!r}", having(edited(old, new, WHOLE)), having(WHOLE)) for old, new in AROUND]
+    rows += [differs(it, having(canonical(it, schema=schema), schema)) for schema, it in OTHERS]
+    refuse(rows, {**THREE, "schemas": [*THREE["schemas"], "b.exp"]}, b=express(PLAIN[3]))
 
 
 # ---- what no request's work loads
@@ -853,8 +859,10 @@ def test_command_line():
                 expect_wrong_words(folder, name, *given, *words)
             expect_wrong_words(folder, name, "check", it, snap, "t.exp")
             expect_wrong_words(folder, name, "validate", it, snap, "--schema", "t.exp", "x.step")
-        if files_in(folder.path(name)) != {"snap": then}:
-            raise Wrong(f"{sorted(files_in(folder.path(name)))} are left")
+        expect_wrong_words(folder, name, *given, "--save", "config.json")
+        expect_wrong_words(folder, name, "serve", *given[1:], "--listen", "127.0.0.1:0", "--save=config.json")
+        if files_in(folder.path(name)) != {"snap": then} or files_in(folder.path("."))["config.json"] != folder.files["config.json"]:
+            raise Wrong(f"{sorted(files_in(folder.path(name)))} are left, or the configuration is another one")
 
 
 # What may be wrong, in the order in which it is told: how it is made, and a pattern of the line.
@@ -866,7 +874,7 @@ FAULTS = {
     "new": 'two partners have one name: "ann"',
     "no snapshot": """"none" can't be read: there is no such file""",
     "a folder": """"folder" can't be read: it is a folder""",
-    "bad snapshot": '"bad": at byte [^\n]+',
+    "bad snapshot": '"bad": before byte 1[123]: a brace, a bracket, the next key, a text or a whole number is wanted',
     "tokens": "two partners have one token[^\n]*",
     "listen": "192.0.2.1:9 can't be listened on: it is none of this machine's",
     "saved in a folder": """"folder" can't be saved: it is no regular file""",

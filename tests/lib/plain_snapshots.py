@@ -199,3 +199,25 @@ def is_snapshot(data, partners, schemas):
     except (ValueError, RecursionError, NoSnapshot):
         return False
     return True
+
+
+# ---- what is saved of a text that is spelled otherwise
+
+def first_of_each(pairs):
+    """An object. Of equal keys the first stands."""
+    return dict(reversed(pairs))
+
+
+def canonical_file(row, schemas):
+    """The canonical text of what a row's file spells."""
+    schema = next(it for it in schemas if it.name.upper() == row["schema"])
+    found = plain_files.read(row["file"])
+    return plain_binding.canonical_text(schema, found.header, plain_binding.bound(schema, found.instances, {it["name"] for it in row["links"]}))
+
+
+def saved_again(data, schemas):
+    """What is saved of the rows that a text has, in whatever order, with whatever blanks and escapes, and however their files are spelled.
+    What stands behind the rows isn't read."""
+    value, _ = json.JSONDecoder(object_pairs_hook=first_of_each).raw_decode(data[len(FIRST_LINE):].decode().lstrip())
+    models = [{**row, "file": canonical_file(row, schemas)} for row in value["models"]]
+    return snapshot(*(sorted(rows, key=lambda it: (it["owner"], it["name"])) for rows in (value["groups"], models)))

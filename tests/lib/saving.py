@@ -109,7 +109,7 @@ def expect_untouched(seen, words):
     pattern = words if isinstance(words, re.Pattern) else re.compile(re.escape(words.encode()))
     line = re.compile(re.escape(f"rp_server: {shown(seen.path)}".encode()) + pattern.pattern + rb"\n")
     if (seen.status, seen.output) != (2, b"") or not line.fullmatch(seen.errors) or seen.errors.count(b"\n") != 1:
-        raise Wrong(f"status {seen.status}, {shortened(seen.output)!r}, {seen.errors!r} in place of {pattern.pattern!r}")
+        raise Wrong(f"status {seen.status}, {shortened(seen.output)!r}, {seen.errors!r} in place of {getattr(words, 'pattern', words)!r}")
     if seen.files.get("kept") != OLD or not set(seen.files) <= {"snap", "kept"}:
         raise Wrong(f"{sorted(seen.files)} are left, and {shortened(seen.files.get('kept') or b'nothing')!r} is saved")
 
