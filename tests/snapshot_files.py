@@ -22,7 +22,7 @@ import sys
 import time
 
 from lib.harness import TOP, Folder, Wrong, run_tests, shortened
-from lib.messages import MIB, OK, add, create, create_group, file_of, grant, include, instances, link, list_of, listed, names, put
+from lib.messages import FILE_LIMIT, MIB, OK, add, create, create_group, file_of, grant, include, instances, link, list_of, listed, names, put
 from lib.plain_binding import Entity, Schema
 from lib.plain_files import read, read_mapping
 from lib.plain_model import Repository as PlainRepository
@@ -631,13 +631,13 @@ def test_limits_of_memory():
         resource.setrlimit(resource.RLIMIT_AS, (112 * MIB, 112 * MIB))
 
     with Saving(CONFIG) as folder:
-        folder.write("snap", snapshot([], [model("ann", f"m{k}", "#1=P(1.,'" + "x" * (10 * MIB) + "');") for k in range(4)]))
+        folder.write("snap", snapshot([], [model("ann", f"m{k}", "#1=P(1.,'" + "x" * (10 * MIB) + "');") for k in range(6)]))
         name = folder.place(kept=OLD)
         seen = saving(folder, name, None, LINES, "--load", "snap", preexec_fn=limited)
         if seen[:3] != (2, b"", b"rp_server: out of memory\n") or seen.files != {"kept": OLD}:
             raise Wrong(f"{seen[:3]}, {files_shown(seen.files)}")
         # (each of the other letters takes 16 bytes of what is saved)
-        lines = [create("ann", "m"), put("ann", "ann", "m", file_of("#1=P(1.,'" + "aé" * (2 * MIB) + "');")), list_of("bob")]
+        lines = [create("ann", "m"), put("ann", "ann", "m", file_of("#1=P(1.,'" + "aé" * (FILE_LIMIT // 3 - 1000) + "');")), list_of("bob")]
         seen = saving(folder, name, None, lines, preexec_fn=limited)
         expect_fault(seen, replies_of([OK, instances(1), listed()]), {"kept": OLD}, "out of memory")
         expect_new(saving(folder, name, preexec_fn=limited))
