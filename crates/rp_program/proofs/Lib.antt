@@ -2,3 +2,4 @@ pub mod StartLemmas
 pub mod CheckLemmas
 pub mod ValidationLemmas
 pub mod ServeLemmas
+pub mod SaveLemmas

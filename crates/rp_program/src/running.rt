@@ -1,5 +1,5 @@
 //! All lines of an input, answered by the repository that a command starts with, and what it comes to saved.
-ghost use Rattle.std.specs.Prelude.{◌≡◌, ◌≢◌, ◌⊎◌, Ok, Err, IfOk, IfErr, IfSome, IsErrOf, option_copied};
+ghost use Rattle.std.specs.Prelude.{◌≡◌, ◌≢◌, ◌⊎◌, Ok, Err, IfOk, IfSome, IsErrOf, option_copied};
 ghost use Rattle.plain_data.specs.declared.failure.Failure.{Failure};
 ghost use Rattle.plain_data.specs.declared.failure.Failure.TheVariants.{NoMemory};
 ghost use Rattle.rp_io.specs.Held.{unread, RunsOut};
@@ -13,9 +13,10 @@ ghost use Rattle.rp_program.specs.Runs.{RunsFrom, IsAnswered, IsAllOrNothing};
 ghost use Rattle.rp_program.specs.Saved.{IsSaved};
 
 use crate::ending::Done;
-use crate::fault::Fault;
+use crate::fault::{Fault, Unsaved};
 use crate::opening::{Given, given_at, open};
-use crate::saving::{Snapshots, begin, cannot_begin, save};
+use crate::saving::{Snapshots, begin, save};
+use plain_data::Failure;
 use rp_config::{Loaded, load_all};
 use rp_files::Folder;
 use rp_repo::{Repository, RunFault, Sink, Source, run_lines};
@@ -38,7 +39,7 @@ pub fn batch<D: Folder, F: Places + Drop, R: Source, W: Sink>(
     // All that was written are the replies of a run over all lines. What it comes to is saved, if that is asked for.
     ensures whole { IfOk result (λ done. RunsFrom (IsStart (D.files folder.now) path.now (option_copied snapshots.load)) (λ old new.
         IsAnswered done (IsWholeRun old new (R.remaining reader.old) (W.contents writer.old) (W.contents writer.new))
-        × IfSome (option_copied snapshots.save) (λ _. IsSaved F.Part.contents F.Part.moment F.Part.left_since F.Part.may_leave (snapshot_of new)))) }
+        × IfSome (option_copied snapshots.save) (λ _. IsSaved F.Part.contents F.Part.may_leave F.Part.left_since F.Part.could_leave (snapshot_of new)))) }
 
     // After a read that failed, the replies to the lines before it are written whole.
     ensures first { IsErrOf result Fault.Read → RunsFrom (IsStart (D.files folder.now) path.now (option_copied snapshots.load)) (λ old new.
@@ -78,7 +79,7 @@ fn run_loaded<F: Places, R: Source, W: Sink>(
 ) -> Result<Done, Fault>
     ensures whole { IfOk result (λ done. RunsFrom (λ r. Starts loaded given (Ok r)) (λ old new.
         IsAnswered done (IsWholeRun old new (R.remaining reader.old) (W.contents writer.old) (W.contents writer.new))
-        × IfSome (option_copied save) (λ _. IsSaved F.Part.contents F.Part.moment F.Part.left_since F.Part.may_leave (snapshot_of new)))) }
+        × IfSome (option_copied save) (λ _. IsSaved F.Part.contents F.Part.may_leave F.Part.left_since F.Part.could_leave (snapshot_of new)))) }
     ensures first { IsErrOf result Fault.Read → RunsFrom (λ r. Starts loaded given (Ok r)) (λ old new.
         IsFirstRun old new (R.remaining reader.old) (W.contents writer.old) (W.contents writer.new)) }
     ensures read_failed { IsErrOf result Fault.Read →
@@ -119,7 +120,7 @@ fn run_and_save<F: Places, R: Source, W: Sink>(
     writer: &mut W,
 ) -> Result<Done, Fault>
     ensures whole { IfOk result (λ done. IsAnswered done (IsWholeRun repository.old.content repository.new.content (R.remaining reader.old) (W.contents writer.old) (W.contents writer.new))) }
-    ensures saved { IfOk result (λ done. IsSaved F.Part.contents F.Part.moment F.Part.left_since F.Part.may_leave (snapshot_of repository.new.content)) }
+    ensures saved { IfOk result (λ done. IsSaved F.Part.contents F.Part.may_leave F.Part.left_since F.Part.could_leave (snapshot_of repository.new.content)) }
     ensures first { IsErrOf result Fault.Read →
         IsFirstRun repository.old.content repository.new.content (R.remaining reader.old) (W.contents writer.old) (W.contents writer.new) }
     ensures read_failed { IsErrOf result Fault.Read →
@@ -134,12 +135,15 @@ fn run_and_save<F: Places, R: Source, W: Sink>(
 {
     let replacement = match begin(alloc, files, path) {
         Ok(begun) => begun,
-        Err(unsaved) => return Err(cannot_begin(unsaved)),
+        Err(Unsaved::NoMemory) => return Err(Fault::Start(Failure::NoMemory)),
+        Err(unsaved) => return Err(Fault::Unsaved(unsaved)),
     };
-    let done = run(alloc, repository, reader, writer)?;
-    match save(alloc, repository, replacement) {
-        Ok(_) => Ok(done),
-        Err(unsaved) => Err(Fault::Unsaved(unsaved)),
+    match run(alloc, repository, reader, writer) {
+        Ok(done) => match save(alloc, repository, replacement) {
+            Ok(_) => Ok(done),
+            Err(unsaved) => Err(Fault::Unsaved(unsaved)),
+        },
+        Err(fault) => Err(fault),
     }
 }
 
@@ -159,7 +163,8 @@ fn run<R: Source, W: Sink>(
     ensures cut { IsErrOf result Fault.Write →
         IsCutRun repository.old.content repository.new.content (R.remaining reader.old) (W.contents writer.old) (W.contents writer.new) }
     ensures write_failed { IsErrOf result Fault.Write → W.write_failures writer.new ≢ W.write_failures writer.old }
-    ensures err { IfErr result (λ fault. (fault ≡ Fault.Read) ⊎ (fault ≡ Fault.Write)) }
+    ensures unsaved { (why : Unsaved) → IsErrOf result (Fault.Unsaved why) → ⊥ }
+    ensures start { (why : Failure StartFault) → IsErrOf result (Fault.Start why) → ⊥ }
 {
     match run_lines(alloc, repository, reader, writer) {
         Ok(lines) => Ok(Done::Answered(lines)),

@@ -1,11 +1,11 @@
 //! The snapshot of a repository takes the place of a file.
-ghost use Rattle.std.specs.Prelude.{◌≡◌, IfOk, IfSome};
-ghost use Rattle.rp_saved_file.specs.Failures.{IsNew};
+ghost use Rattle.std.specs.Prelude.{◌≡◌, IfOk, IfSome, OnOk};
+ghost use Rattle.rp_saved_file.specs.Crashes.{file_of, LeavesOnly, LeavesOldOr};
+ghost use Rattle.rp_saved_file.specs.Failures.{failures_of, IsNew};
 ghost use Rattle.rp_snapshots.specs.Snapshots.{snapshot_of};
 ghost use Rattle.rp_program.specs.Saved.{IsReplacedBy};
-ghost use Rattle.rp_program.specs.Saved as spec;
 
-use crate::fault::{Fault, Unsaved};
+use crate::fault::Unsaved;
 use plain_data::Failure;
 use rp_repo::{Repository, SaveFault};
 use rp_saved_file::{Part, Places, Replaced, Replacement};
@@ -35,16 +35,6 @@ pub(crate) fn begin<F: Places>(
     }
 }
 
-/// What is told where a save can't begin, before any work is done.
-pub(crate) fn cannot_begin(unsaved: Unsaved) -> Fault
-    ensures { result ≡ spec.cannot_begin unsaved }
-{
-    match unsaved {
-        Unsaved::NoMemory => Fault::Start(Failure::NoMemory),
-        Unsaved::File(_) => Fault::Unsaved(unsaved),
-    }
-}
-
 /// Writes the snapshot of a repository, and has it take the place of the file. One model's text is held at a time.
 pub(crate) fn save<P: Part + Drop>(
     alloc: Global,
@@ -52,12 +42,22 @@ pub(crate) fn save<P: Part + Drop>(
     mut replacement: Replacement<P>,
 ) -> Result<Replaced<P>, Unsaved>
     requires { IsNew (P.contents replacement.part) replacement.failed }
-    ensures { IfOk result (λ replaced. IfSome (P.contents replacement.part) (λ _. IsReplacedBy P.moment P.left_since P.may_leave (snapshot_of repository.now.content) replaced.part)) }
+    ensures { IfOk result (λ replaced. IfSome (P.contents replacement.part) (λ _. IsReplacedBy P.may_leave P.left_since P.could_leave (snapshot_of repository.now.content) replaced.part)) }
 {
-    if let Err(SaveFault::NoMemory) = repository.save(alloc, &mut replacement) {
-        return Err(Unsaved::NoMemory);
+    match repository.save(alloc, &mut replacement) {
+        Ok(()) => finished(replacement),
+        Err(SaveFault::NoMemory) => Err(Unsaved::NoMemory),
+        // That fails too, and tells why the write did.
+        Err(SaveFault::WriteFault) => finished(replacement),
     }
-    // After a write that failed this tells why.
+}
+
+/// Has what was written take the place of the file.
+fn finished<P: Part + Drop>(replacement: Replacement<P>) -> Result<Replaced<P>, Unsaved>
+    ensures none { OnOk result (failures_of replacement.failed ≡ 0) }
+    ensures whole { IfOk result (λ replaced. LeavesOnly (file_of (P.contents replacement.part)) (P.may_leave replaced.part)) }
+    ensures ever { IfOk result (λ replaced. ∥ LeavesOldOr (file_of (P.contents replacement.part)) P.could_leave (P.left_since replaced.part 0) ∥₁) }
+{
     match replacement.finish() {
         Ok(replaced) => Ok(replaced),
         Err(fault) => Err(Unsaved::File(fault)),

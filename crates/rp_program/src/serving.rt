@@ -3,16 +3,14 @@ ghost use Rattle.std.specs.Prelude.{◌≡◌, ◌≤◌, ⊤, length, Err, IfEr
 ghost use Rattle.std.specs.declared.net.socket_addr.SocketAddr.{SocketAddr};
 ghost use Rattle.plain_data.specs.declared.failure.Failure.TheVariants.{NoMemory};
 ghost use Rattle.rp_http.specs.Turns.{Leaves};
-ghost use Rattle.rp_program.specs.declared.fault.Unsaved.{Unsaved};
 ghost use Rattle.rp_program.specs.Starts.{Starts, StartsAt, FailsBy};
-ghost use Rattle.rp_program.specs.Saved as saved;
 ghost use Rattle.rp_program.specs.Served.{ServesFrom, Serves, IsServed};
 
 use crate::ending::Done;
-use crate::fault::Fault;
+use crate::fault::{Fault, Unsaved};
 use crate::keeping::SnapshotKeeper;
 use crate::opening::{Given, given_at, open};
-use crate::saving::{Snapshots, begin, cannot_begin, save_at};
+use crate::saving::{Snapshots, begin, save_at};
 use http_routes::Tokens;
 use plain_data::Failure;
 use rp_config::{Loaded, load_all};
@@ -94,8 +92,10 @@ fn serve_at<R: Net + Clock + Input + Eprint + Files>(
         Ok(listening) => listening,
         Err(error) => return Err(Fault::Listen(address, error)),
     };
-    if let Err(fault) = try_place(alloc, rt, save) {
-        return Err(fault);
+    match try_place(alloc, rt, save) {
+        Ok(()) => {}
+        Err(Unsaved::NoMemory) => return Err(Fault::Start(Failure::NoMemory)),
+        Err(unsaved) => return Err(Fault::Unsaved(unsaved)),
     }
     tell(rt, listening.address());
     let mut keeper = SnapshotKeeper::new(rt, meanwhile(save, ends), repository);
@@ -112,16 +112,11 @@ fn meanwhile(save: Option<&str>, ends: Ends) -> Option<&str> {
 }
 
 /// Begins to replace the file of this path and lets go of it, so that a wrong place is told before any work is done.
-fn try_place<R: Files>(alloc: Global, rt: &R, save: Option<&str>) -> Result<(), Fault>
-    ensures { IfErr result (λ fault. (unsaved : Unsaved) × (fault ≡ saved.cannot_begin unsaved)) }
-{
-    let Some(path) = save else {
-        return Ok(());
-    };
-    match begin(alloc, &rt, path) {
-        Ok(_) => Ok(()),
-        Err(unsaved) => Err(cannot_begin(unsaved)),
+fn try_place<R: Files>(alloc: Global, rt: &R, save: Option<&str>) -> Result<(), Unsaved> {
+    if let Some(path) = save {
+        begin(alloc, &rt, path)?;
     }
+    Ok(())
 }
 
 /// Saves in the file of this path, if there is one, where serving came to its end.

@@ -155,6 +155,8 @@ impl<R: Files> FilePart<R> {
 }
 
 impl<R: Files> Part for FilePart<R> {
+    ghost could_leave = { λ _. ⊤ };
+
     ghost contents = { λ _. None };
 
     ghost synced = { λ _. None };

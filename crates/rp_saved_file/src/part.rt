@@ -12,6 +12,9 @@ use std::io;
 /// whose bytes are on the disk is renamed whole or not at all. Of [`FilePart`](crate::FilePart) nothing is known, but no code here can tell one from
 /// another.
 pub trait Part {
+    /// What a crash could leave in the place before any of this began.
+    ghost could_leave: { Place → Type 0 };
+
     /// The bytes that were written into it, where they are known.
     ghost contents: { Self → Option (List ℕ) };
 

@@ -1,6 +1,6 @@
 //! The bytes of a file that is replaced, and the steps by which it is.
 ghost use Rattle.std.specs.Prelude.{◌≡◌, ◌≢◌, IfOk, OnOk, OnErr};
-ghost use Rattle.rp_saved_file.specs.Crashes.{file_of, LeavesOnly, Meanwhile};
+ghost use Rattle.rp_saved_file.specs.Crashes.{file_of, LeavesOnly, LeavesNoMore, LeavesOldOr, Meanwhile};
 ghost use Rattle.std.specs.String.{string_bytes};
 ghost use Rattle.rp_saved_file.specs.Failures.{failures_of};
 ghost use Rattle.rp_saved_file.specs.Names.{IsBeside};
@@ -20,6 +20,8 @@ use std::io;
 pub struct Replacement<P: Part> {
     part: P,
     failed: Option<Failed>,
+    // Whatever was written, a crash at any moment till now left what one could leave before.
+    ghost kept: { ∥ LeavesNoMore P.could_leave (P.left_since part 0) ∥₁ },
 }
 
 /// Writes that failed: how many but for the first, and why the last one did.
@@ -56,6 +58,7 @@ impl<R: Files + Drop> Replacement<FilePart<R>> {
 impl<P: Part + Drop> Replacement<P> {
     /// A replacement by what was just made.
     pub fn new(part: P) -> Replacement<P>
+        requires { LeavesNoMore P.could_leave (P.left_since part 0) }
         ensures part { result.part ≡ part }
         ensures none { failures_of result.failed ≡ 0 }
     {
@@ -63,19 +66,25 @@ impl<P: Part + Drop> Replacement<P> {
     }
 
     /// Puts all that was written in the place of the file. Where a write failed, this fails and tells why.
-    pub fn finish(mut self) -> Result<Replaced<P>, ReplaceFault>
+    pub fn finish(self) -> Result<Replaced<P>, ReplaceFault>
         ensures none { OnOk result (failures_of self.failed ≡ 0) }
         // From then on a crash leaves all of the new bytes.
         ensures whole { IfOk result (λ replaced. LeavesOnly (file_of (P.contents self.part)) (P.may_leave replaced.part)) }
-        // A crash at any moment till then leaves what one could leave before, or all of the new bytes.
-        ensures meanwhile { IfOk result (λ replaced. Meanwhile P.moment P.left_since P.may_leave self.part replaced.part (file_of (P.contents self.part))) }
+        // A crash at any moment till then, from the beginning on, left what one could leave before, or all of the new bytes.
+        ensures ever { IfOk result (λ replaced. ∥ LeavesOldOr (file_of (P.contents self.part)) P.could_leave (P.left_since replaced.part 0) ∥₁) }
     {
-        if let Some(failed) = self.failed {
+        let Replacement { mut part, failed } = self;
+        if let Some(failed) = failed {
+            part.remove();
             return Err(ReplaceFault::Write(failed.error));
         }
-        take_place(&mut self.part)?;
-        let Replacement { part, failed: _ } = self;
-        Ok(Replaced { part })
+        match take_place(&mut part) {
+            Ok(()) => Ok(Replaced { part }),
+            Err(fault) => {
+                part.remove();
+                Err(fault)
+            }
+        }
     }
 }
 
