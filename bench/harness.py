@@ -43,11 +43,27 @@ def request(do, **keys):
 
 # ---- a process that runs
 
+def status_bytes(process, key):
+    """The bytes that /proc tells of a running process under a key, or nothing once it has let go of its memory."""
+    with open(f"/proc/{process.pid}/status", encoding="ascii") as it:
+        found = re.search(rf"^{key}:\s*(\d+) kB$", it.read(), re.MULTILINE)
+    return int(found[1]) * KIB if found else None
+
+
 def most_memory(process):
     """The most bytes that a running process has held."""
-    with open(f"/proc/{process.pid}/status", encoding="ascii") as it:
-        found = re.search(r"^VmHWM:\s*(\d+) kB$", it.read(), re.MULTILINE)
-    return int(found[1]) * KIB
+    return status_bytes(process, "VmHWM")
+
+
+def held_now(process):
+    """The bytes that a running process holds."""
+    return status_bytes(process, "VmRSS")
+
+
+def forget_most(process):
+    """The most bytes that a running process has held are reckoned anew from here on."""
+    with open(f"/proc/{process.pid}/clear_refs", "w", encoding="ascii") as it:
+        it.write("5")
 
 
 def processor_seconds(process):
@@ -150,10 +166,11 @@ class Folder:
 
 
 class Session:
-    """A process of the program that is asked line by line."""
+    """A process of the program that is asked line by line, with options of `batch` and devices in its environment."""
 
-    def __init__(self, folder):
-        self.process = subprocess.Popen([folder.program, *BATCH], cwd=folder.path, stdin=subprocess.PIPE, stdout=subprocess.PIPE)
+    def __init__(self, folder, *options, **devices):
+        self.process = subprocess.Popen([folder.program, *BATCH, *options], cwd=folder.path, env={**os.environ, **devices},
+                                        stdin=subprocess.PIPE, stdout=subprocess.PIPE)
 
     def __enter__(self):
         return self

@@ -22,7 +22,8 @@ import sys
 import time
 from typing import NamedTuple
 
-from harness import FILE_LIMIT, MIB, TOP, Session, Table, compare, most_memory, processor_seconds, request, run_bench
+from harness import (FILE_LIMIT, MIB, TOP, Session, Table, compare, forget_most, held_now, most_memory, processor_seconds, request,
+                     run_bench)
 from make_part21 import count_within, part21
 
 SCHEMA = os.path.join(TOP, "tests/data/automotive_design.exp")
@@ -240,11 +241,6 @@ def measure_put(folder, file, wanted):
     table.row(len(file), *least, least[2] / least[0], least[3] / least[1])
 
 
-def held_now(process):
-    with open(f"/proc/{process.pid}/status", encoding="ascii") as it:
-        return int(re.search(r"^VmRSS:\s*(\d+) kB$", it.read(), re.MULTILINE)[1]) * 1024
-
-
 def measure_file(folder, file, wanted):
     """The most that is held while the file is sent, from what was held before."""
     table = Table({"file of bytes": "14,", "reply": "12,", "held before": "12,", "most beside": "12,", "most/reply": "11.2f", "seconds": "8.3f"})
@@ -252,9 +248,7 @@ def measure_file(folder, file, wanted):
         compare(server.post(request("create_model", name="m", schema="AUTOMOTIVE_DESIGN")), b'{"ok":{}}')
         compare(server.post(request("put", owner="ann", model="m", file=file)), wanted)
         for _ in range(2):
-            # (the most memory is reckoned anew from here on)
-            with open(f"/proc/{server.process.pid}/clear_refs", "w", encoding="ascii") as it:
-                it.write("5")
+            forget_most(server.process)
             before, begin = held_now(server.process), time.monotonic()
             reply = server.client.ask(Row("", "/v1/models/ann/m/file").message())
             seconds, most = time.monotonic() - begin, most_memory(server.process) - before

@@ -877,7 +877,7 @@ def test_command_line_faults():
     wrong = [
         [], [""], ["batch"], ["--config", "config.json"], ["config.json"], ["Batch", *given[1:]],
         ["batch", "config.json"], ["batch", "--config"], ["batch", "--config", "--config"], ["batch", "--config", "-x"],
-        [*given, "--config", "config.json"], [*given, "more"], [*given, "--load", "x"], [*given, "--save", "x"],
+        [*given, "--config", "config.json"], [*given, "more"], [*given, "--load"], [*given, "--save"], [*given, "--load", "-x"], [*given, "--save", "-x"],
         [*given, "--listen", "127.0.0.1:0"], ["check"], ["check", "t.exp", "t.exp"], ["serve", *given[1:]],
         ["batch", "-c", "config.json"], ["batch", "--conf", "config.json"], ["batch", "--config", "config.json", "--", "x"],
         ["two", "batch", "--config", "config.json"], [b"b\xff"], [b"\xc3", *given], ["batch", "--config", b"config.json\xff"], ["check", b"\xa0.exp"],
@@ -896,8 +896,9 @@ def test_command_line_faults():
 def test_help():
     """The help is printed on standard output with status 0, and names what there is to type."""
     with Repository() as folder:
-        for words, mentioned in ([["--help"], ["batch", "--help"]], [["batch", "--help"], ["--config", "FILE"]],
-                                 [["help"], ["batch"]], [["help", "batch"], ["--config"]], [["-h"], ["batch"]]):
+        for words, mentioned in ([["--help"], ["batch", "--help"]], [["batch", "--help"], ["--config", "FILE", "--load", "--save"]],
+                                 [["serve", "--help"], ["--config", "--listen", "--load", "--save"]], [["help"], ["batch"]],
+                                 [["help", "batch"], ["--config"]], [["-h"], ["batch"]]):
             status, output, errors = folder.run(*words)
             if status != 0 or errors or any(it.encode() not in output for it in mentioned):
                 raise Wrong(f"{words}: status {status}, {output!r}, {errors!r}")

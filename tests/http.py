@@ -859,7 +859,7 @@ def test_command_line_faults():
         [], good[:2], good[2:], ["config.json"], [*good, "x"], [*good, "--connections"], [*good, "--connections", ""],
         [*good, "--config", "config.json"], [*good, "--listen", "127.0.0.1:0"], [*good, "--until-input-ends", "--until-input-ends"],
         [*good, "--until-input-ends=1"], [*good, "--connections", "1", "--connections", "1"], [*good, "--connection", "1"], [*good, "--port", "1"],
-        [*good, "--load", "x"], [*good, "--save", "x"], [*good[:2], "--listen"], [*good[:2], "--listen", "-x"], [*good, "--", "x"],
+        [*good, "--load"], [*good, "--save"], [*good, "--load", "x", "--load", "x"], [*good, "--save", "x", "--save", "x"], [*good[:2], "--listen"], [*good[:2], "--listen", "-x"], [*good, "--", "x"],
         [*good, "-c", "1"],
     ]
     numbers = ["0", "00", "-1", "+1", "1.0", "1e3", " 1", "1 ", "x", "4294967296", "99999999999999999999", "0x1", "\u0661", "1,000"]

@@ -31,13 +31,13 @@ def first_line(process):
 class Server:
     """The program that serves a new repository. At the end of the block it has to be serving still, and to have written one line."""
 
-    def __init__(self, *words, config=None, listen="127.0.0.1:0", files=(), stdin=subprocess.DEVNULL, **given):
+    def __init__(self, *words, config=None, listen="127.0.0.1:0", files=(), stdin=subprocess.DEVNULL, program=None, **given):
         if Folder.stand_in:
             raise LeftOut
         self.folder = Repository(config, **dict(files))
         # whether its end was waited for
         self.is_over = False
-        self.process = subprocess.Popen([Folder.program, "serve", "--config", "config.json", "--listen", listen, *words],
+        self.process = subprocess.Popen([program or Folder.program, "serve", "--config", "config.json", "--listen", listen, *words],
                                         cwd=self.folder.folder.name, stdin=stdin, stdout=subprocess.PIPE, stderr=subprocess.PIPE, bufsize=0, **given)
         line = first_line(self.process)
         found = LISTENING.fullmatch(line)

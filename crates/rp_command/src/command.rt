@@ -287,19 +287,31 @@ fn asked_in<'a>(
     match matches.subcommand() {
         Some(("validate", found)) => delivery_in(alloc, found),
         Some(("serve", found)) => Ok(Some(Command::Serve(service_in(found)?))),
-        Some(("batch", found)) => Ok(run_in(found).map(Command::Batch)),
+        Some(("batch", found)) => run_in(found),
         Some((name, found)) => Ok(one_file_in(name, found)),
         None => Ok(None),
     }
 }
 
-/// The lines that `batch` is asked for.
-fn run_in<'a>(found: &ArgMatches<'a>) -> Option<Run<'a>> {
-    Some(Run {
-        config: found.get_str("config")?,
+/// Where a snapshot is saved, if one is wanted: not over the configuration.
+fn save_in<'a>(found: &ArgMatches<'a>, config: &str) -> Result<Option<&'a str>, CommandLineFault> {
+    let save = found.get_str("save");
+    if save.is_some_and(|path| path == config) {
+        return Err(CommandLineFault::SaveOverConfig);
+    }
+    Ok(save)
+}
+
+/// The lines that `batch` is asked for; nothing where there is no configuration.
+fn run_in<'a>(found: &ArgMatches<'a>) -> Result<Option<Command<'a>>, CommandLineFault> {
+    let Some(config) = found.get_str("config") else {
+        return Ok(None);
+    };
+    Ok(Some(Command::Batch(Run {
+        config,
         load: found.get_str("load"),
-        save: found.get_str("save"),
-    })
+        save: save_in(found, config)?,
+    })))
 }
 
 /// What a command of this name asks for, which takes one file.
@@ -326,7 +338,7 @@ fn service_in<'a>(found: &ArgMatches<'a>) -> Result<Service<'a>, CommandLineFaul
     Ok(Service {
         config,
         load: found.get_str("load"),
-        save: found.get_str("save"),
+        save: save_in(found, config)?,
         address,
         connections,
         until_input_ends: found.get_flag("until-input-ends"),

@@ -11,6 +11,8 @@ pub enum CommandLineFault {
     Incomplete,
     /// The page would be written over a file that is to be read.
     PageOverInput,
+    /// A snapshot would be saved over the configuration.
+    SaveOverConfig,
     /// Where connections are to come is no address.
     NoAddress,
     /// How many connections are to come is no number.
@@ -32,6 +34,7 @@ impl fmt::Display for CommandLineFault {
             CommandLineFault::PageOverInput => {
                 write_usage(f, "--html names a file that is to be read")
             }
+            CommandLineFault::SaveOverConfig => write_usage(f, "--save names the configuration"),
             CommandLineFault::NoAddress => {
                 write_usage(f, "--listen wants an IP address with a port")
             }

@@ -32,8 +32,8 @@ pub enum SnapshotLack {
     /// What has to stand around the lists of rows, and the byte that was reached.
     Form(Lack, usize),
     Row(RefusedRow),
-    /// The snapshot of the rows that they have is another one.
-    Differs,
+    /// The snapshot of the rows that they have is another one, from this byte on.
+    Differs(usize),
 }
 
 /// A row that isn't taken.

@@ -28,7 +28,7 @@ use rp_core::Holdings;
 use rp_laws::{model_text_again, step_keeps_validity};
 use rp_restore_laws::{rows_give_repository, rows_may_be_put};
 use rp_snapshot_texts::{Version, behind, rows_again};
-use rp_snapshots::{FirstVersion, is_snapshot_of};
+use rp_snapshots::{FirstVersion, is_snapshot_of, snapshot};
 use std::alloc::{AllocError, Global};
 
 /// The text behind the first line.
@@ -118,6 +118,15 @@ fn are_its_snapshot(
     is_snapshot_of(alloc, holdings.schemas(), &groups, &models, bytes)
 }
 
+/// The first byte of these that isn't as in the snapshot of what is held, which is another one.
+fn differs_at(alloc: Global, holdings: &Holdings<'_>, bytes: &[u8]) -> Result<usize, AllocError> {
+    let groups = holdings.groups();
+    let models = holdings.models();
+    let text = snapshot(alloc, holdings.schemas(), &groups, &models)?;
+    let differs = text.iter().zip(bytes).position(|(one, other)| one != other);
+    Ok(differs.unwrap_or(text.len().min(bytes.len())))
+}
+
 /// The repository of these schemas and partners of which the bytes are the snapshot.
 ///
 /// # Errors
@@ -142,7 +151,8 @@ pub fn restore<'s>(
     let mut holdings = Holdings::new(alloc, schemas, partners)?;
     hold_bytes(alloc, &mut holdings, bytes)?;
     if !are_its_snapshot(alloc, &holdings, bytes)? {
-        return Err(RestoreFault::BadSnapshot(SnapshotLack::Differs));
+        let at = differs_at(alloc, &holdings, bytes)?;
+        return Err(RestoreFault::BadSnapshot(SnapshotLack::Differs(at)));
     }
     Ok(holdings)
 }

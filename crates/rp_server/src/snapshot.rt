@@ -21,20 +21,21 @@ impl fmt::Display for Lacking<'_> {
             SnapshotLack::Utf8(at) => write!(f, "at byte {at}: it isn't UTF-8"),
             SnapshotLack::Form(lack, at) => write_form(f, *lack, *at),
             SnapshotLack::Row(row) => write_row(f, row, self.kind),
-            SnapshotLack::Differs => f.write_str(
-                "it isn't as it would be saved: another order, spelling, blank or byte behind the end",
+            SnapshotLack::Differs(at) => write!(
+                f,
+                "at byte {at}: it isn't as it would be saved: another order, spelling, blank or byte behind the end"
             ),
         }
     }
 }
 
-/// Writes what has to stand at a byte where something else does.
+/// Writes what has to stand where something else does; the byte that was reached may be the one behind that.
 fn write_form<W: fmt::Write>(f: &mut fmt::Formatter<W>, lack: Lack, at: usize) -> fmt::Result {
     let wanted = match lack {
         Lack::Form => "a brace, a bracket, the next key, a text or a whole number",
         Lack::Level => "a level (read, group or write)",
     };
-    write!(f, "at byte {at}: {wanted} is wanted")
+    write!(f, "before byte {at}: {wanted} is wanted")
 }
 
 /// What a row goes by, behind a blank; nothing where it couldn't be read. Owner and name may be any texts, so they are shown as
