@@ -15,7 +15,7 @@ use Rattle.rp_program.specs.declared.ending.Done.TheVariants.{Helped, Answered, 
 use Rattle.rp_program.specs.declared.fault.StartFault.{StartFault}
 use Rattle.rp_program.specs.declared.fault.Fault.{Fault}
 use Rattle.rp_program.specs.declared.fault.Fault.TheVariants.{Start, Read, Write, Refused, Page, Listen, Serve, Unsaved}
-use Rattle.rp_program.specs.Starts.{SnapshotFile, IsGiven, Starts, StartsAt, StartedWith, FailsBy}
+use Rattle.rp_program.specs.Starts.{SnapshotFile, IsGiven, Starts, StartsAt, FailsBy}
 use Rattle.rp_program.specs.Served.{Serves, ServesFrom, IsServed}
 use Rattle.rp_program.proofs.StartLemmas.{start_fails}
 

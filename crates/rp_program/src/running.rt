@@ -3,12 +3,11 @@ ghost use Rattle.std.specs.Prelude.{◌≡◌, ◌≢◌, ◌⊎◌, Ok, Err, If
 ghost use Rattle.plain_data.specs.declared.failure.Failure.{Failure};
 ghost use Rattle.plain_data.specs.declared.failure.Failure.TheVariants.{NoMemory};
 ghost use Rattle.rp_io.specs.Held.{unread, RunsOut};
-ghost use Rattle.rp_plain.specs.Valid.{IsValid};
 ghost use Rattle.rp_repo.specs.LineRuns.{max_reads, IsWholeRun, IsFirstRun, IsCutRun};
 ghost use Rattle.rp_snapshots.specs.Snapshots.{snapshot_of};
 ghost use Rattle.rp_program.specs.declared.fault.StartFault.{StartFault};
 ghost use Rattle.rp_program.specs.declared.fault.Unsaved.{Unsaved};
-ghost use Rattle.rp_program.specs.Starts.{IsStart, Starts, StartsAt, Lacks, FailsBy};
+ghost use Rattle.rp_program.specs.Starts.{IsStart, Starts, StartsAt, FailsBy};
 ghost use Rattle.rp_program.specs.Runs.{RunsFrom, IsAnswered, IsAllOrNothing};
 ghost use Rattle.rp_program.specs.Saved.{IsSaved};
 

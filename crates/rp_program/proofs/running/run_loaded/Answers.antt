@@ -1,4 +1,4 @@
-use Rattle.std.proofs.Common.{sym, subst, Ok, Err}
+use Rattle.std.proofs.Common.{sym, subst, Err}
 use Rattle.rp_program.specs.Starts.{Starts, FailsBy}
 use Rattle.rp_program.proofs.StartLemmas.{in_ok_both}
 use Rattle.rp_program.proofs.running.run_loaded.Goals as goal
