@@ -1,6 +1,6 @@
 -- What a command starts with, and why it doesn't, is what its configuration and its snapshot say.
 use Rattle.std.proofs.Common.{◌≡◌, ◌≢◌, ℕ, List, Option, Some, None, IfSome, Result, Ok, Err, refl, ap, subst, sym, ◌∙◌}
-use Rattle.std.specs.Prelude.{option_map, IfOk}
+use Rattle.std.specs.Prelude.{option_map, IfOk, IsErrAnd, IsErrOf}
 use Rattle.plain_data.specs.declared.failure.Failure.{Failure}
 use Rattle.plain_data.specs.declared.failure.Failure.TheVariants as failure
 use Rattle.plain_data.specs.Gives.{Fails}
@@ -15,6 +15,8 @@ use Rattle.rp_plain.specs.Opening.{new_fault}
 use Rattle.rp_plain.specs.Plain.{Plain}
 use Rattle.rp_program.specs.declared.fault.StartFault.{StartFault}
 use Rattle.rp_program.specs.declared.fault.StartFault.TheVariants.{Load}
+use Rattle.rp_program.specs.declared.fault.Fault.{Fault}
+use Rattle.rp_program.specs.declared.fault.Fault.TheVariants.{Start}
 use Rattle.rp_program.specs.Starts.{SnapshotFile, snapshot_at, IsGiven, Lacks, Starts, StartsIf, StartsAt, FailsBy, IsStart, load_failure, new_failure}
 use Rattle.rp_program.specs.Runs.{RunsFrom}
 
@@ -22,13 +24,22 @@ pub in_any : {X : Type 0} (known : Option X) (P : X → Type 0) → ((x : X) →
 in_any None P f = tt
 in_any (Some x) P f = f x
 
+pub in_ok_both : {T E : Type 0} (P Q R : T → Type 0) → ((t : T) → P t → Q t → R t) → (r : Result T E) → IfOk r P → IfOk r Q → IfOk r R
+in_ok_both P Q R f (Ok t) p q = f t p q
+in_ok_both P Q R f (Err e) p q = tt
+
 pub in_ok : {T E : Type 0} (P Q : T → Type 0) → ((t : T) → P t → Q t) → (r : Result T E) → IfOk r P → IfOk r Q
 in_ok P Q f (Ok t) is = f t is
 in_ok P Q f (Err e) is = tt
 
+-- a fault that was passed on
+pub passed_on : {T : Type 0} (r : Result T Fault) (fault : Fault) (why : Failure StartFault) → IsErrAnd r (λ e. e ≡ fault) → IsErrOf r (Start why) → fault ≡ Start why
+passed_on (Ok t) fault why same is = absurd same
+passed_on (Err e) fault why same is = cc
+
 -- ---- the snapshot that is given
 
-file : List ℕ → Option (List ℕ) → SnapshotFile
+abbrev file : List ℕ → Option (List ℕ) → SnapshotFile
 file path read = record { path = path; bytes = read }
 
 pub none_given : (files : Option Held) → IsGiven files None None

@@ -48,7 +48,7 @@ pub(crate) fn given_at<'a, D: Folder>(
     folder: &D,
     path: Option<&'a str>,
 ) -> Result<Option<Given<'a>>, AllocError>
-    ensures { IfOk result (λ given. IsGiven (D.files folder.now) (option_copied path) given) }
+    ensures { IfOk result (λ given. IsGiven (D.files folder.now) (option_copied path.entry) given) }
 {
     let Some(path) = path else {
         return Ok(None);
@@ -71,10 +71,10 @@ pub(crate) fn open<'s>(
     tokens: Rows<Text>,
     given: Option<Given<'_>>,
 ) -> Result<(Repository<'s>, Tokens), Fault>
-    ensures repository { IfOk result (λ opened. Starts (record { partners = partners; tokens = tokens; schemas = schemas.now }) given (Ok opened.0.content)) }
+    ensures repository { IfOk result (λ opened. Starts (record { partners = partners; tokens = tokens; schemas = schemas.now }) given.entry (Ok opened.0.content)) }
     ensures partners { IfOk result (λ opened. opened.0.content.partners ≡ partners) }
     ensures tokens { IfOk result (λ opened. opened.1 ≡ tokens) }
-    ensures start { (why : Failure StartFault) → IsErrOf result (Fault.Start why) → FailsBy why (Lacks (record { partners = partners; tokens = tokens; schemas = schemas.now }) given) }
+    ensures start { (why : Failure StartFault) → IsErrOf result (Fault.Start why) → FailsBy why (Lacks (record { partners = partners; tokens = tokens; schemas = schemas.now }) given.entry) }
     ensures err { IfErr result (λ fault. (why : Failure StartFault) × (fault ≡ Fault.Start why)) }
 {
     let lent = lent(alloc, schemas)?;
@@ -91,9 +91,9 @@ fn begun<'s>(
     given: Option<Given<'_>>,
 ) -> Result<Repository<'s>, Fault>
     ensures opens { IfOk result (λ repository. new_fault schemas.now partners.items ≡ None) }
-    ensures begins { IfOk result (λ repository. BeginsAs schemas.now partners.items given repository.content) }
+    ensures begins { IfOk result (λ repository. BeginsAs schemas.now partners.items given.entry repository.content) }
     ensures partners { IfOk result (λ repository. repository.content.partners ≡ partners.items) }
-    ensures start { (tokens : List (List ℕ)) (why : Failure StartFault) → IsErrOf result (Fault.Start why) → FailsBy why (Lacks (record { partners = partners.items; tokens = tokens; schemas = schemas.now }) given) }
+    ensures start { (tokens : List (List ℕ)) (why : Failure StartFault) → IsErrOf result (Fault.Start why) → FailsBy why (Lacks (record { partners = partners.items; tokens = tokens; schemas = schemas.now }) given.entry) }
     ensures err { IfErr result (λ fault. (why : Failure StartFault) × (fault ≡ Fault.Start why)) }
 {
     match given {

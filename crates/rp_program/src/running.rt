@@ -15,7 +15,7 @@ ghost use Rattle.rp_program.specs.Saved.{IsSaved};
 use crate::ending::Done;
 use crate::fault::{Fault, Unsaved};
 use crate::opening::{Given, given_at, open};
-use crate::saving::{Snapshots, begin, save};
+use crate::saving::{Snapshots, begin, save_in};
 use plain_data::Failure;
 use rp_config::{Loaded, load_all};
 use rp_files::Folder;
@@ -37,30 +37,30 @@ pub fn batch<D: Folder, F: Places + Drop, R: Source, W: Sink>(
     writer: &mut W,
 ) -> Result<Done, Fault>
     // All that was written are the replies of a run over all lines. What it comes to is saved, if that is asked for.
-    ensures whole { IfOk result (λ done. RunsFrom (IsStart (D.files folder.now) path.now (option_copied snapshots.load)) (λ old new.
+    ensures whole { IfOk result (λ done. RunsFrom (IsStart (D.files folder.now) path.now (option_copied snapshots.entry.load)) (λ old new.
         IsAnswered done (IsWholeRun old new (R.remaining reader.old) (W.contents writer.old) (W.contents writer.new))
-        × IfSome (option_copied snapshots.save) (λ _. IsSaved F.Part.contents F.Part.may_leave F.Part.left_since F.Part.could_leave (snapshot_of new)))) }
+        × IfSome (option_copied snapshots.entry.save) (λ _. IsSaved F.Part.contents F.Part.may_leave F.Part.left_since F.Part.could_leave (snapshot_of new)))) }
 
     // After a read that failed, the replies to the lines before it are written whole.
-    ensures first { IsErrOf result Fault.Read → RunsFrom (IsStart (D.files folder.now) path.now (option_copied snapshots.load)) (λ old new.
+    ensures first { IsErrOf result Fault.Read → RunsFrom (IsStart (D.files folder.now) path.now (option_copied snapshots.entry.load)) (λ old new.
         IsFirstRun old new (R.remaining reader.old) (W.contents writer.old) (W.contents writer.new)) }
     ensures read_failed { IsErrOf result Fault.Read →
         (R.read_failures reader.new ≢ R.read_failures reader.old)
         ⊎ RunsOut (unread max_reads) (R.reads_made reader.old) (R.reads_made reader.new) (R.remaining reader.old) }
 
     // After a write that failed, they are but for the last.
-    ensures cut { IsErrOf result Fault.Write → RunsFrom (IsStart (D.files folder.now) path.now (option_copied snapshots.load)) (λ old new.
+    ensures cut { IsErrOf result Fault.Write → RunsFrom (IsStart (D.files folder.now) path.now (option_copied snapshots.entry.load)) (λ old new.
         IsCutRun old new (R.remaining reader.old) (W.contents writer.old) (W.contents writer.new)) }
     ensures write_failed { IsErrOf result Fault.Write → W.write_failures writer.new ≢ W.write_failures writer.old }
 
     // Where it can't be saved all lines are answered, or none is read.
-    ensures unsaved { (why : Unsaved) → IsErrOf result (Fault.Unsaved why) → RunsFrom (IsStart (D.files folder.now) path.now (option_copied snapshots.load)) (λ old new.
+    ensures unsaved { (why : Unsaved) → IsErrOf result (Fault.Unsaved why) → RunsFrom (IsStart (D.files folder.now) path.now (option_copied snapshots.entry.load)) (λ old new.
         IsAllOrNothing old new (R.remaining reader.old) (W.contents writer.old) (W.contents writer.new) reader.old reader.new writer.old writer.new) }
 
     // Else nothing was read or written, and the fault is the first that there is.
     ensures start { (why : Failure StartFault) → IsErrOf result (Fault.Start why) →
         (reader.new ≡ reader.old) × (writer.new ≡ writer.old)
-        × IfSome (D.files folder.now) (λ held. FailsBy why (λ fault. StartsAt held path.now (option_copied snapshots.load) (Err fault))) }
+        × IfSome (D.files folder.now) (λ held. FailsBy why (λ fault. StartsAt held path.now (option_copied snapshots.entry.load) (Err fault))) }
 {
     let loaded = load_all(alloc, folder, path)?;
     let given = given_at(alloc, folder, snapshots.load)?;
@@ -77,21 +77,21 @@ fn run_loaded<F: Places, R: Source, W: Sink>(
     reader: &mut R,
     writer: &mut W,
 ) -> Result<Done, Fault>
-    ensures whole { IfOk result (λ done. RunsFrom (λ r. Starts loaded given (Ok r)) (λ old new.
+    ensures whole { IfOk result (λ done. RunsFrom (λ r. Starts loaded given.entry (Ok r)) (λ old new.
         IsAnswered done (IsWholeRun old new (R.remaining reader.old) (W.contents writer.old) (W.contents writer.new))
-        × IfSome (option_copied save) (λ _. IsSaved F.Part.contents F.Part.may_leave F.Part.left_since F.Part.could_leave (snapshot_of new)))) }
-    ensures first { IsErrOf result Fault.Read → RunsFrom (λ r. Starts loaded given (Ok r)) (λ old new.
+        × IfSome (option_copied save.entry) (λ _. IsSaved F.Part.contents F.Part.may_leave F.Part.left_since F.Part.could_leave (snapshot_of new)))) }
+    ensures first { IsErrOf result Fault.Read → RunsFrom (λ r. Starts loaded given.entry (Ok r)) (λ old new.
         IsFirstRun old new (R.remaining reader.old) (W.contents writer.old) (W.contents writer.new)) }
     ensures read_failed { IsErrOf result Fault.Read →
         (R.read_failures reader.new ≢ R.read_failures reader.old)
         ⊎ RunsOut (unread max_reads) (R.reads_made reader.old) (R.reads_made reader.new) (R.remaining reader.old) }
-    ensures cut { IsErrOf result Fault.Write → RunsFrom (λ r. Starts loaded given (Ok r)) (λ old new.
+    ensures cut { IsErrOf result Fault.Write → RunsFrom (λ r. Starts loaded given.entry (Ok r)) (λ old new.
         IsCutRun old new (R.remaining reader.old) (W.contents writer.old) (W.contents writer.new)) }
     ensures write_failed { IsErrOf result Fault.Write → W.write_failures writer.new ≢ W.write_failures writer.old }
-    ensures unsaved { (why : Unsaved) → IsErrOf result (Fault.Unsaved why) → RunsFrom (λ r. Starts loaded given (Ok r)) (λ old new.
+    ensures unsaved { (why : Unsaved) → IsErrOf result (Fault.Unsaved why) → RunsFrom (λ r. Starts loaded given.entry (Ok r)) (λ old new.
         IsAllOrNothing old new (R.remaining reader.old) (W.contents writer.old) (W.contents writer.new) reader.old reader.new writer.old writer.new) }
     ensures start { (why : Failure StartFault) → IsErrOf result (Fault.Start why) →
-        (reader.new ≡ reader.old) × (writer.new ≡ writer.old) × FailsBy why (λ fault. Starts loaded given (Err fault)) }
+        (reader.new ≡ reader.old) × (writer.new ≡ writer.old) × FailsBy why (λ fault. Starts loaded given.entry (Err fault)) }
 {
     let Loaded {
         partners,
@@ -99,10 +99,7 @@ fn run_loaded<F: Places, R: Source, W: Sink>(
         schemas,
     } = loaded;
     let (mut repository, _tokens) = open(alloc, schemas.as_slice(), partners, tokens, given)?;
-    let ended = match save {
-        Some(path) => run_and_save(alloc, &mut repository, files, path, reader, writer),
-        None => run(alloc, &mut repository, reader, writer),
-    };
+    let ended = run_and_save(alloc, &mut repository, files, save, reader, writer);
     repository.is_valid();
     // The process ends, and all of its memory goes with it. To give that back value by value would take long.
     mem::forget(repository);
@@ -110,17 +107,17 @@ fn run_loaded<F: Places, R: Source, W: Sink>(
     ended
 }
 
-/// Answers all lines, and saves what they lead to in the file of this path, which it begins to replace before.
+/// Answers all lines, and saves what they lead to in the file of this path, if there is one. It begins to replace that before.
 fn run_and_save<F: Places, R: Source, W: Sink>(
     alloc: Global,
     repository: &mut Repository<'_>,
     files: &F,
-    path: &str,
+    save: Option<&str>,
     reader: &mut R,
     writer: &mut W,
 ) -> Result<Done, Fault>
     ensures whole { IfOk result (λ done. IsAnswered done (IsWholeRun repository.old.content repository.new.content (R.remaining reader.old) (W.contents writer.old) (W.contents writer.new))) }
-    ensures saved { IfOk result (λ done. IsSaved F.Part.contents F.Part.may_leave F.Part.left_since F.Part.could_leave (snapshot_of repository.new.content)) }
+    ensures saved { IfOk result (λ _. IfSome (option_copied save.entry) (λ _. IsSaved F.Part.contents F.Part.may_leave F.Part.left_since F.Part.could_leave (snapshot_of repository.new.content))) }
     ensures first { IsErrOf result Fault.Read →
         IsFirstRun repository.old.content repository.new.content (R.remaining reader.old) (W.contents writer.old) (W.contents writer.new) }
     ensures read_failed { IsErrOf result Fault.Read →
@@ -133,14 +130,17 @@ fn run_and_save<F: Places, R: Source, W: Sink>(
         IsAllOrNothing repository.old.content repository.new.content (R.remaining reader.old) (W.contents writer.old) (W.contents writer.new) reader.old reader.new writer.old writer.new }
     ensures start { (why : Failure StartFault) → IsErrOf result (Fault.Start why) → (reader.new ≡ reader.old) × (writer.new ≡ writer.old) × (why ≡ NoMemory) }
 {
+    let Some(path) = save else {
+        return run(alloc, repository, reader, writer);
+    };
     let replacement = match begin(alloc, files, path) {
         Ok(begun) => begun,
         Err(Unsaved::NoMemory) => return Err(Fault::Start(Failure::NoMemory)),
         Err(unsaved) => return Err(Fault::Unsaved(unsaved)),
     };
     match run(alloc, repository, reader, writer) {
-        Ok(done) => match save(alloc, repository, replacement) {
-            Ok(_) => Ok(done),
+        Ok(done) => match save_in(alloc, repository, replacement) {
+            Ok(()) => Ok(done),
             Err(unsaved) => Err(Fault::Unsaved(unsaved)),
         },
         Err(fault) => Err(fault),

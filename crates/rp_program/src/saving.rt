@@ -3,7 +3,7 @@ ghost use Rattle.std.specs.Prelude.{◌≡◌, IfOk, IfSome, OnOk};
 ghost use Rattle.rp_saved_file.specs.Crashes.{file_of, LeavesOnly, LeavesOldOr};
 ghost use Rattle.rp_saved_file.specs.Failures.{failures_of, IsNew};
 ghost use Rattle.rp_snapshots.specs.Snapshots.{snapshot_of};
-ghost use Rattle.rp_program.specs.Saved.{IsReplacedBy};
+ghost use Rattle.rp_program.specs.Saved.{IsReplacedBy, IsSaved};
 
 use crate::fault::Unsaved;
 use plain_data::Failure;
@@ -36,7 +36,20 @@ pub(crate) fn begin<F: Places>(
 }
 
 /// Writes the snapshot of a repository, and has it take the place of the file. One model's text is held at a time.
-pub(crate) fn save<P: Part + Drop>(
+pub(crate) fn save_in<P: Part + Drop>(
+    alloc: Global,
+    repository: &Repository<'_>,
+    replacement: Replacement<P>,
+) -> Result<(), Unsaved>
+    requires { IsNew (P.contents replacement.part) replacement.failed }
+    ensures { IfOk result (λ _. IsSaved P.contents P.may_leave P.left_since P.could_leave (snapshot_of repository.now.content)) }
+{
+    replaced(alloc, repository, replacement)?;
+    Ok(())
+}
+
+/// The same. It gives what took the place of the file.
+fn replaced<P: Part + Drop>(
     alloc: Global,
     repository: &Repository<'_>,
     mut replacement: Replacement<P>,
@@ -72,6 +85,5 @@ pub(crate) fn save_at<F: Places>(
     repository: &Repository<'_>,
 ) -> Result<(), Unsaved> {
     let replacement = begin(alloc, files, path)?;
-    save(alloc, repository, replacement)?;
-    Ok(())
+    save_in(alloc, repository, replacement)
 }

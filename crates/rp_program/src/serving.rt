@@ -39,8 +39,8 @@ pub fn serve<D: Folder, R: Net + Clock + Input + Eprint + Files>(
 ) -> Result<Done, Fault>
     // However it ends, a run of messages of its partners is all that happened to the repository. Where there is none, the fault
     // is the first that there is.
-    ensures { IsServed (λ why. IfSome (D.files folder.now) (λ held. FailsBy why (λ fault. StartsAt held path.now (option_copied snapshots.load) (Err fault))))
-        (ServesFrom (D.files folder.now) path.now (option_copied snapshots.load)) address result }
+    ensures { IsServed (λ why. IfSome (D.files folder.now) (λ held. FailsBy why (λ fault. StartsAt held path.now (option_copied snapshots.entry.load) (Err fault))))
+        (ServesFrom (D.files folder.now) path.now (option_copied snapshots.entry.load)) address result }
 {
     let loaded = load_all(alloc, folder, path)?;
     let given = given_at(alloc, folder, snapshots.load)?;
@@ -58,7 +58,7 @@ fn serve_loaded<R: Net + Clock + Input + Eprint + Files>(
     ends: Ends,
 ) -> Result<Done, Fault>
     requires { length loaded.tokens ≤ length loaded.partners }
-    ensures { IsServed (λ why. FailsBy why (λ fault. Starts loaded given (Err fault))) (Serves loaded given) address result }
+    ensures { IsServed (λ why. FailsBy why (λ fault. Starts loaded given.entry (Err fault))) (Serves loaded given.entry) address result }
 {
     let Loaded {
         partners,
