@@ -3,3 +3,4 @@ pub mod CheckLemmas
 pub mod ValidationLemmas
 pub mod ServeLemmas
 pub mod SaveLemmas
+pub mod RunLemmas
