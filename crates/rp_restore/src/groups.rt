@@ -19,17 +19,21 @@ use json::Reader;
 use plain_data::Failure;
 use rp_core::Holdings;
 use rp_restore_laws::restoring_keeps_validity;
-use rp_restored_rows::restored_group;
+use rp_restored_rows::{PartnerOrder, restored_group};
 use rp_rows::limits::MAX_GROUPS;
 use rp_snapshot_rows::SavedGroup;
 use std::alloc::Global;
 
 /// The group, if it may be put.
-fn tested(holdings: &Holdings<'_>, group: SavedGroup) -> Result<SavedGroup, RowReason>
+fn tested(
+    holdings: &Holdings<'_>,
+    order: &PartnerOrder,
+    group: SavedGroup,
+) -> Result<SavedGroup, RowReason>
     ensures may { IfOk result (λ taken. MayTakeGroup holdings.now.content (group_of taken)) }
     ensures again { (g : SpecGroup) → MayTakeGroup holdings.now.content g → group ≡ saved_group g → result ≡ Ok group }
 {
-    let group = match restored_group(holdings.schemas(), holdings.partners(), group) {
+    let group = match restored_group(holdings.schemas(), holdings.partners(), order, group) {
         Ok(group) => group,
         Err(lack) => return Err(RowReason::Lacks(lack)),
     };
@@ -43,6 +47,7 @@ fn tested(holdings: &Holdings<'_>, group: SavedGroup) -> Result<SavedGroup, RowR
 fn group<'s>(
     alloc: Global,
     holdings: &mut Holdings<'s>,
+    order: &PartnerOrder,
     reader: &mut Reader<'_>,
 ) -> Result<(), Failure<SnapshotLack>>
     requires { IsValid holdings.old.content }
@@ -56,7 +61,7 @@ fn group<'s>(
     let at = reached(reader);
     let row = group_row(alloc, reader, at)?;
     let key = row.key.copy(alloc)?;
-    match tested(holdings, row) {
+    match tested(holdings, order, row) {
         Ok(row) => {
             let SavedGroup {
                 key,
@@ -79,6 +84,7 @@ fn group<'s>(
 pub(crate) fn groups<'s>(
     alloc: Global,
     holdings: &mut Holdings<'s>,
+    order: &PartnerOrder,
     reader: &mut Reader<'_>,
 ) -> Result<(), Failure<SnapshotLack>>
     requires { IsValid holdings.old.content }
@@ -88,7 +94,7 @@ pub(crate) fn groups<'s>(
     ensures again { (gs : List SpecGroup) (ms : List SpecModel) (rest : List SpecToken) → MayTakeRows gs ms holdings.old.content → reader.old ≡ listed group_tokens gs ++ rest → GroupsHeld result ms (with_rows gs ms holdings.old.content) holdings.new.content reader.new rest }
 {
     'groups: while !reader.take_end_array() {
-        group(alloc, holdings, reader)?;
+        group(alloc, holdings, order, reader)?;
     }
     Ok(())
 }

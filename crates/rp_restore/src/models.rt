@@ -20,7 +20,7 @@ use json::Reader;
 use plain_data::Failure;
 use rp_core::Holdings;
 use rp_restore_laws::restoring_keeps_validity;
-use rp_restored_rows::{RestoredModel, restored_model};
+use rp_restored_rows::{PartnerOrder, RestoredModel, restored_model};
 use rp_rows::limits::MAX_MODELS;
 use rp_rows::rows::Key;
 use rp_snapshot_rows::SavedModel;
@@ -30,13 +30,21 @@ use std::alloc::Global;
 fn tested(
     alloc: Global,
     holdings: &Holdings<'_>,
+    order: &PartnerOrder,
     saved: SavedModel,
     file: &str,
 ) -> Result<RestoredModel, Failure<RowReason>>
     ensures may { IfOk result (λ taken. MayTakeModel holdings.now.content (model_of taken)) }
     ensures again { (m : SpecModel) → MayTakeModel holdings.now.content m → saved ≡ saved_model m → file.now ≡ file_in first_version holdings.now.content.schemas m.holds → TakesModel result m }
 {
-    let model = match restored_model(alloc, holdings.schemas(), holdings.partners(), saved, file) {
+    let model = match restored_model(
+        alloc,
+        holdings.schemas(),
+        holdings.partners(),
+        order,
+        saved,
+        file,
+    ) {
         Ok(model) => model,
         Err(Failure::NoMemory) => return Err(Failure::NoMemory),
         Err(Failure::Fault(lack)) => return Err(Failure::Fault(RowReason::Lacks(lack))),
@@ -70,6 +78,7 @@ fn refused(key: Key, at: usize, failure: Failure<RowReason>) -> Failure<Snapshot
 fn model<'s>(
     alloc: Global,
     holdings: &mut Holdings<'s>,
+    order: &PartnerOrder,
     reader: &mut Reader<'_>,
 ) -> Result<(), Failure<SnapshotLack>>
     requires { IsValid holdings.old.content }
@@ -84,7 +93,7 @@ fn model<'s>(
     let file = model_file(reader, at)?;
     let row = model_row(alloc, reader, at)?;
     let key = row.key.copy(alloc)?;
-    match tested(alloc, holdings, row, file) {
+    match tested(alloc, holdings, order, row, file) {
         Ok(model) => {
             let RestoredModel { key, holds, grants } = model;
             holdings.hold_model(alloc, key, holds, grants)?;
@@ -98,6 +107,7 @@ fn model<'s>(
 pub(crate) fn models<'s>(
     alloc: Global,
     holdings: &mut Holdings<'s>,
+    order: &PartnerOrder,
     reader: &mut Reader<'_>,
 ) -> Result<(), Failure<SnapshotLack>>
     requires { IsValid holdings.old.content }
@@ -107,7 +117,7 @@ pub(crate) fn models<'s>(
     ensures again { (ms : List SpecModel) (rest : List SpecToken) → MayTakeModels ms holdings.old.content → reader.old ≡ listed (model_tokens (file_in first_version holdings.old.content.schemas)) ms ++ rest → HoldsAgain result (with_models ms holdings.old.content) holdings.new.content reader.new rest }
 {
     'models: while !reader.take_end_array() {
-        model(alloc, holdings, reader)?;
+        model(alloc, holdings, order, reader)?;
     }
     Ok(())
 }

@@ -27,6 +27,7 @@ use plain_data::{Failure, Text};
 use rp_core::Holdings;
 use rp_laws::{model_text_again, step_keeps_validity};
 use rp_restore_laws::{rows_give_repository, rows_may_be_put};
+use rp_restored_rows::PartnerOrder;
 use rp_snapshot_texts::{Version, behind, rows_again};
 use rp_snapshots::{FirstVersion, is_snapshot_of, snapshot};
 use std::alloc::{AllocError, Global};
@@ -48,6 +49,7 @@ fn text_behind<'a>(bytes: &'a [u8], first_line: &[u8]) -> Result<&'a str, Snapsh
 fn hold_rows<'s>(
     alloc: Global,
     holdings: &mut Holdings<'s>,
+    order: &PartnerOrder,
     reader: &mut Reader<'_>,
 ) -> Result<(), Failure<SnapshotLack>>
     requires { IsValid holdings.old.content }
@@ -57,9 +59,9 @@ fn hold_rows<'s>(
     ensures again { (gs : List SpecGroup) (ms : List SpecModel) → MayTakeRows gs ms holdings.old.content → reader.old ≡ rows_tokens (file_in first_version holdings.old.content.schemas) gs ms → Restores result (with_rows gs ms holdings.old.content) holdings.new.content }
 {
     first_list(reader, "groups")?;
-    groups(alloc, holdings, reader)?;
+    groups(alloc, holdings, order, reader)?;
     list(reader, "models")?;
-    models(alloc, holdings, reader)
+    models(alloc, holdings, order, reader)
 }
 
 /// The rows of the text behind the first line are held.
@@ -76,7 +78,8 @@ fn hold_text<'s>(
 {
     let mut scratch = Scratch::new(alloc);
     let mut reader = Reader::new(text, &mut scratch)?;
-    hold_rows(alloc, holdings, &mut reader)
+    let order = PartnerOrder::of(alloc, holdings.partners())?;
+    hold_rows(alloc, holdings, &order, &mut reader)
 }
 
 /// The rows that the bytes have are held in what was opened.

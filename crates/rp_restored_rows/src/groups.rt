@@ -13,7 +13,8 @@ ghost use Rattle.rp_restored_rows.specs.Groups as of_groups;
 ghost use Rattle.rp_restored_rows.specs.Groups.{group_of};
 
 use crate::lack::RowLack;
-use crate::rows::{has, row_lack};
+use crate::partners::{PartnerOrder, has};
+use crate::rows::row_lack;
 use ex_loaded::LoadedSchema;
 use plain_data::Text;
 use rp_rows::limits::MAX_MEMBERS;
@@ -56,10 +57,12 @@ fn are_in_order(members: &[Key]) -> bool
     members.is_sorted_by(|member, next| stands_before(member, next))
 }
 
-fn have_owners(partners: &[Text], members: &[Key]) -> bool
+fn have_owners(partners: &[Text], order: &PartnerOrder, members: &[Key]) -> bool
     ensures { result ≡ list_all (λ k. has_text partners.now k.owner) members.now }
 {
-    members.iter().all(|member| has(partners, &member.owner))
+    members
+        .iter()
+        .all(|member| has(partners, order, &member.owner))
 }
 
 fn have_names(members: &[Key]) -> bool
@@ -72,6 +75,7 @@ fn have_names(members: &[Key]) -> bool
 fn listing_lack(
     schemas: &[LoadedSchema<'_>],
     partners: &[Text],
+    order: &PartnerOrder,
     listing: &Listing,
 ) -> Option<RowLack>
     ensures { result ≡ of_groups.listing_lack schemas.now partners.now listing.now }
@@ -86,7 +90,7 @@ fn listing_lack(
     if !are_in_order(members) {
         return Some(RowLack::MembersOutOfOrder);
     }
-    if !have_owners(partners, members) {
+    if !have_owners(partners, order, members) {
         return Some(RowLack::UnknownMemberOwner);
     }
     if !have_names(members) {
@@ -99,18 +103,19 @@ fn listing_lack(
 fn group_lack(
     schemas: &[LoadedSchema<'_>],
     partners: &[Text],
+    order: &PartnerOrder,
     group: &SavedGroup,
 ) -> Option<RowLack>
     ensures { result ≡ of_groups.group_lack schemas.now partners.now group.now }
 {
     let grants = group.grants.as_slice();
-    if let Some(lack) = row_lack(partners, &group.key, grants) {
+    if let Some(lack) = row_lack(partners, order, &group.key, grants) {
         return Some(lack);
     }
     if !are_to_read(grants) {
         return Some(RowLack::GroupLevel);
     }
-    listing_lack(schemas, partners, &group.listing)
+    listing_lack(schemas, partners, order, &group.listing)
 }
 
 /// A group that was read, if a repository of these schemas and partners may have it.
@@ -121,13 +126,14 @@ fn group_lack(
 pub fn restored_group(
     schemas: &[LoadedSchema<'_>],
     partners: &[Text],
+    order: &PartnerOrder,
     group: SavedGroup,
 ) -> Result<SavedGroup, RowLack>
     ensures valid { IfOk result (λ taken. IsValidGroup schemas.now partners.now (group_of taken)) }
     ensures same { IfOk result (λ taken. taken ≡ group) }
     ensures again { (g : GroupRow) → IsValidGroup schemas.now partners.now g → group ≡ saved_group g → result ≡ Ok group }
 {
-    match group_lack(schemas, partners, &group) {
+    match group_lack(schemas, partners, order, &group) {
         None => Ok(group),
         Some(lack) => Err(lack),
     }

@@ -10,8 +10,10 @@ mod groups;
 mod lack;
 mod links;
 mod models;
+mod partners;
 mod rows;
 
 pub use groups::restored_group;
 pub use lack::RowLack;
 pub use models::{RestoredModel, restored_model};
+pub use partners::PartnerOrder;

@@ -14,7 +14,7 @@ ghost use Rattle.rp_restored_rows.specs.Tests as spec;
 ghost use Rattle.rp_restored_rows.specs.Models as of_models;
 
 use crate::lack::RowLack;
-use crate::rows::has;
+use crate::partners::{PartnerOrder, has};
 use plain_data::Text;
 use rp_content::{Instances, Link};
 use rp_rows::limits::{MAX_LINKS, MAX_NAME};
@@ -33,10 +33,10 @@ fn are_in_order(links: &[Link]) -> bool
     links.is_sorted_by(|link, next| stands_before(link, next))
 }
 
-fn have_owners(partners: &[Text], links: &[Link]) -> bool
+fn have_owners(partners: &[Text], order: &PartnerOrder, links: &[Link]) -> bool
     ensures { result ≡ list_all (λ l. has_text partners.now l.owner) links.now }
 {
-    links.iter().all(|link| has(partners, &link.owner))
+    links.iter().all(|link| has(partners, order, &link.owner))
 }
 
 fn have_models(links: &[Link]) -> bool
@@ -73,6 +73,7 @@ fn are_within(greatest: u64, links: &[Link]) -> bool
 /// What the links lack in the model of this key, whatever its instances are.
 pub(crate) fn links_lack(
     partners: &[Text],
+    order: &PartnerOrder,
     key: &Key,
     greatest: u64,
     links: &[Link],
@@ -85,7 +86,7 @@ pub(crate) fn links_lack(
     if !are_in_order(links) {
         return Some(RowLack::LinksOutOfOrder);
     }
-    if !have_owners(partners, links) {
+    if !have_owners(partners, order, links) {
         return Some(RowLack::UnknownLinkOwner);
     }
     if !have_models(links) {

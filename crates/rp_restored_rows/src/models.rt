@@ -12,7 +12,8 @@ ghost use Rattle.rp_restored_rows.specs.Models.{model_of, joins, Takes, Restores
 use crate::files::read;
 use crate::lack::RowLack;
 use crate::links::{are_free, links_lack};
-use crate::rows::{row_lack, schema_named};
+use crate::partners::PartnerOrder;
+use crate::rows::row_lack;
 use ex_loaded::LoadedSchema;
 use p21_laws::accepted_schemas;
 use plain_data::{Failure, Rows, Text};
@@ -20,6 +21,7 @@ use rp_content::{Content, Instance};
 use rp_rows::limits::{MAX_INSTANCES, MAX_NAME};
 use rp_rows::rows::{Grant, Key, ModelContent};
 use rp_snapshot_rows::SavedModel;
+use rp_snapshots::schema_named;
 use std::alloc::Global;
 
 /// A model with its file bound: its key, what it holds, and who else may do what with it.
@@ -31,16 +33,22 @@ pub struct RestoredModel {
 }
 
 /// What the model lacks, whatever its file has.
-fn head_lack(partners: &[Text], saved: &SavedModel) -> Option<RowLack>
+fn head_lack(partners: &[Text], order: &PartnerOrder, saved: &SavedModel) -> Option<RowLack>
     ensures { result ≡ of_models.head_lack partners.now saved.now }
 {
-    if let Some(lack) = row_lack(partners, &saved.key, saved.grants.as_slice()) {
+    if let Some(lack) = row_lack(partners, order, &saved.key, saved.grants.as_slice()) {
         return Some(lack);
     }
     if saved.greatest > MAX_NAME {
         return Some(RowLack::GreatestTooLong);
     }
-    links_lack(partners, &saved.key, saved.greatest, saved.links.as_slice())
+    links_lack(
+        partners,
+        order,
+        &saved.key,
+        saved.greatest,
+        saved.links.as_slice(),
+    )
 }
 
 fn are_within(greatest: u64, instances: &[Instance]) -> bool
@@ -71,12 +79,13 @@ fn content_of<'s>(
     alloc: Global,
     schemas: &'s [LoadedSchema<'s>],
     partners: &[Text],
+    order: &PartnerOrder,
     saved: &SavedModel,
     file: &[u8],
 ) -> Result<Content, Failure<RowLack>>
     ensures { Takes schemas.now partners.now saved.now file.now result }
 {
-    if let Some(lack) = head_lack(partners, saved) {
+    if let Some(lack) = head_lack(partners, order, saved) {
         return Err(Failure::Fault(lack));
     }
     let Some(schema) = schema_named(schemas, &saved.schema) else {
@@ -134,6 +143,7 @@ pub fn restored_model<'s>(
     alloc: Global,
     schemas: &'s [LoadedSchema<'s>],
     partners: &[Text],
+    order: &PartnerOrder,
     saved: SavedModel,
     file: &str,
 ) -> Result<RestoredModel, Failure<RowLack>>
@@ -141,7 +151,7 @@ pub fn restored_model<'s>(
     ensures again { (m : Model) → IsValidModel schemas.now partners.now m → saved ≡ saved_model m → file.now ≡ file_in first_version schemas.now m.holds → Restores result m }
 {
     accepted_schemas(schemas);
-    match content_of(alloc, schemas, partners, &saved, file.as_bytes()) {
+    match content_of(alloc, schemas, partners, order, &saved, file.as_bytes()) {
         Ok(content) => Ok(joined(saved, content)),
         Err(failure) => Err(failure),
     }

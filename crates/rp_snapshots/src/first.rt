@@ -1,7 +1,7 @@
 //! The first version.
 
 ghost use Rattle.std.specs.Prelude.{◌≡◌, option_copied};
-ghost use Rattle.rp_plain.specs.Meaning.{schema_named};
+ghost use Rattle.rp_plain.specs.Meaning as meaning;
 
 use ex_loaded::LoadedSchema;
 use p21_write::write;
@@ -17,8 +17,11 @@ pub struct FirstVersion<'s> {
 }
 
 /// The schema of this name.
-fn named<'s>(schemas: &'s [LoadedSchema<'s>], name: &Text) -> Option<&'s LoadedSchema<'s>>
-    ensures { option_copied result ≡ schema_named schemas.now name.now }
+pub fn schema_named<'s>(
+    schemas: &'s [LoadedSchema<'s>],
+    name: &Text,
+) -> Option<&'s LoadedSchema<'s>>
+    ensures { option_copied result ≡ meaning.schema_named schemas.now name.now }
 {
     schemas
         .iter()
@@ -37,7 +40,7 @@ impl<'s> Version for FirstVersion<'s> {
     }
 
     fn file(&self, alloc: Global, model: &ModelContent) -> Result<Text, AllocError> {
-        match named(self.schemas, &model.schema) {
+        match schema_named(self.schemas, &model.schema) {
             Some(schema) => write(alloc, schema.dictionary(), &model.content),
             None => Text::from_str(alloc, ""),
         }

@@ -6,6 +6,6 @@
 mod first;
 mod snapshots;
 
-pub use first::FirstVersion;
+pub use first::{FirstVersion, schema_named};
 pub use rp_snapshot_texts::SaveFault;
 pub use snapshots::{is_snapshot_of, save, snapshot};
