@@ -15,7 +15,7 @@ use Rattle.rp_program.specs.declared.ending.Done.TheVariants.{Helped, Answered, 
 use Rattle.rp_program.specs.declared.fault.StartFault.{StartFault}
 use Rattle.rp_program.specs.declared.fault.Fault.{Fault}
 use Rattle.rp_program.specs.declared.fault.Fault.TheVariants.{Start, Read, Write, Refused, Page, Listen, Serve, Unsaved}
-use Rattle.rp_program.specs.Starts.{SnapshotFile, IsGiven, Starts, StartsAt, FailsBy}
+use Rattle.rp_program.specs.Starts.{SnapshotFile, IsGiven, Starts, StartsAt, FailsBy, FailsToStart}
 use Rattle.rp_program.specs.Served.{Serves, ServesFrom, IsServed}
 use Rattle.rp_program.proofs.StartLemmas.{start_fails}
 
@@ -34,6 +34,18 @@ module _ (Lacks More : Failure StartFault → Type 0) (It Then : Type 0) (lacks 
   served_so address (Err (Refused path words)) is = is
   served_so address (Err (Page path error)) is = is
   served_so address (Err (Unsaved why)) is = it is
+
+-- there is none to serve
+pub lacking : (Why Lacks : Failure StartFault → Type 0) (It : Type 0) (address : SocketAddr) (fault : Fault)
+    → FailsToStart Why fault → ((why : Failure StartFault) → Why why → Lacks why) → IsServed Lacks It address (Err fault)
+lacking Why Lacks It address (Start why) none so = so why none
+lacking Why Lacks It address Read none so = none
+lacking Why Lacks It address Write none so = none
+lacking Why Lacks It address (Refused path words) none so = none
+lacking Why Lacks It address (Page path error) none so = none
+lacking Why Lacks It address (Listen at error) none so = absurd none
+lacking Why Lacks It address (Serve fault) none so = absurd none
+lacking Why Lacks It address (Unsaved why) none so = absurd none
 
 -- the repository that was started with was served
 pub served_of : (loaded : Loaded) (given : Option SnapshotFile) (start end : Plain) (tokens : List (List ℕ)) → Starts loaded given (Ok start) → tokens ≡ loaded.tokens → Leaves tokens start end → IsValid end

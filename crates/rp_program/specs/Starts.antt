@@ -21,7 +21,7 @@ use Rattle.rp_snapshots.specs.Snapshots.{snapshot_of}
 use Rattle.rp_program.specs.declared.fault.StartFault.{StartFault}
 use Rattle.rp_program.specs.declared.fault.StartFault.TheVariants.{Load, New, Snapshot, Tokens}
 use Rattle.rp_program.specs.declared.fault.Fault.{Fault}
-use Rattle.rp_program.specs.declared.fault.Fault.TheVariants.{Start, Write}
+use Rattle.rp_program.specs.declared.fault.Fault.TheVariants.{Start, Read, Write, Refused, Page, Listen, Serve, Unsaved}
 
 -- ---- a repository
 
@@ -85,6 +85,22 @@ StartsAt held path asked outcome = StartsIf (loaded_at held path) (option_map (s
 abbrev pub FailsBy : Failure StartFault → (StartFault → Type 0) → Type 0
 FailsBy failure.NoMemory Holds = Unit {0}
 FailsBy (failure.Fault fault) Holds = Holds fault
+
+-- the command ends because there is nothing to work on, for such a reason
+abbrev pub FailsToStart : (Failure StartFault → Type 0) → Fault → Type 0
+FailsToStart Why (Start why) = Why why
+FailsToStart Why Read = ⊥
+FailsToStart Why Write = ⊥
+FailsToStart Why (Refused path words) = ⊥
+FailsToStart Why (Page path error) = ⊥
+FailsToStart Why (Listen at error) = ⊥
+FailsToStart Why (Serve fault) = ⊥
+FailsToStart Why (Unsaved why) = ⊥
+
+-- what there is is so, or there is none for such a reason
+abbrev pub OpensOr : {T : Type 0} → (T → Type 0) → (Failure StartFault → Type 0) → Result T Fault → Type 0
+OpensOr Is Why (Ok t) = Is t
+OpensOr Is Why (Err fault) = FailsToStart Why fault
 
 -- what a command was started with: of these files, where they are known, and else of some
 pub record StartedWith (files : Option Held) (path : List ℕ) (asked : Option (List ℕ)) (Told : Loaded → Option SnapshotFile → Type 0) : Type 0 where

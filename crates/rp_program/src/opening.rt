@@ -1,9 +1,7 @@
 //! The repository that a command begins with, and the tokens of its partners.
-ghost use Rattle.std.specs.Prelude.{◌≡◌, ℕ, List, Ok, IfOk, IfErr, IsErrOf, None, Some, option_copied};
-ghost use Rattle.plain_data.specs.declared.failure.Failure.{Failure};
+ghost use Rattle.std.specs.Prelude.{◌≡◌, ℕ, List, Ok, IfOk, None, Some, option_copied};
 ghost use Rattle.rp_plain.specs.Opening.{new_fault};
-ghost use Rattle.rp_program.specs.declared.fault.StartFault.{StartFault};
-ghost use Rattle.rp_program.specs.Starts.{IsGiven, BeginsAs, IsRestored, Lacks, Starts, FailsBy};
+ghost use Rattle.rp_program.specs.Starts.{IsGiven, BeginsAs, IsRestored, Lacks, Starts, FailsBy, OpensOr};
 
 use crate::fault::{Fault, StartFault};
 use http_routes::{Tokens, is_token};
@@ -71,11 +69,10 @@ pub(crate) fn open<'s>(
     tokens: Rows<Text>,
     given: Option<Given<'_>>,
 ) -> Result<(Repository<'s>, Tokens), Fault>
-    ensures repository { IfOk result (λ opened. Starts (record { partners = partners; tokens = tokens; schemas = schemas.now }) given.entry (Ok opened.0.content)) }
-    ensures partners { IfOk result (λ opened. opened.0.content.partners ≡ partners) }
-    ensures tokens { IfOk result (λ opened. opened.1 ≡ tokens) }
-    ensures start { (why : Failure StartFault) → IsErrOf result (Fault.Start why) → FailsBy why (Lacks (record { partners = partners; tokens = tokens; schemas = schemas.now }) given.entry) }
-    ensures err { IfErr result (λ fault. (why : Failure StartFault) × (fault ≡ Fault.Start why)) }
+    ensures { OpensOr
+        (λ opened. Starts (record { partners = partners; tokens = tokens; schemas = schemas.now }) given.entry (Ok opened.0.content)
+        × (opened.0.content.partners ≡ partners) × (opened.1 ≡ tokens))
+        (λ why. FailsBy why (Lacks (record { partners = partners; tokens = tokens; schemas = schemas.now }) given.entry)) result }
 {
     let lent = lent(alloc, schemas)?;
     let repository = begun(alloc, lent, partners.into_vec(), given)?;
@@ -90,11 +87,10 @@ fn begun<'s>(
     partners: Vec<Text>,
     given: Option<Given<'_>>,
 ) -> Result<Repository<'s>, Fault>
-    ensures opens { IfOk result (λ repository. new_fault schemas.now partners.items ≡ None) }
-    ensures begins { IfOk result (λ repository. BeginsAs schemas.now partners.items given.entry repository.content) }
-    ensures partners { IfOk result (λ repository. repository.content.partners ≡ partners.items) }
-    ensures start { (tokens : List (List ℕ)) (why : Failure StartFault) → IsErrOf result (Fault.Start why) → FailsBy why (Lacks (record { partners = partners.items; tokens = tokens; schemas = schemas.now }) given.entry) }
-    ensures err { IfErr result (λ fault. (why : Failure StartFault) × (fault ≡ Fault.Start why)) }
+    ensures { OpensOr
+        (λ repository. (new_fault schemas.now partners.items ≡ None) × BeginsAs schemas.now partners.items given.entry repository.content
+        × (repository.content.partners ≡ partners.items))
+        (λ why. (tokens : List (List ℕ)) → FailsBy why (Lacks (record { partners = partners.items; tokens = tokens; schemas = schemas.now }) given.entry)) result }
 {
     match given {
         None => Ok(Repository::new(alloc, schemas, partners)?),
@@ -121,10 +117,9 @@ fn restored<'s>(
     path: &str,
     bytes: &[u8],
 ) -> Result<Repository<'s>, Fault>
-    ensures opens { IfOk result (λ repository. new_fault schemas.now partners.items ≡ None) }
-    ensures is { IfOk result (λ repository. IsRestored schemas.now partners.items bytes.now repository.content) }
-    ensures start { (tokens : List (List ℕ)) (why : Failure StartFault) → IsErrOf result (Fault.Start why) → FailsBy why (Lacks (record { partners = partners.items; tokens = tokens; schemas = schemas.now }) (Some (record { path = path.now; bytes = Some bytes.now }))) }
-    ensures err { IfErr result (λ fault. (why : Failure StartFault) × (fault ≡ Fault.Start why)) }
+    ensures { OpensOr
+        (λ repository. (new_fault schemas.now partners.items ≡ None) × IsRestored schemas.now partners.items bytes.now repository.content)
+        (λ why. (tokens : List (List ℕ)) → FailsBy why (Lacks (record { partners = partners.items; tokens = tokens; schemas = schemas.now }) (Some (record { path = path.now; bytes = Some bytes.now })))) result }
 {
     match Repository::restore(alloc, schemas, partners, bytes) {
         Ok(repository) => Ok(repository),

@@ -1,14 +1,9 @@
 //! All lines of an input, answered by the repository that a command starts with, and what it comes to saved.
-ghost use Rattle.std.specs.Prelude.{◌≡◌, ◌≢◌, ◌⊎◌, Ok, Err, IfOk, IfSome, IsErrOf, option_copied};
-ghost use Rattle.plain_data.specs.declared.failure.Failure.{Failure};
+ghost use Rattle.std.specs.Prelude.{◌≡◌, ⊤, Ok, Err, IfSome, option_copied};
 ghost use Rattle.plain_data.specs.declared.failure.Failure.TheVariants.{NoMemory};
-ghost use Rattle.rp_io.specs.Held.{unread, RunsOut};
-ghost use Rattle.rp_repo.specs.LineRuns.{max_reads, IsWholeRun, IsFirstRun, IsCutRun};
 ghost use Rattle.rp_snapshots.specs.Snapshots.{snapshot_of};
-ghost use Rattle.rp_program.specs.declared.fault.StartFault.{StartFault};
-ghost use Rattle.rp_program.specs.declared.fault.Unsaved.{Unsaved};
 ghost use Rattle.rp_program.specs.Starts.{IsStart, Starts, StartsAt, FailsBy};
-ghost use Rattle.rp_program.specs.Runs.{RunsFrom, IsAnswered, IsAllOrNothing};
+ghost use Rattle.rp_program.specs.Runs.{RunsFrom, IsBatched, seen};
 ghost use Rattle.rp_program.specs.Saved.{IsSaved};
 
 use crate::ending::Done;
@@ -35,31 +30,12 @@ pub fn batch<D: Folder, F: Places + Drop, R: Source, W: Sink>(
     reader: &mut R,
     writer: &mut W,
 ) -> Result<Done, Fault>
-    // All that was written are the replies of a run over all lines. What it comes to is saved, if that is asked for.
-    ensures whole { IfOk result (λ done. RunsFrom (IsStart (D.files folder.now) path.now (option_copied snapshots.entry.load)) (λ old new.
-        IsAnswered done (IsWholeRun old new (R.remaining reader.old) (W.contents writer.old) (W.contents writer.new))
-        × IfSome (option_copied snapshots.entry.save) (λ _. IsSaved F.Part.contents F.Part.may_leave F.Part.left_since F.Part.could_leave (snapshot_of new)))) }
-
-    // After a read that failed, the replies to the lines before it are written whole.
-    ensures first { IsErrOf result Fault.Read → RunsFrom (IsStart (D.files folder.now) path.now (option_copied snapshots.entry.load)) (λ old new.
-        IsFirstRun old new (R.remaining reader.old) (W.contents writer.old) (W.contents writer.new)) }
-    ensures read_failed { IsErrOf result Fault.Read →
-        (R.read_failures reader.new ≢ R.read_failures reader.old)
-        ⊎ RunsOut (unread max_reads) (R.reads_made reader.old) (R.reads_made reader.new) (R.remaining reader.old) }
-
-    // After a write that failed, they are but for the last.
-    ensures cut { IsErrOf result Fault.Write → RunsFrom (IsStart (D.files folder.now) path.now (option_copied snapshots.entry.load)) (λ old new.
-        IsCutRun old new (R.remaining reader.old) (W.contents writer.old) (W.contents writer.new)) }
-    ensures write_failed { IsErrOf result Fault.Write → W.write_failures writer.new ≢ W.write_failures writer.old }
-
-    // Where it can't be saved all lines are answered, or none is read.
-    ensures unsaved { (why : Unsaved) → IsErrOf result (Fault.Unsaved why) → RunsFrom (IsStart (D.files folder.now) path.now (option_copied snapshots.entry.load)) (λ old new.
-        IsAllOrNothing old new (R.remaining reader.old) (W.contents writer.old) (W.contents writer.new) reader.old reader.new writer.old writer.new) }
-
-    // Else nothing was read or written, and the fault is the first that there is.
-    ensures start { (why : Failure StartFault) → IsErrOf result (Fault.Start why) →
-        (reader.new ≡ reader.old) × (writer.new ≡ writer.old)
-        × IfSome (D.files folder.now) (λ held. FailsBy why (λ fault. StartsAt held path.now (option_copied snapshots.entry.load) (Err fault))) }
+    // It answers all lines by the repository that it starts with, and saves what they lead to. Where there is none, the fault is the
+    // first that there is.
+    ensures { IsBatched (λ why. IfSome (D.files folder.now) (λ held. FailsBy why (λ fault. StartsAt held path.now (option_copied snapshots.entry.load) (Err fault))))
+        (RunsFrom (IsStart (D.files folder.now) path.now (option_copied snapshots.entry.load)))
+        (seen R.remaining R.read_failures R.reads_made W.contents W.write_failures reader.old reader.new writer.old writer.new
+        (λ r. IfSome (option_copied snapshots.entry.save) (λ _. IsSaved F.Part.contents F.Part.may_leave F.Part.left_since F.Part.could_leave (snapshot_of r)))) result }
 {
     let loaded = load_all(alloc, folder, path)?;
     let given = given_at(alloc, folder, snapshots.load)?;
@@ -76,21 +52,9 @@ fn run_loaded<F: Places, R: Source, W: Sink>(
     reader: &mut R,
     writer: &mut W,
 ) -> Result<Done, Fault>
-    ensures whole { IfOk result (λ done. RunsFrom (λ r. Starts loaded given.entry (Ok r)) (λ old new.
-        IsAnswered done (IsWholeRun old new (R.remaining reader.old) (W.contents writer.old) (W.contents writer.new))
-        × IfSome (option_copied save.entry) (λ _. IsSaved F.Part.contents F.Part.may_leave F.Part.left_since F.Part.could_leave (snapshot_of new)))) }
-    ensures first { IsErrOf result Fault.Read → RunsFrom (λ r. Starts loaded given.entry (Ok r)) (λ old new.
-        IsFirstRun old new (R.remaining reader.old) (W.contents writer.old) (W.contents writer.new)) }
-    ensures read_failed { IsErrOf result Fault.Read →
-        (R.read_failures reader.new ≢ R.read_failures reader.old)
-        ⊎ RunsOut (unread max_reads) (R.reads_made reader.old) (R.reads_made reader.new) (R.remaining reader.old) }
-    ensures cut { IsErrOf result Fault.Write → RunsFrom (λ r. Starts loaded given.entry (Ok r)) (λ old new.
-        IsCutRun old new (R.remaining reader.old) (W.contents writer.old) (W.contents writer.new)) }
-    ensures write_failed { IsErrOf result Fault.Write → W.write_failures writer.new ≢ W.write_failures writer.old }
-    ensures unsaved { (why : Unsaved) → IsErrOf result (Fault.Unsaved why) → RunsFrom (λ r. Starts loaded given.entry (Ok r)) (λ old new.
-        IsAllOrNothing old new (R.remaining reader.old) (W.contents writer.old) (W.contents writer.new) reader.old reader.new writer.old writer.new) }
-    ensures start { (why : Failure StartFault) → IsErrOf result (Fault.Start why) →
-        (reader.new ≡ reader.old) × (writer.new ≡ writer.old) × FailsBy why (λ fault. Starts loaded given.entry (Err fault)) }
+    ensures { IsBatched (λ why. FailsBy why (λ fault. Starts loaded given.entry (Err fault))) (RunsFrom (λ r. Starts loaded given.entry (Ok r)))
+        (seen R.remaining R.read_failures R.reads_made W.contents W.write_failures reader.old reader.new writer.old writer.new
+        (λ r. IfSome (option_copied save.entry) (λ _. IsSaved F.Part.contents F.Part.may_leave F.Part.left_since F.Part.could_leave (snapshot_of r)))) result }
 {
     let Loaded {
         partners,
@@ -115,19 +79,9 @@ fn run_and_save<F: Places, R: Source, W: Sink>(
     reader: &mut R,
     writer: &mut W,
 ) -> Result<Done, Fault>
-    ensures whole { IfOk result (λ done. IsAnswered done (IsWholeRun repository.old.content repository.new.content (R.remaining reader.old) (W.contents writer.old) (W.contents writer.new))) }
-    ensures saved { IfOk result (λ _. IfSome (option_copied save.entry) (λ _. IsSaved F.Part.contents F.Part.may_leave F.Part.left_since F.Part.could_leave (snapshot_of repository.new.content))) }
-    ensures first { IsErrOf result Fault.Read →
-        IsFirstRun repository.old.content repository.new.content (R.remaining reader.old) (W.contents writer.old) (W.contents writer.new) }
-    ensures read_failed { IsErrOf result Fault.Read →
-        (R.read_failures reader.new ≢ R.read_failures reader.old)
-        ⊎ RunsOut (unread max_reads) (R.reads_made reader.old) (R.reads_made reader.new) (R.remaining reader.old) }
-    ensures cut { IsErrOf result Fault.Write →
-        IsCutRun repository.old.content repository.new.content (R.remaining reader.old) (W.contents writer.old) (W.contents writer.new) }
-    ensures write_failed { IsErrOf result Fault.Write → W.write_failures writer.new ≢ W.write_failures writer.old }
-    ensures unsaved { (why : Unsaved) → IsErrOf result (Fault.Unsaved why) →
-        IsAllOrNothing repository.old.content repository.new.content (R.remaining reader.old) (W.contents writer.old) (W.contents writer.new) reader.old reader.new writer.old writer.new }
-    ensures start { (why : Failure StartFault) → IsErrOf result (Fault.Start why) → (reader.new ≡ reader.old) × (writer.new ≡ writer.old) × (why ≡ NoMemory) }
+    ensures { IsBatched (λ why. why ≡ NoMemory) (λ Told. Told repository.old.content repository.new.content)
+        (seen R.remaining R.read_failures R.reads_made W.contents W.write_failures reader.old reader.new writer.old writer.new
+        (λ r. IfSome (option_copied save.entry) (λ _. IsSaved F.Part.contents F.Part.may_leave F.Part.left_since F.Part.could_leave (snapshot_of r)))) result }
 {
     let Some(path) = save else {
         return run(alloc, repository, reader, writer);
@@ -153,17 +107,8 @@ fn run<R: Source, W: Sink>(
     reader: &mut R,
     writer: &mut W,
 ) -> Result<Done, Fault>
-    ensures whole { IfOk result (λ done. IsAnswered done (IsWholeRun repository.old.content repository.new.content (R.remaining reader.old) (W.contents writer.old) (W.contents writer.new))) }
-    ensures first { IsErrOf result Fault.Read →
-        IsFirstRun repository.old.content repository.new.content (R.remaining reader.old) (W.contents writer.old) (W.contents writer.new) }
-    ensures read_failed { IsErrOf result Fault.Read →
-        (R.read_failures reader.new ≢ R.read_failures reader.old)
-        ⊎ RunsOut (unread max_reads) (R.reads_made reader.old) (R.reads_made reader.new) (R.remaining reader.old) }
-    ensures cut { IsErrOf result Fault.Write →
-        IsCutRun repository.old.content repository.new.content (R.remaining reader.old) (W.contents writer.old) (W.contents writer.new) }
-    ensures write_failed { IsErrOf result Fault.Write → W.write_failures writer.new ≢ W.write_failures writer.old }
-    ensures unsaved { (why : Unsaved) → IsErrOf result (Fault.Unsaved why) → ⊥ }
-    ensures start { (why : Failure StartFault) → IsErrOf result (Fault.Start why) → ⊥ }
+    ensures { IsBatched (λ _. ⊥) (λ Told. Told repository.old.content repository.new.content)
+        (seen R.remaining R.read_failures R.reads_made W.contents W.write_failures reader.old reader.new writer.old writer.new (λ _. ⊤)) result }
 {
     match run_lines(alloc, repository, reader, writer) {
         Ok(lines) => Ok(Done::Answered(lines)),

@@ -1,45 +1,21 @@
-use Rattle.std.proofs.Common.{sym, subst, Err}
-use Rattle.rp_program.specs.Starts.{Starts, FailsBy}
-use Rattle.rp_program.proofs.StartLemmas.{in_ok_both}
+use Rattle.std.proofs.Common.{Ok, refl}
+use Rattle.std.specs.Prelude.{⊤}
+use Rattle.std.proofs.lemmas.Result.{err_from_is_err_and}
+use Rattle.plain_data.specs.declared.failure.Failure.{Failure}
+use Rattle.rp_program.specs.declared.fault.StartFault.{StartFault}
+use Rattle.rp_program.specs.Starts.{Starts, FailsBy, Lacks}
+use Rattle.rp_program.specs.Runs.{RunsFrom, seen}
+use Rattle.rp_program.proofs.RunLemmas.{lacking, batched_of}
 use Rattle.rp_program.proofs.running.run_loaded.Goals as goal
 
-pub returns-clause-whole : goal.returns-clause-whole
-returns-clause-whole g c = in_ok_both _ _ _ (λ done told saved. record {
-  start = c.in_ok-repository.repository.content;
-  is_start = rw c.as_slice.ensures at c.in_ok-repository.ensures.repository;
-  end = c.run_and_save-ended.new.repository.content;
-  ends = (told, saved);
-  valid = c.is_valid.ensures.valid;
-}) c.run_and_save-ended.result c.run_and_save-ended.ensures.whole c.run_and_save-ended.ensures.saved
+pub returns-in_err-repository : goal.returns-in_err-repository
+returns-in_err-repository g c =
+    let p = err_from_is_err_and c.from_residual.result c.from_residual.ensures.1 in
+    let Why = λ (why : Failure StartFault). FailsBy why (Lacks (record c.args.loaded { schemas = c.as_slice.result.now }) c.args.given) in
+    let it = seen g.R.Source.remaining g.R.Source.read_failures g.R.Source.reads_made g.W.Sink.contents g.W.Sink.write_failures c.args.reader.now c.args.reader.now c.args.writer.now c.args.writer.now (λ _. ⊤) in
+    rw (p.1, p.2) (lacking Why _ (RunsFrom (λ r. Starts c.args.loaded c.args.given (Ok r))) it _ c.in_err-repository.ensures (λ why none. rw c.as_slice.ensures at none) (refl {a = c.args.reader.now}, refl {a = c.args.writer.now}))
 
-pub returns-clause-first : goal.returns-clause-first
-returns-clause-first g c = λ is. record {
-  start = c.in_ok-repository.repository.content;
-  is_start = rw c.as_slice.ensures at c.in_ok-repository.ensures.repository;
-  end = c.run_and_save-ended.new.repository.content;
-  ends = c.run_and_save-ended.ensures.first is;
-  valid = c.is_valid.ensures.valid;
-}
-
-pub returns-clause-cut : goal.returns-clause-cut
-returns-clause-cut g c = λ is. record {
-  start = c.in_ok-repository.repository.content;
-  is_start = rw c.as_slice.ensures at c.in_ok-repository.ensures.repository;
-  end = c.run_and_save-ended.new.repository.content;
-  ends = c.run_and_save-ended.ensures.cut is;
-  valid = c.is_valid.ensures.valid;
-}
-
-pub returns-clause-unsaved : goal.returns-clause-unsaved
-returns-clause-unsaved g c = λ why is. record {
-  start = c.in_ok-repository.repository.content;
-  is_start = rw c.as_slice.ensures at c.in_ok-repository.ensures.repository;
-  end = c.run_and_save-ended.new.repository.content;
-  ends = c.run_and_save-ended.ensures.unsaved why is;
-  valid = c.is_valid.ensures.valid;
-}
-
-pub returns-clause-start : goal.returns-clause-start
-returns-clause-start g c = λ why is.
-    let fails = c.run_and_save-ended.ensures.start why is in
-    (fails.0, fails.1, subst (λ w. FailsBy w (λ fault. Starts c.args.loaded c.args.given (Err fault))) (sym fails.2) tt)
+pub returns : goal.returns
+returns g c =
+    batched_of c.args.loaded c.args.given c.in_ok-repository.repository.content c.run_and_save-ended.new.repository.content (rw c.as_slice.ensures at c.in_ok-repository.ensures.0) c.is_valid.ensures.valid _
+    c.run_and_save-ended.result c.run_and_save-ended.ensures
