@@ -1,5 +1,5 @@
 -- What a crash leaves over several steps.
-use Rattle.std.proofs.Common.{◌⊎◌, inl, inr, ⊎_elim, ◌≤◌, ℕ, Option, arith}
+use Rattle.std.proofs.Common.{◌⊎◌, inl, inr, ⊎_elim, ℕ, Option, arith}
 use Rattle.rp_saved_file.specs.Crashes.{Place, Is, LeavesNoMore, LeavesOldOr, Elapses, Meanwhile}
 
 module _ {P : Type 0} (moment : P → ℕ) (left_since : P → ℕ → Place → Type 0) (may_leave : P → Place → Type 0) (known : Option Place) where
