@@ -1,5 +1,5 @@
 #!/usr/bin/env python3
-"""Fails where docs/CLAIMS.md and its pages on rules, schemas and HTTP name what isn't there, or leave out a public call or a must-fail edit.
+"""Fails where docs/CLAIMS.md and its pages on rules, schemas, HTTP and snapshots name what isn't there, or leave out a public call or a must-fail edit.
 
     .ci/check_claims.py [FILE ..]
 
@@ -27,7 +27,8 @@ import re
 import sys
 
 TOP = os.path.dirname(os.path.dirname(os.path.abspath(__file__)))
-FILES = ("docs/CLAIMS.md", "docs/CLAIMS-OF-RULES.md", "docs/CLAIMS-OF-SCHEMAS.md", "docs/CLAIMS-OF-HTTP.md")
+FILES = ("docs/CLAIMS.md", "docs/CLAIMS-OF-RULES.md", "docs/CLAIMS-OF-SCHEMAS.md", "docs/CLAIMS-OF-HTTP.md",
+         "docs/CLAIMS-OF-SNAPSHOTS.md")
 LISTS = ("calls", "edits", "tests")
 WIDEST = 200
 
