@@ -5,7 +5,7 @@ use Rattle.rp_store.specs.Contents.{edited_by}
 use Rattle.rp_store.specs.Entries.{entry_key, revalued}
 use Rattle.sorted_tables.proofs.Finding.{found_is}
 use Rattle.rp_store.proofs.Finding.{changed_there, changed_absent}
-use Rattle.rp_store.proofs.edits.Keyed+ModelContent.alter.Goals as goal
+use Rattle.rp_store.proofs.edits.Keyed+Indexed.alter.Goals as goal
 
 pub alter-requires : goal.alter-requires
 alter-requires c =
