@@ -166,12 +166,7 @@ impl Groups {
     }
 
     /// Makes room for one more group that lists this, and for each model that it lists tells of it from now on.
-    pub fn reserve(
-        &mut self,
-        alloc: Global,
-        key: &Key,
-        listing: &Listing,
-    ) -> Result<(), AllocError>
+    pub fn reserve(&mut self, alloc: Global, key: &Key, listing: &Listing) -> Result<(), AllocError>
         ensures rows { self.new.rows ≡ self.old.rows }
         ensures names { self.new.names ≡ self.old.names }
         ensures room { OnOk result (0 < self.new.room) }
@@ -201,7 +196,8 @@ impl Groups {
         ensures { self.new.rows ≡ altered key (Holds (Some listing)) self.old.rows }
     {
         let former = members_at(&self.listings, &key);
-        self.listers.unlist(&key, former, listing.members.as_slice());
+        self.listers
+            .unlist(&key, former, listing.members.as_slice());
         self.rights.add(again, Rows::new(self.alloc));
         self.listings.put(key, listing);
     }
@@ -212,7 +208,8 @@ impl Groups {
     {
         let grants = Table::of(&self.listings, &self.rights).grants_at(key);
         forget(self.alloc, &mut self.granted, grants, key);
-        self.listers.unlist(key, members_at(&self.listings, key), &[]);
+        self.listers
+            .unlist(key, members_at(&self.listings, key), &[]);
         self.listings.remove(key);
         self.rights.remove(key);
     }

@@ -125,8 +125,7 @@ fn counts_in_listers(
     let listers = groups.listers();
     let first = listers.first(number);
     let others = listers.others(number);
-    counts_for_first(&table, caller, model, first)
-        || counts_for_one(&table, caller, model, others)
+    counts_for_first(&table, caller, model, first) || counts_for_one(&table, caller, model, others)
 }
 
 /// Whether there are fewer names than this.
