@@ -1,4 +1,4 @@
-use Rattle.std.proofs.Common.{◌≡◌, true, ◌∙◌, ap}
+use Rattle.std.proofs.Common.{◌∙◌, ap}
 use Rattle.rp_listers.specs.Kept.{KeptListers, tells_at}
 use Rattle.rp_listers.proofs.Told.{dropped_number, dropped_group}
 use Rattle.rp_listers.proofs.listers.Listers.drop_at.Goals as goal
