@@ -32,14 +32,13 @@ import sys
 import time
 from typing import NamedTuple
 
-from harness import (FILE_LIMIT, TOP, Folder, Session, Table, compare, expect_success, forget_most, held_now, most_memory,
+from harness import (FILE_LIMIT, OK, TOP, Aims, Folder, Session, Table, compare, expect_success, forget_most, held_now, most_memory,
                      processor_seconds, request, run_bench)
 from make_part21 import count_within, part21
 
 SCHEMA = os.path.join(TOP, "tests/data/automotive_design.exp")
 SCHEMA_NAME = "AUTOMOTIVE_DESIGN"
 FIRST_LINE = b"STEPREPO 1\n"
-OK = b'{"ok":{}}\n'
 MODELS = [f"m{k}" for k in range(5)]
 
 # Of the aims, the last is how many times as long a byte may take in a text that is ten times as long.
@@ -63,9 +62,7 @@ def name_of(number):
 def configure(folder, partners):
     """Writes a configuration of so many partners."""
     with open(SCHEMA, encoding="utf-8") as it:
-        folder.write("automotive_design.exp", it.read())
-    names = [name_of(k) for k in range(partners)]
-    folder.write("config.json", json.dumps({"partners": [{"name": it, "token": it} for it in names], "schemas": ["automotive_design.exp"]}))
+        folder.configure(*(name_of(k) for k in range(partners)), automotive_design=it.read())
     folder.write(EMPTY, snapshot_of([]))
 
 
@@ -376,26 +373,6 @@ def measure_peers(folder, models, own, rounds):
 
 
 # ---- all
-
-class Aims:
-    """What is aimed at, and what was found."""
-
-    def __init__(self):
-        self.rows = []
-
-    def at_least(self, words, found, asked):
-        self.rows.append((words, found, f"at least {asked}", found >= asked))
-
-    def at_most(self, words, found, asked):
-        self.rows.append((words, found, f"at most {asked}", found <= asked))
-
-    def told(self):
-        """Tells them, and answers the status."""
-        table = Table({"aim": "46", "found": "8.2f", "asked": "13", "": "6"})
-        for words, found, asked, is_met in self.rows:
-            table.row(words, found, asked, "met" if is_met else "missed")
-        return 0 if all(is_met for *_, is_met in self.rows) else 1
-
 
 def measure(folder, is_quick):
     rounds, runs, share = (2, 2, 5) if is_quick else (5, 3, 1)
