@@ -13,7 +13,7 @@ and asked for lies anywhere in the model, but where the table says the place. Th
 The second has what a partner pays for what others grant him: 100 partners have 50 models and 50 groups each, every group lists all
 50 models of its owner, and all groups are granted to ann, who asks for models of the first, of a middle and of the last partner.
 
-The third has 100,000 models whose names have 58 of 64 characters in common, beside as many whose names are random. Nothing that names
+The third has 100,000 models whose names have 59 of 64 characters in common, beside as many whose names are random. Nothing that names
 of partners and models stand in is a table of hashes: they are compared byte by byte in sorted tables. So none can be chosen against a
 seed, and what names can cost is what they have in common.
 
