@@ -19,7 +19,7 @@ seed, and what names can cost is what they have in common.
 
 The fourth has memory. Of an instance with one reference it tells the bytes of blocks, by what a model holds more of so many of them; of
 rounds that add, set and drop an instance, and of models that are created and deleted under new names, what the process holds. Of each
-hundred such models one is granted and included in a group, and ten are put, with links to one another.
+hundred such models one is granted, nine link to it, and one is a member of a group.
 
 The fifth has a put of 8 MiB, and `extent` and `users` of 200,000 instances. With --before the program of before is asked in turn, and
 the ratio of the two rates is told; so is the memory of an instance.
@@ -61,9 +61,10 @@ class Sizes(NamedTuple):
     wide: int = 200_000
     put: int = FILE_LIMIT
     rounds: int = 15
+    each: int = 50
 
     def tenth(self):
-        return Sizes(*(it // 10 for it in self))._replace(rounds=8)
+        return Sizes(*(it // 10 for it in self))._replace(rounds=8, each=25)
 
 
 # the models of each of the others, and the links of each of their models
@@ -111,9 +112,10 @@ class Rounds:
         self.random = random.Random(1)
         self.texts = dict(enumerate(texts(count), 1))
         faces = range(len(CONTEXT) + 1, count - FACE, FACE)
-        last = [it for it in faces if it > count - sizes.last]
+        # (as many as half of the last are added behind them)
+        last = [it for it in faces if it > count - sizes.last // 2]
         self.faces = faces
-        self.few = len(last) // sizes.rounds
+        self.few, self.each = len(last) // sizes.rounds, sizes.each
         self.used = faces[len(faces) // 2] + 6
         self.users = [self.used - 1, *range(count + 1, count + 10)]
         self.next = count + 10
@@ -136,19 +138,19 @@ class Rounds:
         """An instance of a face, but none that is dropped or set, nor one that has reals. The face itself uses its places 1 and 8."""
         return self.random.choice(self.faces) + self.random.choice(places)
 
-    def gets(self, count):
-        return [(single("get", instance=it), reply_of(text=f"#{it}={self.texts[it]};")) for it in (self.anywhere() for _ in range(count))]
+    def gets(self):
+        return [(single("get", instance=it), reply_of(text=f"#{it}={self.texts[it]};")) for it in (self.anywhere() for _ in range(self.each))]
 
-    def grants(self, count):
-        return [(request("grant", kind="model", name="m", to=next(self.partners), level=next(self.levels)), OK) for _ in range(count)]
+    def grants(self):
+        return [(request("grant", kind="model", name="m", to=next(self.partners), level=next(self.levels)), OK) for _ in range(self.each)]
 
-    def adds(self, count, target=None):
-        turns = [(single("add", text=f"VERTEX_POINT('',#{target or self.anywhere()})"), reply_of(name=self.next + k)) for k in range(count)]
-        self.next += count
-        return turns
+    def adds(self, target=None):
+        names = range(self.next, self.next + self.each)
+        self.next += self.each
+        return [(single("add", text=f"VERTEX_POINT('',#{target or self.anywhere()})"), reply_of(name=it)) for it in names]
 
-    def sets(self, count):
-        faces = [self.random.choice(self.are_set) for _ in range(count)]
+    def sets(self):
+        faces = [self.random.choice(self.are_set) for _ in range(self.each)]
         return [(single("set", instance=it, text=f"ADVANCED_FACE('',(#{self.anywhere()}),#{self.anywhere()},.T.)"), OK) for it in faces]
 
     def drops(self, faces):
@@ -160,8 +162,8 @@ class Rounds:
         roles = ["", f"{SCHEMA_NAME}.VERTEX_POINT.VERTEX_GEOMETRY"]
         users = reply_of(users=[["ann", "m", it] for it in self.users])
         return {
-            "get": self.gets(50), "grant": self.grants(50), "add, referring anywhere": self.adds(50), "add, referring to the first": self.adds(50, 1),
-            "set": self.sets(50), "create_model": [(request("create_model", name=it, schema=SCHEMA_NAME), OK) for it in names],
+            "get": self.gets(), "grant": self.grants(), "add, referring anywhere": self.adds(), "add, referring to the first": self.adds(1),
+            "set": self.sets(), "create_model": [(request("create_model", name=it, schema=SCHEMA_NAME), OK) for it in names],
             "delete_model": [(request("delete_model", name=it), OK) for it in names],
             "drop, of the last 10,000": self.drops(self.last), "drop, of the first": self.drops(self.first), "drop, in the middle": self.drops(self.middle),
             "drop that is refused": [(single("drop", instance=self.anywhere((2, 3, 4, 5))), IN_USE) for _ in range(self.few)],
@@ -376,8 +378,8 @@ LIVES = 100
 
 
 def lives_of(block):
-    """The lines of so many models of new names, from their creation to their end: all of them link to the first, which is granted, and
-    one is a member of a group for as long."""
+    """The lines of so many models of new names, from their creation to their end. The first is granted, nine link to it, and one of these
+    is a member of a group for as long."""
     names = [f"{block * LIVES + k:064}" for k in range(LIVES)]
     file = groups.HEADER + "#1=P(1.);#2=Q(#1);" + groups.FOOTER
     user = groups.HEADER + "#1=Q(#9);" + groups.FOOTER
@@ -386,7 +388,7 @@ def lives_of(block):
     yield single("put", names[0], file=file), reply_of(instances=2)
     yield request("grant", kind="model", name=names[0], to="bob", level="read"), OK
     yield request("include", group="g", owner="ann", model=names[1]), OK
-    yield from ((single("put", it, file=user, links=[link]), reply_of(instances=1)) for it in names[1:10])
+    yield from ((single("put", it, file=user, links=[link]), reply_of(instances=1)) for it in names[1:LINKS])
     yield from ((request("delete_model", name=it), OK) for it in names)
     yield request("exclude", group="g", owner="ann", model=names[1]), OK
 
