@@ -6,7 +6,7 @@ and go, instances that are set, dropped and made again, members that no longer c
     tests/indexes.py --self-test
 
 The replies of a row are worked out by hand. They have to be those of the plain repository too, and those of the program: in one run, and
-in three, of which each goes on from what the one before has saved. So a row has two readings, and meets indexes that were kept, and such
+in several, of which each goes on from what the one before has saved. So a row has two readings, and meets indexes that were kept, and such
 as were made anew.
 
 `--self-test` runs no program. The plain repository stands in for it, with each of FAULTS, which are those that an index may have: some
@@ -15,12 +15,13 @@ row has to find each, each row has to find one, and none is found where there is
 Each function `test_*` is one test; its document string says what has to hold. The last line is 'indexes: N passed, M failed', and the
 status is 0 only if none failed.
 """
+import itertools
 import sys
 
 from lib import messages, plain_binding, plain_files
 from lib.harness import Folder, Wrong, end, run_tests, shortened
 from lib.messages import (
-    ATTRIBUTES_HOLD, CONFIG, FIRST, FIRST_NAMES, IN_USE, NO_RIGHT, NO_SUCH_INSTANCE, NO_SUCH_ITEM, OK, WRONG_SCHEMA, L, T, add, added, check_is,
+    ATTRIBUTES_HOLD, CONFIG, FIRST, FIRST_NAMES, IN_USE, NO_RIGHT, NO_SUCH_INSTANCE, NO_SUCH_ITEM, OK, TOO_MANY, WRONG_SCHEMA, L, T, add, added, check_is,
     create, create_group, delete, delete_group, drop, exclude, extent, extent_is, file_of, grant, grant_group, include, instance_fault, instances,
     link, link_fault, members, members_are, named, names, put, report_is, revoke, set_instance, users, users_are, validate,
 )
@@ -89,8 +90,8 @@ def compare(who, turns, replies):
             raise Wrong(f"{who} answers {shortened(reply)!r} in place of {shortened(wanted)!r} to line {place}, {shortened(line)!r}")
 
 
-def expect(turns, *texts, partners=PARTNERS):
-    """The replies are those of the plain repository, and of the program in one run and in three."""
+def expect(turns, *texts, partners=PARTNERS, restarts=2):
+    """The replies are those of the plain repository, and of the program in one run and in several."""
     texts = texts or (T, L)
     lines = [line for line, _ in turns]
     compare("the plain repository", turns, plain_replies(Standing.form or Repository, lines, texts, partners))
@@ -100,10 +101,10 @@ def expect(turns, *texts, partners=PARTNERS):
     config = {"partners": [*CONFIG["partners"], *({"name": it, "token": it} for it in partners[2:])], "schemas": [f"{it}.exp" for it in schemas]}
     messages.expect(turns, config, **schemas)
     if not Folder.stand_in:
-        third = len(lines) // 3
+        ends = [len(lines) * run // (restarts + 1) for run in range(restarts + 2)]
         with Saving(config, **schemas) as folder:
-            output, _ = in_runs(folder, [lines[:third], lines[third:-third], lines[-third:]])
-        compare("the program in three runs", turns, output.splitlines())
+            output, _ = in_runs(folder, [lines[begin:end] for begin, end in itertools.pairwise(ends)])
+        compare(f"the program with {restarts} restarts", turns, output.splitlines())
 
 
 # ---- what rows are made of
@@ -277,7 +278,7 @@ def test_links_that_come_and_go():
             of_b("#1=Q(#9);#2=Q(#8);", to_one, link(8, "ann", "m", 1)), *asked([B, b2]), (drop("bob", "bob", "b", 1), OK), *asked([b2]),
             (set_instance("bob", "bob", "b", 2, "P(1.,$)"), OK), *asked([]),
             (put("bob", "bob", "b", file_of("#1=Q(#9);"), link(9, "ann", "m", 7)), link_fault("NoInstance", 9)), *asked([]),
-            (set_instance("bob", "bob", "b", 2, "Q(#8)"), OK), *asked([b2]), of_b(""), *asked([])])
+            (set_instance("bob", "bob", "b", 2, "Q(#8)"), OK), *asked([b2]), of_b(""), *asked([])], restarts=20)
 
 
 def test_a_refused_request_leaves_the_uses():
@@ -303,7 +304,7 @@ def test_a_model_created_anew_under_a_linked_name():
             adds(1, "P(1.,$)"), *uses(1, {ROLE: [B]}), adds(2, "Q(#1)"), (ASKED, BOTH),
             (delete("ann", "m"), OK), *gone, (create("ann", "m", "L"), OK), (put("ann", "ann", "m", file_of("#1=E();", "L")), instances(1)), *gone,
             (delete("ann", "m"), OK), (create("ann", "m"), OK), *gone, AGAIN, (ASKED, BOTH), of_m("#2=Q(#2);"), *gone,
-            of_m("#1=Q(#1);"), *uses(1, {ROLE: [1, B]}), dropped(1), *gone, (names("ann", "ann", "m"), named())])
+            of_m("#1=Q(#1);"), *uses(1, {ROLE: [1, B]}), dropped(1), *gone, (names("ann", "ann", "m"), named())], restarts=20)
 
 
 def test_a_user_created_anew():
@@ -322,6 +323,46 @@ def test_models_that_link_to_one_another():
     expect([*START, his, hers, *asked, dropped(1, IN_USE), (delete("bob", "b"), OK), *uses(1, {"": [2]}), *NEW_B,
             *uses(1, {"": [2]}), his, *asked, (delete("ann", "m"), OK), *uses(B, {"": [b2]}), (create("ann", "m"), OK), (grant("ann", "m", "bob", "read"), OK),
             *uses(B, {"": [b2]}), AGAIN, *uses(1, {"": [2, B]}), *uses(B, {"": [b2]}), hers, *asked])
+
+
+def test_a_link_to_the_name_of_a_link():
+    """Where the name that a link leads to has become a link's in its model, nothing is used: a use goes one step."""
+    c = ("bob", "c", 1)
+    linked = put("ann", "ann", "m", file_of("#2=Q(#1);"), link(1, "bob", "c", 1)), instances(1)
+    expect([*START, BOBS, (create("bob", "c"), OK), (grant("bob", "c", "ann", "group"), OK), (include("ann", "g", "bob", "c"), OK),
+            (put("bob", "bob", "c", file_of("#1=P(1.,$);")), instances(1)), (ASKED, BOTH), *uses(c, {"": []}), linked, GONE, *uses(c, {"": [2]}),
+            *extents({"P": [c], "Q": [2, B]}), AGAIN, (ASKED, BOTH), *uses(c, {"": []}), linked, GONE, *uses(c, {"": [2]}), (delete("bob", "c"), OK),
+            (users("ann", "ann", "g", list(c), ""), NO_SUCH_INSTANCE), GONE, *extents({"P": [], "Q": [2, B]})])
+
+
+def test_the_least_and_the_greatest_names():
+    """Of instances, of links and of their targets."""
+    greatest = 999_999_999_999_999_999
+    b = [("bob", "b", 0), ("bob", "b", greatest - 1)]
+    expect([*START, of_m(f"#{greatest}=P(1.,$);#0=P(1.,$);#5=Q(#{greatest});#{greatest - 1}=Q(#0);"),
+            of_b(f"#0=Q(#1);#{greatest - 1}=Q(#{greatest});", link(1, "ann", "m", greatest), link(greatest, "ann", "m", 0)),
+            *uses(0, {ROLE: [greatest - 1, b[1]]}), *uses(greatest, {ROLE: [5, b[0]]}), *uses(b[0], {"": []}),
+            *extents({"P": [0, greatest], "Q": [5, greatest - 1, *b]}), dropped(0, IN_USE), dropped(greatest, IN_USE), changes(5, "Q(#0)"), dropped(greatest),
+            dropped(greatest - 1), dropped(0, IN_USE),
+            *uses(0, {ROLE: [5, b[1]]}), (add("ann", "ann", "m", "P(1.,$)"), TOO_MANY), dropped(5), dropped(0), *extents({"P": [], "Q": b})])
+
+
+def test_one_name_in_two_schemas():
+    """Entities and attributes of one name in two schemas are others, also where a model of the one comes in place of one of the other."""
+    two = U.replace("SCHEMA U", "SCHEMA W").replace("sel : any", "a : any")
+    of_u, of_w = "#1=E();#2=U(#1,$,(),SIZE(1.),($,$));", "#1=U(#2,$,(),SIZE(1.),($,$));#2=E();"
+
+    def asked(group, schema, e, u):
+        return [*extents({"E": e, "U": u, "R": []}, group), *uses(e[0], {f"{schema}.U.ONE": u, "": u, "U.U.SEL": [], "W.U.A": []}, group)]
+
+    n1, n2 = ("ann", "n", 1), ("ann", "n", 2)
+    expect([*grouped("U", of_u), (create("ann", "n", "W"), OK), (put("ann", "ann", "n", file_of(of_w, "W")), instances(2)), (create_group("ann", "h", "W"), OK),
+            (include("ann", "h", "ann", "n"), OK), (include("ann", "h", "ann", "m"), WRONG_SCHEMA), *asked("g", "U", [1], [2]), *asked("h", "W", [n2], [n1]),
+            (delete("ann", "m"), OK), *extents({"E": [], "U": []}), (create("ann", "m", "W"), OK), (put("ann", "ann", "m", file_of(of_w, "W")), instances(2)),
+            *extents({"E": [], "U": []}), (include("ann", "h", "ann", "m"), OK), *extents({"E": [2, n2], "U": [1, n1]}, "h"),
+            *uses(2, {"W.U.ONE": [1], "U.U.ONE": []}, "h"), *uses(n2, {"": [n1]}, "h"),
+            (delete("ann", "n"), OK), (create("ann", "n", "U"), OK), (put("ann", "ann", "n", file_of(of_u, "U")), instances(2)),
+            *extents({"E": [2], "U": [1]}, "h"), (include("ann", "g", "ann", "n"), OK), *asked("g", "U", [n1], [n2])], U, two)
 
 
 # ---- instances that change
@@ -732,6 +773,30 @@ class StepsOfOthers(Faulty):
         found = self.seen_group(who, owner, group)
         others = sum(len(it.instances) for it in self.models if it.schema == found.schema and not self.counts(it, found))
         return {**content, "steps": content["steps"] + others}, None
+
+
+class FollowedLinks(Faulty):
+    """Takes a use of a link's name for a use of what that leads to."""
+
+    def uses(self, role, model, instance):
+        found = super().uses(role, model, instance)
+        beyond = [Place(link.owner, link.model, link.instance) for it in found for other in self.models if (other.owner, other.name) == it[:2]
+                  for link in other.links if other is not model and link.name == it.instance]
+        return found + beyond
+
+
+class EntitiesByName(Faulty):
+    """Has all models that a group lists in its population, of whatever schema."""
+
+    def counts(self, model, group):
+        return (model.owner, model.name) in group.members and self.granted(group.owner, model) in ["owner", "write", "group"]
+
+
+class SmallNames(Faulty):
+    """Has no more of an instance's name than 59 bits."""
+
+    def uses(self, role, model, instance):
+        return [Place(it.owner, it.model, it.instance % 2**59) for it in super().uses(role, model, instance)]
 
 
 class NameOfALink(Faulty):
