@@ -88,9 +88,10 @@ OF_INSTANCE = 88.2
 # bytes that a process may hold more and yet hold the same
 SAME = 64 * 1024
 OF_LIVES = 100_000_000 / 1_000_000
-# the last is of what keeps its rate: two measures of one program differ by a twentieth
+# of a put, and of what keeps its rate: the best of many measures of one program differ by a twentieth
 PUT_OF_BEFORE = 0.85
 OTHERS_OF_BEFORE = 0.95
+PUTS, WIDE = 9, 25
 
 
 def reply_of(**content):
@@ -243,10 +244,10 @@ def granted_turns(owners):
     """Requests of ann's: their words, each with its reply and how often it is asked at a time."""
     names, text = reply_of(names=[{"name": 1, "type": "P"}]), reply_of(text="#1=P(1.);")
     for words, who, name in (("first", owners[0], "m00"), ("middle", owners[len(owners) // 2], "m25"), ("last", owners[-1], "m49")):
-        yield f"names, of the {words}", [(request("names", owner=who, model=name), names)] * 50
-        yield f"get, of the {words}", [(request("get", owner=who, model=name, instance=1), text)] * 50
-    yield "names, of what she doesn't see", [(request("names", owner=owners[-1], model="z"), NO_SUCH_ITEM)] * 50
-    yield "names, of her own", [(request("names", owner="ann", model="own"), reply_of(names=[]))] * 50
+        yield f"names, of the {words}", [(request("names", owner=who, model=name), names)] * 20
+        yield f"get, of the {words}", [(request("get", owner=who, model=name, instance=1), text)] * 20
+    yield "names, of what she doesn't see", [(request("names", owner=owners[-1], model="z"), NO_SUCH_ITEM)] * 20
+    yield "names, of her own", [(request("names", owner="ann", model="own"), reply_of(names=[]))] * 20
     yield "list", [(request("list"), listed(owners))] * 3
 
 
@@ -258,7 +259,7 @@ def measure_granted(folder, sizes, aims):
     with Session(folder) as session:
         session.ask_all([(request("create_model", name="own", schema="T"), OK), *holdings(owners)])
         for words, turns in granted_turns(owners):
-            best, middle = best_and_middle([session.mean_seconds(turns) * 1000 for _ in range(3)])
+            best, middle = best_and_middle([session.mean_seconds(turns) * 1000 for _ in range(5)])
             table.row(words, best, middle)
             aims.at_most(f"ms, {words}, {count:,} groups granted", best, LIST_OF_ONE * count if words == "list" else GRANTED)
 
@@ -416,7 +417,7 @@ def put_seconds(folders, sizes):
         text = it.read()
     for it in folders:
         it.configure(automotive_design=text)
-    each = [[run.run_once(it, file, wanted).put for it in folders] for _ in range(run.TIMES)]
+    each = [[run.run_once(it, file, wanted).put for it in folders] for _ in range(PUTS)]
     return "put", len(file), list(zip(*each))
 
 
@@ -431,7 +432,7 @@ def wide_seconds(folders, sizes):
     for session in sessions:
         groups.make_group(session, sizes.wide)
     for words, turn in lines.items():
-        each = [[session.mean_seconds([turn, turn]) for session in sessions] for _ in range(run.TIMES)]
+        each = [[session.mean_seconds([turn]) for session in sessions] for _ in range(WIDE)]
         yield words, len(turn[1]), list(zip(*each))
     for session in sessions:
         with session:

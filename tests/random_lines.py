@@ -543,8 +543,9 @@ def file_of_users(it, names, users, linked=()):
 
 
 class Busy:
-    """A partner's model of many instances in a group of his, beside one of another partner that links to many of them. He sets, adds and
-    drops instances, and asks for users and extents; each of the two is put again, or deleted and created anew, now and then."""
+    """A partner's model of many instances in a group of his, beside one of another partner that links to many of them. Instances are set,
+    added and dropped, and he asks for users and extents. Now and then one of the two is put again, or deleted and created anew, and the
+    other's is out of the population for a while."""
 
     def __init__(self, it):
         self.it = it
@@ -554,8 +555,8 @@ class Busy:
     def line(self, do, who=None, **keys):
         return line_of(self.it, [("as", who or self.who), ("do", do), *keys.items()])
 
-    def create(self, who, name, to, level):
-        yield self.line("create_model", who, name=name, schema="T")
+    def create(self, who, name, to, level, schema="T"):
+        yield self.line("create_model", who, name=name, schema=schema)
         yield self.line("grant", who, kind="model", name=name, to=to, level=level)
 
     def put(self):
@@ -569,9 +570,12 @@ class Busy:
         yield self.line("put", self.other, owner=self.other, model="beside", file=file, links=links)
 
     def anew(self):
-        yield self.line("delete_model", name="busy")
-        yield from self.create(self.who, "busy", self.other, "write")
-        yield from self.put()
+        """At times it is of another schema first."""
+        for schema in ["L", "T"] if self.it.happens(0.3) else ["T"]:
+            yield self.line("delete_model", name="busy")
+            yield from self.create(self.who, "busy", self.other, "write", schema)
+            yield from self.put()
+            yield from self.ask()
 
     def anew_beside(self):
         yield self.line("delete_model", self.other, name="beside")
@@ -599,9 +603,23 @@ class Busy:
         of = {"instance": self.some()} if do == "set" else {}
         yield self.line(do, who, **model, **of, text=it.mapping_of(text, Mapping(parts, True)))
 
+    def out(self):
+        """The other's model is out of the population, since it is excluded or may not be grouped, while users and extents are asked for."""
+        of = {"group": "busy", "owner": self.other, "model": "beside"}
+        if self.it.happens(0.5):
+            goes, comes = self.line("exclude", **of), self.line("include", **of)
+        else:
+            goes, comes = (self.line("grant", self.other, kind="model", name="beside", to=self.who, level=it) for it in ("read", "group"))
+        yield goes
+        for _ in range(3):
+            yield from self.ask()
+        yield comes
+
     def ask(self):
         group = {"owner": self.who, "group": "busy"}
-        yield self.line("users", **group, of=[self.who, "busy", self.some()], role=self.it.choice(["", "T.Q.A", "T.R.MANY"]))
+        names = [*range(3, 3 + MANY // 2), *range(9000, 9000 + MANY // 2)]
+        of = [self.who, "busy", self.some()] if self.it.happens(0.9) else [self.other, "beside", self.it.choice(names)]
+        yield self.line("users", **group, of=of, role=self.it.choice(["", "T.Q.A", "T.R.MANY"]))
         yield self.line("extent", **group, type=self.it.choice(["P", "Q", "R", "E"]))
 
     def make_again(self):
@@ -626,8 +644,8 @@ class Busy:
         yield self.line("include", group="busy", owner=self.who, model="busy")
         yield self.line("include", group="busy", owner=self.other, model="beside")
         for _ in range(MANY):
-            ways = [self.change, self.ask, self.make_again, self.put, self.put_beside, self.anew, self.anew_beside]
-            yield from self.it.random.choices(ways, [50, 38, 4, 2, 2, 2, 2])[0]()
+            ways = [self.change, self.ask, self.make_again, self.out, self.put, self.put_beside, self.anew, self.anew_beside]
+            yield from self.it.random.choices(ways, [50, 34, 4, 3, 2, 2, 2, 2])[0]()
         yield self.line("delete_model", name="busy")
         yield self.line("delete_model", self.other, name="beside")
         yield self.line("delete_group", name="busy")
