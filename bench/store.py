@@ -84,7 +84,7 @@ LIST_OF_ONE = 100 / 5000
 LONG_NAMES = 1.25
 # bytes of an instance more than before, and how many those were before there were indexes
 MORE_OF_INSTANCE = 60
-OF_INSTANCE = 88.2
+OF_INSTANCE = 88
 # bytes that a process may hold more and yet hold the same
 SAME = 64 * 1024
 OF_LIVES = 100_000_000 / 1_000_000
