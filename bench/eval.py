@@ -16,18 +16,15 @@ All values and steps are compared with what they must be.
 import math
 import os
 import re
-import shutil
 import statistics
-import subprocess
 import sys
 from typing import NamedTuple
 
-from harness import FILE_LIMIT, TOP, Table, compare, expect_success, run_bench
+from harness import FILE_LIMIT, TOP, Table, compare, run_bench
 from make_part21 import part21
 
 PROGRAM = os.path.join(TOP, "crates/rule_trial/out/rule_trial")
 SCHEMA = os.path.join(TOP, "tests/data/automotive_design.exp")
-HELD = os.path.join(TOP, "tools/held.c")
 
 HEAD = "ISO-10303-21;HEADER;FILE_DESCRIPTION((''),'2;1');FILE_NAME('','',(''),(''),'','','');FILE_SCHEMA(('S'));ENDSEC;DATA;\n"
 TAIL = "ENDSEC;END-ISO-10303-21;\n"
@@ -173,16 +170,7 @@ def without_conditions(schema):
 
 def held(folder, name, before=0, *limits):
     """The allocations of a run, the bytes held before one of them, the most behind that, and those behind the last."""
-    begin, end = os.pipe()
-    try:
-        devices = {"LD_PRELOAD": os.path.join(folder.path, "held.so"), "HELD_BEFORE": str(before), "HELD_REPORT": str(end)}
-        done = subprocess.run([folder.program, "schema.exp", name, *map(str, limits)], cwd=folder.path, stdin=subprocess.DEVNULL,
-                              stdout=subprocess.PIPE, env=devices, pass_fds=[end], check=False)
-    finally:
-        os.close(end)
-    expect_success(done.returncode)
-    with os.fdopen(begin, "rb") as it:
-        return [int(number) for number in it.read().split()]
+    return folder.held(("schema.exp", name, *map(str, limits)), before=before)[0]
 
 
 def least_seconds(folder, name, *limits):
@@ -200,8 +188,6 @@ def measure_domain(folder):
     # (of the same length, with no instances)
     nothing = part21(0)
     folder.write("nothing.step", nothing + " " * (len(file) - len(nothing)))
-    compiler = shutil.which("gcc") or shutil.which("clang")
-    subprocess.run([compiler, "-O2", "-shared", "-fPIC", "-o", os.path.join(folder.path, "held.so"), HELD, "-ldl"], check=True)
     without, within = (least_seconds(folder, "file.step", *limit) for limit in ((), ("0",)))
     loaded = {name: held(folder, name)[0] for name in ("file.step", "nothing.step")}
     (_, before, most, last), (_, empty, _, _) = (held(folder, name, loaded[name] + 1, 0) for name in ("file.step", "nothing.step"))

@@ -8,22 +8,15 @@ partner, who grants it; each partner may read a group of the one before him. In 
 model of 200,000 instances. It prints the milliseconds that a processor ran the program for one request, in the mean of as many
 as stand beside it, and how many bytes a reply has.
 """
-import json
 import sys
 
-from harness import Session, Table, compare, processor_seconds, request, run_bench
+from harness import OK, Session, Table, asked, compare, processor_seconds, request, run_bench
 
 MODELS = 100
-BLOCK = 500
-OK = b'{"ok":{}}\n'
 INSTANCES = 200_000
 SCHEMA = "SCHEMA t; ENTITY p; x : REAL; END_ENTITY; ENTITY q; a : p; END_ENTITY; END_SCHEMA;"
 HEADER = "ISO-10303-21;HEADER;FILE_DESCRIPTION((''),'2;1');FILE_NAME('','',(''),(''),'','','');FILE_SCHEMA(('T'));ENDSEC;DATA;"
 FOOTER = "ENDSEC;END-ISO-10303-21;"
-
-
-def asked(who, do, **keys):
-    return json.dumps({"as": who, "do": do, **keys}).encode() + b"\n"
 
 
 def name_of(number):
@@ -42,7 +35,7 @@ def holdings(count):
         yield asked(who, "grant", kind="group", name="g00", to=other, level="read")
 
 
-def lists(count):
+def members(count):
     """The lines by which each group lists its models."""
     for number in range(count):
         who, other = name_of(number), name_of((number + 1) % count)
@@ -51,25 +44,16 @@ def lists(count):
             yield asked(who, "include", group=f"g{place:02}", owner=other, model=f"m{place:02}")
 
 
-def ask_all(session, lines):
-    """Asks lines that are answered with nothing, some at once."""
-    block = []
-    for line in [*lines, None]:
-        if line is None or len(block) == BLOCK:
-            session.process.stdin.write(b"".join(block))
-            session.process.stdin.flush()
-            for asked_line in block:
-                reply = session.process.stdout.readline()
-                if reply != OK:
-                    sys.exit(f"bench: {asked_line!r} is answered by {reply[:200]!r}")
-            block = []
-        if line is not None:
-            block.append(line)
+def many_instances(count):
+    """A file of one p and of q's that use it, so many together."""
+    return HEADER + "#1=P(1.);" + "".join(f"#{k}=Q(#1);" for k in range(2, count + 1)) + FOOTER
 
 
-def many_instances():
-    """A file of one p and of q's that use it, as many as a model may have."""
-    return HEADER + "#1=P(1.);" + "".join(f"#{k}=Q(#1);" for k in range(2, INSTANCES + 1)) + FOOTER
+def make_group(session, count):
+    """Ann's group g, which lists her model m of so many instances."""
+    session.ask_all([(request("create_model", name="m", schema="T"), OK), (request("create_group", name="g", schema="T"), OK),
+                     (request("include", group="g", owner="ann", model="m"), OK)])
+    compare(session.reply(request("put", owner="ann", model="m", file=many_instances(count))), b'{"ok":{"instances":%d}}\n' % count)
 
 
 def turns_of(count):
@@ -90,17 +74,14 @@ def turns_of(count):
 
 
 def measure(count, folder):
-    folder.configure(t=SCHEMA)
     partners = ["ann", *(name_of(k) for k in range(count))][:1000]
     count = len(partners) - 1
-    folder.write("config.json", json.dumps({"partners": [{"name": it, "token": it} for it in partners], "schemas": ["t.exp"]}))
+    folder.configure(*partners, t=SCHEMA)
     table = Table({"request": "34", "times": "6", "milliseconds": "13.3f", "bytes": "10,"})
     with Session(folder) as session:
-        ask_all(session, [request("create_model", name="m", schema="T"), request("create_group", name="g", schema="T"),
-                          request("include", group="g", owner="ann", model="m")])
-        compare(session.ask(request("put", owner="ann", model="m", file=many_instances()))[0], b'{"ok":{"instances":%d}}\n' % INSTANCES)
-        ask_all(session, holdings(count))
-        ask_all(session, lists(count))
+        make_group(session, INSTANCES)
+        for lines in (holdings(count), members(count)):
+            session.ask_all((line, OK) for line in lines)
         for words, times, lines in turns_of(count):
             begin = processor_seconds(session.process)
             for _ in range(times):

@@ -4,9 +4,11 @@ A benchmark is its families of inputs and the rows that it prints of them. It en
 writes is compared with what it must be, and a difference ends the benchmark.
 """
 import fcntl
+import itertools
 import json
 import os
 import re
+import shutil
 import subprocess
 import sys
 import tempfile
@@ -20,10 +22,16 @@ FILE_LIMIT = 8 * MIB
 
 TOP = os.path.dirname(os.path.dirname(os.path.abspath(__file__)))
 PROGRAM = os.path.join(TOP, "crates/rp_server/out/rp_server")
+HELD = os.path.join(TOP, "tools/held.c")
 
 SCHEMA_FILE = "measured.exp"
 CHECK = ("check", SCHEMA_FILE)
 BATCH = ("batch", "--config", "config.json")
+
+# the reply to a request that is done and tells nothing
+OK = b'{"ok":{}}\n'
+# how many lines are asked at once, where they are
+BLOCK = 500
 
 
 def compare(written, wanted):
@@ -36,9 +44,14 @@ def expect_success(status):
         sys.exit(f"bench: the program ended with status {status}")
 
 
+def asked(who, do, **keys):
+    """A request of a partner's, as a line."""
+    return json.dumps({"as": who, "do": do, **keys}).encode() + b"\n"
+
+
 def request(do, **keys):
     """A request of ann's, as a line."""
-    return json.dumps({"as": "ann", "do": do, **keys}).encode() + b"\n"
+    return asked("ann", do, **keys)
 
 
 # ---- a process that runs
@@ -70,6 +83,15 @@ def processor_seconds(process):
     """How long a processor has run a running process of one thread."""
     with open(f"/proc/{process.pid}/schedstat", encoding="ascii") as it:
         return int(it.read().split()[0]) / 1e9
+
+
+def wait_until_it_waits(process):
+    """Waits until a running process waits for something, so that all that it has done for a reply counts."""
+    while True:
+        with open(f"/proc/{process.pid}/stat", encoding="ascii") as it:
+            if it.read().rpartition(")")[2].split()[0] != "R":
+                return
+        time.sleep(0.0002)
 
 
 # The number of the system call write on x86-64, as /proc tells it.
@@ -109,12 +131,12 @@ class Folder:
         with open(os.path.join(self.path, name), "wb") as it:
             it.write(text if isinstance(text, bytes) else text.encode())
 
-    def configure(self, **schemas):
-        """Writes a configuration of one partner, ann, and the files of these schemas."""
+    def configure(self, *partners, **schemas):
+        """Writes a configuration of these partners, or of ann alone, and the files of these schemas."""
         for name, text in schemas.items():
             self.write(f"{name}.exp", text)
-        files = [f"{name}.exp" for name in schemas]
-        self.write("config.json", json.dumps({"partners": [{"name": "ann", "token": "ta"}], "schemas": files}))
+        rows = [{"name": it, "token": it} for it in partners] or [{"name": "ann", "token": "ta"}]
+        self.write("config.json", json.dumps({"partners": rows, "schemas": [f"{name}.exp" for name in schemas]}))
 
     def seconds(self, words, text, wanted):
         """The seconds from the program's start to its end."""
@@ -164,6 +186,23 @@ class Folder:
         """The most bytes that the check of the schema that was checked last holds."""
         return self.memory_of(CHECK)[0]
 
+    def held(self, words, text=b"", before=0):
+        """The allocations of a run, the bytes held before one of them, the most behind that, and those behind the last; and what was
+        written."""
+        counter, (begin, end) = os.path.join(self.path, "held.so"), os.pipe()
+        if not os.path.exists(counter):
+            compiler = shutil.which("gcc") or shutil.which("clang")
+            subprocess.run([compiler, "-O2", "-shared", "-fPIC", "-o", counter, HELD, "-ldl"], check=True)
+        try:
+            devices = {"LD_PRELOAD": counter, "HELD_BEFORE": str(before), "HELD_REPORT": str(end)}
+            done = subprocess.run([self.program, *words], cwd=self.path, input=text, stdout=subprocess.PIPE, env=devices, pass_fds=[end],
+                                  check=False)
+        finally:
+            os.close(end)
+        expect_success(done.returncode)
+        with os.fdopen(begin, "rb") as it:
+            return [int(number) for number in it.read().split()], done.stdout
+
 
 class Session:
     """A process of the program that is asked line by line, with options of `batch` and devices in its environment."""
@@ -182,13 +221,37 @@ class Session:
         if kind is None:
             expect_success(status)
 
+    def reply(self, line):
+        self.process.stdin.write(line)
+        self.process.stdin.flush()
+        return self.process.stdout.readline()
+
     def ask(self, line):
         """The reply to a line, the seconds until it came, and how many of these a processor ran the program."""
         begin, busy = time.monotonic(), processor_seconds(self.process)
-        self.process.stdin.write(line)
-        self.process.stdin.flush()
-        reply = self.process.stdout.readline()
+        reply = self.reply(line)
         return reply, time.monotonic() - begin, processor_seconds(self.process) - busy
+
+    def mean_seconds(self, turns):
+        """How long a processor ran it for a request, in the mean of these, each with its reply. They are asked one by one."""
+        wait_until_it_waits(self.process)
+        busy, count = processor_seconds(self.process), 0
+        for line, wanted in turns:
+            compare(self.reply(line), wanted)
+            count += 1
+        wait_until_it_waits(self.process)
+        return (processor_seconds(self.process) - busy) / count
+
+    def ask_all(self, turns):
+        """Asks lines, each with its reply, many at once. They and their replies have to be short."""
+        turns = iter(turns)
+        while block := list(itertools.islice(turns, BLOCK)):
+            self.process.stdin.write(b"".join(line for line, _ in block))
+            self.process.stdin.flush()
+            for line, wanted in block:
+                reply = self.process.stdout.readline()
+                if reply != wanted:
+                    sys.exit(f"bench: {line[:300]!r} is answered by {reply[:300]!r} in place of {wanted[:300]!r}")
 
     def memory(self):
         """The most bytes that it has held so far."""
@@ -212,6 +275,27 @@ class Table:
     def row(self, *values):
         Table.rows.append(dict(zip(self.titles, values)))
         print(" ".join(f"{value:>{form}}" for value, form in zip(values, self.forms, strict=True)), flush=True)
+
+
+class Aims:
+    """What is aimed at, and what was found."""
+
+    def __init__(self):
+        self.rows = []
+
+    def at_least(self, words, found, asked):
+        self.rows.append((words, found, f"at least {asked}", found >= asked))
+
+    def at_most(self, words, found, asked):
+        self.rows.append((words, found, f"at most {asked}", found <= asked))
+
+    def told(self):
+        """Tells them, and answers the status."""
+        width = max(len(words) for words, *_ in self.rows)
+        table = Table({"aim": f"{width}", "found": "9.3f", "asked": "14", "": "6"})
+        for words, found, asked, is_met in self.rows:
+            table.row(words, found, asked, "met" if is_met else "missed")
+        return 0 if all(is_met for *_, is_met in self.rows) else 1
 
 
 def run_bench(measure, words, built=PROGRAM):

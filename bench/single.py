@@ -15,13 +15,12 @@ under the schema of one entity.
 import os
 import sys
 
-from harness import TOP, Session, Table, compare, processor_seconds, request, run_bench
+from harness import OK, TOP, Session, Table, compare, processor_seconds, request, run_bench
 from make_express import express
 from make_part21 import FOOTER, HEADER, part21
 
 SCHEMA = os.path.join(TOP, "tests/data/automotive_design.exp")
 INSTANCES = 180_000
-OK = b'{"ok":{}}\n'
 NO_SUCH_ITEM = b'{"refused":{"code":7,"name":"NoSuchItem"}}\n'
 # an odd number of steps leads through all names before one comes again
 STEP = 7919

@@ -13,8 +13,8 @@ The second table has memory: the most that a process held up to its first reply,
 that it held behind its last reply, beside what it held by then, against those of the largest model's text. For the latter the C
 library gives large blocks back at once, so that none that was let go before hides what a save takes.
 
-The third has growth: repositories of small models and of lists of grants. The last of each sort has a text about ten times as long
-as the others. Seconds are the least of some runs, each less that of a run without rows, or without saving.
+The third has growth: repositories of small models, of such as link to one another, whose targets lie in any order, and of lists of
+grants. The last of each sort has a text about ten times as long as the others. Seconds are the least of some runs, each less that of a run without rows, or without saving.
 
 The fourth has peers, with the instances of the five models: SQLite's `.dump` and `.read` of a table with a row for each and an index
 on its type, and Python's `json` of such rows, and of the five texts as strings.
@@ -32,14 +32,14 @@ import sys
 import time
 from typing import NamedTuple
 
-from harness import (FILE_LIMIT, TOP, Folder, Session, Table, compare, expect_success, forget_most, held_now, most_memory,
+from harness import (FILE_LIMIT, OK, TOP, Aims, Folder, Session, Table, compare, expect_success, forget_most, held_now, most_memory,
                      processor_seconds, request, run_bench)
 from make_part21 import count_within, part21
+from single import STEP
 
 SCHEMA = os.path.join(TOP, "tests/data/automotive_design.exp")
 SCHEMA_NAME = "AUTOMOTIVE_DESIGN"
 FIRST_LINE = b"STEPREPO 1\n"
-OK = b'{"ok":{}}\n'
 MODELS = [f"m{k}" for k in range(5)]
 
 # Of the aims, the last is how many times as long a byte may take in a text that is ten times as long.
@@ -63,14 +63,12 @@ def name_of(number):
 def configure(folder, partners):
     """Writes a configuration of so many partners."""
     with open(SCHEMA, encoding="utf-8") as it:
-        folder.write("automotive_design.exp", it.read())
-    names = [name_of(k) for k in range(partners)]
-    folder.write("config.json", json.dumps({"partners": [{"name": it, "token": it} for it in names], "schemas": ["automotive_design.exp"]}))
+        folder.configure(*(name_of(k) for k in range(partners)), automotive_design=it.read())
     folder.write(EMPTY, snapshot_of([]))
 
 
-def model_row(owner, name, file, greatest, grants=()):
-    return {"file": file, "grants": [[it, "read"] for it in grants], "greatest": greatest, "links": [], "name": name, "owner": owner,
+def model_row(owner, name, file, greatest, grants=(), links=()):
+    return {"file": file, "grants": [[it, "read"] for it in grants], "greatest": greatest, "links": list(links), "name": name, "owner": owner,
             "schema": SCHEMA_NAME}
 
 
@@ -260,26 +258,38 @@ def measure_memory(folder, models, aims):
 # ---- growth
 
 class Shape(NamedTuple):
-    """A repository of small models: its partners, how many of them own models, the models of each owner, and the grants on each model,
-    to partners that stand as far apart as can be."""
+    """A repository of small models: its partners, how many of them own models, the models of each owner, the grants on each model, to
+    partners that stand as far apart as can be, and whether each model links to another one."""
 
     partners: int
     owners: int
     models: int
     grants: int
+    is_linked: bool = False
 
     def rows(self, text):
         names = [name_of(k) for k in range(self.partners)]
-        for owner in names[::self.partners // self.owners][:self.owners]:
+        owners = names[::self.partners // self.owners][:self.owners]
+        linking = re.sub("#1=.*;", "#1=VERTEX_POINT('',#2);", text)
+        for number, owner in enumerate(owners):
             others = [it for it in names if it != owner]
             grants = others[::len(others) // self.grants][:self.grants] if self.grants else []
-            yield from (model_row(owner, f"m{k:02}", text, 1, grants) for k in range(self.models))
+            for k in range(self.models):
+                link = self.link(owners, number * self.models + k) if self.is_linked else None
+                yield model_row(owner, f"m{k:02}", linking, 2, grants, [link]) if link else model_row(owner, f"m{k:02}", text, 1, grants)
+
+    def link(self, owners, place):
+        """The link of the model in this place. Each model is the target of one."""
+        other = (place * STEP + 1) % (self.owners * self.models)
+        return {"instance": 1, "model": f"m{other % self.models:02}", "name": 2, "owner": owners[other // self.models]}
 
 
 def shapes(share):
     """Repositories of each sort, of which the last has the long text. Where the partners are as many, the text alone grows."""
     models, owners = 100 // share, 10 // share
-    yield "small models", [Shape(100, 100, models, 0), Shape(1000, 1000, models // 10, 0), Shape(1000, 1000, models, 0)]
+    of_models = [(100, 100, models, 0), (1000, 1000, models // 10, 0), (1000, 1000, models, 0)]
+    yield "small models", [Shape(*it) for it in of_models]
+    yield "linked models", [Shape(*it, is_linked=True) for it in of_models]
     yield "rows of grants", [Shape(100, owners, 100, 99), Shape(1000, owners, 100, 99), Shape(1000, owners, 100, 999)]
 
 
@@ -376,26 +386,6 @@ def measure_peers(folder, models, own, rounds):
 
 
 # ---- all
-
-class Aims:
-    """What is aimed at, and what was found."""
-
-    def __init__(self):
-        self.rows = []
-
-    def at_least(self, words, found, asked):
-        self.rows.append((words, found, f"at least {asked}", found >= asked))
-
-    def at_most(self, words, found, asked):
-        self.rows.append((words, found, f"at most {asked}", found <= asked))
-
-    def told(self):
-        """Tells them, and answers the status."""
-        table = Table({"aim": "46", "found": "8.2f", "asked": "13", "": "6"})
-        for words, found, asked, is_met in self.rows:
-            table.row(words, found, asked, "met" if is_met else "missed")
-        return 0 if all(is_met for *_, is_met in self.rows) else 1
-
 
 def measure(folder, is_quick):
     rounds, runs, share = (2, 2, 5) if is_quick else (5, 3, 1)

@@ -20,7 +20,7 @@ import os
 import re
 import sys
 
-from harness import FILE_LIMIT, MIB, TOP, Session, Table, compare, request, run_bench
+from harness import FILE_LIMIT, MIB, OK, TOP, Session, Table, compare, request, run_bench
 
 sys.path.insert(0, os.path.join(TOP, "tests"))
 
@@ -28,7 +28,6 @@ from lib.rule_texts import report  # noqa: E402
 
 ASSEMBLY = os.path.join(TOP, "example/assembly")
 INSTANCES = 200_000
-OK = b'{"ok":{}}\n'
 VALIDATE = request("validate", owner="ann", group="g")
 RUNS = 3
 

@@ -2,13 +2,15 @@
 """Gives random lines of three partners to one process of the built program, and compares each reply, byte for byte, with
 that of the plain repository in plain_model.py.
 
-    tests/random_lines.py [PROGRAM] [--lines N] [--seed S]
+    tests/random_lines.py [PROGRAM] [--lines N] [--runs R] [--seed S]
 
 The lines, 20,000 where nothing is said, come from the seed alone. They are requests of each sort and with each refusal
-but NoMemory, lines of no partner, and lines that are no request. There are few names, so that rights, grants and models
-that are deleted and created anew meet. The first difference is told, with the seed and the line. From 2,000 lines on it
-is a failure too where some sort of reply was never due. The last line is 'random lines: N passed, M failed', and the
-status is 0 only if none failed.
+but NoMemory, lines of no partner, and lines that are no request. There are few names, so that rights, grants, links and models
+that are deleted and created anew meet; now and then there is a model of many instances, which change what they use. With
+--runs the lines are given to so many processes one after the other, each of which loads what the one before has saved; what
+each saves is compared with the snapshot of the plain repository. The first difference is told, with the seed and the line. From
+3,000 lines on it is a failure too where some sort of reply was never due. The last line is 'random lines: N passed, M failed',
+and the status is 0 only if none failed.
 
 A request is a function in MAKERS, by its `do`: it gives the keys. What the request means stands in plain_model.py.
 """
@@ -20,12 +22,15 @@ import random
 import sys
 
 from lib.harness import end, shortened, take_program
-from lib.messages import Repository as RepositoryFolder
-from lib.plain_binding import Entity, InstanceFault, Schema, bound, express, references_of
+from lib.messages import file_of
+from lib.plain_binding import DEFAULT_HEADER, UNSET, Entity, Instance, InstanceFault, Item, Real, Reference, Schema, Typed, bound, express, references_of
 from lib.plain_model import (
-    CODES, GROUPING, LINE_LIMIT, LINKS_OF_ONE_MODEL, READING, REQUESTS, TEXT_LIMIT, WRITING, File, FileFault, Link, Repository, request_of, targets,
+    CODES, GROUPING, LINE_LIMIT, LINKS_OF_ONE_MODEL, READING, REQUESTS, TEXT_LIMIT, WRITING, File, FileFault, Link, Mapping, Repository, request_of,
+    targets,
 )
+from lib.plain_snapshots import snapshot_of
 from lib.random_files import POOL, UNDEFINED, T, exchange_file, instance_text, long_file, schema_text
+from lib.saving import Saving, difference
 
 LABEL = "random lines"
 PARTNERS = ["ann", "bob", "cyd"]
@@ -51,7 +56,7 @@ NO_ROLES = ["t.q.a", "T.Q.a", "T.Q", "T.Q.A.", "T..A", ".", "Q.A", "T.P.A", "L.Q
 NAMED_SCHEMAS = ["T"] * 30 + ["t", "T {1 0 10303}", "t{", "T\r\n", "\nT\t", "L", "l x", "S", "ſ", "", " T", "TT"]
 
 # from how many lines on each sort of reply has to be due
-ENOUGH = 2000
+ENOUGH = 3000
 DUE = {
     *REQUESTS, *(name for name in CODES if name != "NoMemory"),
     *(f"FileFault {kind}" for kind in ("Token", "Open", "Number", "Syntax", "Sections", "Deep")),
@@ -59,6 +64,7 @@ DUE = {
                                            "Undefined")),
     *(f"LinkFault {kind}" for kind in ("Defined", "Own", "NotSeen", "OtherSchema", "NoInstance")), "put with links", "export with links",
     "grant model", "grant group", "revoke model", "revoke group", *(f"{do} with rows" for do in ("members", "extent", "users")),
+    "users by links", "users by links to a model created anew", "users by links to an instance made again", "drop of what is linked",
 }
 
 
@@ -147,7 +153,7 @@ class Maker:
         kind = self.random.random()
         if kind < 0.04:
             return owner, name, self.choice(POOL)
-        if kind < 0.12:
+        if kind < 0.15:
             fitting = [it for it in others if holder and it.schema != holder.schema]
         if kind > 0.95 or not fitting:
             return self.partner(), self.name(), self.choice(POOL)
@@ -513,6 +519,138 @@ def greatly_linked(it, who):
     yield line_of(it, [("as", who), ("do", "delete_model"), ("name", "target")])
 
 
+# how many instances a busy model has that use nothing, and as many others
+MANY = 100
+
+
+def user_of(it, names):
+    """A text of an instance that mostly uses some of these, and its parts."""
+    kind, one, other = it.random.random(), it.choice(names), it.choice(names)
+    if kind < 0.5:
+        return f"Q(#{one})", [("Q", [Reference(one)])]
+    if kind < 0.8:
+        values = [Reference(one), Typed("label", "x"), Reference(other), Reference(one)]
+        return f"R((#{one},LABEL('x'),#{other},#{one}),$,.U.)", [("R", [values, UNSET, Item("U")])]
+    return "P(1.,$)", [("P", [Real(1, 0), UNSET])]
+
+
+def file_of_users(it, names, users, linked=()):
+    """A file of instances of these names that use nothing, and of others that use them, or what is linked."""
+    texts = [(name, "P(1.,$)", [("P", [Real(1, 0), UNSET])]) for name in names] + [(name, *user_of(it, [*names, *linked])) for name in users]
+    it.random.shuffle(texts)
+    said = File(["T"], DEFAULT_HEADER, [Instance(name, parts) for name, _, parts in texts])
+    return it.file_of(file_of("".join(f"#{name}={text};" for name, text, _ in texts)), said)
+
+
+class Busy:
+    """A partner's model of many instances in a group of his, beside one of another partner that links to many of them. Instances are set,
+    added and dropped, and he asks for users and extents. Now and then one of the two is put again, or deleted and created anew, and the
+    other's is out of the population for a while."""
+
+    def __init__(self, it):
+        self.it = it
+        self.who, self.other = it.random.sample(PARTNERS, 2)
+        self.names = it.random.sample(range(1, 10 * MANY), 2 * MANY)
+
+    def line(self, do, who=None, **keys):
+        return line_of(self.it, [("as", who or self.who), ("do", do), *keys.items()])
+
+    def create(self, who, name, to, level, schema="T"):
+        yield self.line("create_model", who, name=name, schema=schema)
+        yield self.line("grant", who, kind="model", name=name, to=to, level=level)
+
+    def put(self):
+        self.it.random.shuffle(self.names)
+        yield self.line("put", owner=self.who, model="busy", file=file_of_users(self.it, self.names[:MANY], self.names[MANY:]))
+
+    def put_beside(self):
+        linked = range(9000, 9000 + MANY // 2)
+        links = [Link(self.it.choice(self.names), "busy", name, self.who)._asdict() for name in linked]
+        file = file_of_users(self.it, [1, 2], range(3, 3 + MANY // 2), linked)
+        yield self.line("put", self.other, owner=self.other, model="beside", file=file, links=links)
+
+    def anew(self):
+        """At times it is of another schema first."""
+        for schema in ["L", "T"] if self.it.happens(0.3) else ["T"]:
+            yield self.line("delete_model", name="busy")
+            yield from self.create(self.who, "busy", self.other, "write", schema)
+            yield from self.put()
+            yield from self.ask()
+
+    def anew_beside(self):
+        yield self.line("delete_model", self.other, name="beside")
+        yield from self.create(self.other, "beside", self.who, "group")
+        yield from self.put_beside()
+
+    def names_of(self, owner, model):
+        """The names of the model's instances, and the instances that it links to."""
+        found = self.it.repository.visible(owner, owner, model)
+        return ([it.name for it in found.instances], [it.instance for it in found.links]) if found else ([], [])
+
+    def some(self):
+        """An instance of the busy model, mostly one that is linked."""
+        linked, there = self.names_of(self.other, "beside")[1], self.names_of(self.who, "busy")[0]
+        return self.it.choice(linked if linked and self.it.happens(0.6) else there or self.names)
+
+    def change(self):
+        """A line on one instance, by either partner."""
+        it, who, model = self.it, self.it.choice([self.who, self.other]), {"owner": self.who, "model": "busy"}
+        do = it.choice(["add", "set", "set", "drop", "drop", "drop"])
+        if do == "drop":
+            yield self.line(do, who, **model, instance=self.some())
+            return
+        text, parts = user_of(it, self.names_of(self.who, "busy")[0] or [1])
+        of = {"instance": self.some()} if do == "set" else {}
+        yield self.line(do, who, **model, **of, text=it.mapping_of(text, Mapping(parts, True)))
+
+    def out(self):
+        """The other's model is out of the population, since it is excluded or may not be grouped, while users and extents are asked for."""
+        of = {"group": "busy", "owner": self.other, "model": "beside"}
+        if self.it.happens(0.5):
+            goes, comes = self.line("exclude", **of), self.line("include", **of)
+        else:
+            goes, comes = (self.line("grant", self.other, kind="model", name="beside", to=self.who, level=it) for it in ("read", "group"))
+        yield goes
+        for _ in range(3):
+            yield from self.ask()
+        yield comes
+
+    def ask(self):
+        group = {"owner": self.who, "group": "busy"}
+        names = [*range(3, 3 + MANY // 2), *range(9000, 9000 + MANY // 2)]
+        of = [self.who, "busy", self.some()] if self.it.happens(0.9) else [self.other, "beside", self.it.choice(names)]
+        yield self.line("users", **group, of=of, role=self.it.choice(["", "T.Q.A", "T.R.MANY"]))
+        yield self.line("extent", **group, type=self.it.choice(["P", "Q", "R", "E"]))
+
+    def make_again(self):
+        """An instance that is linked is dropped, once its model doesn't use it, and made again by a put of the same names."""
+        it, model = self.it, {"owner": self.who, "model": "busy"}
+        linked = self.names_of(self.other, "beside")[1]
+        of = it.choice(linked) if linked else self.some()
+        found = it.repository.visible(self.who, self.who, "busy")
+        nothing = it.mapping_of("P(1.,$)", Mapping([("P", [Real(1, 0), UNSET])], True))
+        for user in [one.name for one in found.instances if Reference(of) in references_of(one)]:
+            yield self.line("set", **model, instance=user, text=nothing)
+        yield self.line("drop", **model, instance=of)
+        yield from self.put()
+        yield self.line("users", owner=self.who, group="busy", of=[self.who, "busy", of], role="")
+
+    def lines(self):
+        yield from self.create(self.who, "busy", self.other, "write")
+        yield from self.put()
+        yield from self.create(self.other, "beside", self.who, "group")
+        yield from self.put_beside()
+        yield self.line("create_group", name="busy", schema="T")
+        yield self.line("include", group="busy", owner=self.who, model="busy")
+        yield self.line("include", group="busy", owner=self.other, model="beside")
+        for _ in range(MANY):
+            ways = [self.change, self.ask, self.make_again, self.out, self.put, self.put_beside, self.anew, self.anew_beside]
+            yield from self.it.random.choices(ways, [50, 34, 4, 3, 2, 2, 2, 2])[0]()
+        yield self.line("delete_model", name="busy")
+        yield self.line("delete_model", self.other, name="beside")
+        yield self.line("delete_group", name="busy")
+
+
 def great(it):
     """Lines with as much as there may be in a file, a text, a model and a line, and with more."""
     who = it.choice(PARTNERS)
@@ -531,13 +669,15 @@ def great(it):
 
 
 def lines_of(it, count):
-    """So many lines, with the great ones once and a crowd of models or groups now and then among them."""
+    """So many lines, with the great ones once, and a crowd of models or groups and a busy model now and then among them."""
     among = iter(())
     for place in range(count):
         if place == 100:
             among = great(it)
         if place % 2000 in (300, 1200):
-            among = crowd(it, "model" if place % 2000 == 300 else "group")
+            among = itertools.chain(among, crowd(it, "model" if place % 2000 == 300 else "group"))
+        if place % 2000 in (700, 1600):
+            among = itertools.chain(among, Busy(it).lines())
         line = next(among, None) if it.happens(0.5) else None
         if line is None:
             line = no_request(it) if it.happens(0.12) else line_of(it, request(it))
@@ -558,54 +698,119 @@ def sort_of(line, reply):
     return [name, f"{name} {kind}"] if kind else [name]
 
 
-def turns_of(seed, count):
-    """The lines of a seed, each with its reply, and how often each sort of reply is due."""
-    it = Maker(seed)
+def of_model(places, model):
+    return {it for it in places if it[:2] == model}
+
+
+class Uses:
+    """What replies don't tell of uses by links: when a model was created and put, and which instances a put made again."""
+
+    def __init__(self):
+        self.created, self.put, self.dropped, self.again = {}, {}, set(), set()
+
+    def sorts(self, repository, turn, line, reply):
+        """The sorts of a reply, before its change is made."""
+        told = json.loads(reply).get("ok")
+        if told is None:
+            return []
+        who, do, keys = request_of(line)
+        if do == "create_model":
+            model = who, keys["name"]
+            self.created[model] = turn
+            self.dropped -= of_model(self.dropped, model)
+            self.again -= of_model(self.again, model)
+        elif do == "put":
+            model = keys["owner"], keys["model"]
+            self.put[model] = turn
+            self.again |= of_model(self.dropped, model)
+            self.dropped -= of_model(self.dropped, model)
+        elif do == "drop":
+            return self.drop_sorts((keys["owner"], keys["model"], keys["instance"]), repository)
+        return self.users_sorts(tuple(keys["of"]), told["users"]) if do == "users" else []
+
+    def drop_sorts(self, place, repository):
+        self.dropped.add(place)
+        self.again.discard(place)
+        is_linked = any((to.owner, to.model, to.instance) == place for it in repository.models for to in it.links)
+        return ["drop of what is linked"] if is_linked else []
+
+    def users_sorts(self, of, found):
+        models = [tuple(it[:2]) for it in found if tuple(it[:2]) != of[:2]]
+        is_anew = any(self.put[it] < self.created[of[:2]] for it in models)
+        return (["users by links"] * bool(models) + ["users by links to a model created anew"] * is_anew
+                + ["users by links to an instance made again"] * (bool(models) and of in self.again))
+
+
+def turns_of(seed, count, runs=1):
+    """The lines of a seed in so many parts, each line with its reply, and behind each part the plain repository's snapshot; and how
+    often each sort of reply is due."""
+    it, uses = Maker(seed), Uses()
     repository = it.repository
-    turns, due = [], collections.Counter()
-    for line in lines_of(it, count):
+    ends = [count * run // runs for run in range(1, runs + 1)]
+    parts, turns, due = [], [], collections.Counter()
+    for turn, line in enumerate(lines_of(it, count), 1):
         reply, change = repository.step(line)
+        due.update(sort_of(line, reply) + uses.sorts(repository, turn, line, reply))
         if change:
             change()
         turns.append((line, reply))
-        due.update(sort_of(line, reply))
+        if turn in ends:
+            parts.append((turns, snapshot_of(repository) if runs > 1 else None))
+            turns = []
     if not all(it.is_valid() for it in repository.models + repository.groups):
         raise AssertionError(f"seed {seed}: plain_model.py has come to a model or a group that isn't valid")
-    return turns, due
+    return parts, due
 
 
 def short_line(line):
     return line if len(line) < 10_000 else shortened(line)
 
 
-def differences(seed, turns):
-    """Runs the program on the lines, and tells of the first difference. Answers how many replies are right before it, and
-    whether there is one."""
-    with RepositoryFolder(CONFIG, **{it.name.lower(): express(it) for it in SCHEMAS}) as folder:
-        status, output, errors = folder.batch(b"\n".join(line for line, _ in turns) + b"\n")
+def first_difference(seed, part, turns, output):
+    """Tells of the first difference of the replies of a run, and answers how many are right before it."""
     replies = output.split(b"\n")
     left = replies.pop()
     right = sum(1 for _ in itertools.takewhile(lambda it: it[0] == it[1][1], zip(replies, turns)))
     if right < len(turns):
         line, due = turns[right]
         got = shortened(replies[right]) if right < len(replies) else b"nothing"
-        print(f"seed {seed}, line {right + 1} of {len(turns)}: {short_line(line)!r}\n  due: {shortened(due)!r}\n  got: {got!r}")
-    is_whole = (status, errors, left, len(replies)) == (0, b"", b"", len(turns))
-    if not is_whole:
-        print(f"seed {seed}: status {status}, {len(replies)} replies to {len(turns)} lines, then {left!r}, standard error {errors!r}")
-    return right, right < len(turns) or not is_whole
+        print(f"seed {seed}, run {part}, line {right + 1} of {len(turns)}: {short_line(line)!r}\n  due: {shortened(due)!r}\n  got: {got!r}")
+    elif left or len(replies) > len(turns):
+        print(f"seed {seed}, run {part}: {len(replies)} replies to {len(turns)} lines, then {left!r}")
+    return right
+
+
+def differences(seed, parts):
+    """Gives the lines to the program, and tells of the first difference. Answers how many replies are right before it, and whether there is
+    one."""
+    passed, load = 0, None
+    with Saving(CONFIG, **{it.name.lower(): express(it) for it in SCHEMAS}) as folder:
+        for number, (turns, saved) in enumerate(parts, 1):
+            seen = folder.ask([line for line, _ in turns], load=load, save=saved is not None)
+            passed += first_difference(seed, number, turns, seen.output)
+            if seen.output != b"".join(reply + b"\n" for _, reply in turns):
+                return passed, True
+            if (seen.status, seen.errors) != (0, b""):
+                print(f"seed {seed}, run {number}: status {seen.status}, standard error {seen.errors!r}")
+                return passed, True
+            if saved is not None and seen.files["kept"] != saved:
+                print(f"seed {seed}, run {number}: {difference(seen.files['kept'], saved)} is saved")
+                return passed, True
+            load = saved
+    return passed, False
 
 
 def main(words):
     parser = argparse.ArgumentParser(prog="tests/random_lines.py", allow_abbrev=False)
     parser.add_argument("program", nargs="?")
     parser.add_argument("--lines", type=int, default=20_000)
+    parser.add_argument("--runs", type=int, default=1)
     parser.add_argument("--seed", type=int, default=1)
     given = parser.parse_args(words)
     take_program(LABEL, [given.program] if given.program else [])
-    turns, due = turns_of(given.seed, given.lines)
+    parts, due = turns_of(given.seed, given.lines, given.runs)
     print(f"seed {given.seed}: " + ", ".join(f"{count} {name}" for name, count in sorted(due.items())))
-    passed, differs = differences(given.seed, turns)
+    passed, differs = differences(given.seed, parts)
     missing = sorted(DUE - set(due)) if given.lines >= ENOUGH else []
     if missing:
         print(f"seed {given.seed}: never due: {', '.join(missing)}")

@@ -24,8 +24,9 @@ TOP = os.path.dirname(TESTS)
 PROGRAM = os.path.join(TOP, "crates/rp_server/out/rp_server")
 
 # What a script is given beside the program, and runs of scripts by other names.
-OPTIONS = {"random_lines": ["--lines", "2000"]}
+OPTIONS = {"random_lines": ["--lines", "3000", "--runs", "3"]}
 OTHERS = {
+    "indexes_self_test": [os.path.join(TESTS, "indexes.py"), "--self-test"],
     "two_runs_self_test": [os.path.join(TESTS, "two_runs.py"), "--self-test"],
     "each_refusal": [os.path.join(TOP, "tools/each_refusal.py")],
 }

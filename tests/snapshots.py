@@ -27,7 +27,7 @@ from lib.messages import (
 from lib.plain_binding import Entity, Schema, Select, express
 from lib.plain_snapshots import FIRST_LINE, compact, group, is_snapshot, model, row_at, saved_again, snapshot, snapshot_of
 from lib.saving import (
-    OLD, THREE, Saving, difference, each, expect_saved, expect_untouched, files_in, replies_of, shown, until,
+    OLD, THREE, Saving, difference, each, expect_saved, expect_untouched, files_in, in_runs, replies_of, shown, until,
 )
 
 sys.path.insert(0, os.path.join(TOP, "tools"))
@@ -104,17 +104,6 @@ def test_what_requests_made():
         then = SAVED.replace(b"#2=Q(#1);\\n", b"#2=Q(#1);\\n#3=P(2.,$);\\n").replace(b'"greatest":2', b'"greatest":3')
         then = then.replace(b"#1=Q(#9);\\n", b"#1=Q(#9);\\n#10=Q(#9);\\n").replace(b'"greatest":9', b'"greatest":10')
         expect_saved(seen, then, [added(3), added(10)])
-
-
-def in_runs(folder, parts, load=None):
-    """The replies to lines in several runs, each of which loads what the one before has saved, and what the last one saves."""
-    output = b""
-    for part in parts:
-        seen = folder.ask(part, load=load)
-        if (seen.status, seen.errors) != (0, b""):
-            raise Wrong(f"status {seen.status}, {seen.errors!r} after {output[-200:]!r}")
-        output, load = output + seen.output, seen.files["kept"]
-    return output, load
 
 
 # ann's model comes and goes in bob's group

@@ -99,12 +99,12 @@ def test_links_of_others():
 
 
 def test_as_many_steps_as_there_may_be():
-    """An evaluation of 200,000 steps is one, and one of a step more isn't, whatever others have."""
+    """An evaluation of 200,000 steps is one, and one of a step more isn't, whatever others have: a thousand instances in a hundred models."""
     many = lambda count: "".join(f"#{name}=E();" for name in range(1, count + 1))
     told = (b'{"ok":{"checks":[{"check":"unset","verdict":"TRUE"},{"check":"bounds","verdict":"TRUE"},{"check":"reference","verdict":"TRUE"},'
             b'{"check":"rule","of":"R1","rule":"#1","verdict":"TRUE"},{"check":"rule","of":"R2","rule":"#1","verdict":"LIMIT"}],"steps":400000}}')
-    expect([*filled("L", many(66_665)), (validate("ann", "ann", "g"), told), (create("bob", "m", "L"), OK),
-            (put("bob", "bob", "m", file_of(many(1000), "L")), instances(1000)), (validate("ann", "ann", "g"), told)])
+    others = [turn for k in range(100) for turn in ((create("bob", f"m{k}", "L"), OK), (put("bob", "bob", f"m{k}", file_of(many(10), "L")), instances(10)))]
+    expect([*filled("L", many(66_665)), (validate("ann", "ann", "g"), told), *others, (validate("ann", "ann", "g"), told)])
 
 
 def test_instances_that_agree():

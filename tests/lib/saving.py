@@ -86,6 +86,17 @@ def expect_saved(seen, data, replies=()):
         raise Wrong(f"{sorted(seen.files)} are left")
 
 
+def in_runs(folder, parts, load=None):
+    """The replies to lines in several runs, each of which loads what the one before has saved, and what the last one saves."""
+    output = b""
+    for part in parts:
+        seen = folder.ask(part, load=load)
+        if (seen.status, seen.errors) != (0, b""):
+            raise Wrong(f"status {seen.status}, {seen.errors!r} after {output[-200:]!r}")
+        output, load = output + seen.output, seen.files["kept"]
+    return output, load
+
+
 def difference(seen, wanted):
     """What differs first in two texts."""
     if seen is None:
