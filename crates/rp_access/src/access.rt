@@ -8,8 +8,9 @@ use crate::regranted::regranted_for;
 use crate::relisting::{excluding, including};
 use crate::steps::{Altered, GroupStep, group_step, make_group_step};
 use plain_data::{Rows, Text};
+use rp_index::Indexed;
 use rp_rows::limits::{MAX_GROUPS, MAX_MODELS};
-use rp_rows::rows::{Grant, Key, Level, Listing, ModelContent, Right};
+use rp_rows::rows::{Grant, Key, Level, Listing, Right};
 use rp_sight::{
     Groups, Member, Seen, Table, group_right, level, members_of, visible_groups, visible_models,
 };
@@ -88,7 +89,7 @@ impl Access {
     }
 
     /// The models of a store, each with the grants on it.
-    pub fn models<'a>(&'a self, store: &'a Store) -> Table<'a, ModelContent>
+    pub fn models<'a>(&'a self, store: &'a Store) -> Table<'a, Indexed>
         requires { map entry_key store.now.entries ≡ map entry_key self.now.models.entries }
         ensures { result.rows ≡ joined store.now.entries self.now.models.entries }
     {
@@ -104,7 +105,7 @@ impl Access {
     /// What the partner may do with the model of this owner and name. Of groups only those are looked at that he is granted.
     pub fn right_on_model(
         &self,
-        models: &Table<'_, ModelContent>,
+        models: &Table<'_, Indexed>,
         partner: &Text,
         owner: &Text,
         name: &Text,
@@ -133,9 +134,9 @@ impl Access {
     pub fn visible_models<'a>(
         &self,
         alloc: Global,
-        models: &Table<'a, ModelContent>,
+        models: &Table<'a, Indexed>,
         partner: &Text,
-    ) -> Result<Vec<Seen<'a, ModelContent>>, AllocError>
+    ) -> Result<Vec<Seen<'a, Indexed>>, AllocError>
         ensures { IfOk result (λ seen. map seen_of seen.items ≡ map (seen_model self.now.groups.rows partner.now) (filter (sight.sees self.now.groups.rows partner.now) models.now.rows)) }
     {
         visible_models(alloc, models, &self.groups, partner)
@@ -156,7 +157,7 @@ impl Access {
     pub fn members(
         &self,
         alloc: Global,
-        models: &Table<'_, ModelContent>,
+        models: &Table<'_, Indexed>,
         key: &Key,
     ) -> Result<Vec<Member<'_>>, AllocError>
         ensures members { IfOk result (λ out. map member_of out.items ≡ members_in models.now.rows (find (is_row key.now) self.now.groups.rows)) }

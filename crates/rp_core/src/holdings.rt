@@ -7,6 +7,7 @@ use crate::steps::{Pending, make_steps};
 use ex_loaded::LoadedSchema;
 use plain_data::{Rows, Text};
 use rp_access::Access;
+use rp_index::Indexed;
 use rp_plain::messages::{NewFault, Reply, Request};
 use rp_readers::{KeptLayouts, Readers, place_among};
 use rp_reports::SchemaRules;
@@ -117,7 +118,7 @@ impl<'s> Holdings<'s> {
     }
 
     /// The rows of models, in the order of owner and name.
-    pub fn models(&self) -> Table<'_, ModelContent>
+    pub fn models(&self) -> Table<'_, Indexed>
         ensures { result.rows ≡ self.now.content.models }
     {
         self.access.models(&self.store)
@@ -192,7 +193,7 @@ impl<'s> Holdings<'s> {
         let again = key.copy(alloc)?;
         self.store.reserve()?;
         self.access.hold_model(again, grants)?;
-        self.store.commit(Prepared::Hold(key, holds));
+        self.store.commit(Prepared::Hold(key, Indexed::new(holds)));
         Ok(())
     }
 

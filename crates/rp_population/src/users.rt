@@ -1,7 +1,9 @@
 //! Who uses an instance, in one model after another.
 
-ghost use Rattle.std.specs.Prelude.{◌≡◌, ◌++◌, IfOk, OnOk, option_copied};
+ghost use Rattle.std.specs.Prelude.{◌≡◌, ◌++◌, IfOk, IfSome, OnOk, option_copied};
 ghost use Rattle.std.specs.List.{flat_map};
+ghost use Rattle.rp_index.specs.Index.{AreUsersAmong};
+ghost use Rattle.rp_index.specs.Told.{told_of};
 ghost use Rattle.rp_population.specs.Found as spec;
 
 use crate::attribute::{Attribute, push_in_attribute};
@@ -11,7 +13,8 @@ use crate::roles::{Role, role_of};
 use crate::uses::{User, push_values};
 use ex_layouts::{Dictionary, Layouts};
 use plain_data::{Rows, Text};
-use rp_content::{Content, Instance};
+use rp_content::{Instance, Instances};
+use rp_index::Indexed;
 use rp_rows::rows::Key;
 use std::alloc::{AllocError, Global};
 use std::collections::BTreeSet;
@@ -31,6 +34,24 @@ fn line_by(
     }
 }
 
+/// Tells an instance of a model once for each of its uses.
+fn push_one_in_all(
+    alloc: Global,
+    found: &mut Vec<Place>,
+    names: &BTreeSet<u64>,
+    model: &Key,
+    instance: &Instance,
+) -> Result<(), AllocError>
+    ensures { OnOk result (found.new.items ≡ found.old.items ++ spec.told_in_all names.now.keys model.now instance.now) }
+{
+    let user = User {
+        names,
+        model,
+        instance: instance.name,
+    };
+    push_values(alloc, found, &user, instance.values.as_slice())
+}
+
 /// Tells each instance of a model once for each of its uses.
 fn push_in_all(
     alloc: Global,
@@ -42,14 +63,81 @@ fn push_in_all(
     ensures { OnOk result (found.new.items ≡ found.old.items ++ flat_map (spec.told_in_all names.now.keys model.now) instances.now) }
 {
     for instance in instances {
-        let user = User {
-            names,
-            model,
-            instance: instance.name,
-        };
-        push_values(alloc, found, &user, instance.values.as_slice())?;
+        push_one_in_all(alloc, found, names, model, instance)?;
     }
     Ok(())
+}
+
+/// Tells the instance of a name once for each of its uses.
+fn push_named_in_all(
+    alloc: Global,
+    found: &mut Vec<Place>,
+    names: &BTreeSet<u64>,
+    model: &Key,
+    instances: &Instances,
+    name: u64,
+) -> Result<(), AllocError>
+    ensures { OnOk result (found.new.items ≡ found.old.items ++ told_of (spec.told_in_all names.now.keys model.now) instances.now name) }
+{
+    match instances.get(name) {
+        Some(instance) => push_one_in_all(alloc, found, names, model, instance),
+        None => Ok(()),
+    }
+}
+
+/// Tells the instances of some names, in the order of these, once for each of their uses.
+fn push_each_in_all(
+    alloc: Global,
+    found: &mut Vec<Place>,
+    names: &BTreeSet<u64>,
+    model: &Key,
+    instances: &Instances,
+    candidates: &BTreeSet<u64>,
+) -> Result<(), AllocError>
+    ensures { OnOk result (found.new.items ≡ found.old.items ++ flat_map (told_of (spec.told_in_all names.now.keys model.now) instances.now) candidates.now.keys) }
+{
+    for name in candidates {
+        push_named_in_all(alloc, found, names, model, instances, *name)?;
+    }
+    Ok(())
+}
+
+/// Tells each instance of a model once for each of its uses, where only candidates have any.
+fn push_among_in_all(
+    alloc: Global,
+    found: &mut Vec<Place>,
+    names: &BTreeSet<u64>,
+    model: &Key,
+    instances: &Instances,
+    candidates: &BTreeSet<u64>,
+) -> Result<(), AllocError>
+    requires { AreUsersAmong names.now.keys candidates.now.keys instances.now }
+    ensures { OnOk result (found.new.items ≡ found.old.items ++ flat_map (spec.told_in_all names.now.keys model.now) instances.now) }
+{
+    // Both say that what they have is in order.
+    let (_, _) = (instances.ordered(), candidates.len());
+    push_each_in_all(alloc, found, names, model, instances, candidates)
+}
+
+/// Tells an instance of a model once for each of its uses in an attribute.
+fn push_one_in(
+    alloc: Global,
+    found: &mut Vec<Place>,
+    layouts: &mut Layouts<'_>,
+    attribute: &Attribute<'_>,
+    names: &BTreeSet<u64>,
+    model: &Key,
+    instance: &Instance,
+) -> Result<(), AllocError>
+    ensures layouts { layouts.new ≡ layouts.old }
+    ensures places { OnOk result (found.new.items ≡ found.old.items ++ spec.told_in layouts.old attribute.now names.now.keys model.now instance.now) }
+{
+    let user = User {
+        names,
+        model,
+        instance: instance.name,
+    };
+    push_in_attribute(alloc, found, layouts, attribute, &user, instance)
 }
 
 /// Tells each instance of a model once for each of its uses in an attribute.
@@ -66,14 +154,117 @@ fn push_in(
     ensures places { OnOk result (found.new.items ≡ found.old.items ++ flat_map (spec.told_in layouts.old attribute.now names.now.keys model.now) instances.now) }
 {
     for instance in instances {
-        let user = User {
-            names,
-            model,
-            instance: instance.name,
-        };
-        push_in_attribute(alloc, found, layouts, attribute, &user, instance)?;
+        push_one_in(alloc, found, layouts, attribute, names, model, instance)?;
     }
     Ok(())
+}
+
+/// Tells the instance of a name once for each of its uses in an attribute.
+fn push_named_in(
+    alloc: Global,
+    found: &mut Vec<Place>,
+    layouts: &mut Layouts<'_>,
+    attribute: &Attribute<'_>,
+    names: &BTreeSet<u64>,
+    model: &Key,
+    instances: &Instances,
+    name: u64,
+) -> Result<(), AllocError>
+    ensures layouts { layouts.new ≡ layouts.old }
+    ensures places { OnOk result (found.new.items ≡ found.old.items ++ told_of (spec.told_in layouts.old attribute.now names.now.keys model.now) instances.now name) }
+{
+    match instances.get(name) {
+        Some(instance) => push_one_in(alloc, found, layouts, attribute, names, model, instance),
+        None => Ok(()),
+    }
+}
+
+/// Tells the instances of some names, in the order of these, once for each of their uses in an attribute.
+fn push_each_in(
+    alloc: Global,
+    found: &mut Vec<Place>,
+    layouts: &mut Layouts<'_>,
+    attribute: &Attribute<'_>,
+    names: &BTreeSet<u64>,
+    model: &Key,
+    instances: &Instances,
+    candidates: &BTreeSet<u64>,
+) -> Result<(), AllocError>
+    ensures layouts { layouts.new ≡ layouts.old }
+    ensures places { OnOk result (found.new.items ≡ found.old.items ++ flat_map (told_of (spec.told_in layouts.old attribute.now names.now.keys model.now) instances.now) candidates.now.keys) }
+{
+    for name in candidates {
+        push_named_in(
+            alloc, found, layouts, attribute, names, model, instances, *name,
+        )?;
+    }
+    Ok(())
+}
+
+/// Tells each instance of a model once for each of its uses in an attribute, where only candidates have any.
+fn push_among_in(
+    alloc: Global,
+    found: &mut Vec<Place>,
+    layouts: &mut Layouts<'_>,
+    attribute: &Attribute<'_>,
+    names: &BTreeSet<u64>,
+    model: &Key,
+    instances: &Instances,
+    candidates: &BTreeSet<u64>,
+) -> Result<(), AllocError>
+    requires { AreUsersAmong names.now.keys candidates.now.keys instances.now }
+    ensures layouts { layouts.new ≡ layouts.old }
+    ensures places { OnOk result (found.new.items ≡ found.old.items ++ flat_map (spec.told_in layouts.old attribute.now names.now.keys model.now) instances.now) }
+{
+    // Both say that what they have is in order.
+    let (_, _) = (instances.ordered(), candidates.len());
+    push_each_in(
+        alloc, found, layouts, attribute, names, model, instances, candidates,
+    )
+}
+
+/// Tells each instance of a model once for each of its uses, from candidates if there are such.
+fn push_uses(
+    alloc: Global,
+    found: &mut Vec<Place>,
+    names: &BTreeSet<u64>,
+    model: &Key,
+    instances: &Instances,
+    candidates: &Option<BTreeSet<u64>>,
+) -> Result<(), AllocError>
+    requires { IfSome candidates.now (λ us. AreUsersAmong names.now.keys us.keys instances.now) }
+    ensures { OnOk result (found.new.items ≡ found.old.items ++ flat_map (spec.told_in_all names.now.keys model.now) instances.now) }
+{
+    match candidates {
+        Some(few) => push_among_in_all(alloc, found, names, model, instances, few),
+        None => push_in_all(alloc, found, names, model, instances.as_slice()),
+    }
+}
+
+/// Tells each instance of a model once for each of its uses in an attribute, from candidates if there are such.
+fn push_uses_in(
+    alloc: Global,
+    found: &mut Vec<Place>,
+    layouts: &mut Layouts<'_>,
+    attribute: &Attribute<'_>,
+    names: &BTreeSet<u64>,
+    model: &Key,
+    instances: &Instances,
+    candidates: &Option<BTreeSet<u64>>,
+) -> Result<(), AllocError>
+    requires { IfSome candidates.now (λ us. AreUsersAmong names.now.keys us.keys instances.now) }
+    ensures layouts { layouts.new ≡ layouts.old }
+    ensures places { OnOk result (found.new.items ≡ found.old.items ++ flat_map (spec.told_in layouts.old attribute.now names.now.keys model.now) instances.now) }
+{
+    match candidates {
+        Some(few) => push_among_in(
+            alloc, found, layouts, attribute, names, model, instances, few,
+        ),
+        None => {
+            let instances = instances.as_slice();
+            push_in(alloc, found, layouts, attribute, names, model, instances)
+        }
+    }
 }
 
 /// An instance and a role, whose users are told of one model after another.
@@ -139,25 +330,26 @@ impl<'s> Users<'s> {
         alloc: Global,
         found: &mut Vec<Place>,
         model: &Key,
-        content: &Content,
+        held: &Indexed,
     ) -> Result<(), AllocError>
         ensures same { self.new ≡ self.old }
-        ensures places { OnOk result (found.new.items ≡ found.old.items ++ places (uses.users_in self.old.schema self.old.role self.old.of (placed_all (record { model = model.now; content = content.now })))) }
+        ensures places { OnOk result (found.new.items ≡ found.old.items ++ places (uses.users_in self.old.schema self.old.role self.old.of (placed_all (record { model = model.now; content = held.now.content })))) }
     {
         let Some(role) = &self.role else {
             return Ok(());
         };
-        let names = names_of(alloc, &self.of, model, content.links.as_slice())?;
-        let instances = content.instances.as_slice();
+        let names = names_of(alloc, &self.of, model, held)?;
+        let candidates = held.users_among(alloc, &names)?;
+        let instances = &held.get().content.instances;
         match role {
-            Role::Every => push_in_all(alloc, found, &names, model, instances),
+            Role::Every => push_uses(alloc, found, &names, model, instances, &candidates),
             Role::Of(entity, name) => {
                 let attribute = Attribute {
                     entity: *entity,
                     line: self.line.as_slice(),
                     name,
                 };
-                push_in(
+                push_uses_in(
                     alloc,
                     found,
                     &mut self.layouts,
@@ -165,6 +357,7 @@ impl<'s> Users<'s> {
                     &names,
                     model,
                     instances,
+                    &candidates,
                 )
             }
         }

@@ -14,14 +14,15 @@ use crate::groups::Groups;
 use crate::rows::{RowRef, Table};
 use crate::sight::{counts, grant_to, is_granted, owns, right_of};
 use plain_data::{Rows, Text};
-use rp_rows::rows::{Listing, ModelContent, Right};
+use rp_index::Indexed;
+use rp_rows::rows::{Listing, Right};
 use rp_store::Entry;
 
 /// Whether the model counts in the group of this owner and name, and the partner is granted the group.
 fn counts_at(
     groups: &Table<'_, Listing>,
     caller: &Text,
-    model: &RowRef<'_, ModelContent>,
+    model: &RowRef<'_, Indexed>,
     owner: &Text,
     name: &Text,
 ) -> bool
@@ -36,7 +37,7 @@ fn counts_at(
 fn counts_among(
     groups: &Table<'_, Listing>,
     caller: &Text,
-    model: &RowRef<'_, ModelContent>,
+    model: &RowRef<'_, Indexed>,
     names: &Entry<Rows<Text>>,
 ) -> bool
     ensures { result ≡ counts_under caller.now groups.now.rows names.now (row_of model.now) }
@@ -51,7 +52,7 @@ fn counts_among(
 }
 
 /// Whether the model counts in a group that the partner is granted.
-fn is_counted(groups: &Groups, caller: &Text, model: &RowRef<'_, ModelContent>) -> bool
+fn is_counted(groups: &Groups, caller: &Text, model: &RowRef<'_, Indexed>) -> bool
     ensures counts { result ≡ counts_in_any caller.now groups.now.rows (granted_of caller.now groups.now.names) (row_of model.now) }
     ensures whole { TellsGranted caller.now (granted_of caller.now groups.now.names) groups.now.rows }
     ensures order { IsAscending key_cmp row_key groups.now.rows }
@@ -66,12 +67,7 @@ fn is_counted(groups: &Groups, caller: &Text, model: &RowRef<'_, ModelContent>) 
 }
 
 /// What the partner may do with the model, where it is his or isn't and counts so in groups that he is granted.
-pub fn level_where(
-    caller: &Text,
-    model: &RowRef<'_, ModelContent>,
-    owned: bool,
-    counted: bool,
-) -> Right
+pub fn level_where(caller: &Text, model: &RowRef<'_, Indexed>, owned: bool, counted: bool) -> Right
     requires { owned ≡ sight.owns caller.now (row_of model.now) }
     ensures { result ≡ level_by caller.now (row_of model.now) counted }
 {
@@ -85,7 +81,7 @@ pub fn level_where(
 }
 
 /// What the partner may do with the model.
-pub fn level(groups: &Groups, caller: &Text, model: &RowRef<'_, ModelContent>) -> Right
+pub fn level(groups: &Groups, caller: &Text, model: &RowRef<'_, Indexed>) -> Right
     ensures { result ≡ sight.level groups.now.rows caller.now (row_of model.now) }
 {
     if owns(caller, model) {

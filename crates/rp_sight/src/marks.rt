@@ -13,7 +13,8 @@ use crate::groups::Groups;
 use crate::rows::{RowRef, Table};
 use crate::sight::{counts, is_granted};
 use plain_data::{Rows, Text};
-use rp_rows::rows::{Key, Listing, ModelContent};
+use rp_index::Indexed;
+use rp_rows::rows::{Key, Listing};
 use rp_store::Entry;
 use std::alloc::{AllocError, Global};
 use std::collections::BTreeSet;
@@ -70,7 +71,7 @@ impl Marks {
 
 /// Marks the model of the key, if it counts in the group.
 fn mark(
-    models: &Table<'_, ModelContent>,
+    models: &Table<'_, Indexed>,
     group: &RowRef<'_, Listing>,
     key: &Key,
     marks: &mut Marks,
@@ -90,7 +91,7 @@ fn mark(
 
 /// Marks the models that count in the group.
 fn mark_members(
-    models: &Table<'_, ModelContent>,
+    models: &Table<'_, Indexed>,
     group: &RowRef<'_, Listing>,
     marks: &mut Marks,
 ) -> Result<(), AllocError>
@@ -105,7 +106,7 @@ fn mark_members(
 
 /// Marks the models that count in the group of this owner and name, if the partner is granted the group.
 fn mark_at(
-    models: &Table<'_, ModelContent>,
+    models: &Table<'_, Indexed>,
     groups: &Table<'_, Listing>,
     caller: &Text,
     owner: &Text,
@@ -126,7 +127,7 @@ fn mark_at(
 }
 
 fn mark_names(
-    models: &Table<'_, ModelContent>,
+    models: &Table<'_, Indexed>,
     groups: &Table<'_, Listing>,
     caller: &Text,
     names: &Entry<Rows<Text>>,
@@ -144,7 +145,7 @@ fn mark_names(
 /// Of each model whether it counts in a group that the partner is granted.
 pub fn counted_marks(
     alloc: Global,
-    models: &Table<'_, ModelContent>,
+    models: &Table<'_, Indexed>,
     groups: &Groups,
     caller: &Text,
 ) -> Result<Marks, AllocError>
