@@ -74,7 +74,7 @@ pub fn group_step(
     match change {
         Altered::Hold(listing) => {
             let again = key.copy(alloc)?;
-            groups.reserve()?;
+            groups.reserve(alloc, key, &listing)?;
             Ok(GroupStep::Put(again, listing))
         }
         Altered::Remove => Ok(GroupStep::Remove),

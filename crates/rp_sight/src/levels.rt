@@ -1,21 +1,28 @@
-//! What a partner may do with models. Of groups only those that he is granted are looked at: in one of his own nothing
-//! counts but what is his or granted to him.
+//! What a partner may do with models. Of groups only those are looked at that he is granted, or those that may list the model:
+//! in one of his own nothing counts but what is his or granted to him.
 
-ghost use Rattle.std.specs.Prelude.{◌≡◌, false, None, if◌then◌else◌};
-ghost use Rattle.std.specs.List.{find};
+ghost use Rattle.std.specs.Prelude.{◌≡◌, false, None, option_copied, if◌then◌else◌};
+ghost use Rattle.std.specs.List.{find, list_any};
 ghost use Rattle.sorted_tables.specs.Table.{IsAscending};
 ghost use Rattle.rp_rows.specs.Rows.{key_cmp, row_key, is_row, key_of};
 ghost use Rattle.rp_rows.specs.Sight as sight;
 ghost use Rattle.rp_sight.specs.Stored.{row_of};
 ghost use Rattle.rp_sight.specs.Seen.{level_by};
+ghost use Rattle.rp_listers.specs.Kept as kept;
 ghost use Rattle.rp_sight.specs.Granted.{granted_of, TellsGranted, shows, counts_under, counts_in_any};
+ghost use Rattle.rp_sight.specs.Told.{KeepsListed, shows_at, shows_first, counts_told};
 
 use crate::groups::Groups;
 use crate::rows::{RowRef, Table};
 use crate::sight::{counts, grant_to, is_granted, owns, right_of};
 use plain_data::{Rows, Text};
+<<<<<<< ours
 use rp_index::Indexed;
 use rp_rows::rows::{Listing, Right};
+=======
+use rp_listers::{Lister, number_of};
+use rp_rows::rows::{Listing, ModelContent, Right};
+>>>>>>> theirs
 use rp_store::Entry;
 
 /// Whether the model counts in the group of this owner and name, and the partner is granted the group.
@@ -51,8 +58,13 @@ fn counts_among(
     ))
 }
 
+<<<<<<< ours
 /// Whether the model counts in a group that the partner is granted.
 fn is_counted(groups: &Groups, caller: &Text, model: &RowRef<'_, Indexed>) -> bool
+=======
+/// Whether the model counts in a group that the partner is granted, by a walk over all that he is granted.
+fn counts_in_granted(groups: &Groups, caller: &Text, model: &RowRef<'_, ModelContent>) -> bool
+>>>>>>> theirs
     ensures counts { result ≡ counts_in_any caller.now groups.now.rows (granted_of caller.now groups.now.names) (row_of model.now) }
     ensures whole { TellsGranted caller.now (granted_of caller.now groups.now.names) groups.now.rows }
     ensures order { IsAscending key_cmp row_key groups.now.rows }
@@ -64,6 +76,95 @@ fn is_counted(groups: &Groups, caller: &Text, model: &RowRef<'_, Indexed>) -> bo
         .granted_to(caller)
         .iter()
         .any(|names| counts_among(&table, caller, model, names))
+}
+
+/// Whether the model counts in the group of a lister, and the partner is granted the group.
+fn counts_for(
+    groups: &Table<'_, Listing>,
+    caller: &Text,
+    model: &RowRef<'_, ModelContent>,
+    lister: &Lister,
+) -> bool
+    ensures { result ≡ shows_at caller.now groups.now.rows (row_of model.now) lister.now }
+{
+    let key = lister.get();
+    counts_at(groups, caller, model, &key.owner, &key.name)
+}
+
+fn counts_for_first(
+    groups: &Table<'_, Listing>,
+    caller: &Text,
+    model: &RowRef<'_, ModelContent>,
+    lister: Option<&Lister>,
+) -> bool
+    ensures { result ≡ shows_first caller.now groups.now.rows (row_of model.now) (option_copied lister.entry) }
+{
+    match lister {
+        Some(lister) => counts_for(groups, caller, model, lister),
+        None => false,
+    }
+}
+
+fn counts_for_one(
+    groups: &Table<'_, Listing>,
+    caller: &Text,
+    model: &RowRef<'_, ModelContent>,
+    listers: &[Lister],
+) -> bool
+    ensures { result ≡ list_any (shows_at caller.now groups.now.rows (row_of model.now)) listers.now }
+{
+    listers
+        .iter()
+        .any(|lister| counts_for(groups, caller, model, lister))
+}
+
+/// Whether the model counts in a group that the partner is granted, by a walk over the groups that may list it.
+fn counts_in_listers(
+    groups: &Groups,
+    caller: &Text,
+    model: &RowRef<'_, ModelContent>,
+    number: u64,
+) -> bool
+    requires { number ≡ kept.number_of (row_key (row_of model.now)) }
+    ensures counts { result ≡ counts_told caller.now groups.now.rows groups.now.listers (row_of model.now) }
+    ensures whole { KeepsListed groups.now.listers groups.now.rows }
+    ensures order { IsAscending key_cmp row_key groups.now.rows }
+{
+    let table = groups.table();
+    let _count = table.len();
+    let listers = groups.listers();
+    let first = listers.first(number);
+    let others = listers.others(number);
+    counts_for_first(&table, caller, model, first) || counts_for_one(&table, caller, model, others)
+}
+
+/// Whether there are fewer names than this.
+fn are_fewer(granted: &[Entry<Rows<Text>>], count: usize) -> bool {
+    let mut left = count;
+    for names in granted {
+        let more = names.value.len();
+        if more >= left {
+            return false;
+        }
+        left -= more;
+    }
+    0 < left
+}
+
+/// Whether the model, which is neither the partner's nor granted to him, counts in a group that he sees. Either walk tells, that
+/// over the groups that may list the model or that over those that he is granted: the shorter one is taken.
+fn is_counted(groups: &Groups, caller: &Text, model: &RowRef<'_, ModelContent>) -> bool
+    requires apart { sight.owns caller.now (row_of model.now) ≡ false }
+    requires none { find (sight.is_grant_to caller.now) model.now.grants.now ≡ None }
+    ensures { result ≡ sight.is_counted groups.now.rows caller.now (row_of model.now) }
+{
+    let number = number_of(model.key);
+    let others = groups.listers().others(number);
+    if are_fewer(groups.granted_to(caller), others.len()) {
+        counts_in_granted(groups, caller, model)
+    } else {
+        counts_in_listers(groups, caller, model, number)
+    }
 }
 
 /// What the partner may do with the model, where it is his or isn't and counts so in groups that he is granted.

@@ -8,10 +8,11 @@ ghost use Rattle.rp_rows.specs.Sight as sight;
 ghost use Rattle.rp_sight.specs.Stored.{row_of};
 ghost use Rattle.rp_sight.specs.Granted.{granted_of, TellsGranted, shows, counts_under, counts_in_any};
 ghost use Rattle.rp_sight.specs.Kept.{marked};
+ghost use Rattle.rp_sight.specs.Listed.{fits};
 
 use crate::groups::Groups;
 use crate::rows::{RowRef, Table};
-use crate::sight::{counts, is_granted};
+use crate::sight::{counts_if_listed, is_granted};
 use plain_data::{Rows, Text};
 use rp_index::Indexed;
 use rp_rows::rows::{Key, Listing};
@@ -51,13 +52,13 @@ impl Marks {
         }
     }
 
-    /// Sets the mark at a place.
-    fn set(&mut self, place: usize) -> Result<(), AllocError>
+    /// Sets the mark at a place, and tells the place behind it.
+    fn set(&mut self, place: usize) -> Result<usize, AllocError>
         requires { place < length self.old }
         ensures { OnOk result (self.new ≡ slice_set self.old place true) }
     {
         self.places.insert(place)?;
-        Ok(())
+        Ok(place.saturating_add(1))
     }
 
     /// Whether the mark at a place is set.
@@ -69,27 +70,29 @@ impl Marks {
     }
 }
 
-/// Marks the model of the key, if it counts in the group.
+/// Marks the model of the key, if it counts in the group, which lists it: it is looked for at a place first. The place behind it
+/// is told, where the model of the next key is likely to stand.
 fn mark(
     models: &Table<'_, Indexed>,
     group: &RowRef<'_, Listing>,
     key: &Key,
+    near: usize,
     marks: &mut Marks,
-) -> Result<(), AllocError>
+) -> Result<usize, AllocError>
     requires { length marks.old ≡ length models.now.rows }
-    ensures { OnOk result (marks.new ≡ marked (λ m. is_row key.now m && sight.counts m (row_of group.now)) marks.old models.now.rows) }
+    ensures { OnOk result (marks.new ≡ marked (λ m. is_row key.now m && fits (row_of group.now) m) marks.old models.now.rows) }
 {
-    let Some(place) = models.place_of(key) else {
-        return Ok(());
+    let Some(place) = models.place_near(key, near) else {
+        return Ok(near);
     };
-    if counts(&models.row(place), group) {
+    if counts_if_listed(&models.row(place), group) {
         marks.set(place)
     } else {
-        Ok(())
+        Ok(place.saturating_add(1))
     }
 }
 
-/// Marks the models that count in the group.
+/// Marks the models that count in the group. Its members are in the order of the models.
 fn mark_members(
     models: &Table<'_, Indexed>,
     group: &RowRef<'_, Listing>,
@@ -98,8 +101,9 @@ fn mark_members(
     requires { length marks.old ≡ length models.now.rows }
     ensures { OnOk result (marks.new ≡ marked (λ m. sight.counts m (row_of group.now)) marks.old models.now.rows) }
 {
+    let mut near = 0;
     for key in group.holds.members.as_slice() {
-        mark(models, group, key, marks)?;
+        near = mark(models, group, key, near, marks)?;
     }
     Ok(())
 }

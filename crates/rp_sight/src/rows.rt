@@ -132,6 +132,21 @@ impl<'a, A> Table<'a, A> {
         self.place_for(&key.owner, &key.name)
     }
 
+    /// The same, where the row is likely to stand at a place: it is looked for there first.
+    pub(crate) fn place_near(&self, key: &Key, place: usize) -> Option<usize>
+        ensures { MatchOption result (find (is_row key.now) self.now.rows ≡ None) (IsThere key_cmp row_key key.now self.now.rows) }
+    {
+        let count = self.len();
+        if place >= count {
+            return self.place_of(key);
+        }
+        if self.row(place).key.is(key) {
+            Some(place)
+        } else {
+            self.place_of(key)
+        }
+    }
+
     /// The grants on what stands under the key.
     pub fn grants_at(&self, key: &Key) -> &'a [Grant]
         ensures { result.now ≡ grants_of (find (is_row key.now) self.now.rows) }

@@ -5,6 +5,7 @@ ghost use Rattle.std.specs.List.{list_any, find};
 ghost use Rattle.rp_rows.specs.Sight as sight;
 ghost use Rattle.rp_rows.specs.Listings.{lists_key};
 ghost use Rattle.rp_sight.specs.Stored.{row_of};
+ghost use Rattle.rp_sight.specs.Listed.{fits};
 
 use crate::rows::RowRef;
 use plain_data::Text;
@@ -82,13 +83,24 @@ fn may_group(partner: &Text, model: &RowRef<'_, Indexed>) -> bool
     owns(partner, model) || is_granted_group(partner, model.grants)
 }
 
+/// Whether the model counts in the group, if the group lists it.
+pub fn counts_if_listed(model: &RowRef<'_, ModelContent>, group: &RowRef<'_, Listing>) -> bool
+    ensures { result ≡ fits (row_of group.now) (row_of model.now) }
+{
+    model.holds.schema.is(&group.holds.schema) && may_group(&group.key.owner, model)
+}
+
 /// Whether the model counts in the group.
 pub fn counts(model: &RowRef<'_, Indexed>, group: &RowRef<'_, Listing>) -> bool
     ensures { result ≡ sight.counts (row_of model.now) (row_of group.now) }
 {
+<<<<<<< ours
     has_key(model.key, group.holds.members.as_slice())
         && model.holds.get().schema.is(&group.holds.schema)
         && may_group(&group.key.owner, model)
+=======
+    has_key(model.key, group.holds.members.as_slice()) && counts_if_listed(model, group)
+>>>>>>> theirs
 }
 
 pub fn right_of(level: Level) -> Right
