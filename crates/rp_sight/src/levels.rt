@@ -16,13 +16,9 @@ use crate::groups::Groups;
 use crate::rows::{RowRef, Table};
 use crate::sight::{counts, grant_to, is_granted, owns, right_of};
 use plain_data::{Rows, Text};
-<<<<<<< ours
 use rp_index::Indexed;
-use rp_rows::rows::{Listing, Right};
-=======
 use rp_listers::{Lister, number_of};
-use rp_rows::rows::{Listing, ModelContent, Right};
->>>>>>> theirs
+use rp_rows::rows::{Listing, Right};
 use rp_store::Entry;
 
 /// Whether the model counts in the group of this owner and name, and the partner is granted the group.
@@ -58,13 +54,8 @@ fn counts_among(
     ))
 }
 
-<<<<<<< ours
-/// Whether the model counts in a group that the partner is granted.
-fn is_counted(groups: &Groups, caller: &Text, model: &RowRef<'_, Indexed>) -> bool
-=======
 /// Whether the model counts in a group that the partner is granted, by a walk over all that he is granted.
-fn counts_in_granted(groups: &Groups, caller: &Text, model: &RowRef<'_, ModelContent>) -> bool
->>>>>>> theirs
+fn counts_in_granted(groups: &Groups, caller: &Text, model: &RowRef<'_, Indexed>) -> bool
     ensures counts { result ≡ counts_in_any caller.now groups.now.rows (granted_of caller.now groups.now.names) (row_of model.now) }
     ensures whole { TellsGranted caller.now (granted_of caller.now groups.now.names) groups.now.rows }
     ensures order { IsAscending key_cmp row_key groups.now.rows }
@@ -82,7 +73,7 @@ fn counts_in_granted(groups: &Groups, caller: &Text, model: &RowRef<'_, ModelCon
 fn counts_for(
     groups: &Table<'_, Listing>,
     caller: &Text,
-    model: &RowRef<'_, ModelContent>,
+    model: &RowRef<'_, Indexed>,
     lister: &Lister,
 ) -> bool
     ensures { result ≡ shows_at caller.now groups.now.rows (row_of model.now) lister.now }
@@ -94,7 +85,7 @@ fn counts_for(
 fn counts_for_first(
     groups: &Table<'_, Listing>,
     caller: &Text,
-    model: &RowRef<'_, ModelContent>,
+    model: &RowRef<'_, Indexed>,
     lister: Option<&Lister>,
 ) -> bool
     ensures { result ≡ shows_first caller.now groups.now.rows (row_of model.now) (option_copied lister.entry) }
@@ -108,7 +99,7 @@ fn counts_for_first(
 fn counts_for_one(
     groups: &Table<'_, Listing>,
     caller: &Text,
-    model: &RowRef<'_, ModelContent>,
+    model: &RowRef<'_, Indexed>,
     listers: &[Lister],
 ) -> bool
     ensures { result ≡ list_any (shows_at caller.now groups.now.rows (row_of model.now)) listers.now }
@@ -122,7 +113,7 @@ fn counts_for_one(
 fn counts_in_listers(
     groups: &Groups,
     caller: &Text,
-    model: &RowRef<'_, ModelContent>,
+    model: &RowRef<'_, Indexed>,
     number: u64,
 ) -> bool
     requires { number ≡ kept.number_of (row_key (row_of model.now)) }
@@ -153,7 +144,7 @@ fn are_fewer(granted: &[Entry<Rows<Text>>], count: usize) -> bool {
 
 /// Whether the model, which is neither the partner's nor granted to him, counts in a group that he sees. Either walk tells, that
 /// over the groups that may list the model or that over those that he is granted: the shorter one is taken.
-fn is_counted(groups: &Groups, caller: &Text, model: &RowRef<'_, ModelContent>) -> bool
+fn is_counted(groups: &Groups, caller: &Text, model: &RowRef<'_, Indexed>) -> bool
     requires apart { sight.owns caller.now (row_of model.now) ≡ false }
     requires none { find (sight.is_grant_to caller.now) model.now.grants.now ≡ None }
     ensures { result ≡ sight.is_counted groups.now.rows caller.now (row_of model.now) }

@@ -84,23 +84,17 @@ fn may_group(partner: &Text, model: &RowRef<'_, Indexed>) -> bool
 }
 
 /// Whether the model counts in the group, if the group lists it.
-pub fn counts_if_listed(model: &RowRef<'_, ModelContent>, group: &RowRef<'_, Listing>) -> bool
+pub fn counts_if_listed(model: &RowRef<'_, Indexed>, group: &RowRef<'_, Listing>) -> bool
     ensures { result ≡ fits (row_of group.now) (row_of model.now) }
 {
-    model.holds.schema.is(&group.holds.schema) && may_group(&group.key.owner, model)
+    model.holds.get().schema.is(&group.holds.schema) && may_group(&group.key.owner, model)
 }
 
 /// Whether the model counts in the group.
 pub fn counts(model: &RowRef<'_, Indexed>, group: &RowRef<'_, Listing>) -> bool
     ensures { result ≡ sight.counts (row_of model.now) (row_of group.now) }
 {
-<<<<<<< ours
-    has_key(model.key, group.holds.members.as_slice())
-        && model.holds.get().schema.is(&group.holds.schema)
-        && may_group(&group.key.owner, model)
-=======
     has_key(model.key, group.holds.members.as_slice()) && counts_if_listed(model, group)
->>>>>>> theirs
 }
 
 pub fn right_of(level: Level) -> Right
