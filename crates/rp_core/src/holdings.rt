@@ -191,9 +191,10 @@ impl<'s> Holdings<'s> {
         ensures kept { OnErr result (self.new.content ≡ self.old.content) }
     {
         let again = key.copy(alloc)?;
+        let indexed = Indexed::with_index(alloc, holds)?;
         self.store.reserve()?;
         self.access.hold_model(again, grants)?;
-        self.store.commit(Prepared::Hold(key, Indexed::new(holds)));
+        self.store.commit(Prepared::Hold(key, indexed));
         Ok(())
     }
 

@@ -104,6 +104,14 @@ impl Indexed {
         Indexed { model, index: None }
     }
 
+    /// What a model holds, with the index that it is to have.
+    pub fn with_index(alloc: Global, model: ModelContent) -> Result<Indexed, AllocError>
+        ensures { IfOk result (λ indexed. indexed ≡ model) }
+    {
+        let index = index_of(alloc, &model.content)?;
+        Ok(Indexed { model, index })
+    }
+
     /// What the model holds.
     pub fn get(&self) -> &ModelContent
         ensures { result.now ≡ self.now }
