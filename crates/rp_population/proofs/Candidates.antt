@@ -21,7 +21,8 @@ use Rattle.rp_index.specs.Pairs.{HasAll}
 use Rattle.rp_index.specs.Told.{IsToldAmong}
 use Rattle.rp_index.proofs.Tests.{or_left, or_right, has_parts}
 use Rattle.rp_population.specs.Uses.{is_slot_of}
-use Rattle.rp_population.specs.Found.{Attribute, User, told_at, user_in, values_of, values_by, told_in_all, told_in, place_in, is_sought, is_of_sought, found_in, AreFoundAmong, may_have}
+use Rattle.rp_population.specs.Found.{Attribute, User, told_at, user_in, values_of, values_by, told_in_all, told_in, place_in, is_sought, is_of_sought}
+use Rattle.rp_population.specs.Candidates.{found_in, AreFoundAmong, may_have}
 
 -- ---- users
 

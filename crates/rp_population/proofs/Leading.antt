@@ -10,7 +10,7 @@ use Rattle.rp_index.specs.Index.{lead, AreLeadsAmong}
 use Rattle.rp_index.proofs.Tests.{or_left, or_right}
 use Rattle.rp_population.specs.declared.place.Place.{Place}
 use Rattle.rp_population.specs.Populations.{same_place, target_of, links_to}
-use Rattle.rp_population.specs.Found.{passes_at}
+use Rattle.rp_population.specs.Candidates.{passes_at}
 
 -- what passes at a place passes in the list
 passes_in : {X : Type 0} (test : X → Bool) (xs : List X) (place : ℕ) → passes_at test xs place ≡ true → list_any test xs ≡ true

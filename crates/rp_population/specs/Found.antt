@@ -1,7 +1,6 @@
 -- What is found in one model: the same as the definitions say of its instances, in parts.
-use Rattle.std.specs.Prelude.{◌≡◌, ℕ, Bool, false, ◌||◌, ◌==◌, List, [], ◌∷◌, Option, Some, None, if◌then◌else◌, slice_get}
-use Rattle.std.specs.Option.{option_map_or}
-use Rattle.std.specs.List.{flat_map, list_any, AllByRecursion}
+use Rattle.std.specs.Prelude.{◌≡◌, ℕ, Bool, false, ◌||◌, List, [], ◌∷◌, Option, Some, None, if◌then◌else◌}
+use Rattle.std.specs.List.{flat_map, list_any}
 use Rattle.plain_data.specs.Numbers.{is_among}
 use Rattle.ex_layouts.specs.Entities.{entities_of, line_of}
 use Rattle.ex_layouts.specs.Layouts.{layout}
@@ -31,28 +30,11 @@ is_sought (Some entity) all = is_among all entity
 abbrev pub is_of_sought : Checked → Option ℕ → Instance → Bool
 is_of_sought schema entity i = is_sought entity (entities_of schema i.entities)
 
--- the place of an instance of a model, if it is one of those
-abbrev pub found_in : Checked → Option ℕ → Key → Instance → List Place
-found_in schema entity model i = if is_of_sought schema entity i then place_in model i ∷ [] else []
-
--- whoever isn't a candidate isn't of the entity
-abbrev pub AreFoundAmong : Checked → Option ℕ → List ℕ → List Instance → Type 0
-AreFoundAmong schema entity names is = AllByRecursion (λ i. is_among names i.name ≡ false → is_of_sought schema entity i ≡ false) is
-
--- whether an instance that this entity is written with may be of the entity: it is that one, or has it above
-abbrev pub may_have : Checked → Option ℕ → ℕ → Bool
-may_have schema None written = false
-may_have schema (Some entity) written = (entity == written) || is_among (line_of schema written) entity
-
 -- ---- names
 
 -- the numbers are the names that stand for a place in a model with these links
 abbrev pub AreNames : Place → Key → List Link → List ℕ → Type 0
 AreNames p model links names = (name : ℕ) → is_among names name ≡ (same_place p (record { model = model; instance = name }) || list_any (links_to name p) links)
-
--- whether an element stands at a place and passes a test
-abbrev pub passes_at : {X : Type 0} → (X → Bool) → List X → ℕ → Bool
-passes_at test xs place = option_map_or test (slice_get xs place) false
 
 -- ---- users
 

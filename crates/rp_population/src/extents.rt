@@ -63,6 +63,7 @@ impl<'s> Extent<'s> {
     ghost use Rattle.rp_population.specs.Populations.{places, placed_all};
     ghost use Rattle.ex_layouts.specs.Entities.{entities_of, entity_spelled};
     ghost use Rattle.rp_population.specs.Entities.{extent_of};
+    ghost use Rattle.rp_population.specs.Candidates as among;
     ghost use Rattle.rp_population.specs.Found as spec;
 
     /// The instances of the entity of this name, in either case; none where the schema has no such entity.
@@ -102,7 +103,7 @@ impl<'s> Extent<'s> {
         instance: &Instance,
     ) -> Result<(), AllocError>
         ensures same { self.new ≡ self.old }
-        ensures places { OnOk result (found.new.items ≡ found.old.items ++ spec.found_in self.old.schema self.old.entity model.now instance.now) }
+        ensures places { OnOk result (found.new.items ≡ found.old.items ++ among.found_in self.old.schema self.old.entity model.now instance.now) }
     {
         if self.is_of(alloc, &instance.entities)? {
             push_place(alloc, found, model, instance.name)?;
@@ -119,7 +120,7 @@ impl<'s> Extent<'s> {
         instances: &[Instance],
     ) -> Result<(), AllocError>
         ensures same { self.new ≡ self.old }
-        ensures places { OnOk result (found.new.items ≡ found.old.items ++ flat_map (spec.found_in self.old.schema self.old.entity model.now) instances.now) }
+        ensures places { OnOk result (found.new.items ≡ found.old.items ++ flat_map (among.found_in self.old.schema self.old.entity model.now) instances.now) }
     {
         for instance in instances {
             self.push_one(alloc, found, model, instance)?;
@@ -137,7 +138,7 @@ impl<'s> Extent<'s> {
         name: u64,
     ) -> Result<(), AllocError>
         ensures same { self.new ≡ self.old }
-        ensures places { OnOk result (found.new.items ≡ found.old.items ++ told_of (spec.found_in self.old.schema self.old.entity model.now) instances.now name) }
+        ensures places { OnOk result (found.new.items ≡ found.old.items ++ told_of (among.found_in self.old.schema self.old.entity model.now) instances.now name) }
     {
         match instances.get(name) {
             Some(instance) => self.push_one(alloc, found, model, instance),
@@ -155,7 +156,7 @@ impl<'s> Extent<'s> {
         candidates: &BTreeSet<u64>,
     ) -> Result<(), AllocError>
         ensures same { self.new ≡ self.old }
-        ensures places { OnOk result (found.new.items ≡ found.old.items ++ flat_map (told_of (spec.found_in self.old.schema self.old.entity model.now) instances.now) candidates.now.keys) }
+        ensures places { OnOk result (found.new.items ≡ found.old.items ++ flat_map (told_of (among.found_in self.old.schema self.old.entity model.now) instances.now) candidates.now.keys) }
     {
         for name in candidates {
             self.push_named(alloc, found, model, instances, *name)?;
@@ -172,9 +173,9 @@ impl<'s> Extent<'s> {
         instances: &Instances,
         candidates: &BTreeSet<u64>,
     ) -> Result<(), AllocError>
-        requires { spec.AreFoundAmong self.old.schema self.old.entity candidates.now.keys instances.now }
+        requires { among.AreFoundAmong self.old.schema self.old.entity candidates.now.keys instances.now }
         ensures same { self.new ≡ self.old }
-        ensures places { OnOk result (found.new.items ≡ found.old.items ++ flat_map (spec.found_in self.old.schema self.old.entity model.now) instances.now) }
+        ensures places { OnOk result (found.new.items ≡ found.old.items ++ flat_map (among.found_in self.old.schema self.old.entity model.now) instances.now) }
     {
         // Both say that what they have is in order.
         let (_, _) = (instances.ordered(), candidates.len());
@@ -184,7 +185,7 @@ impl<'s> Extent<'s> {
     /// Whether instances that the entity of this number is written with may be of the entity.
     fn may_have(&mut self, alloc: Global, written: usize) -> Result<bool, AllocError>
         ensures same { self.new ≡ self.old }
-        ensures told { IfOk result (λ may. may ≡ spec.may_have self.old.schema self.old.entity written) }
+        ensures told { IfOk result (λ may. may ≡ among.may_have self.old.schema self.old.entity written) }
     {
         if self.entity == Some(written) {
             return Ok(true);
@@ -201,7 +202,7 @@ impl<'s> Extent<'s> {
         most: usize,
     ) -> Result<bool, AllocError>
         ensures same { self.new ≡ self.old }
-        ensures all { IfOk result (λ all. all ≡ true → (q : ℕ × ℕ) → spec.may_have self.old.schema self.old.entity q.0 ≡ true → (is_in_kind q kind.now || is_among names.old.items q.1) ≡ true → is_among names.new.items q.1 ≡ true) }
+        ensures all { IfOk result (λ all. all ≡ true → (q : ℕ × ℕ) → among.may_have self.old.schema self.old.entity q.0 ≡ true → (is_in_kind q kind.now || is_among names.old.items q.1) ≡ true → is_among names.new.items q.1 ≡ true) }
     {
         if !self.may_have(alloc, kind.entity)? {
             return Ok(true);
@@ -221,7 +222,7 @@ impl<'s> Extent<'s> {
         most: usize,
     ) -> Result<Option<Vec<u64>>, AllocError>
         ensures same { self.new ≡ self.old }
-        ensures found { IfOk result (λ found. IfSome found (λ names. (q : ℕ × ℕ) → spec.may_have self.old.schema self.old.entity q.0 ≡ true → is_under kinds.now q ≡ true → is_among names.items q.1 ≡ true)) }
+        ensures found { IfOk result (λ found. IfSome found (λ names. (q : ℕ × ℕ) → among.may_have self.old.schema self.old.entity q.0 ≡ true → is_under kinds.now q ≡ true → is_among names.items q.1 ≡ true)) }
     {
         let mut names = Vec::new(alloc);
         for kind in kinds {
@@ -239,7 +240,7 @@ impl<'s> Extent<'s> {
         held: &Indexed,
     ) -> Result<Option<BTreeSet<u64>>, AllocError>
         ensures same { self.new ≡ self.old }
-        ensures found { IfOk result (λ found. IfSome found (λ names. spec.AreFoundAmong self.old.schema self.old.entity names.keys held.now.content.instances)) }
+        ensures found { IfOk result (λ found. IfSome found (λ names. among.AreFoundAmong self.old.schema self.old.entity names.keys held.now.content.instances)) }
     {
         let Some(kinds) = held.kinds() else {
             return Ok(None);

@@ -5,6 +5,7 @@ ghost use Rattle.std.specs.List.{list_any};
 ghost use Rattle.plain_data.specs.Numbers.{is_among};
 ghost use Rattle.rp_index.specs.Index.{AreLeadsAmong};
 ghost use Rattle.rp_population.specs.Populations as spec;
+ghost use Rattle.rp_population.specs.Candidates as among;
 ghost use Rattle.rp_population.specs.Found as found;
 
 use crate::place::Place;
@@ -63,7 +64,7 @@ fn insert_leading_at(
     place: u64,
     of: &Place,
 ) -> Result<(), AllocError>
-    ensures { OnOk result ((name : ℕ) → is_among names.new.keys name ≡ (is_among names.old.keys name || found.passes_at (spec.links_to name of.now) links.now place)) }
+    ensures { OnOk result ((name : ℕ) → is_among names.new.keys name ≡ (is_among names.old.keys name || among.passes_at (spec.links_to name of.now) links.now place)) }
 {
     match links.get(place as usize) {
         Some(link) => insert_leading(names, link, of),
@@ -78,7 +79,7 @@ fn insert_each_leading(
     candidates: &[u64],
     of: &Place,
 ) -> Result<(), AllocError>
-    ensures { OnOk result ((name : ℕ) → is_among names.new.keys name ≡ (is_among names.old.keys name || list_any (found.passes_at (spec.links_to name of.now) links.now) candidates.now)) }
+    ensures { OnOk result ((name : ℕ) → is_among names.new.keys name ≡ (is_among names.old.keys name || list_any (among.passes_at (spec.links_to name of.now) links.now) candidates.now)) }
 {
     for place in candidates {
         insert_leading_at(names, links, *place, of)?;

@@ -2,7 +2,7 @@ use Rattle.std.proofs.Common.{◌≡◌, ◌||◌, ℕ, drop}
 use Rattle.std.specs.List.{list_any}
 use Rattle.plain_data.specs.Numbers.{is_among}
 use Rattle.rp_population.specs.Populations.{links_to}
-use Rattle.rp_population.specs.Found.{passes_at}
+use Rattle.rp_population.specs.Candidates.{passes_at}
 use Rattle.rp_population.proofs.names.insert_each_leading.Given as goal
 
 abbrev pub invariant-loop-place : goal.invariant-loop-place

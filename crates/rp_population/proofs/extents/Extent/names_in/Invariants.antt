@@ -1,7 +1,7 @@
 use Rattle.std.proofs.Common.{◌≡◌, ◌||◌, ℕ, true, drop}
 use Rattle.plain_data.specs.Numbers.{is_among}
 use Rattle.rp_index.specs.Index.{is_under}
-use Rattle.rp_population.specs.Found.{may_have}
+use Rattle.rp_population.specs.Candidates.{may_have}
 use Rattle.rp_population.proofs.extents.Extent.names_in.Given as goal
 
 abbrev pub invariant-loop-kind : goal.invariant-loop-kind

@@ -3,7 +3,7 @@ use Rattle.std.specs.List.{flat_map}
 use Rattle.rp_rows.specs.declared.rows.ModelContent.{ModelContent}
 use Rattle.rp_population.specs.Populations.{Counted, places, placed_all}
 use Rattle.rp_population.specs.Entities.{extent_of}
-use Rattle.rp_population.specs.Found.{found_in}
+use Rattle.rp_population.specs.Candidates.{found_in}
 use Rattle.rp_population.proofs.Candidates.{found_is}
 use Rattle.rp_population.proofs.Finding.{extent_is}
 use Rattle.rp_population.proofs.extents.Extent.push.Goals as goal

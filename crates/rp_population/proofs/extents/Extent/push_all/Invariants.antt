@@ -1,6 +1,6 @@
 use Rattle.std.proofs.Common.{◌≡◌, ◌++◌, drop}
 use Rattle.std.specs.List.{flat_map}
-use Rattle.rp_population.specs.Found.{found_in}
+use Rattle.rp_population.specs.Candidates.{found_in}
 use Rattle.rp_population.proofs.extents.Extent.push_all.Given as goal
 
 abbrev pub invariant-loop-instance : goal.invariant-loop-instance

@@ -1,5 +1,5 @@
 use Rattle.rp_index.proofs.Telling.{told_by_candidates}
-use Rattle.rp_population.specs.Found.{found_in}
+use Rattle.rp_population.specs.Candidates.{found_in}
 use Rattle.rp_population.proofs.Candidates.{found_among}
 use Rattle.rp_population.proofs.extents.Extent.push_among.Goals as goal
 

@@ -1,7 +1,7 @@
 use Rattle.std.proofs.Common.{◌≡◌, ◌++◌}
 use Rattle.std.specs.List.{flat_map}
 use Rattle.rp_index.specs.Told.{told_of}
-use Rattle.rp_population.specs.Found.{found_in}
+use Rattle.rp_population.specs.Candidates.{found_in}
 use Rattle.rp_population.proofs.extents.Extent.push_each.Given as goal
 
 abbrev pub invariant-loop-name : goal.invariant-loop-name
