@@ -29,9 +29,15 @@ pub fn few_among(count: usize) -> usize
 
 /// What a model holds, with its index, if it has one.
 #[derive(Drop)]
-pub struct Indexed {
+struct Held {
     model: ModelContent,
     index: Option<Index>,
+}
+
+/// The same in a block of its own, so that rows which make room for another are small.
+#[derive(Drop)]
+pub struct Indexed {
+    held: Box<Held>,
 }
 
 impl Model for Indexed {
@@ -45,9 +51,9 @@ impl Model for Indexed {
 
     ghost coded = { Prim.hlevel (codes, content_type.the_row.coded) };
 
-    ghost view = { λ x. x.model };
+    ghost view = { λ x. x.held.value.model };
 
-    ghost invariant = { λ x. IsIndexOf x.model.content x.index };
+    ghost invariant = { λ x. IsIndexOf x.held.value.model.content x.held.value.index };
 }
 
 /// The index of a content, if it is to have one.
@@ -98,10 +104,11 @@ impl Indexed {
     ghost use Rattle.rp_index.specs.Index.{IsIndexOf, AreUsersAmong, AreLeadsAmong, AreKindsOf};
 
     /// What a model holds, without an index.
-    pub fn new(model: ModelContent) -> Indexed
-        ensures { result ≡ model }
+    pub fn new(alloc: Global, model: ModelContent) -> Result<Indexed, AllocError>
+        ensures { IfOk result (λ indexed. indexed ≡ model) }
     {
-        Indexed { model, index: None }
+        let held = Box::new(alloc, Held { model, index: None })?;
+        Ok(Indexed { held })
     }
 
     /// What a model holds, with the index that it is to have.
@@ -109,14 +116,15 @@ impl Indexed {
         ensures { IfOk result (λ indexed. indexed ≡ model) }
     {
         let index = index_of(alloc, &model.content)?;
-        Ok(Indexed { model, index })
+        let held = Box::new(alloc, Held { model, index })?;
+        Ok(Indexed { held })
     }
 
     /// What the model holds.
     pub fn get(&self) -> &ModelContent
         ensures { result.now ≡ self.now }
     {
-        &self.model
+        &self.held.model
     }
 
     // ---- candidates
@@ -129,9 +137,9 @@ impl Indexed {
     ) -> Result<Option<BTreeSet<u64>>, AllocError>
         ensures { IfOk result (λ found. IfSome found (λ users. AreUsersAmong names.now.keys users.keys self.now.content.instances)) }
     {
-        match &self.index {
+        match &self.held.index {
             Some(index) => {
-                let most = few_among(self.model.content.instances.len());
+                let most = few_among(self.held.model.content.instances.len());
                 index.users_of(alloc, names, most)
             }
             None => Ok(None),
@@ -142,9 +150,9 @@ impl Indexed {
     pub fn leads_among(&self, alloc: Global, target: u64) -> Result<Option<Vec<u64>>, AllocError>
         ensures { IfOk result (λ found. IfSome found (λ places. AreLeadsAmong target places.items self.now.content.links)) }
     {
-        match &self.index {
+        match &self.held.index {
             Some(index) => {
-                let most = few_among(self.model.content.links.len()) + 1;
+                let most = few_among(self.held.model.content.links.len()) + 1;
                 index.leads_to(alloc, target, most)
             }
             None => Ok(None),
@@ -155,7 +163,7 @@ impl Indexed {
     pub fn kinds(&self) -> Option<&[Kind]>
         ensures { IfSome result (λ kinds. AreKindsOf self.now.content.instances kinds.now) }
     {
-        match &self.index {
+        match &self.held.index {
             Some(index) => Some(index.kinds()),
             None => None,
         }
@@ -168,9 +176,9 @@ impl Indexed {
         ensures same { self.new ≡ self.old }
         ensures index { IfOk result (IsIndexOf self.old.content) }
     {
-        match self.index.take() {
+        match self.held.index.take() {
             Some(index) => Ok(Some(index)),
-            None => index_of(alloc, &self.model.content),
+            None => index_of(alloc, &self.held.model.content),
         }
     }
 
@@ -185,7 +193,7 @@ impl Indexed {
     {
         match self.take_index(alloc)? {
             Some(index) => {
-                let index = index_with(alloc, index, &self.model.content.instances, instance)?;
+                let index = index_with(alloc, index, &self.held.model.content.instances, instance)?;
                 Ok(Some(index))
             }
             None => Ok(None),
@@ -202,7 +210,7 @@ impl Indexed {
         ensures index { IfOk result (IsIndexOf (without_instance name self.old).content) }
     {
         match self.take_index(alloc)? {
-            Some(index) => Ok(Some(index_without(index, &self.model.content.instances, name))),
+            Some(index) => Ok(Some(index_without(index, &self.held.model.content.instances, name))),
             None => Ok(None),
         }
     }
@@ -213,9 +221,10 @@ impl Indexed {
         requires index { IsIndexOf (with_instance instance self.old).content index }
         ensures { self.new ≡ with_instance instance self.old }
     {
-        self.model.greatest = self.model.greatest.max(instance.name);
-        self.model.content.instances.put(instance, spare);
-        self.index = index;
+        let held = &mut *self.held;
+        held.model.greatest = held.model.greatest.max(instance.name);
+        held.model.content.instances.put(instance, spare);
+        held.index = index;
     }
 
     /// No instance stands under the name from now on. It takes no memory.
@@ -223,8 +232,9 @@ impl Indexed {
         requires { IsIndexOf (without_instance name self.old).content index }
         ensures { self.new ≡ without_instance name self.old }
     {
-        self.model.content.instances.drop_instance(name);
-        self.index = index;
+        let held = &mut *self.held;
+        held.model.content.instances.drop_instance(name);
+        held.index = index;
     }
 
     /// Another content in place of the former. It takes no memory.
@@ -232,8 +242,9 @@ impl Indexed {
         requires { IsIndexOf content index }
         ensures { self.new ≡ record self.old { greatest = contents.greatest_of self.old.greatest content; content = content } }
     {
-        self.model.greatest = greatest_of(self.model.greatest, &content);
-        self.model.content = content;
-        self.index = index;
+        let held = &mut *self.held;
+        held.model.greatest = greatest_of(held.model.greatest, &content);
+        held.model.content = content;
+        held.index = index;
     }
 }

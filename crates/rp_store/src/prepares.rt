@@ -45,7 +45,8 @@ impl Store {
             greatest: 0,
             content,
         };
-        Ok(Prepared::Hold(key, Indexed::new(model)))
+        let indexed = Indexed::new(alloc, model)?;
+        Ok(Prepared::Hold(key, indexed))
     }
 
     /// Without the model of this key.
