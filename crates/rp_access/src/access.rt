@@ -15,6 +15,7 @@ use rp_sight::{
     Groups, Member, Seen, Table, group_right, level, members_of, visible_groups, visible_models,
 };
 use rp_store::{Keyed, Store};
+use shared::Shared;
 use std::alloc::{AllocError, Global};
 use std::marker::Model;
 
@@ -38,11 +39,11 @@ impl Model for Access {
 pub enum Prepared {
     Nothing,
     /// There are rights on the model from now on, and these grants.
-    Open(Key, Rows<Grant>),
+    Open(Shared<Key>, Rows<Grant>),
     Close(Key),
     /// All the grants on the model.
     Regrant(Key, Rows<Grant>),
-    OfGroup(Key, GroupStep),
+    OfGroup(Shared<Key>, GroupStep),
 }
 
 /// The reason, and the change is let go: those with the same parts in one arm, which is half of what each in its own takes.
@@ -260,6 +261,7 @@ impl Access {
         ensures model_rows { IfOk result (λ prepared. prepared_models prepared self.old.models.entries ≡ self.old.models.entries) }
         ensures group_rows { IfOk result (λ prepared. prepared_groups prepared self.old.groups.rows ≡ altered key (alteration_of change) self.old.groups.rows) }
     {
+        let key = Shared::new(alloc, key)?;
         let step = group_step(alloc, &mut self.groups, &key, change)?;
         Ok(Prepared::OfGroup(key, step))
     }
@@ -316,6 +318,7 @@ impl Access {
         ensures opened { IfOk result (λ prepared. prepared ≡ Prepared.Open key []) }
     {
         self.models.reserve()?;
+        let key = Shared::new(alloc, key)?;
         Ok(Prepared::Open(key, Rows::new(alloc)))
     }
 
@@ -396,7 +399,7 @@ impl Access {
     // ---- what was kept elsewhere is held again
 
     /// These are the grants on the model of the key from now on. Without memory nothing changes.
-    pub fn hold_model(&mut self, key: Key, grants: Rows<Grant>) -> Result<(), AllocError>
+    pub fn hold_model(&mut self, key: Shared<Key>, grants: Rows<Grant>) -> Result<(), AllocError>
         ensures held { OnOk result (self.new.models.entries ≡ with_row key_cmp entry_key key (Some (record { key = key; value = grants })) self.old.models.entries) }
         ensures kept { OnErr result (self.new.models.entries ≡ self.old.models.entries) }
         ensures groups { self.new.groups ≡ self.old.groups }

@@ -14,6 +14,7 @@ use rp_reports::SchemaRules;
 use rp_rows::rows::{Grant, Key, Listing, ModelContent};
 use rp_sight::Table;
 use rp_store::{Prepared, Store};
+use shared::Shared;
 use std::alloc::{AllocError, Global};
 use std::marker::Model;
 
@@ -190,7 +191,8 @@ impl<'s> Holdings<'s> {
         ensures held { OnOk result (self.new.content ≡ with_model (row_of key holds grants) self.old.content) }
         ensures kept { OnErr result (self.new.content ≡ self.old.content) }
     {
-        let again = key.copy(alloc)?;
+        let key = Shared::new(alloc, key)?;
+        let again = key.share()?;
         let indexed = Indexed::with_index(alloc, holds)?;
         self.store.reserve()?;
         self.access.hold_model(again, grants)?;

@@ -17,6 +17,7 @@ use plain_data::{Rows, Text};
 use rp_listers::Listers;
 use rp_rows::rows::{Grant, Key, Level, Listing};
 use rp_store::{Entry, Keyed};
+use shared::Shared;
 use std::alloc::{AllocError, Global};
 use std::marker::Model;
 
@@ -38,7 +39,7 @@ pub struct Regrant {
     /// All the grants on the group.
     pub grants: Rows<Grant>,
     /// The partner as its owner, and the owner of the group as its name.
-    pub under: Key,
+    pub under: Shared<Key>,
     /// The names of the owner's groups that the partner is granted.
     pub names: Rows<Text>,
 }
@@ -188,16 +189,16 @@ impl Groups {
     }
 
     /// From now on the group of the key lists this: its grants stay, or it is new and has none. It takes no memory.
-    pub fn put(&mut self, key: Key, again: Key, listing: Listing)
+    pub fn put(&mut self, key: Shared<Key>, again: Shared<Key>, listing: Listing)
         requires same { again ≡ key }
         requires room { 0 < self.old.room }
         requires right_room { 0 < self.old.right_room }
         requires told { AreTold key listing.members self.old.listers }
         ensures { self.new.rows ≡ altered key (Holds (Some listing)) self.old.rows }
     {
-        let former = members_at(&self.listings, &key);
+        let former = members_at(&self.listings, key.get());
         self.listers
-            .unlist(&key, former, listing.members.as_slice());
+            .unlist(key.get(), former, listing.members.as_slice());
         self.rights.add(again, Rows::new(self.alloc));
         self.listings.put(key, listing);
     }
@@ -244,9 +245,10 @@ impl Groups {
         ensures held { OnOk result (self.new.rows ≡ with_row key_cmp row_key key (Some (granted_row key listing grants)) self.old.rows) }
         ensures kept { OnErr result (self.new.rows ≡ self.old.rows) }
     {
-        let again = key.copy(alloc)?;
-        self.reserve(alloc, &key, &listing)?;
-        list_name(alloc, &mut self.granted, grants.as_slice(), &key)?;
+        let key = Shared::new(alloc, key)?;
+        let again = key.share()?;
+        self.reserve(alloc, key.get(), &listing)?;
+        list_name(alloc, &mut self.granted, grants.as_slice(), key.get())?;
         self.rights.put(again, grants);
         self.listings.put(key, listing);
         Ok(())

@@ -49,7 +49,7 @@ fn counts_among(
         groups,
         caller,
         model,
-        &names.key.name,
+        &names.key.get().name,
         name,
     ))
 }

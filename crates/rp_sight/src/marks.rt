@@ -141,7 +141,7 @@ fn mark_names(
     ensures { OnOk result (marks.new ≡ marked (counts_under caller.now groups.now.rows names.now) marks.old models.now.rows) }
 {
     for name in names.value.as_slice() {
-        mark_at(models, groups, caller, &names.key.name, name, marks)?;
+        mark_at(models, groups, caller, &names.key.get().name, name, marks)?;
     }
     Ok(())
 }

@@ -92,7 +92,7 @@ impl<'a, A> Table<'a, A> {
         // (The key is taken from the smaller entry: what is held isn't read from memory before it is asked for.)
         let rights = self.rights.entry(place);
         RowRef {
-            key: &rights.key,
+            key: rights.key.get(),
             holds: &entry.value,
             grants: rights.value.as_slice(),
         }

@@ -5,6 +5,7 @@ use rp_content::{Content, Entities, Instance, Spare};
 use rp_index::{Index, Indexed};
 use rp_rows::rows::Key;
 use rp_value::Value;
+use shared::Shared;
 use std::alloc::AllocError;
 
 /// A change of the model of a key, or of one instance in it.
@@ -37,7 +38,7 @@ pub enum Edit {
 #[derive(Drop)]
 pub enum Prepared {
     /// The model stands under the key from now on.
-    Hold(Key, Indexed),
+    Hold(Shared<Key>, Indexed),
     Remove(Key),
     Alter(Key, Edit),
 }

@@ -19,6 +19,7 @@ use rp_index::{Indexed, index_of};
 use rp_rows::limits::{MAX_INSTANCES, MAX_LINKS, MAX_NAME};
 use rp_rows::rows::{Key, ModelContent};
 use rp_value::Value;
+use shared::Shared;
 use std::alloc::{AllocError, Global};
 
 /// Whether it is more than a model may hold.
@@ -46,6 +47,7 @@ impl Store {
             content,
         };
         let indexed = Indexed::new(alloc, model)?;
+        let key = Shared::new(alloc, key)?;
         Ok(Prepared::Hold(key, indexed))
     }
 
