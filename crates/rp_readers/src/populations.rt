@@ -2,6 +2,7 @@
 
 ghost use Rattle.std.specs.Prelude.{◌≡◌, ◌==◌, ◌&&◌, map, option_copied, IfOk};
 ghost use Rattle.std.specs.List.{list_any};
+ghost use Rattle.rp_content.specs.declared.instance.Instance.{Instance};
 ghost use Rattle.rp_rows.specs.Sight as sight;
 ghost use Rattle.rp_population.specs.Populations.{population, places, has_place as HasPlace};
 ghost use Rattle.rp_population.specs.Entities as entities;
