@@ -5,8 +5,8 @@ ghost use Rattle.rp_snapshot_texts.specs.Texts.{rows_text};
 
 use crate::saving::save;
 use crate::version::Version;
-use rp_io::ToWriter;
 use rp_index::Indexed;
+use rp_io::ToWriter;
 use rp_rows::rows::Listing;
 use rp_sight::Table;
 use std::alloc::{AllocError, Global};

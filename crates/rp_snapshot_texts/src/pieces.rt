@@ -56,6 +56,12 @@ pub(crate) fn model_piece<V: Version>(
     let file = version.file(alloc, row.holds.get())?;
     let room = room_for(file.as_bytes());
     let mut out = Writer::new(begun(alloc, later, room)?);
-    write_model(&mut out, file.as_str(), row.key, row.holds.get(), row.grants)?;
+    write_model(
+        &mut out,
+        file.as_str(),
+        row.key,
+        row.holds.get(),
+        row.grants,
+    )?;
     Ok(out.into_inner())
 }

@@ -9,8 +9,8 @@ ghost use Rattle.rp_snapshot_texts.specs.Saving.{Saves};
 
 use crate::pieces::{group_piece, model_piece};
 use crate::version::Version;
-use rp_io::{Sink, write_all};
 use rp_index::Indexed;
+use rp_io::{Sink, write_all};
 use rp_rows::rows::Listing;
 use rp_sight::{RowRef, Table};
 use std::alloc::{AllocError, Global};

@@ -8,8 +8,8 @@ ghost use Rattle.rp_snapshots.specs.Snapshots.{first_version, snapshot_by};
 
 use crate::first::FirstVersion;
 use ex_loaded::LoadedSchema;
-use rp_io::Sink;
 use rp_index::Indexed;
+use rp_io::Sink;
 use rp_rows::rows::Listing;
 use rp_sight::Table;
 use rp_snapshot_texts::{SaveFault, gathered, is_text_of};
