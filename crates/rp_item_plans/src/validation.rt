@@ -9,12 +9,12 @@ ghost use Rattle.rp_plans.specs.Plans.{Plans};
 
 use plain_data::Rows;
 use rp_group_domain::CountedModel;
+use rp_index::Indexed;
 use rp_plain::messages::{Refusal, Reply, Request};
 use rp_plain::reports::ToldReport;
 use rp_plans::{Plan, first, is_no_partner, key_fault, unseen};
 use rp_readers::Readers;
 use rp_reports::SchemaRules;
-use rp_index::Indexed;
 use rp_rows::rows::Key;
 use rp_sight::RowRef;
 use std::alloc::{AllocError, Global};

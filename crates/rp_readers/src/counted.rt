@@ -13,11 +13,7 @@ use std::alloc::{AllocError, Global};
 
 impl<'a, 's> Readers<'a, 's> {
     /// The models that count in the group, if the partner sees it.
-    pub fn counted(
-        &self,
-        alloc: Global,
-        key: &Key,
-    ) -> Result<Vec<RowRef<'a, Indexed>>, AllocError>
+    pub fn counted(&self, alloc: Global, key: &Key) -> Result<Vec<RowRef<'a, Indexed>>, AllocError>
         requires { TellsListed (told self.now) }
         ensures { IfOk result (λ out. map counted_of out.items ≡ (told self.now).counted key.now) }
     {
