@@ -7,15 +7,16 @@ ghost use Rattle.std.specs.Ordering.{nat_cmp};
 ghost use Rattle.sorted_tables.specs.Table.{is_at, with_row, IsAscending};
 ghost use Rattle.rp_content.specs.Names.{instance_name, Takes};
 
+use crate::gapped::Gapped;
 use crate::instance::Instance;
-use sorted_tables::{find, put, remove};
+use sorted_tables::{find, search};
 use std::alloc::{AllocError, Global};
 use std::marker::Model;
 
 /// Instances in the order of their names, each name once.
 #[derive(Drop)]
 pub struct Instances {
-    items: Vec<Instance>,
+    list: Gapped,
 }
 
 impl Model for Instances {
@@ -32,9 +33,9 @@ impl Model for Instances {
 
     ghost coded = { Prim.hlevel (codes, instance_type.the_row.coded) };
 
-    ghost view = { λ l. l.items.items };
+    ghost view = { λ l. l.list.0 };
 
-    ghost invariant = { λ l. IsAscending nat_cmp instance_name l.items.items };
+    ghost invariant = { λ l. IsAscending nat_cmp instance_name l.list.0 };
 }
 
 /// Room for so many instances, with none in it.
@@ -71,19 +72,16 @@ fn room_beside(count: usize) -> usize
     count + count / 2 + 1
 }
 
-/// Moves the instances into the spare, where one of this name is one more and they have no room for it.
-fn make_room(items: &mut Vec<Instance>, name: u64, spare: Spare)
-    requires order { IsAscending nat_cmp instance_name items.old.items }
-    requires takes { Takes spare name items.old.items }
-    ensures items { items.new.items ≡ items.old.items }
-    ensures room { list.find (is_at nat_cmp instance_name name) items.new.items ≡ None → vec_len items.new < vec_capacity items.new }
+/// Room for one more. Where there is none, all move into the spare.
+fn make_room(list: &mut Gapped, spare: Spare)
+    requires { length list.old.0 < spare }
+    ensures same { list.new.0 ≡ list.old.0 }
+    ensures room { 0 < list.new.1 }
 {
-    if items.len() < items.capacity() || find(items.as_slice(), &name).is_some() {
-        return;
+    if list.is_full() {
+        let Spare { items } = spare;
+        list.move_into(items);
     }
-    let Spare { items: mut room } = spare;
-    room.append(items).unwrap();
-    *items = room;
 }
 
 impl Instances {
@@ -92,7 +90,7 @@ impl Instances {
         ensures { result ≡ [] }
     {
         Instances {
-            items: Vec::new(alloc),
+            list: Gapped::of(Vec::new(alloc)),
         }
     }
 
@@ -101,14 +99,16 @@ impl Instances {
         requires { IsAscending nat_cmp instance_name items.items }
         ensures { result ≡ items.items }
     {
-        Instances { items }
+        Instances {
+            list: Gapped::of(items),
+        }
     }
 
     /// All of them.
     pub fn as_slice(&self) -> &[Instance]
         ensures { result.now ≡ self.now }
     {
-        self.items.as_slice()
+        self.list.as_slice()
     }
 
     /// All of them, whose names ascend.
@@ -116,27 +116,27 @@ impl Instances {
         ensures are { result.now ≡ self.now }
         ensures order { IsAscending nat_cmp instance_name self.now }
     {
-        self.items.as_slice()
+        self.list.as_slice()
     }
 
     pub fn len(&self) -> usize
         ensures { result ≡ length self.now }
     {
-        self.items.len()
+        self.list.len()
     }
 
     /// The instance of this name. The others aren't walked over.
     pub fn get(&self, name: u64) -> Option<&Instance>
         ensures { option_copied result ≡ list.find (is_at nat_cmp instance_name name) self.now }
     {
-        find(self.items.as_slice(), &name)
+        find(self.list.as_slice(), &name)
     }
 
     /// Room for one instance more than these.
     pub fn spare(&self, alloc: Global) -> Result<Spare, AllocError>
         ensures { IfOk result (λ spare. length self.now < spare) }
     {
-        let items = Vec::with_capacity(alloc, room_beside(self.items.len()))?;
+        let items = Vec::with_capacity(alloc, room_beside(self.list.len()))?;
         Ok(Spare { items })
     }
 
@@ -146,14 +146,21 @@ impl Instances {
         requires { Takes spare instance.name self.old }
         ensures { self.new ≡ with_row nat_cmp instance_name instance.name (Some instance) self.old }
     {
-        make_room(&mut self.items, instance.name, spare);
-        put(&mut self.items, instance);
+        match search(self.list.as_slice(), &instance.name) {
+            Ok(place) => self.list.set(place, instance),
+            Err(place) => {
+                make_room(&mut self.list, spare);
+                self.list.insert(place, instance);
+            }
+        }
     }
 
     /// No instance stands under the name from now on.
     pub fn drop_instance(&mut self, name: u64)
         ensures { self.new ≡ with_row nat_cmp instance_name name None self.old }
     {
-        remove(&mut self.items, &name);
+        if let Ok(place) = search(self.list.as_slice(), &name) {
+            self.list.remove(place);
+        }
     }
 }

@@ -2,6 +2,7 @@
 #![tactic(auto)]
 
 mod content;
+mod gapped;
 mod header;
 mod instance;
 mod instances;
