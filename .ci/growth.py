@@ -69,13 +69,13 @@ LISTED = [
     Listed(f"{SIGHT_OF}groups.rt", "reserve", "self.listings.reserve()?; self.rights.reserve()", ONE_MORE),
     Listed(f"{SIGHT_OF}groups.rt", "reserve_names", "self.granted.reserve()", ONE_MORE),
     Listed(f"{ACCESS}steps.rt", "regrant_for", "groups.reserve_names()?", ONE_MORE),
-    Listed(f"{ACCESS}steps.rt", "group_step", "groups.reserve()?", ONE_MORE),
+    Listed(f"{ACCESS}steps.rt", "group_step", "groups.reserve(alloc, key.get(), &listing)?", ONE_MORE),
     Listed(f"{ACCESS}access.rt", "open", "self.models.reserve()?", ONE_MORE),
     Listed(f"{STORE}keyed.rt", "reserve", "self.entries.reserve(1)", ONE_MORE),
     Listed(f"{STORE}prepares.rt", "create", "self.models.reserve()?", ONE_MORE),
     Listed(f"{STORE}store.rt", "reserve", "self.models.reserve()", RESTORED),
     Listed(f"{STORE}keyed.rt", "add_name", "self.reserve()?", RESTORED),
-    Listed(f"{SIGHT_OF}groups.rt", "hold", "self.reserve()?", RESTORED),
+    Listed(f"{SIGHT_OF}groups.rt", "hold", "self.reserve(alloc, key.get(), &listing)?", RESTORED),
     Listed(f"{ACCESS}access.rt", "hold_model", "self.models.reserve()?", RESTORED),
 ]
 

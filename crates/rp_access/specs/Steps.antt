@@ -9,6 +9,7 @@ use Rattle.rp_rows.specs.Alterations.{Alteration, Holds, Grants as GrantAltered,
 use Rattle.rp_store.specs.Entries.{entry_key, is_entry, with_value, standing}
 use Rattle.rp_sight.specs.Kept.{KeptGroups}
 use Rattle.rp_sight.specs.Regrants.{RegrantFits}
+use Rattle.rp_sight.specs.Told.{AreTold}
 use Rattle.rp_sight.specs.Stored.{rewritten}
 use Rattle.rp_access.specs.Kept.{Rights, KeptAccess}
 use Rattle.rp_access.specs.declared.steps.Altered.{Altered}
@@ -35,7 +36,7 @@ group_stepped k group.Remove gs = altered k (Holds None) gs
 group_stepped k (group.Regrant r) gs = regranted_row k r.grants gs
 
 abbrev pub GroupFits : Key → GroupStep → KeptGroups → Type 0
-GroupFits k (group.Put again a) gs = (again ≡ k) × (0 < gs.room) × (0 < gs.right_room)
+GroupFits k (group.Put again a) gs = (again ≡ k) × (0 < gs.room) × (0 < gs.right_room) × AreTold k a.members gs.listers
 GroupFits k group.Remove gs = Unit {0}
 GroupFits k (group.Regrant r) gs = RegrantFits k r gs
 

@@ -8,12 +8,14 @@ use crate::regranted::regranted_for;
 use crate::relisting::{excluding, including};
 use crate::steps::{Altered, GroupStep, group_step, make_group_step};
 use plain_data::{Rows, Text};
+use rp_index::Indexed;
 use rp_rows::limits::{MAX_GROUPS, MAX_MODELS};
-use rp_rows::rows::{Grant, Key, Level, Listing, ModelContent, Right};
+use rp_rows::rows::{Grant, Key, Level, Listing, Right};
 use rp_sight::{
     Groups, Member, Seen, Table, group_right, level, members_of, visible_groups, visible_models,
 };
 use rp_store::{Keyed, Store};
+use shared::Shared;
 use std::alloc::{AllocError, Global};
 use std::marker::Model;
 
@@ -37,11 +39,11 @@ impl Model for Access {
 pub enum Prepared {
     Nothing,
     /// There are rights on the model from now on, and these grants.
-    Open(Key, Rows<Grant>),
+    Open(Shared<Key>, Rows<Grant>),
     Close(Key),
     /// All the grants on the model.
     Regrant(Key, Rows<Grant>),
-    OfGroup(Key, GroupStep),
+    OfGroup(Shared<Key>, GroupStep),
 }
 
 /// The reason, and the change is let go: those with the same parts in one arm, which is half of what each in its own takes.
@@ -88,7 +90,7 @@ impl Access {
     }
 
     /// The models of a store, each with the grants on it.
-    pub fn models<'a>(&'a self, store: &'a Store) -> Table<'a, ModelContent>
+    pub fn models<'a>(&'a self, store: &'a Store) -> Table<'a, Indexed>
         requires { map entry_key store.now.entries ≡ map entry_key self.now.models.entries }
         ensures { result.rows ≡ joined store.now.entries self.now.models.entries }
     {
@@ -104,7 +106,7 @@ impl Access {
     /// What the partner may do with the model of this owner and name. Of groups only those are looked at that he is granted.
     pub fn right_on_model(
         &self,
-        models: &Table<'_, ModelContent>,
+        models: &Table<'_, Indexed>,
         partner: &Text,
         owner: &Text,
         name: &Text,
@@ -133,9 +135,9 @@ impl Access {
     pub fn visible_models<'a>(
         &self,
         alloc: Global,
-        models: &Table<'a, ModelContent>,
+        models: &Table<'a, Indexed>,
         partner: &Text,
-    ) -> Result<Vec<Seen<'a, ModelContent>>, AllocError>
+    ) -> Result<Vec<Seen<'a, Indexed>>, AllocError>
         ensures { IfOk result (λ seen. map seen_of seen.items ≡ map (seen_model self.now.groups.rows partner.now) (filter (sight.sees self.now.groups.rows partner.now) models.now.rows)) }
     {
         visible_models(alloc, models, &self.groups, partner)
@@ -156,7 +158,7 @@ impl Access {
     pub fn members(
         &self,
         alloc: Global,
-        models: &Table<'_, ModelContent>,
+        models: &Table<'_, Indexed>,
         key: &Key,
     ) -> Result<Vec<Member<'_>>, AllocError>
         ensures members { IfOk result (λ out. map member_of out.items ≡ members_in models.now.rows (find (is_row key.now) self.now.groups.rows)) }
@@ -259,6 +261,7 @@ impl Access {
         ensures model_rows { IfOk result (λ prepared. prepared_models prepared self.old.models.entries ≡ self.old.models.entries) }
         ensures group_rows { IfOk result (λ prepared. prepared_groups prepared self.old.groups.rows ≡ altered key (alteration_of change) self.old.groups.rows) }
     {
+        let key = Shared::new(alloc, key)?;
         let step = group_step(alloc, &mut self.groups, &key, change)?;
         Ok(Prepared::OfGroup(key, step))
     }
@@ -315,6 +318,7 @@ impl Access {
         ensures opened { IfOk result (λ prepared. prepared ≡ Prepared.Open key []) }
     {
         self.models.reserve()?;
+        let key = Shared::new(alloc, key)?;
         Ok(Prepared::Open(key, Rows::new(alloc)))
     }
 
@@ -395,7 +399,7 @@ impl Access {
     // ---- what was kept elsewhere is held again
 
     /// These are the grants on the model of the key from now on. Without memory nothing changes.
-    pub fn hold_model(&mut self, key: Key, grants: Rows<Grant>) -> Result<(), AllocError>
+    pub fn hold_model(&mut self, key: Shared<Key>, grants: Rows<Grant>) -> Result<(), AllocError>
         ensures held { OnOk result (self.new.models.entries ≡ with_row key_cmp entry_key key (Some (record { key = key; value = grants })) self.old.models.entries) }
         ensures kept { OnErr result (self.new.models.entries ≡ self.old.models.entries) }
         ensures groups { self.new.groups ≡ self.old.groups }

@@ -11,6 +11,7 @@ use crate::relisted::relisted;
 use plain_data::Text;
 use rp_rows::rows::{Key, Level, Listing};
 use rp_sight::{Groups, Regrant};
+use shared::Shared;
 use std::alloc::{AllocError, Global};
 
 /// What is done to what stands under a key.
@@ -26,7 +27,7 @@ pub enum Altered<A> {
 #[derive(Drop)]
 pub enum GroupStep {
     /// The key once more, and what is held there.
-    Put(Key, Listing),
+    Put(Shared<Key>, Listing),
     Remove,
     Regrant(Regrant),
 }
@@ -49,13 +50,17 @@ fn regrant_for(
     let again = to.copy(alloc)?;
     let grants = regranted_for(alloc, to, level, groups.table().grants_at(key))?;
     groups.reserve_names()?;
-    Ok(Regrant {
-        level,
-        grants,
-        under: Key {
+    let under = Shared::new(
+        alloc,
+        Key {
             owner: again,
             name: owner,
         },
+    )?;
+    Ok(Regrant {
+        level,
+        grants,
+        under,
         names,
     })
 }
@@ -64,7 +69,7 @@ fn regrant_for(
 pub fn group_step(
     alloc: Global,
     groups: &mut Groups,
-    key: &Key,
+    key: &Shared<Key>,
     change: Altered<Listing>,
 ) -> Result<GroupStep, AllocError>
     ensures rows { groups.new.rows ≡ groups.old.rows }
@@ -73,26 +78,26 @@ pub fn group_step(
 {
     match change {
         Altered::Hold(listing) => {
-            let again = key.copy(alloc)?;
-            groups.reserve()?;
+            let again = key.share()?;
+            groups.reserve(alloc, key.get(), &listing)?;
             Ok(GroupStep::Put(again, listing))
         }
         Altered::Remove => Ok(GroupStep::Remove),
         Altered::Grants(to, level) => {
-            let regrant = regrant_for(alloc, groups, key, to, level)?;
+            let regrant = regrant_for(alloc, groups, key.get(), to, level)?;
             Ok(GroupStep::Regrant(regrant))
         }
     }
 }
 
 /// Makes the step. It takes no memory.
-pub fn make_group_step(groups: &mut Groups, key: Key, step: GroupStep)
+pub fn make_group_step(groups: &mut Groups, key: Shared<Key>, step: GroupStep)
     requires { GroupFits key step groups.old }
     ensures { groups.new.rows ≡ group_stepped key step groups.old.rows }
 {
     match step {
         GroupStep::Put(again, listing) => groups.put(key, again, listing),
-        GroupStep::Remove => groups.remove(&key),
-        GroupStep::Regrant(regrant) => groups.regrant(&key, regrant),
+        GroupStep::Remove => groups.remove(key.get()),
+        GroupStep::Regrant(regrant) => groups.regrant(key.get(), regrant),
     }
 }

@@ -7,12 +7,14 @@ use crate::steps::{Pending, make_steps};
 use ex_loaded::LoadedSchema;
 use plain_data::{Rows, Text};
 use rp_access::Access;
+use rp_index::Indexed;
 use rp_plain::messages::{NewFault, Reply, Request};
 use rp_readers::{KeptLayouts, Readers, place_among};
 use rp_reports::SchemaRules;
 use rp_rows::rows::{Grant, Key, Listing, ModelContent};
 use rp_sight::Table;
 use rp_store::{Prepared, Store};
+use shared::Shared;
 use std::alloc::{AllocError, Global};
 use std::marker::Model;
 
@@ -117,7 +119,7 @@ impl<'s> Holdings<'s> {
     }
 
     /// The rows of models, in the order of owner and name.
-    pub fn models(&self) -> Table<'_, ModelContent>
+    pub fn models(&self) -> Table<'_, Indexed>
         ensures { result.rows ≡ self.now.content.models }
     {
         self.access.models(&self.store)
@@ -189,10 +191,12 @@ impl<'s> Holdings<'s> {
         ensures held { OnOk result (self.new.content ≡ with_model (row_of key holds grants) self.old.content) }
         ensures kept { OnErr result (self.new.content ≡ self.old.content) }
     {
-        let again = key.copy(alloc)?;
+        let key = Shared::new(alloc, key)?;
+        let again = key.share()?;
+        let indexed = Indexed::with_index(alloc, holds)?;
         self.store.reserve()?;
         self.access.hold_model(again, grants)?;
-        self.store.commit(Prepared::Hold(key, holds));
+        self.store.commit(Prepared::Hold(key, indexed));
         Ok(())
     }
 

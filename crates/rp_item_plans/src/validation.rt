@@ -9,19 +9,20 @@ ghost use Rattle.rp_plans.specs.Plans.{Plans};
 
 use plain_data::Rows;
 use rp_group_domain::CountedModel;
+use rp_index::Indexed;
 use rp_plain::messages::{Refusal, Reply, Request};
 use rp_plain::reports::ToldReport;
 use rp_plans::{Plan, first, is_no_partner, key_fault, unseen};
 use rp_readers::Readers;
 use rp_reports::SchemaRules;
-use rp_rows::rows::{Key, ModelContent};
+use rp_rows::rows::Key;
 use rp_sight::RowRef;
 use std::alloc::{AllocError, Global};
 
 /// The models, as their population is made of them.
 fn models_of<'a>(
     alloc: Global,
-    counted: &[RowRef<'a, ModelContent>],
+    counted: &[RowRef<'a, Indexed>],
 ) -> Result<Vec<CountedModel<'a>>, AllocError>
     ensures { IfOk result (λ models. models.items ≡ map counted_of counted.now) }
 {
@@ -29,7 +30,7 @@ fn models_of<'a>(
     for model in counted {
         models.push(CountedModel {
             key: model.key,
-            content: &model.holds.content,
+            content: &model.holds.get().content,
         })?;
     }
     Ok(models)

@@ -10,13 +10,8 @@ use Rattle.ex_layouts.specs.Layouts.{layout}
 use Rattle.ex_slots.specs.Slots.{Slot, slots}
 use Rattle.ex_schemas.specs.Schemas.{Checked}
 use Rattle.rp_content.specs.declared.instance.Instance.{Instance}
-use Rattle.rp_rows.specs.Contents.{referred, references}
-use Rattle.rp_value.specs.Elements.{Elements}
-use Rattle.rp_value.specs.declared.value.AggregateKind.{AggregateKind}
+use Rattle.rp_rows.specs.Contents.{references}
 use Rattle.rp_value.specs.declared.value.Value.{Value}
-use Rattle.rp_value.specs.declared.value.Value.TheFolds.{fold-roll-Value}
-use Rattle.rp_value.specs.declared.value.Value.TheOpen.{Value-F}
-use Rattle.rp_value.specs.declared.value.Value.TheVariants as v
 use Rattle.rp_population.specs.declared.place.Place.{Place}
 use Rattle.rp_population.specs.declared.roles.Role.{Role}
 use Rattle.rp_population.specs.declared.roles.Role.TheVariants.{Every, Of}
@@ -24,12 +19,6 @@ use Rattle.rp_population.specs.Populations.{Counted, Placed, placed, placed_all,
 use Rattle.rp_population.specs.Uses.{is_attribute, is_slot_of, references_in, as_user, users_in}
 use Rattle.rp_population.specs.Found.{AreNames, Attribute, all_slots, place_in, told_at, told_in, told_in_all, User, user_in, values_by, values_of}
 use Rattle.rp_population.proofs.Layouts.{entities_are, slots_are}
-
--- what an aggregate refers to
-pub references-elements : (x : Value) (kind : AggregateKind) (elements : Elements Value) → x ≡ v.Agg kind elements → references x ≡ flat_map references elements.items
-references-elements x kind elements is =
-    ap references is ∙ ap references (sym (v.rolls-Agg kind elements)) ∙ fold-roll-Value (List ℕ) referred (Value-F.Agg kind elements)
-    ∙ flat_map-map (λ found. found) references elements.items
 
 -- ---- the values of an attribute
 

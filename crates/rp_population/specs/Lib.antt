@@ -3,3 +3,4 @@ pub mod Entities
 pub mod Uses
 pub mod Sought
 pub mod Found
+pub mod Candidates

@@ -53,7 +53,6 @@ fn is_slot_of(slot: &Slot<'_>, attribute: &Attribute<'_>) -> bool
 
 /// Tells the instance once for each of the names that the values of the attributes refer to.
 fn push_slots(
-    alloc: Global,
     found: &mut Vec<Place>,
     user: &User<'_>,
     attribute: &Attribute<'_>,
@@ -68,7 +67,7 @@ fn push_slots(
             return Ok(());
         };
         if is_slot_of(slot, attribute) {
-            push_value(alloc, found, user, value)?;
+            push_value(found, user, value)?;
         }
         left = others;
     }
@@ -88,7 +87,6 @@ fn behind(values: &[Value], count: usize) -> &[Value]
 
 /// Tells the instance once for each of the names that the values of the attributes in all these records refer to.
 fn push_records(
-    alloc: Global,
     found: &mut Vec<Place>,
     user: &User<'_>,
     attribute: &Attribute<'_>,
@@ -99,7 +97,7 @@ fn push_records(
 {
     let mut left = values;
     for slots in records {
-        push_slots(alloc, found, user, attribute, slots.as_slice(), left)?;
+        push_slots(found, user, attribute, slots.as_slice(), left)?;
         left = behind(left, slots.len());
     }
     Ok(())
@@ -108,7 +106,6 @@ fn push_records(
 /// Tells the instance once for each of the names that its values of the attributes refer to. One that isn't of the
 /// entity has none.
 fn push_by_layout(
-    alloc: Global,
     found: &mut Vec<Place>,
     user: &User<'_>,
     attribute: &Attribute<'_>,
@@ -120,14 +117,7 @@ fn push_by_layout(
     if !has_number(layout.entities.as_slice(), attribute.entity) {
         return Ok(());
     }
-    push_records(
-        alloc,
-        found,
-        user,
-        attribute,
-        layout.slots.as_slice(),
-        values,
-    )
+    push_records(found, user, attribute, layout.slots.as_slice(), values)
 }
 
 /// Tells an instance once for each of its uses in the attributes. What instances of its entities have values of is kept.
@@ -144,9 +134,9 @@ pub fn push_in_attribute(
 {
     let values = instance.values.as_slice();
     if let Some(layout) = layouts.known(&instance.entities) {
-        return push_by_layout(alloc, found, user, attribute, layout, values);
+        return push_by_layout(found, user, attribute, layout, values);
     }
     let layout = layout_of(alloc, layouts.dictionary(), &instance.entities)?;
-    push_by_layout(alloc, found, user, attribute, &layout, values)?;
+    push_by_layout(found, user, attribute, &layout, values)?;
     layouts.keep(&instance.entities, layout)
 }

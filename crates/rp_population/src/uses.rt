@@ -9,7 +9,8 @@ use crate::names::has_name;
 use crate::place::{Place, push_place};
 use rp_rows::rows::Key;
 use rp_value::Value;
-use std::alloc::{AllocError, Global};
+use shared::Shared;
+use std::alloc::AllocError;
 use std::collections::BTreeSet;
 use std::marker::Model;
 
@@ -17,7 +18,7 @@ use std::marker::Model;
 #[derive(Drop)]
 pub struct User<'a> {
     pub names: &'a BTreeSet<u64>,
-    pub model: &'a Key,
+    pub model: &'a Shared<Key>,
     pub instance: u64,
 }
 
@@ -30,37 +31,27 @@ impl<'a> Model for User<'a> {
 }
 
 /// Tells the instance, if the name is one of those.
-fn push_use(
-    alloc: Global,
-    found: &mut Vec<Place>,
-    user: &User<'_>,
-    name: u64,
-) -> Result<(), AllocError>
+fn push_use(found: &mut Vec<Place>, user: &User<'_>, name: u64) -> Result<(), AllocError>
     ensures { OnOk result (found.new.items ≡ found.old.items ++ spec.told_at user.now name) }
 {
     if has_name(user.names, name) {
-        push_place(alloc, found, user.model, user.instance)?;
+        push_place(found, user.model, user.instance)?;
     }
     Ok(())
 }
 
 /// Tells the instance once for each of the names that the value refers to, at any depth.
 #[cycle(uses)]
-pub fn push_value(
-    alloc: Global,
-    found: &mut Vec<Place>,
-    user: &User<'_>,
-    value: &Value,
-) -> Result<(), AllocError>
+pub fn push_value(found: &mut Vec<Place>, user: &User<'_>, value: &Value) -> Result<(), AllocError>
     ensures { OnOk result (found.new.items ≡ found.old.items ++ flat_map (spec.told_at user.now) (references value.now)) }
 {
     match value {
-        Value::Inst(name) => push_use(alloc, found, user, *name),
-        Value::Agg { kind: _, elements } => push_values(alloc, found, user, elements.as_slice()),
+        Value::Inst(name) => push_use(found, user, *name),
+        Value::Agg { kind: _, elements } => push_values(found, user, elements.as_slice()),
         Value::Named {
             defined_type: _,
             value,
-        } => push_value(alloc, found, user, value.get()),
+        } => push_value(found, user, value.get()),
         _ => Ok(()),
     }
 }
@@ -68,7 +59,6 @@ pub fn push_value(
 /// Tells the instance once for each of the names that one of the values refers to.
 #[cycle(uses)]
 pub fn push_values(
-    alloc: Global,
     found: &mut Vec<Place>,
     user: &User<'_>,
     values: &[Value],
@@ -76,7 +66,7 @@ pub fn push_values(
     ensures { OnOk result (found.new.items ≡ found.old.items ++ flat_map (spec.told_at user.now) (flat_map references values.now)) }
 {
     for value in values {
-        push_value(alloc, found, user, value)?;
+        push_value(found, user, value)?;
     }
     Ok(())
 }

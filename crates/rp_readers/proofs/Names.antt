@@ -1,7 +1,7 @@
 -- What a binary search finds among a model's instances.
-use Rattle.std.proofs.Common.{◌≡◌, ℕ, Bool, ◌&&◌, ◌||◌, ◌==◌, true, false, is_some, arith, List, [], ◌∷◌, Option, Some, None, refl, subst}
+use Rattle.std.proofs.Common.{◌≡◌, ℕ, Bool, ◌&&◌, ◌||◌, ◌==◌, true, false, is_some, arith, List, [], ◌∷◌, Option, Some, None, refl, ◌∙◌, ap, subst}
 use Rattle.std.specs.Prelude.{map, if◌then◌else◌}
-use Rattle.std.specs.List.{find, AllByRecursion}
+use Rattle.std.specs.List.{find, list_any, AllByRecursion}
 use Rattle.std.specs.Ordering.{is_eq, nat_cmp}
 use Rattle.std.proofs.lemmas.Bool.Decides.{nat_tests}
 use Rattle.plain_data.specs.Numbers.{is_among}
@@ -77,3 +77,10 @@ module _ {X : Type 0} (named : X → ℕ) where
 
 pub among_names : (n : ℕ) (xs : List Instance) → is_some (instance_of n xs) ≡ is_among (names xs) n
 among_names = among_named instance_name
+
+one_has : (n : ℕ) (xs : List Instance) → is_among (names xs) n ≡ list_any (λ (i : Instance). i.name == n) xs
+one_has n [] = refl
+one_has n (i ∷ is) = ap (λ t. (i.name == n) || t) (one_has n is)
+
+pub has_named : (n : ℕ) (xs : List Instance) → is_some (instance_of n xs) ≡ list_any (λ (i : Instance). i.name == n) xs
+has_named n xs = among_names n xs ∙ one_has n xs

@@ -6,17 +6,14 @@ ghost use Rattle.rp_readers.specs.Listed.{TellsListed, counted_of};
 ghost use Rattle.rp_readers.specs.Told.{told};
 
 use crate::readers::Readers;
-use rp_rows::rows::{Key, ModelContent};
+use rp_index::Indexed;
+use rp_rows::rows::Key;
 use rp_sight::{RowRef, counted_models};
 use std::alloc::{AllocError, Global};
 
 impl<'a, 's> Readers<'a, 's> {
     /// The models that count in the group, if the partner sees it.
-    pub fn counted(
-        &self,
-        alloc: Global,
-        key: &Key,
-    ) -> Result<Vec<RowRef<'a, ModelContent>>, AllocError>
+    pub fn counted(&self, alloc: Global, key: &Key) -> Result<Vec<RowRef<'a, Indexed>>, AllocError>
         requires { TellsListed (told self.now) }
         ensures { IfOk result (λ out. map counted_of out.items ≡ (told self.now).counted key.now) }
     {

@@ -9,8 +9,9 @@ ghost use Rattle.rp_readers.specs.Told.{told, model_told, group_told};
 use crate::readers::Readers;
 use crate::schemas::sorted_names;
 use plain_data::{Rows, Text};
+use rp_index::Indexed;
 use rp_plain::lists::Item;
-use rp_rows::rows::{Key, Listing, ModelContent, Right};
+use rp_rows::rows::{Key, Listing, Right};
 use rp_sight::Seen;
 use std::alloc::{AllocError, Global};
 
@@ -29,12 +30,12 @@ fn item(alloc: Global, key: &Key, schema: &Text, right: Right) -> Result<Item, A
 }
 
 /// The models that a partner sees, as they are told.
-fn model_rows(alloc: Global, seen: &[Seen<'_, ModelContent>]) -> Result<Rows<Item>, AllocError>
+fn model_rows(alloc: Global, seen: &[Seen<'_, Indexed>]) -> Result<Rows<Item>, AllocError>
     ensures { IfOk result (λ rows. rows ≡ map (λ s. model_told (seen_of s)) seen.now) }
 {
     let mut rows = Vec::with_capacity(alloc, seen.len())?;
     for model in seen {
-        let holds = model.row.holds;
+        let holds = model.row.holds.get();
         rows.push(item(alloc, model.row.key, &holds.schema, model.right)?)?;
     }
     Ok(Rows::from_vec(rows))

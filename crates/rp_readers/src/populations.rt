@@ -2,6 +2,7 @@
 
 ghost use Rattle.std.specs.Prelude.{◌≡◌, ◌==◌, ◌&&◌, map, option_copied, IfOk};
 ghost use Rattle.std.specs.List.{list_any};
+ghost use Rattle.rp_content.specs.declared.instance.Instance.{Instance};
 ghost use Rattle.rp_rows.specs.Sight as sight;
 ghost use Rattle.rp_population.specs.Populations.{population, places, has_place as HasPlace};
 ghost use Rattle.rp_population.specs.Entities as entities;
@@ -14,9 +15,10 @@ ghost use Rattle.rp_readers.specs.Told.{told};
 use crate::readers::Readers;
 use ex_loaded::LoadedSchema;
 use plain_data::{Rows, Text};
-use rp_content::Instance;
+use rp_content::Instances;
+use rp_index::Indexed;
 use rp_population::{Extent, Place, Users};
-use rp_rows::rows::{Key, Listing, ModelContent};
+use rp_rows::rows::{Key, Listing};
 use rp_sight::{RowRef, counts};
 use std::alloc::{AllocError, Global};
 
@@ -37,13 +39,13 @@ pub fn group_schema<'s>(asked: &Readers<'_, 's>, key: &Key) -> Option<&'s Loaded
 fn extent_in(
     alloc: Global,
     mut extent: Extent<'_>,
-    counted: &[RowRef<'_, ModelContent>],
+    counted: &[RowRef<'_, Indexed>],
 ) -> Result<Rows<Place>, AllocError>
     ensures { IfOk result (λ rows. rows ≡ places (entities.extent_of extent.entry.schema extent.entry.entity (population (map counted_of counted.now)))) }
 {
     let mut found = Vec::new(alloc);
     for model in counted {
-        extent.push(alloc, &mut found, model.key, &model.holds.content)?;
+        extent.push(alloc, &mut found, model.key, model.holds)?;
     }
     Ok(Rows::from_vec(found))
 }
@@ -53,7 +55,7 @@ pub fn extent_by<'s>(
     alloc: Global,
     schema: Option<&'s LoadedSchema<'s>>,
     entity: &Text,
-    counted: &[RowRef<'_, ModelContent>],
+    counted: &[RowRef<'_, Indexed>],
 ) -> Result<Rows<Place>, AllocError>
     ensures { IfOk result (λ rows. rows ≡ places (of_populations.extent_by (option_copied schema.entry) entity.now (population (map counted_of counted.now)))) }
 {
@@ -66,17 +68,18 @@ pub fn extent_by<'s>(
 
 // ---- users
 
-fn has_instance(name: u64, instances: &[Instance]) -> bool
+/// Whether an instance has this name. The others aren't walked over.
+fn has_instance(name: u64, instances: &Instances) -> bool
     ensures { result ≡ list_any (λ (i : Instance). i.name == name) instances.now }
 {
-    instances.iter().any(|instance| instance.name == name)
+    instances.get(name).is_some()
 }
 
 /// Whether the model counts in the group, and has the instance.
-fn counts_with(model: &RowRef<'_, ModelContent>, group: &RowRef<'_, Listing>, instance: u64) -> bool
+fn counts_with(model: &RowRef<'_, Indexed>, group: &RowRef<'_, Listing>, instance: u64) -> bool
     ensures { result ≡ (sight.counts (row_of model.now) (row_of group.now) && list_any (λ (i : Instance). i.name == instance) model.now.holds.now.content.instances) }
 {
-    counts(model, group) && has_instance(instance, model.holds.content.instances.as_slice())
+    counts(model, group) && has_instance(instance, &model.holds.get().content.instances)
 }
 
 /// Whether an instance of the group's population stands at the place, if the partner sees the group. No list of the
@@ -87,7 +90,7 @@ pub fn has_place(asked: &Readers<'_, '_>, group: &Key, place: &Place) -> bool
     let Some(group) = asked.group(group) else {
         return false;
     };
-    match asked.models.find(&place.model) {
+    match asked.models.find(place.key()) {
         Some(model) => counts_with(&model, &group, place.instance),
         None => false,
     }
@@ -98,13 +101,13 @@ pub fn has_place(asked: &Readers<'_, '_>, group: &Key, place: &Place) -> bool
 fn users_in(
     alloc: Global,
     mut users: Users<'_>,
-    counted: &[RowRef<'_, ModelContent>],
+    counted: &[RowRef<'_, Indexed>],
 ) -> Result<Rows<Place>, AllocError>
     ensures { IfOk result (λ rows. rows ≡ places (uses.users_in users.entry.schema users.entry.role users.entry.of (population (map counted_of counted.now)))) }
 {
     let mut found = Vec::new(alloc);
     for model in counted {
-        users.push(alloc, &mut found, model.key, &model.holds.content)?;
+        users.push(alloc, &mut found, model.key, model.holds)?;
     }
     Ok(Rows::from_vec(found))
 }
@@ -115,7 +118,7 @@ pub fn users_by<'s>(
     schema: Option<&'s LoadedSchema<'s>>,
     role: &Text,
     place: &Place,
-    counted: &[RowRef<'_, ModelContent>],
+    counted: &[RowRef<'_, Indexed>],
 ) -> Result<Rows<Place>, AllocError>
     ensures { IfOk result (λ rows. rows ≡ places (of_populations.users_by (option_copied schema.entry) role.now place.now (population (map counted_of counted.now)))) }
 {

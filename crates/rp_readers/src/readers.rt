@@ -11,6 +11,7 @@ ghost use Rattle.rp_readers.specs.Told.{plain_of, told};
 use ex_loaded::LoadedSchema;
 use plain_data::Text;
 use rp_access::Access;
+use rp_index::Indexed;
 use rp_rows::rows::{Key, ModelContent, Right};
 use rp_sight::{RowRef, Table, at_least, level};
 
@@ -19,7 +20,7 @@ use rp_sight::{RowRef, Table, at_least, level};
 pub struct Readers<'a, 's> {
     pub schemas: &'s [LoadedSchema<'s>],
     pub partners: &'a [Text],
-    pub models: &'a Table<'a, ModelContent>,
+    pub models: &'a Table<'a, Indexed>,
     pub access: &'a Access,
     pub caller: &'a Text,
 }
@@ -82,7 +83,7 @@ impl<'a, 's> Readers<'a, 's> {
     }
 
     /// The model of this owner and name, if the partner sees it.
-    fn model(&self, owner: &Text, name: &Text) -> Option<RowRef<'a, ModelContent>>
+    fn model(&self, owner: &Text, name: &Text) -> Option<RowRef<'a, Indexed>>
         ensures { option_map row_of result ≡ model_at (plain_of self.now) self.now.caller.now (key_of owner.now name.now) }
     {
         let model = self.models.find_for(owner, name)?;
@@ -123,7 +124,7 @@ impl<'a, 's> Readers<'a, 's> {
         ensures { option_copied result ≡ (told self.now).content (key_of owner.now name.now) }
     {
         match self.model(owner, name) {
-            Some(model) => Some(model.holds),
+            Some(model) => Some(model.holds.get()),
             None => None,
         }
     }

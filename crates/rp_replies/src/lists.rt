@@ -121,8 +121,9 @@ fn write_place(out: &mut Writer, place: &Place) -> Result<(), AllocError>
     ensures before { out.new.before ≡ out.old.before }
 {
     out.begin_array()?;
-    out.string(place.model.owner.as_str())?;
-    out.string(place.model.name.as_str())?;
+    let model = place.key();
+    out.string(model.owner.as_str())?;
+    out.string(model.name.as_str())?;
     out.u64(place.instance)?;
     out.end_array()
 }

@@ -15,7 +15,7 @@ use rp_population::Place;
 use rp_rows::rows::Key;
 use serde_json::Value;
 use shallow_json::{Unread, skip_items};
-use std::alloc::Global;
+use std::alloc::{AllocError, Global};
 
 /// The next value, or null for a list and for an object, and the place that it is.
 pub(crate) fn read_place(
@@ -52,17 +52,27 @@ fn read_items(alloc: Global, reader: &mut Reader<'_>) -> Result<Option<Place>, U
         skip_items(reader, ITEM_DEPTH)?;
         return Ok(None);
     }
-    Ok(place_of(owner, name, instance))
+    let place = place_of(alloc, owner, name, instance)?;
+    Ok(place)
 }
 
-fn place_of(owner: ListItem, name: ListItem, instance: ListItem) -> Option<Place>
-    ensures { result ≡ place_of (item (view owner.value) (item (view name.value) (item (view instance.value) no_items))) }
+fn place_of(
+    alloc: Global,
+    owner: ListItem,
+    name: ListItem,
+    instance: ListItem,
+) -> Result<Option<Place>, AllocError>
+    ensures { IfOk result (λ place. place ≡ place_of (item (view owner.value) (item (view name.value) (item (view instance.value) no_items)))) }
 {
-    let instance = number_of(instance.into_value())?;
-    let owner = text_of(owner.into_value())?;
-    let name = text_of(name.into_value())?;
-    Some(Place {
-        model: Key { owner, name },
-        instance,
-    })
+    let Some(instance) = number_of(instance.into_value()) else {
+        return Ok(None);
+    };
+    let Some(owner) = text_of(owner.into_value()) else {
+        return Ok(None);
+    };
+    let Some(name) = text_of(name.into_value()) else {
+        return Ok(None);
+    };
+    let place = Place::new(alloc, Key { owner, name }, instance)?;
+    Ok(Some(place))
 }

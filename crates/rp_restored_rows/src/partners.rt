@@ -13,6 +13,7 @@ pub struct PartnerOrder {
 }
 
 impl PartnerOrder {
+    /// The places of these partners, by their names.
     pub fn of(alloc: Global, partners: &[Text]) -> Result<PartnerOrder, AllocError> {
         let mut places: Vec<usize> = (0..partners.len()).collect(alloc)?;
         places.sort_unstable_by_key(|place| name_at(partners, *place));

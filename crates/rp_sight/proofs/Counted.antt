@@ -16,7 +16,7 @@ use Rattle.rp_rows.specs.Rows.{Text, text_cmp, key_cmp, same_key, row_key, is_ro
 use Rattle.rp_rows.specs.Sight.{counts, lists, may_group}
 use Rattle.rp_rows.proofs.Keys.{key_total}
 use Rattle.rp_rows.specs.Listings.{itself}
-use Rattle.rp_sight.specs.Listed.{counted_at}
+use Rattle.rp_sight.specs.Listed.{counted_at, fits}
 
 same_at : (k : Key) (m : Model) → same_key k (row_key m) ≡ is_row k m
 same_at k m =
@@ -91,6 +91,10 @@ walked g (m ∷ ms) ks order listed = one_more g m ms ks order listed ∙ by (ha
         → (if t then m ∷ [] else []) ++ flat_map (counted_at ms g) ks ≡ (if t then m ∷ filter (λ n. has_key ks n && counts n g) ms else filter (λ n. has_key ks n && counts n g) ms)
     by true rest = ap (λ xs. m ∷ xs) rest
     by false rest = rest
+
+-- what counts in a group is listed there, and fits
+pub listed_fits : (g : GroupRow) (m : Model) → (has_key g.holds.members m && fits g m) ≡ counts m g
+listed_fits g m = ap (λ t. t && fits g m) (sym (has_listed g.holds.members m))
 
 -- what counts in a group is listed there
 pub listed_counts : (g : GroupRow) (m : Model) → (has_key g.holds.members m && counts m g) ≡ counts m g

@@ -1,8 +1,10 @@
 pub mod Joining
 pub mod Changed
 pub mod Names
+pub mod Told
 pub mod Seeing
 pub mod Counted
 pub mod Marking
 pub mod Places
 pub mod Parts
+pub mod Near

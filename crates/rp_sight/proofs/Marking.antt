@@ -17,7 +17,8 @@ use Rattle.rp_rows.specs.Rows.{Text}
 use Rattle.rp_rows.specs.Sight.{is_granted}
 use Rattle.rp_sight.specs.Granted.{shows}
 use Rattle.rp_sight.specs.Kept.{marked, unmarked as none_marked}
-use Rattle.rp_sight.proofs.Counted.{listed_counts}
+use Rattle.rp_sight.specs.Listed.{fits}
+use Rattle.rp_sight.proofs.Counted.{listed_fits}
 
 -- of a call that succeeds, where one thing makes another
 pub on_ok : {T E P Q : Type 0} (r : Result T E) → OnOk r P → (P → Q) → OnOk r Q
@@ -193,8 +194,8 @@ members_count ks m false = none ks ∙ sym (and_false (list_any (λ k. is_row k 
     none [] = refl
     none (j ∷ js) = (λ h. and_false (is_row j m) h || none js h)
 
-pub marks_members : (g : GroupRow) (ts : List Bool) (ms : List Model) → marked (any_of (λ k. at_key k (λ m. counts m g)) g.holds.members) ts ms ≡ marked (λ m. counts m g) ts ms
-marks_members g ts ms = marked_alike (any_of (λ k. at_key k (λ m. counts m g)) g.holds.members) (λ m. counts m g) (λ m. members_count g.holds.members m (counts m g) ∙ listed_counts g m) ts ms
+pub marks_members : (g : GroupRow) (ts : List Bool) (ms : List Model) → marked (any_of (λ k. at_key k (fits g)) g.holds.members) ts ms ≡ marked (λ m. counts m g) ts ms
+marks_members g ts ms = marked_alike (any_of (λ k. at_key k (fits g)) g.holds.members) (λ m. counts m g) (λ m. members_count g.holds.members m (fits g m) ∙ listed_fits g m) ts ms
 
 pub drop_more : {X : Type 0} (xs : List X) (i : ℕ) (d : X) → i < length xs → drop i xs ≡ get_or xs i d ∷ drop (suc i) xs
 drop_more [] i d h = absurd (omega arith)

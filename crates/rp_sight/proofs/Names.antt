@@ -86,7 +86,7 @@ relisted_there n (Some l) names = has_append n (without_name n names) (n ∷ [])
 -- ---- keys
 
 -- whether two keys are one
-key_is : (j k : Key) (t : Bool) → is_eq (key_cmp j k) ≡ t → t ≡ true → j ≡ k
+pub key_is : (j k : Key) (t : Bool) → is_eq (key_cmp j k) ≡ t → t ≡ true → j ≡ k
 key_is j k t e h =
     let row : Row Listing = record { owner = j.owner; name = j.name; holds = record { schema = []; members = [] }; grants = [] } in
     key_at k row (e ∙ h)
@@ -246,16 +246,16 @@ add_of q key p es same =
 
 -- ---- the rows of groups
 
-same_as : (j k : Key) → same_key k j ≡ is_eq (key_cmp j k)
+pub same_as : (j k : Key) → same_key k j ≡ is_eq (key_cmp j k)
 same_as j k =
     let owner = sym (is_eq-slice_cmp j.owner k.owner) in
     let name = sym (is_eq-slice_cmp j.name k.name) in
     (λ i. owner i && name i) ∙ tied_then (text_cmp j.owner k.owner) (text_cmp j.name k.name)
 
-held_key : (k : Key) (a : Listing) (gs : List Grant) (x : GroupRow) → Some (record { owner = k.owner; name = k.name; holds = a; grants = gs }) ≡ Some x → row_key x ≡ k
+pub held_key : (k : Key) (a : Listing) (gs : List Grant) (x : GroupRow) → Some (record { owner = k.owner; name = k.name; holds = a; grants = gs }) ≡ Some x → row_key x ≡ k
 held_key k a gs x is = let g : GroupRow = record { owner = k.owner; name = k.name; holds = a; grants = gs } in let same : g ≡ x = cc in ap row_key (sym same)
 
-no_row : (k : Key) (x : GroupRow) → None ≡ Some x → row_key x ≡ k
+pub no_row : (k : Key) (x : GroupRow) → None ≡ Some x → row_key x ≡ k
 no_row k x is = cc
 
 -- the grants on what was looked up
@@ -405,7 +405,7 @@ regranted_self : (to : Text) (l : Option Level) (gs : List Grant) → list_any (
 regranted_self to None gs = revoked to gs
 regranted_self to (Some l) gs = granted_self to l gs
 
-regranted_key : (k : Key) (gs : List Grant) (rows : List GroupRow) (x : GroupRow) → option_map (λ (y : GroupRow). record y { grants = gs }) (find (is_row k) rows) ≡ Some x → row_key x ≡ k
+pub regranted_key : (k : Key) (gs : List Grant) (rows : List GroupRow) (x : GroupRow) → option_map (λ (y : GroupRow). record y { grants = gs }) (find (is_row k) rows) ≡ Some x → row_key x ≡ k
 regranted_key k gs rows x is = by (find (is_row k) rows) refl is
   where
     by : (o : Option GroupRow) → find (is_row k) rows ≡ o → option_map (λ (y : GroupRow). record y { grants = gs }) o ≡ Some x → row_key x ≡ k

@@ -16,12 +16,16 @@ use Rattle.rp_rows.specs.declared.rows.Grant.{Grant}
 use Rattle.rp_rows.specs.declared.rows.Right.{Right}
 use Rattle.rp_rows.specs.declared.rows.Right.TheVariants.{Reads, Owns}
 use Rattle.rp_rows.specs.declared.rows.Key.{Key}
-use Rattle.rp_rows.specs.Rows.{Text, key_cmp, row_key, is_row, Model, GroupRow, key_of}
+use Rattle.rp_rows.specs.Rows.{Text, key_cmp, same_key, row_key, is_row, Model, GroupRow, key_of}
 use Rattle.rp_rows.specs.Sight.{is_grant_to, is_group_grant, is_granted, owns, may_group, sees_group, lists, counts, is_counted, granted_right, level, at_least, sees}
 use Rattle.rp_rows.proofs.Keys.{key_total}
 use Rattle.rp_sight.specs.Seen.{level_by, seen_model}
 use Rattle.rp_sight.specs.Granted.{Names, has_name, tells, TellsGranted, shows, counts_under, counts_in_any}
+use Rattle.rp_listers.specs.Kept.{KeptListers, number_of, first_at, others_at, is_first, has_key, tells as is_told}
+use Rattle.rp_listers.proofs.Among.{same_is}
+use Rattle.rp_sight.specs.Told.{KeepsListed, shows_at, shows_first, counts_told}
 use Rattle.rp_sight.proofs.Names.{any_found}
+use Rattle.rp_sight.proofs.Told.{told_member}
 
 -- ---- tests of lists
 
@@ -75,6 +79,15 @@ any_row q b (g ∷ gs) order to h = by (any_row q b gs order.1) (q g) refl h
     by rest true e f = to g e here
     by rest false e f = rest (λ x passes found. to x passes (later x found)) f
 
+both : (a b : Bool) → (a ≡ true → b ≡ true) → (b ≡ true → a ≡ true) → a ≡ b
+both true b f g = sym (f refl)
+both false true f g = g refl
+both false false f g = refl
+
+either : (a b r : Bool) → (a ≡ true → r ≡ true) → (b ≡ true → r ≡ true) → (a || b) ≡ true → r ≡ true
+either true b r f g h = f refl
+either false b r f g h = g h
+
 -- ---- groups of one's own
 
 group_grants : (c : Text) (gs : List Grant) → find (is_grant_to c) gs ≡ None → list_any (is_group_grant c) gs ≡ false
@@ -124,11 +137,6 @@ module _ (c : Text) (m : Model) (own : owns c m ≡ false) (none : find (is_gran
   pub counted_known : (gs : List GroupRow) (es : List Names) → IsAscending key_cmp row_key gs → TellsGranted c es gs → counts_in_any c gs es m ≡ is_counted gs c m
   counted_known gs es order whole = both (counts_in_any c gs es m) (is_counted gs c m) forth back
     where
-      both : (a b : Bool) → (a ≡ true → b ≡ true) → (b ≡ true → a ≡ true) → a ≡ b
-      both true b f g = sym (f refl)
-      both false true f g = g refl
-      both false false f g = refl
-
       forth : counts_in_any c gs es m ≡ true → is_counted gs c m ≡ true
       forth = any_to (λ e. counts_under c gs e m) (is_counted gs c m) (λ e. any_to (λ n. shows c m (find (is_row (key_of e.key.name n)) gs)) (is_counted gs c m) (λ n. shown gs (find (is_row (key_of e.key.name n)) gs) (key_of e.key.name n) refl) e.value) es
 
@@ -137,6 +145,49 @@ module _ (c : Text) (m : Model) (own : owns c m ≡ false) (none : find (is_gran
           (λ g h found. let granted = granted_there g h in
           any_weaker (tells (row_key g)) (λ e. counts_under c gs e m) (λ e. named gs g e found granted) es
           (whole (row_key g) g found (and_parts (is_granted c g) (counts m g) granted).0))
+
+  -- ---- and by those that may list the model
+
+  told_shows : (gs : List GroupRow) (listers : KeptListers) (k : Key) → is_told k (row_key m) listers ≡ true → shows_at c gs m k ≡ true → counts_told c gs listers m ≡ true
+  told_shows gs listers k told shown_there =
+      let n = number_of (row_key m) in
+      either (is_first k (first_at n listers.firsts)) (has_key k (others_at n listers.others)) (counts_told c gs listers m)
+      (first (first_at n listers.firsts)) rest told
+    where
+      first : (o : Option Key) → is_first k o ≡ true → (shows_first c gs m o || list_any (shows_at c gs m) (others_at (number_of (row_key m)) listers.others)) ≡ true
+      first None is = absurd (false≢true is)
+      first (Some j) is = ap (λ t. t || list_any (shows_at c gs m) (others_at (number_of (row_key m)) listers.others)) (ap (shows_at c gs m) (same_is k j is) ∙ shown_there)
+
+      rest : has_key k (others_at (number_of (row_key m)) listers.others) ≡ true → counts_told c gs listers m ≡ true
+      rest has =
+          or_right (shows_first c gs m (first_at (number_of (row_key m)) listers.firsts))
+          (any_weaker (same_key k) (shows_at c gs m) (λ j is. ap (shows_at c gs m) (same_is k j is) ∙ shown_there) (others_at (number_of (row_key m)) listers.others) has)
+        where
+          or_right : (t : Bool) {u : Bool} → u ≡ true → (t || u) ≡ true
+          or_right true e = refl
+          or_right false e = e
+
+  pub counted_told : (gs : List GroupRow) (listers : KeptListers) → IsAscending key_cmp row_key gs → KeepsListed listers gs → counts_told c gs listers m ≡ is_counted gs c m
+  counted_told gs listers order whole = both (counts_told c gs listers m) (is_counted gs c m) forth back
+    where
+      one : (o : Option Key) → shows_first c gs m o ≡ true → is_counted gs c m ≡ true
+      one None h = absurd (false≢true h)
+      one (Some k) h = shown gs (find (is_row k) gs) k refl h
+
+      forth : counts_told c gs listers m ≡ true → is_counted gs c m ≡ true
+      forth =
+          let n = number_of (row_key m) in
+          either (shows_first c gs m (first_at n listers.firsts)) (list_any (shows_at c gs m) (others_at n listers.others)) (is_counted gs c m)
+          (one (first_at n listers.firsts))
+          (any_to (shows_at c gs m) (is_counted gs c m) (λ k. shown gs (find (is_row k) gs) k refl) (others_at n listers.others))
+
+      back : is_counted gs c m ≡ true → counts_told c gs listers m ≡ true
+      back = any_row (λ g. sees_group c g && counts m g) (counts_told c gs listers m) gs order
+          (λ g h found.
+          let granted = granted_there g h in
+          let counted = (and_parts (is_granted c g) (counts m g) granted).1 in
+          let listed = (and_parts (lists (row_key m) g) (bytes_eq m.holds.schema g.holds.schema && may_group g.owner m) counted).0 in
+          told_shows gs listers (row_key g) (told_member (row_key g) (row_key m) g.holds.members listers (whole (row_key g) g found) listed) (ap (shows c m) found ∙ granted))
 
 -- the level on a model, by the groups that c is granted
 pub level_known : (c : Text) (m : Model) (gs : List GroupRow) (es : List Names) → IsAscending key_cmp row_key gs → TellsGranted c es gs

@@ -1,6 +1,7 @@
 pub mod Stored
 pub mod Parts
 pub mod Granted
+pub mod Told
 pub mod Kept
 pub mod Regrants
 pub mod Listed

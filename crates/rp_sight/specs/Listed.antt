@@ -1,10 +1,15 @@
 -- The models that count in a group, found by a walk over its members.
-use Rattle.std.specs.Prelude.{Bool, false, List, [], ◌∷◌, map, Option, Some, None, if◌then◌else◌}
+use Rattle.std.specs.Prelude.{Bool, false, ◌&&◌, List, [], ◌∷◌, map, Option, Some, None, if◌then◌else◌}
 use Rattle.std.specs.List.{find}
+use Rattle.std.specs.Str.{bytes_eq}
 use Rattle.rp_rows.specs.declared.rows.Key.{Key}
 use Rattle.rp_rows.specs.Rows.{is_row, Model, GroupRow}
-use Rattle.rp_rows.specs.Sight.{counts}
+use Rattle.rp_rows.specs.Sight.{counts, may_group}
 use Rattle.rp_sight.specs.declared.members.Member.{Member}
+
+-- what is asked of a model that the group lists
+abbrev pub fits : GroupRow → Model → Bool
+fits g m = bytes_eq m.holds.schema g.holds.schema && may_group g.owner m
 
 -- a model that was looked up, if it counts
 abbrev pub counting : GroupRow → Option Model → List Model

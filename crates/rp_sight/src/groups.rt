@@ -1,4 +1,4 @@
-//! Groups, and for each partner the names of those that he is granted.
+//! Groups, for each partner the names of those that he is granted, and for each model those that may list it.
 
 ghost use Rattle.std.specs.Prelude.{◌≡◌, true, false, ◌<◌, [], Some, None, OnOk, OnErr};
 ghost use Rattle.std.specs.List.{find, list_any};
@@ -10,22 +10,26 @@ ghost use Rattle.rp_rows.specs.Sight.{is_grant_to};
 ghost use Rattle.rp_sight.specs.Stored.{granted_row, rewritten};
 ghost use Rattle.rp_sight.specs.Granted.{granted_of, names_at, has_name, TellsGranted};
 ghost use Rattle.rp_sight.specs.Regrants.{RegrantFits};
+ghost use Rattle.rp_sight.specs.Told.{AreTold, KeepsListed};
 
 use crate::rows::Table;
 use plain_data::{Rows, Text};
+use rp_listers::Listers;
 use rp_rows::rows::{Grant, Key, Level, Listing};
 use rp_store::{Entry, Keyed};
+use shared::Shared;
 use std::alloc::{AllocError, Global};
 use std::marker::Model;
 
-/// What groups list, beside it the grants on them, and under each partner and each owner the names of the owner's groups that
-/// the partner is granted.
+/// What groups list, beside it the grants on them, under each partner and each owner the names of the owner's groups that the
+/// partner is granted, and under each model groups that may list it.
 #[derive(Drop)]
 pub struct Groups {
     alloc: Global,
     listings: Keyed<Listing>,
     rights: Keyed<Rows<Grant>>,
     granted: Keyed<Rows<Text>>,
+    listers: Listers,
 }
 
 /// One partner's grant on a group from now on.
@@ -35,7 +39,7 @@ pub struct Regrant {
     /// All the grants on the group.
     pub grants: Rows<Grant>,
     /// The partner as its owner, and the owner of the group as its name.
-    pub under: Key,
+    pub under: Shared<Key>,
     /// The names of the owner's groups that the partner is granted.
     pub names: Rows<Text>,
 }
@@ -52,9 +56,10 @@ impl Model for Groups {
       right_room = g.rights.room;
       names = g.granted.entries;
       name_room = g.granted.room;
+      listers = g.listers;
     } };
 
-    ghost invariant = { λ g. AreGroups g.listings.entries g.rights.entries g.granted.entries };
+    ghost invariant = { λ g. AreGroups g.listings.entries g.rights.entries g.granted.entries g.listers };
 }
 
 /// The name of the group is forgotten under all partners who have these grants.
@@ -107,6 +112,14 @@ fn list_name(
     }
 }
 
+/// What the group of the key lists.
+fn members_at<'a>(listings: &'a Keyed<Listing>, key: &Key) -> &'a [Key] {
+    match listings.find(key) {
+        Some(entry) => entry.value.members.as_slice(),
+        None => &[],
+    }
+}
+
 impl Groups {
     pub fn new(alloc: Global) -> Groups
         ensures { result.rows ≡ [] }
@@ -116,6 +129,7 @@ impl Groups {
             listings: Keyed::new(alloc),
             rights: Keyed::new(alloc),
             granted: Keyed::new(alloc),
+            listers: Listers::new(alloc),
         }
     }
 
@@ -144,15 +158,25 @@ impl Groups {
         }
     }
 
-    /// Makes room for one more group.
-    pub fn reserve(&mut self) -> Result<(), AllocError>
+    /// Which groups may list a model: of those that do none is missing.
+    pub(crate) fn listers(&self) -> &Listers
+        ensures are { result.now ≡ self.now.listers }
+        ensures whole { KeepsListed self.now.listers self.now.rows }
+    {
+        &self.listers
+    }
+
+    /// Makes room for one more group that lists this, and for each model that it lists tells of it from now on.
+    pub fn reserve(&mut self, alloc: Global, key: &Key, listing: &Listing) -> Result<(), AllocError>
         ensures rows { self.new.rows ≡ self.old.rows }
         ensures names { self.new.names ≡ self.old.names }
         ensures room { OnOk result (0 < self.new.room) }
         ensures right_room { OnOk result (0 < self.new.right_room) }
+        ensures told { OnOk result (AreTold key.now listing.now.members self.new.listers) }
     {
         self.listings.reserve()?;
-        self.rights.reserve()
+        self.rights.reserve()?;
+        self.listers.list(alloc, key, listing.members.as_slice())
     }
 
     /// Makes room for the names of one more partner and owner.
@@ -165,12 +189,16 @@ impl Groups {
     }
 
     /// From now on the group of the key lists this: its grants stay, or it is new and has none. It takes no memory.
-    pub fn put(&mut self, key: Key, again: Key, listing: Listing)
+    pub fn put(&mut self, key: Shared<Key>, again: Shared<Key>, listing: Listing)
         requires same { again ≡ key }
         requires room { 0 < self.old.room }
         requires right_room { 0 < self.old.right_room }
+        requires told { AreTold key listing.members self.old.listers }
         ensures { self.new.rows ≡ altered key (Holds (Some listing)) self.old.rows }
     {
+        let former = members_at(&self.listings, key.get());
+        self.listers
+            .unlist(key.get(), former, listing.members.as_slice());
         self.rights.add(again, Rows::new(self.alloc));
         self.listings.put(key, listing);
     }
@@ -181,6 +209,8 @@ impl Groups {
     {
         let grants = Table::of(&self.listings, &self.rights).grants_at(key);
         forget(self.alloc, &mut self.granted, grants, key);
+        self.listers
+            .unlist(key, members_at(&self.listings, key), &[]);
         self.listings.remove(key);
         self.rights.remove(key);
     }
@@ -215,9 +245,10 @@ impl Groups {
         ensures held { OnOk result (self.new.rows ≡ with_row key_cmp row_key key (Some (granted_row key listing grants)) self.old.rows) }
         ensures kept { OnErr result (self.new.rows ≡ self.old.rows) }
     {
-        let again = key.copy(alloc)?;
-        self.reserve()?;
-        list_name(alloc, &mut self.granted, grants.as_slice(), &key)?;
+        let key = Shared::new(alloc, key)?;
+        let again = key.share()?;
+        self.reserve(alloc, key.get(), &listing)?;
+        list_name(alloc, &mut self.granted, grants.as_slice(), key.get())?;
         self.rights.put(again, grants);
         self.listings.put(key, listing);
         Ok(())

@@ -1,27 +1,31 @@
-//! What a partner may do with models. Of groups only those that he is granted are looked at: in one of his own nothing
-//! counts but what is his or granted to him.
+//! What a partner may do with models. Of groups only those are looked at that he is granted, or those that may list the model:
+//! in one of his own nothing counts but what is his or granted to him.
 
-ghost use Rattle.std.specs.Prelude.{◌≡◌, false, None, if◌then◌else◌};
-ghost use Rattle.std.specs.List.{find};
+ghost use Rattle.std.specs.Prelude.{◌≡◌, false, None, option_copied, if◌then◌else◌};
+ghost use Rattle.std.specs.List.{find, list_any};
 ghost use Rattle.sorted_tables.specs.Table.{IsAscending};
 ghost use Rattle.rp_rows.specs.Rows.{key_cmp, row_key, is_row, key_of};
 ghost use Rattle.rp_rows.specs.Sight as sight;
 ghost use Rattle.rp_sight.specs.Stored.{row_of};
 ghost use Rattle.rp_sight.specs.Seen.{level_by};
+ghost use Rattle.rp_listers.specs.Kept as kept;
 ghost use Rattle.rp_sight.specs.Granted.{granted_of, TellsGranted, shows, counts_under, counts_in_any};
+ghost use Rattle.rp_sight.specs.Told.{KeepsListed, shows_at, shows_first, counts_told};
 
 use crate::groups::Groups;
 use crate::rows::{RowRef, Table};
 use crate::sight::{counts, grant_to, is_granted, owns, right_of};
 use plain_data::{Rows, Text};
-use rp_rows::rows::{Listing, ModelContent, Right};
+use rp_index::Indexed;
+use rp_listers::{Lister, number_of};
+use rp_rows::rows::{Listing, Right};
 use rp_store::Entry;
 
 /// Whether the model counts in the group of this owner and name, and the partner is granted the group.
 fn counts_at(
     groups: &Table<'_, Listing>,
     caller: &Text,
-    model: &RowRef<'_, ModelContent>,
+    model: &RowRef<'_, Indexed>,
     owner: &Text,
     name: &Text,
 ) -> bool
@@ -36,7 +40,7 @@ fn counts_at(
 fn counts_among(
     groups: &Table<'_, Listing>,
     caller: &Text,
-    model: &RowRef<'_, ModelContent>,
+    model: &RowRef<'_, Indexed>,
     names: &Entry<Rows<Text>>,
 ) -> bool
     ensures { result ≡ counts_under caller.now groups.now.rows names.now (row_of model.now) }
@@ -45,13 +49,13 @@ fn counts_among(
         groups,
         caller,
         model,
-        &names.key.name,
+        &names.key.get().name,
         name,
     ))
 }
 
-/// Whether the model counts in a group that the partner is granted.
-fn is_counted(groups: &Groups, caller: &Text, model: &RowRef<'_, ModelContent>) -> bool
+/// Whether the model counts in a group that the partner is granted, by a walk over all that he is granted.
+fn counts_in_granted(groups: &Groups, caller: &Text, model: &RowRef<'_, Indexed>) -> bool
     ensures counts { result ≡ counts_in_any caller.now groups.now.rows (granted_of caller.now groups.now.names) (row_of model.now) }
     ensures whole { TellsGranted caller.now (granted_of caller.now groups.now.names) groups.now.rows }
     ensures order { IsAscending key_cmp row_key groups.now.rows }
@@ -65,13 +69,97 @@ fn is_counted(groups: &Groups, caller: &Text, model: &RowRef<'_, ModelContent>) 
         .any(|names| counts_among(&table, caller, model, names))
 }
 
-/// What the partner may do with the model, where it is his or isn't and counts so in groups that he is granted.
-pub fn level_where(
+/// Whether the model counts in the group of a lister, and the partner is granted the group.
+fn counts_for(
+    groups: &Table<'_, Listing>,
     caller: &Text,
-    model: &RowRef<'_, ModelContent>,
-    owned: bool,
-    counted: bool,
-) -> Right
+    model: &RowRef<'_, Indexed>,
+    lister: &Lister,
+) -> bool
+    ensures { result ≡ shows_at caller.now groups.now.rows (row_of model.now) lister.now }
+{
+    let key = lister.get();
+    counts_at(groups, caller, model, &key.owner, &key.name)
+}
+
+fn counts_for_first(
+    groups: &Table<'_, Listing>,
+    caller: &Text,
+    model: &RowRef<'_, Indexed>,
+    lister: Option<&Lister>,
+) -> bool
+    ensures { result ≡ shows_first caller.now groups.now.rows (row_of model.now) (option_copied lister.entry) }
+{
+    match lister {
+        Some(lister) => counts_for(groups, caller, model, lister),
+        None => false,
+    }
+}
+
+fn counts_for_one(
+    groups: &Table<'_, Listing>,
+    caller: &Text,
+    model: &RowRef<'_, Indexed>,
+    listers: &[Lister],
+) -> bool
+    ensures { result ≡ list_any (shows_at caller.now groups.now.rows (row_of model.now)) listers.now }
+{
+    listers
+        .iter()
+        .any(|lister| counts_for(groups, caller, model, lister))
+}
+
+/// Whether the model counts in a group that the partner is granted, by a walk over the groups that may list it.
+fn counts_in_listers(
+    groups: &Groups,
+    caller: &Text,
+    model: &RowRef<'_, Indexed>,
+    number: u64,
+) -> bool
+    requires { number ≡ kept.number_of (row_key (row_of model.now)) }
+    ensures counts { result ≡ counts_told caller.now groups.now.rows groups.now.listers (row_of model.now) }
+    ensures whole { KeepsListed groups.now.listers groups.now.rows }
+    ensures order { IsAscending key_cmp row_key groups.now.rows }
+{
+    let table = groups.table();
+    let _count = table.len();
+    let listers = groups.listers();
+    let first = listers.first(number);
+    let others = listers.others(number);
+    counts_for_first(&table, caller, model, first) || counts_for_one(&table, caller, model, others)
+}
+
+/// Whether there are fewer names than this.
+fn are_fewer(granted: &[Entry<Rows<Text>>], count: usize) -> bool {
+    let mut left = count;
+    for names in granted {
+        let more = names.value.len();
+        if more >= left {
+            return false;
+        }
+        left -= more;
+    }
+    0 < left
+}
+
+/// Whether the model, which is neither the partner's nor granted to him, counts in a group that he sees. Either walk tells, that
+/// over the groups that may list the model or that over those that he is granted: the shorter one is taken.
+fn is_counted(groups: &Groups, caller: &Text, model: &RowRef<'_, Indexed>) -> bool
+    requires apart { sight.owns caller.now (row_of model.now) ≡ false }
+    requires none { find (sight.is_grant_to caller.now) model.now.grants.now ≡ None }
+    ensures { result ≡ sight.is_counted groups.now.rows caller.now (row_of model.now) }
+{
+    let number = number_of(model.key);
+    let others = groups.listers().others(number);
+    if are_fewer(groups.granted_to(caller), others.len()) {
+        counts_in_granted(groups, caller, model)
+    } else {
+        counts_in_listers(groups, caller, model, number)
+    }
+}
+
+/// What the partner may do with the model, where it is his or isn't and counts so in groups that he is granted.
+pub fn level_where(caller: &Text, model: &RowRef<'_, Indexed>, owned: bool, counted: bool) -> Right
     requires { owned ≡ sight.owns caller.now (row_of model.now) }
     ensures { result ≡ level_by caller.now (row_of model.now) counted }
 {
@@ -85,7 +173,7 @@ pub fn level_where(
 }
 
 /// What the partner may do with the model.
-pub fn level(groups: &Groups, caller: &Text, model: &RowRef<'_, ModelContent>) -> Right
+pub fn level(groups: &Groups, caller: &Text, model: &RowRef<'_, Indexed>) -> Right
     ensures { result ≡ sight.level groups.now.rows caller.now (row_of model.now) }
 {
     if owns(caller, model) {

@@ -8,12 +8,14 @@ ghost use Rattle.rp_rows.specs.Sight as sight;
 ghost use Rattle.rp_sight.specs.Stored.{row_of};
 ghost use Rattle.rp_sight.specs.Granted.{granted_of, TellsGranted, shows, counts_under, counts_in_any};
 ghost use Rattle.rp_sight.specs.Kept.{marked};
+ghost use Rattle.rp_sight.specs.Listed.{fits};
 
 use crate::groups::Groups;
 use crate::rows::{RowRef, Table};
-use crate::sight::{counts, is_granted};
+use crate::sight::{counts_if_listed, is_granted};
 use plain_data::{Rows, Text};
-use rp_rows::rows::{Key, Listing, ModelContent};
+use rp_index::Indexed;
+use rp_rows::rows::{Key, Listing};
 use rp_store::Entry;
 use std::alloc::{AllocError, Global};
 use std::collections::BTreeSet;
@@ -50,13 +52,13 @@ impl Marks {
         }
     }
 
-    /// Sets the mark at a place.
-    fn set(&mut self, place: usize) -> Result<(), AllocError>
+    /// Sets the mark at a place, and tells the place behind it.
+    fn set(&mut self, place: usize) -> Result<usize, AllocError>
         requires { place < length self.old }
         ensures { OnOk result (self.new ≡ slice_set self.old place true) }
     {
         self.places.insert(place)?;
-        Ok(())
+        Ok(place.saturating_add(1))
     }
 
     /// Whether the mark at a place is set.
@@ -68,44 +70,47 @@ impl Marks {
     }
 }
 
-/// Marks the model of the key, if it counts in the group.
+/// Marks the model of the key, if it counts in the group, which lists it: it is looked for at a place first. The place behind it
+/// is told, where the model of the next key is likely to stand.
 fn mark(
-    models: &Table<'_, ModelContent>,
+    models: &Table<'_, Indexed>,
     group: &RowRef<'_, Listing>,
     key: &Key,
+    near: usize,
     marks: &mut Marks,
-) -> Result<(), AllocError>
+) -> Result<usize, AllocError>
     requires { length marks.old ≡ length models.now.rows }
-    ensures { OnOk result (marks.new ≡ marked (λ m. is_row key.now m && sight.counts m (row_of group.now)) marks.old models.now.rows) }
+    ensures { OnOk result (marks.new ≡ marked (λ m. is_row key.now m && fits (row_of group.now) m) marks.old models.now.rows) }
 {
-    let Some(place) = models.place_of(key) else {
-        return Ok(());
+    let Some(place) = models.place_near(key, near) else {
+        return Ok(near);
     };
-    if counts(&models.row(place), group) {
+    if counts_if_listed(&models.row(place), group) {
         marks.set(place)
     } else {
-        Ok(())
+        Ok(place.saturating_add(1))
     }
 }
 
-/// Marks the models that count in the group.
+/// Marks the models that count in the group. Its members are in the order of the models.
 fn mark_members(
-    models: &Table<'_, ModelContent>,
+    models: &Table<'_, Indexed>,
     group: &RowRef<'_, Listing>,
     marks: &mut Marks,
 ) -> Result<(), AllocError>
     requires { length marks.old ≡ length models.now.rows }
     ensures { OnOk result (marks.new ≡ marked (λ m. sight.counts m (row_of group.now)) marks.old models.now.rows) }
 {
+    let mut near = 0;
     for key in group.holds.members.as_slice() {
-        mark(models, group, key, marks)?;
+        near = mark(models, group, key, near, marks)?;
     }
     Ok(())
 }
 
 /// Marks the models that count in the group of this owner and name, if the partner is granted the group.
 fn mark_at(
-    models: &Table<'_, ModelContent>,
+    models: &Table<'_, Indexed>,
     groups: &Table<'_, Listing>,
     caller: &Text,
     owner: &Text,
@@ -126,7 +131,7 @@ fn mark_at(
 }
 
 fn mark_names(
-    models: &Table<'_, ModelContent>,
+    models: &Table<'_, Indexed>,
     groups: &Table<'_, Listing>,
     caller: &Text,
     names: &Entry<Rows<Text>>,
@@ -136,7 +141,7 @@ fn mark_names(
     ensures { OnOk result (marks.new ≡ marked (counts_under caller.now groups.now.rows names.now) marks.old models.now.rows) }
 {
     for name in names.value.as_slice() {
-        mark_at(models, groups, caller, &names.key.name, name, marks)?;
+        mark_at(models, groups, caller, &names.key.get().name, name, marks)?;
     }
     Ok(())
 }
@@ -144,7 +149,7 @@ fn mark_names(
 /// Of each model whether it counts in a group that the partner is granted.
 pub fn counted_marks(
     alloc: Global,
-    models: &Table<'_, ModelContent>,
+    models: &Table<'_, Indexed>,
     groups: &Groups,
     caller: &Text,
 ) -> Result<Marks, AllocError>

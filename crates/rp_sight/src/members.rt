@@ -10,15 +10,16 @@ ghost use Rattle.rp_sight.specs.Listed.{counted_at, is_counting, member_in, memb
 
 use crate::rows::{RowRef, Table};
 use crate::sight::counts;
-use rp_rows::rows::{Key, Listing, ModelContent};
+use rp_index::Indexed;
+use rp_rows::rows::{Key, Listing};
 use std::alloc::{AllocError, Global};
 
 /// Adds the model of a key, if it counts in the group. Other models aren't walked over.
 fn push_counted<'a>(
-    models: &Table<'a, ModelContent>,
+    models: &Table<'a, Indexed>,
     group: &RowRef<'_, Listing>,
     key: &Key,
-    out: &mut Vec<RowRef<'a, ModelContent>>,
+    out: &mut Vec<RowRef<'a, Indexed>>,
 ) -> Result<(), AllocError>
     ensures { OnOk result (map row_of out.new.items ≡ map row_of out.old.items ++ counted_at models.now.rows (row_of group.now) key.now) }
 {
@@ -34,10 +35,10 @@ fn push_counted<'a>(
 /// The models of some keys that count in the group.
 fn counted_among<'a>(
     alloc: Global,
-    models: &Table<'a, ModelContent>,
+    models: &Table<'a, Indexed>,
     group: &RowRef<'_, Listing>,
     keys: &[Key],
-) -> Result<Vec<RowRef<'a, ModelContent>>, AllocError>
+) -> Result<Vec<RowRef<'a, Indexed>>, AllocError>
     ensures { IfOk result (λ out. map row_of out.items ≡ flat_map (counted_at models.now.rows (row_of group.now)) keys.now) }
 {
     let mut out = Vec::new(alloc);
@@ -50,9 +51,9 @@ fn counted_among<'a>(
 /// The models that count in the group, in the order of owner and name.
 pub fn counted_models<'a>(
     alloc: Global,
-    models: &Table<'a, ModelContent>,
+    models: &Table<'a, Indexed>,
     group: &RowRef<'_, Listing>,
-) -> Result<Vec<RowRef<'a, ModelContent>>, AllocError>
+) -> Result<Vec<RowRef<'a, Indexed>>, AllocError>
     requires { IsListed group.now.holds.now }
     ensures { IfOk result (λ out. map row_of out.items ≡ filter (λ m. sight.counts m (row_of group.now)) models.now.rows) }
 {
@@ -70,7 +71,7 @@ pub struct Member<'a> {
 }
 
 /// Whether the model of the key counts in the group. Other models aren't walked over.
-fn counts_at(models: &Table<'_, ModelContent>, group: &RowRef<'_, Listing>, key: &Key) -> bool
+fn counts_at(models: &Table<'_, Indexed>, group: &RowRef<'_, Listing>, key: &Key) -> bool
     ensures { result ≡ is_counting (row_of group.now) (find (is_row key.now) models.now.rows) }
 {
     match models.find(key) {
@@ -82,7 +83,7 @@ fn counts_at(models: &Table<'_, ModelContent>, group: &RowRef<'_, Listing>, key:
 /// The models that the group lists, in its order, and which of them count.
 pub fn members_of<'a>(
     alloc: Global,
-    models: &Table<'_, ModelContent>,
+    models: &Table<'_, Indexed>,
     group: &RowRef<'a, Listing>,
 ) -> Result<Vec<Member<'a>>, AllocError>
     ensures { IfOk result (λ out. map member_of out.items ≡ map (member_in models.now.rows (row_of group.now)) group.now.holds.now.members) }

@@ -92,7 +92,7 @@ impl<'a, A> Table<'a, A> {
         // (The key is taken from the smaller entry: what is held isn't read from memory before it is asked for.)
         let rights = self.rights.entry(place);
         RowRef {
-            key: &rights.key,
+            key: rights.key.get(),
             holds: &entry.value,
             grants: rights.value.as_slice(),
         }
@@ -130,6 +130,21 @@ impl<'a, A> Table<'a, A> {
         ensures { MatchOption result (find (is_row key.now) self.now.rows ≡ None) (IsThere key_cmp row_key key.now self.now.rows) }
     {
         self.place_for(&key.owner, &key.name)
+    }
+
+    /// The same, where the row is likely to stand at a place: it is looked for there first.
+    pub(crate) fn place_near(&self, key: &Key, place: usize) -> Option<usize>
+        ensures { MatchOption result (find (is_row key.now) self.now.rows ≡ None) (IsThere key_cmp row_key key.now self.now.rows) }
+    {
+        let count = self.len();
+        if place >= count {
+            return self.place_of(key);
+        }
+        if self.row(place).key.is(key) {
+            Some(place)
+        } else {
+            self.place_of(key)
+        }
     }
 
     /// The grants on what stands under the key.

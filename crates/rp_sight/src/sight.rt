@@ -5,10 +5,12 @@ ghost use Rattle.std.specs.List.{list_any, find};
 ghost use Rattle.rp_rows.specs.Sight as sight;
 ghost use Rattle.rp_rows.specs.Listings.{lists_key};
 ghost use Rattle.rp_sight.specs.Stored.{row_of};
+ghost use Rattle.rp_sight.specs.Listed.{fits};
 
 use crate::rows::RowRef;
 use plain_data::Text;
-use rp_rows::rows::{Grant, Key, Level, Listing, ModelContent, Right};
+use rp_index::Indexed;
+use rp_rows::rows::{Grant, Key, Level, Listing, Right};
 
 pub fn owns<A>(caller: &Text, row: &RowRef<'_, A>) -> bool
     ensures { result ≡ sight.owns caller.now (row_of row.now) }
@@ -75,19 +77,24 @@ fn is_granted_group(partner: &Text, grants: &[Grant]) -> bool
     grants.iter().any(|grant| grant.partner.is(partner) && is_group_level(grant.level))
 }
 
-fn may_group(partner: &Text, model: &RowRef<'_, ModelContent>) -> bool
+fn may_group(partner: &Text, model: &RowRef<'_, Indexed>) -> bool
     ensures { result ≡ sight.may_group partner.now (row_of model.now) }
 {
     owns(partner, model) || is_granted_group(partner, model.grants)
 }
 
+/// Whether the model counts in the group, if the group lists it.
+pub fn counts_if_listed(model: &RowRef<'_, Indexed>, group: &RowRef<'_, Listing>) -> bool
+    ensures { result ≡ fits (row_of group.now) (row_of model.now) }
+{
+    model.holds.get().schema.is(&group.holds.schema) && may_group(&group.key.owner, model)
+}
+
 /// Whether the model counts in the group.
-pub fn counts(model: &RowRef<'_, ModelContent>, group: &RowRef<'_, Listing>) -> bool
+pub fn counts(model: &RowRef<'_, Indexed>, group: &RowRef<'_, Listing>) -> bool
     ensures { result ≡ sight.counts (row_of model.now) (row_of group.now) }
 {
-    has_key(model.key, group.holds.members.as_slice())
-        && model.holds.schema.is(&group.holds.schema)
-        && may_group(&group.key.owner, model)
+    has_key(model.key, group.holds.members.as_slice()) && counts_if_listed(model, group)
 }
 
 pub fn right_of(level: Level) -> Right

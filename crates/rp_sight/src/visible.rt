@@ -12,7 +12,8 @@ use crate::marks::counted_marks;
 use crate::rows::{RowRef, Table};
 use crate::sight::{at_least, group_right_where};
 use plain_data::Text;
-use rp_rows::rows::{Listing, ModelContent, Right};
+use rp_index::Indexed;
+use rp_rows::rows::{Listing, Right};
 use std::alloc::{AllocError, Global};
 
 /// A row that a partner sees, and what he may do with it.
@@ -25,10 +26,10 @@ pub struct Seen<'a, A> {
 /// Adds the model, if the partner sees it, where it is his or isn't and counts so in groups that he is granted.
 fn push_model<'a>(
     caller: &Text,
-    model: &RowRef<'a, ModelContent>,
+    model: &RowRef<'a, Indexed>,
     owned: bool,
     counted: bool,
-    seen: &mut Vec<Seen<'a, ModelContent>>,
+    seen: &mut Vec<Seen<'a, Indexed>>,
 ) -> Result<(), AllocError>
     requires { owned ≡ sight.owns caller.now (row_of model.now) }
     ensures { OnOk result (map seen_of seen.new.items ≡ map seen_of seen.old.items ++ (if sight.at_least Right.Reads (level_by caller.now (row_of model.now) counted) then (row_of model.now, level_by caller.now (row_of model.now) counted) ∷ [] else [])) }
@@ -44,10 +45,10 @@ fn push_model<'a>(
 /// with the members of the groups that he is granted.
 pub fn visible_models<'a>(
     alloc: Global,
-    models: &Table<'a, ModelContent>,
+    models: &Table<'a, Indexed>,
     groups: &Groups,
     caller: &Text,
-) -> Result<Vec<Seen<'a, ModelContent>>, AllocError>
+) -> Result<Vec<Seen<'a, Indexed>>, AllocError>
     ensures { IfOk result (λ seen. map seen_of seen.items ≡ map (seen_model groups.now.rows caller.now) (filter (sight.sees groups.now.rows caller.now) models.now.rows)) }
 {
     let marks = counted_marks(alloc, models, groups, caller)?;

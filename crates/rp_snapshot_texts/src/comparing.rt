@@ -7,7 +7,8 @@ ghost use Rattle.rp_snapshot_texts.specs.Pieces.{group_pieces, model_pieces};
 
 use crate::pieces::{group_piece, model_piece};
 use crate::version::Version;
-use rp_rows::rows::{Listing, ModelContent};
+use rp_index::Indexed;
+use rp_rows::rows::Listing;
 use rp_sight::Table;
 use std::alloc::{AllocError, Global};
 
@@ -43,7 +44,7 @@ fn behind_groups<'a>(
 fn behind_models<'a, V: Version>(
     alloc: Global,
     version: &V,
-    models: &Table<'_, ModelContent>,
+    models: &Table<'_, Indexed>,
     bytes: &'a [u8],
 ) -> Result<Option<&'a [u8]>, AllocError>
     ensures { IfOk result (λ found. MatchOption found ((rest : List ℕ) → bytes.now ≡ model_pieces (V.writes version.now) models.now.rows ++ rest → ⊥) (λ rest. bytes.now ≡ model_pieces (V.writes version.now) models.now.rows ++ rest.now)) }
@@ -70,7 +71,7 @@ pub fn is_text_of<V: Version>(
     alloc: Global,
     version: &V,
     groups: &Table<'_, Listing>,
-    models: &Table<'_, ModelContent>,
+    models: &Table<'_, Indexed>,
     bytes: &[u8],
 ) -> Result<bool, AllocError>
     ensures { IfOk result (λ same. let text = rows_text (V.number version.now) (V.writes version.now) groups.now.rows models.now.rows in MatchBool same (bytes.now ≡ text) (bytes.now ≢ text)) }

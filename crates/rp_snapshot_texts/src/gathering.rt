@@ -5,8 +5,9 @@ ghost use Rattle.rp_snapshot_texts.specs.Texts.{rows_text};
 
 use crate::saving::save;
 use crate::version::Version;
+use rp_index::Indexed;
 use rp_io::ToWriter;
-use rp_rows::rows::{Listing, ModelContent};
+use rp_rows::rows::Listing;
 use rp_sight::Table;
 use std::alloc::{AllocError, Global};
 
@@ -19,7 +20,7 @@ pub fn gathered<V: Version>(
     alloc: Global,
     version: &V,
     groups: &Table<'_, Listing>,
-    models: &Table<'_, ModelContent>,
+    models: &Table<'_, Indexed>,
 ) -> Result<Vec<u8>, AllocError>
     ensures { IfOk result (λ bytes. bytes.items ≡ rows_text (V.number version.now) (V.writes version.now) groups.now.rows models.now.rows) }
 {

@@ -9,7 +9,8 @@ ghost use Rattle.rp_snapshot_texts.specs.Pieces.{piece};
 
 use crate::version::Version;
 use json::Writer;
-use rp_rows::rows::{Listing, ModelContent};
+use rp_index::Indexed;
+use rp_rows::rows::Listing;
 use rp_sight::RowRef;
 use rp_snapshot_rows::{write_group, write_model};
 use std::alloc::{AllocError, Global};
@@ -48,13 +49,19 @@ pub(crate) fn model_piece<V: Version>(
     alloc: Global,
     version: &V,
     later: bool,
-    row: &RowRef<'_, ModelContent>,
+    row: &RowRef<'_, Indexed>,
 ) -> Result<Vec<u8>, AllocError>
     ensures { IfOk result (λ bytes. bytes.items ≡ piece later (model_by (V.writes version.now) (row_of row.now))) }
 {
-    let file = version.file(alloc, row.holds)?;
+    let file = version.file(alloc, row.holds.get())?;
     let room = room_for(file.as_bytes());
     let mut out = Writer::new(begun(alloc, later, room)?);
-    write_model(&mut out, file.as_str(), row.key, row.holds, row.grants)?;
+    write_model(
+        &mut out,
+        file.as_str(),
+        row.key,
+        row.holds.get(),
+        row.grants,
+    )?;
     Ok(out.into_inner())
 }

@@ -9,8 +9,9 @@ ghost use Rattle.rp_snapshot_texts.specs.Saving.{Saves};
 
 use crate::pieces::{group_piece, model_piece};
 use crate::version::Version;
+use rp_index::Indexed;
 use rp_io::{Sink, write_all};
-use rp_rows::rows::{Listing, ModelContent};
+use rp_rows::rows::Listing;
 use rp_sight::{RowRef, Table};
 use std::alloc::{AllocError, Global};
 
@@ -48,7 +49,7 @@ fn save_model<V: Version, W: Sink>(
     alloc: Global,
     version: &V,
     later: bool,
-    row: &RowRef<'_, ModelContent>,
+    row: &RowRef<'_, Indexed>,
     writer: &mut W,
 ) -> Result<(), SaveFault>
     ensures { Saves result (W.contents writer.old) (W.contents writer.new) (W.write_failures writer.old) (W.write_failures writer.new) (piece later (model_by (V.writes version.now) (row_of row.now))) }
@@ -77,7 +78,7 @@ fn save_groups<W: Sink>(
 fn save_models<V: Version, W: Sink>(
     alloc: Global,
     version: &V,
-    models: &Table<'_, ModelContent>,
+    models: &Table<'_, Indexed>,
     writer: &mut W,
 ) -> Result<(), SaveFault>
     ensures { Saves result (W.contents writer.old) (W.contents writer.new) (W.write_failures writer.old) (W.write_failures writer.new) (model_pieces (V.writes version.now) models.now.rows) }
@@ -106,7 +107,7 @@ fn save_group_list<W: Sink>(
 fn save_model_list<V: Version, W: Sink>(
     alloc: Global,
     version: &V,
-    models: &Table<'_, ModelContent>,
+    models: &Table<'_, Indexed>,
     writer: &mut W,
 ) -> Result<(), SaveFault>
     ensures { Saves result (W.contents writer.old) (W.contents writer.new) (W.write_failures writer.old) (W.write_failures writer.new) (between ++ (model_pieces (V.writes version.now) models.now.rows ++ foot)) }
@@ -125,7 +126,7 @@ pub fn save<V: Version, W: Sink>(
     alloc: Global,
     version: &V,
     groups: &Table<'_, Listing>,
-    models: &Table<'_, ModelContent>,
+    models: &Table<'_, Indexed>,
     writer: &mut W,
 ) -> Result<(), SaveFault>
     ensures { Saves result (W.contents writer.old) (W.contents writer.new) (W.write_failures writer.old) (W.write_failures writer.new) (rows_text (V.number version.now) (V.writes version.now) groups.now.rows models.now.rows) }

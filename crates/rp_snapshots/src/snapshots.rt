@@ -8,8 +8,9 @@ ghost use Rattle.rp_snapshots.specs.Snapshots.{first_version, snapshot_by};
 
 use crate::first::FirstVersion;
 use ex_loaded::LoadedSchema;
+use rp_index::Indexed;
 use rp_io::Sink;
-use rp_rows::rows::{Listing, ModelContent};
+use rp_rows::rows::Listing;
 use rp_sight::Table;
 use rp_snapshot_texts::{SaveFault, gathered, is_text_of};
 use std::alloc::{AllocError, Global};
@@ -23,7 +24,7 @@ pub fn snapshot<'s>(
     alloc: Global,
     schemas: &'s [LoadedSchema<'s>],
     groups: &Table<'_, Listing>,
-    models: &Table<'_, ModelContent>,
+    models: &Table<'_, Indexed>,
 ) -> Result<Vec<u8>, AllocError>
     ensures { IfOk result (λ bytes. bytes.items ≡ snapshot_by first_version schemas.now groups.now.rows models.now.rows) }
 {
@@ -39,7 +40,7 @@ pub fn save<'s, W: Sink>(
     alloc: Global,
     schemas: &'s [LoadedSchema<'s>],
     groups: &Table<'_, Listing>,
-    models: &Table<'_, ModelContent>,
+    models: &Table<'_, Indexed>,
     writer: &mut W,
 ) -> Result<(), SaveFault>
     ensures { Saves result (W.contents writer.old) (W.contents writer.new) (W.write_failures writer.old) (W.write_failures writer.new) (snapshot_by first_version schemas.now groups.now.rows models.now.rows) }
@@ -56,7 +57,7 @@ pub fn is_snapshot_of<'s>(
     alloc: Global,
     schemas: &'s [LoadedSchema<'s>],
     groups: &Table<'_, Listing>,
-    models: &Table<'_, ModelContent>,
+    models: &Table<'_, Indexed>,
     bytes: &[u8],
 ) -> Result<bool, AllocError>
     ensures { IfOk result (λ same. let text = snapshot_by first_version schemas.now groups.now.rows models.now.rows in MatchBool same (bytes.now ≡ text) (bytes.now ≢ text)) }

@@ -11,7 +11,7 @@ use Rattle.rp_rows.specs.Rows.{key_cmp, Row}
 use Rattle.rp_rows.proofs.Keys.{key_total, key_at, found_at}
 use Rattle.rp_store.specs.declared.keyed.Entry.{Entry}
 use Rattle.rp_rows.specs.declared.rows.ModelContent.{ModelContent}
-use Rattle.rp_store.specs.Entries.{entry_key, is_entry, revalued, standing}
+use Rattle.rp_store.specs.Entries.{entry_key, is_entry, revalued, standing, HasAt}
 use Rattle.rp_store.specs.Models.{Held, model, edited}
 
 -- an entry at a key has that key
@@ -81,6 +81,13 @@ added_old {B = B} k b xs order there = by (find (is_entry k) xs) refl
     by : (o : Option (Entry B)) → find (is_entry k) xs ≡ o → xs ≡ with_row key_cmp entry_key k (Some (standing k b o)) xs
     by None e = let wrong : true ≡ false = sym there ∙ ap is_some e in cc
     by (Some x) e = sym (ap (λ o. with_row key_cmp entry_key k o xs) (sym e) ∙ stays key_cmp entry_key key_total k xs order)
+
+-- ---- what holds of the entry that is there holds at its key
+
+pub at_found : {B : Type 0} (P : B → Type 0) (k : Key) (xs : List (Entry B)) (x : Entry B) → find (is_entry k) xs ≡ Some x → P x.value → HasAt P k xs
+at_found {B = B} P k xs x found is = λ y e.
+    let same : x ≡ y = cc in
+    subst (λ (z : Entry B). P z.value) same is
 
 -- ---- what a model holds is changed
 

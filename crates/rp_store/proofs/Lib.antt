@@ -1,4 +1,4 @@
 pub mod Finding
 pub mod Counting
 pub mod Owned
-pub mod References
+pub mod Using

@@ -2,8 +2,10 @@
 
 use plain_data::{Items, Text};
 use rp_content::{Content, Entities, Instance, Spare};
-use rp_rows::rows::{Key, ModelContent};
+use rp_index::{Index, Indexed};
+use rp_rows::rows::Key;
 use rp_value::Value;
+use shared::Shared;
 use std::alloc::AllocError;
 
 /// A change of the model of a key, or of one instance in it.
@@ -21,21 +23,22 @@ pub enum Change {
     DropInstance(Key, u64),
 }
 
-/// What is done to what a model holds, with all the memory that it takes.
+/// What is done to what a model holds, with all the memory that it takes and the index of what it then holds. The model has none
+/// from when this is made: if it is let go, the next change makes another.
 #[derive(Drop)]
 pub enum Edit {
     /// Another content in place of the former.
-    Refill(Content),
+    Refill(Content, Option<Index>),
     /// The instance stands under its name. Where it is one more and there is no room for it, all move into the spare.
-    Place(Instance, Spare),
-    Drop(u64),
+    Place(Instance, Spare, Option<Index>),
+    Drop(u64, Option<Index>),
 }
 
 /// A change that nothing refuses, with all the memory that it takes. Dropped, it changes nothing.
 #[derive(Drop)]
 pub enum Prepared {
     /// The model stands under the key from now on.
-    Hold(Key, ModelContent),
+    Hold(Shared<Key>, Indexed),
     Remove(Key),
     Alter(Key, Edit),
 }

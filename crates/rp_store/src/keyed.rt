@@ -11,16 +11,17 @@ ghost use Rattle.rp_store.specs.Entries.{entry_key, is_entry, with_value, revalu
 
 use plain_data::{Rows, Text};
 use rp_rows::rows::Key;
+use shared::Shared;
 use sorted_tables::{Row, Sought};
 use std::alloc::{AllocError, Global};
 use std::cmp::Ordering;
 use std::marker::Model;
 use std::mem::replace;
 
-/// What stands under a key.
+/// What stands under a key, which stands in a block of its own: entries that make room for another move in memory.
 #[derive(Drop)]
 pub struct Entry<B> {
-    pub key: Key,
+    pub key: Shared<Key>,
     pub value: B,
 }
 
@@ -59,7 +60,7 @@ impl<B> Row for Entry<B> {
     ghost cmp = { key_cmp };
 
     fn order(&self, other: &Entry<B>) -> Ordering {
-        self.key.order(&other.key)
+        self.key.get().order(other.key.get())
     }
 
     ghost total = { key_total };
@@ -78,7 +79,7 @@ impl<'a, B> Sought<Entry<B>> for Parts<'a> {
     ghost sought = { λ p. key_of p.owner.now p.name.now };
 
     fn order_of(&self, entry: &Entry<B>) -> Ordering {
-        entry.key.order_to(self.owner, self.name)
+        entry.key.get().order_to(self.owner, self.name)
     }
 }
 
@@ -86,7 +87,7 @@ impl<B> Sought<Entry<B>> for Key {
     ghost sought = { λ k. k };
 
     fn order_of(&self, entry: &Entry<B>) -> Ordering {
-        entry.key.order(self)
+        entry.key.get().order(self)
     }
 }
 
@@ -179,7 +180,7 @@ impl<B> Keyed<B> {
         ensures { result ≡ length (filter (λ x. is_lt (text_cmp x.key.owner owner.now)) self.now.entries) }
     {
         self.entries
-            .partition_point(|entry| is_of_earlier(owner, &entry.key))
+            .partition_point(|entry| is_of_earlier(owner, entry.key.get()))
     }
 
     /// How many keys are of owners before this one, or his own.
@@ -187,7 +188,7 @@ impl<B> Keyed<B> {
         ensures { result ≡ length (filter (λ x. not (is_gt (text_cmp x.key.owner owner.now))) self.now.entries) }
     {
         self.entries
-            .partition_point(|entry| is_not_of_later(owner, &entry.key))
+            .partition_point(|entry| is_not_of_later(owner, entry.key.get()))
     }
 
     /// How many keys are the owner's. Those of others aren't walked over.
@@ -217,7 +218,7 @@ impl<B: Drop> Keyed<B> {
     }
 
     /// This stands under the key from now on.
-    pub fn put(&mut self, key: Key, value: B)
+    pub fn put(&mut self, key: Shared<Key>, value: B)
         requires { 0 < self.old.room }
         ensures { self.new.entries ≡ with_row key_cmp entry_key key (Some (record { key = key; value = value })) self.old.entries }
     {
@@ -225,11 +226,11 @@ impl<B: Drop> Keyed<B> {
     }
 
     /// This stands under the key from now on, unless something stands there.
-    pub fn add(&mut self, key: Key, value: B)
+    pub fn add(&mut self, key: Shared<Key>, value: B)
         requires { 0 < self.old.room }
         ensures { self.new.entries ≡ with_row key_cmp entry_key key (Some (standing key value (find (is_entry key) self.old.entries))) self.old.entries }
     {
-        if self.find(&key).is_some() {
+        if self.find(key.get()).is_some() {
             return;
         }
         sorted_tables::put(&mut self.entries, Entry { key, value });
@@ -290,7 +291,7 @@ fn first_name(
     let other = other.copy(alloc)?;
     let mut value = Rows::new(alloc);
     value.push(name)?;
-    let key = Key { owner, name: other };
+    let key = Shared::new(alloc, Key { owner, name: other })?;
     Ok(Entry { key, value })
 }
 

@@ -1,22 +1,25 @@
 //! How changes are prepared.
 #![tactic(auto, unfolding(crate::specs::Kept::Fits))]
 
-ghost use Rattle.std.specs.Prelude.{◌≡◌, ◌+◌, ◌<◌, Some, None, MatchResult, IfOk, ◌||◌, option_map};
+ghost use Rattle.std.specs.Prelude.{◌≡◌, ◌≢◌, ◌+◌, ◌<◌, Some, None, MatchResult, IfOk, ◌||◌, option_map};
 ghost use Rattle.rp_store.specs.declared.changes.Change.TheVariants as c;
 ghost use Rattle.rp_store.specs.Entries.{HasAt};
 ghost use Rattle.rp_store.specs.Models.{held_at};
-ghost use Rattle.rp_store.specs.Changes.{tested, holds_too_many, is_full};
+ghost use Rattle.rp_store.specs.declared.changes.StoreFault.TheVariants.{NoMemory};
+ghost use Rattle.rp_store.specs.Changes.{tested, holds_too_many, is_full, fault};
 ghost use Rattle.rp_store.specs.Contents.{HasRoomIn};
 ghost use Rattle.rp_store.specs.Kept.{HasRoomFor, Prepares};
 
 use crate::changes::{Change, Edit, Prepared, StoreFault};
 use crate::store::Store;
-use crate::uses::is_used;
+use crate::uses::is_used_in;
 use plain_data::{Items, Text};
 use rp_content::{Content, Entities, Instance, Instances, Spare};
+use rp_index::{Indexed, index_of};
 use rp_rows::limits::{MAX_INSTANCES, MAX_LINKS, MAX_NAME};
 use rp_rows::rows::{Key, ModelContent};
 use rp_value::Value;
+use shared::Shared;
 use std::alloc::{AllocError, Global};
 
 /// Whether it is more than a model may hold.
@@ -38,14 +41,14 @@ impl Store {
         }
         let content = Content::new(alloc)?;
         self.models.reserve()?;
-        Ok(Prepared::Hold(
-            key,
-            ModelContent {
-                schema,
-                greatest: 0,
-                content,
-            },
-        ))
+        let model = ModelContent {
+            schema,
+            greatest: 0,
+            content,
+        };
+        let indexed = Indexed::new(alloc, model)?;
+        let key = Shared::new(alloc, key)?;
+        Ok(Prepared::Hold(key, indexed))
     }
 
     /// Without the model of this key.
@@ -59,7 +62,7 @@ impl Store {
     }
 
     /// Another content in place of that of the model.
-    fn put(&self, key: Key, content: Content) -> Result<Prepared, StoreFault>
+    fn put(&self, alloc: Global, key: Key, content: Content) -> Result<Prepared, StoreFault>
         ensures { Prepares (c.Put key content) self.now.entries result }
     {
         if self.find(&key).is_none() {
@@ -68,7 +71,8 @@ impl Store {
         if is_too_much(&content) {
             return Err(StoreFault::TooMany);
         }
-        Ok(Prepared::Alter(key, Edit::Refill(content)))
+        let index = index_of(alloc, &content)?;
+        Ok(Prepared::Alter(key, Edit::Refill(content, index)))
     }
 
     /// The name of the next instance of the model.
@@ -78,12 +82,11 @@ impl Store {
         let Some(model) = self.find(key) else {
             return Err(StoreFault::Absent);
         };
-        if model.value.greatest >= MAX_NAME
-            || model.value.content.instances.len() >= MAX_INSTANCES
-        {
+        let held = model.value.get();
+        if held.greatest >= MAX_NAME || held.content.instances.len() >= MAX_INSTANCES {
             return Err(StoreFault::TooMany);
         }
-        Ok(model.value.greatest + 1)
+        Ok(held.greatest + 1)
     }
 
     /// Room for one instance more of the model of this key.
@@ -91,20 +94,21 @@ impl Store {
         ensures { IfOk result (λ spare. HasAt (HasRoomIn spare) key.now self.now.entries) }
     {
         match self.find(key) {
-            Some(model) => model.value.content.instances.spare(alloc),
+            Some(model) => model.value.get().content.instances.spare(alloc),
             None => Ok(Spare::none(alloc)),
         }
     }
 
     /// One instance more of the model, under its greatest name and one.
     fn add(
-        &self,
+        &mut self,
         alloc: Global,
         key: Key,
         entities: Entities,
         values: Items<Value>,
     ) -> Result<Prepared, StoreFault>
-        ensures { Prepares (c.Add key entities values) self.now.entries result }
+        ensures models { self.new.entries ≡ self.old.entries }
+        ensures prepares { Prepares (c.Add key entities values) self.old.entries result }
     {
         let name = self.next_name(&key)?;
         let spare = self.spare_in(alloc, &key)?;
@@ -113,12 +117,14 @@ impl Store {
             entities,
             values,
         };
-        Ok(Prepared::Alter(key, Edit::Place(instance, spare)))
+        let index = self.models.take_index_with(alloc, &key, &instance)?;
+        Ok(Prepared::Alter(key, Edit::Place(instance, spare, index)))
     }
 
     /// Another instance in place of the one of its name.
-    fn set(&self, alloc: Global, key: Key, instance: Instance) -> Result<Prepared, StoreFault>
-        ensures { Prepares (c.Set key instance) self.now.entries result }
+    fn set(&mut self, alloc: Global, key: Key, instance: Instance) -> Result<Prepared, StoreFault>
+        ensures models { self.new.entries ≡ self.old.entries }
+        ensures prepares { Prepares (c.Set key instance) self.old.entries result }
     {
         if self.find(&key).is_none() {
             return Err(StoreFault::Absent);
@@ -127,24 +133,34 @@ impl Store {
             return Err(StoreFault::NoSuchInstance);
         }
         let spare = Spare::none(alloc);
-        Ok(Prepared::Alter(key, Edit::Place(instance, spare)))
+        let index = self.models.take_index_with(alloc, &key, &instance)?;
+        Ok(Prepared::Alter(key, Edit::Place(instance, spare, index)))
+    }
+
+    /// That the model has an instance of this name, and no other refers to it.
+    fn can_drop(&self, alloc: Global, key: &Key, name: u64) -> Result<(), StoreFault>
+        ensures { MatchResult result (λ _. fault (c.DropInstance key.now name) self.now.entries ≡ None) (λ why. why ≢ NoMemory → fault (c.DropInstance key.now name) self.now.entries ≡ Some why) }
+    {
+        let Some(model) = self.find(key) else {
+            return Err(StoreFault::Absent);
+        };
+        if model.value.get().content.instances.get(name).is_none() {
+            return Err(StoreFault::NoSuchInstance);
+        }
+        if is_used_in(alloc, name, &model.value)? {
+            return Err(StoreFault::InUse);
+        }
+        Ok(())
     }
 
     /// Without the instance of this name.
-    fn drop_instance(&self, key: Key, name: u64) -> Result<Prepared, StoreFault>
-        ensures { Prepares (c.DropInstance key name) self.now.entries result }
+    fn drop_instance(&mut self, alloc: Global, key: Key, name: u64) -> Result<Prepared, StoreFault>
+        ensures models { self.new.entries ≡ self.old.entries }
+        ensures prepares { Prepares (c.DropInstance key name) self.old.entries result }
     {
-        let Some(model) = self.find(&key) else {
-            return Err(StoreFault::Absent);
-        };
-        let instances = &model.value.content.instances;
-        if instances.get(name).is_none() {
-            return Err(StoreFault::NoSuchInstance);
-        }
-        if is_used(name, instances.as_slice()) {
-            return Err(StoreFault::InUse);
-        }
-        Ok(Prepared::Alter(key, Edit::Drop(name)))
+        self.can_drop(alloc, &key, name)?;
+        let index = self.models.take_index_without(alloc, &key, name)?;
+        Ok(Prepared::Alter(key, Edit::Drop(name, index)))
     }
 
     /// Makes all the room that a change takes, and changes nothing that is seen.
@@ -160,10 +176,10 @@ impl Store {
         match change {
             Change::Create(key, schema) => self.create(alloc, key, schema),
             Change::Remove(key) => self.remove(key),
-            Change::Put(key, content) => self.put(key, content),
+            Change::Put(key, content) => self.put(alloc, key, content),
             Change::Add(key, entities, values) => self.add(alloc, key, entities, values),
             Change::Set(key, instance) => self.set(alloc, key, instance),
-            Change::DropInstance(key, name) => self.drop_instance(key, name),
+            Change::DropInstance(key, name) => self.drop_instance(alloc, key, name),
         }
     }
 }

@@ -10,14 +10,15 @@ ghost use Rattle.rp_store.specs.Kept.{made, Fits};
 use crate::changes::Prepared;
 use crate::keyed::{Entry, Keyed};
 use rp_content::Instance;
-use rp_rows::rows::{Key, ModelContent};
+use rp_index::Indexed;
+use rp_rows::rows::Key;
 use std::alloc::{AllocError, Global};
 use std::marker::Model;
 
 /// What models hold, in the order of owner and name, each key once.
 #[derive(Drop)]
 pub struct Store {
-    pub(crate) models: Keyed<ModelContent>,
+    pub(crate) models: Keyed<Indexed>,
 }
 
 impl Model for Store {
@@ -44,14 +45,14 @@ impl Store {
     }
 
     /// The models in the order of owner and name.
-    pub fn models(&self) -> &Keyed<ModelContent>
+    pub fn models(&self) -> &Keyed<Indexed>
         ensures { result.now ≡ self.now }
     {
         &self.models
     }
 
     /// The model of this key.
-    pub(crate) fn find(&self, key: &Key) -> Option<&Entry<ModelContent>>
+    pub(crate) fn find(&self, key: &Key) -> Option<&Entry<Indexed>>
         ensures { option_copied result ≡ find (is_entry key.now) self.now.entries }
     {
         self.models.find(key)
@@ -62,7 +63,7 @@ impl Store {
         ensures { option_copied result ≡ instance_at key.now name self.now.entries }
     {
         match self.find(key) {
-            Some(model) => model.value.content.instances.get(name),
+            Some(model) => model.value.get().content.instances.get(name),
             None => None,
         }
     }

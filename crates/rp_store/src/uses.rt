@@ -1,13 +1,18 @@
 //! What instances refer to.
 
-ghost use Rattle.std.specs.Prelude.{◌≡◌, ◌==◌, []};
+ghost use Rattle.std.specs.Prelude.{◌≡◌, ◌==◌, false, [], ◌∷◌, IfOk, IfSome};
 ghost use Rattle.std.specs.Bool.{OnFalse};
 ghost use Rattle.std.specs.List.{flat_map, list_any};
+ghost use Rattle.std.specs.Option.{option_map_or};
+ghost use Rattle.rp_index.specs.Index.{AreUsersAmong};
 ghost use Rattle.rp_rows.specs.Contents.{references};
 ghost use Rattle.rp_rows.specs.Instances as spec;
 
-use rp_content::Instance;
+use rp_content::{Instance, Instances};
+use rp_index::Indexed;
 use rp_value::Value;
+use std::alloc::{AllocError, Global};
+use std::collections::BTreeSet;
 
 /// Whether the value refers to the name, at any depth.
 #[cycle(references)]
@@ -64,8 +69,60 @@ fn is_user(name: u64, instance: &Instance) -> bool
 }
 
 /// Whether another instance refers to it.
-pub(crate) fn is_used(name: u64, instances: &[Instance]) -> bool
+fn is_used(name: u64, instances: &[Instance]) -> bool
     ensures { result ≡ spec.is_used name instances.now }
 {
     instances.iter().any(|instance| is_user(name, instance))
+}
+
+/// Whether the instance of another name refers to it.
+fn is_user_at(name: u64, instances: &Instances, user: u64) -> bool
+    ensures { result ≡ option_map_or (spec.is_user name) (spec.instance_of user instances.now) false }
+{
+    match instances.get(user) {
+        Some(instance) => is_user(name, instance),
+        None => false,
+    }
+}
+
+/// Whether the instance of one of some names refers to it, and is another.
+fn is_used_by(name: u64, instances: &Instances, users: &BTreeSet<u64>) -> bool
+    ensures { result ≡ list_any (λ u. option_map_or (spec.is_user name) (spec.instance_of u instances.now) false) users.now.keys }
+{
+    for user in users {
+        if is_user_at(name, instances, *user) {
+            return true;
+        }
+    }
+    false
+}
+
+/// Whether another instance refers to it, where only candidates may.
+fn is_used_among(name: u64, instances: &Instances, users: &BTreeSet<u64>) -> bool
+    requires { AreUsersAmong (name ∷ []) users.now.keys instances.now }
+    ensures { result ≡ spec.is_used name instances.now }
+{
+    // Both say that what they have is in order.
+    let (_, _) = (instances.ordered(), users.len());
+    is_used_by(name, instances, users)
+}
+
+/// The candidates for those that refer to the name.
+fn users_of(alloc: Global, name: u64, model: &Indexed) -> Result<Option<BTreeSet<u64>>, AllocError>
+    ensures { IfOk result (λ found. IfSome found (λ users. AreUsersAmong (name ∷ []) users.keys model.now.content.instances)) }
+{
+    let mut names = BTreeSet::new(alloc);
+    names.insert(name)?;
+    model.users_among(alloc, &names)
+}
+
+/// Whether another instance of the model refers to it.
+pub(crate) fn is_used_in(alloc: Global, name: u64, model: &Indexed) -> Result<bool, AllocError>
+    ensures { IfOk result (λ used. used ≡ spec.is_used name model.now.content.instances) }
+{
+    let instances = &model.get().content.instances;
+    match users_of(alloc, name, model)? {
+        Some(users) => Ok(is_used_among(name, instances, &users)),
+        None => Ok(is_used(name, instances.as_slice())),
+    }
 }

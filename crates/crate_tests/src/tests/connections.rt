@@ -1,17 +1,13 @@
-//! One connection over streams in memory, of which the program serves none, and one by a socket, which the same thread asks. What
-//! many connections are answered is in `tests/http.py`.
+//! One connection over streams in memory, of which the program serves none. What is answered over sockets is in `tests/http.py`.
 ghost use Rattle.std.specs.Prelude.{◌≡◌, ◌≤◌, length, IfOk};
 
 use ex_check::compile_schema;
-use http_routes::{TokenFault, Tokens};
+use http_routes::Tokens;
 use rp_http::{ServeFault, serve_connection};
 use rp_io::{DeviceFault, Sink, Source};
 use rp_repo::{LoadedSchema, Repository, Text};
-use rp_sockets::{Ends, Keeper, Listening};
 use std::alloc::{AllocError, Global};
-use std::io::{Read, Write};
 use std::mem;
-use std::net::{Ipv4Addr, Shutdown, SocketAddr, TcpStream};
 use std::test::*;
 
 const SCHEMA: &[u8] =
@@ -255,54 +251,6 @@ fn is_long_head_answered(alloc: Global) -> Result<bool, Fail> {
     is_served(alloc, reader, ROOM, LARGE_HEAD, None)
 }
 
-fn is_token_fault(alloc: Global, token: &str, fault: TokenFault) -> Result<bool, AllocError> {
-    Ok(Tokens::new(texts(alloc, "ta", token)?).err() == Some(fault))
-}
-
-/// Asks an address on this machine, and ends the connection's side.
-fn ask(rt: &HostRuntime, address: SocketAddr) -> std::io::Result<TcpStream> {
-    let mut stream = TcpStream::connect(rt, address)?;
-    stream.write_all(ASKED)?;
-    stream.shutdown(Shutdown::Write)?;
-    Ok(stream)
-}
-
-/// Keeps nothing.
-#[derive(Drop)]
-struct Nothing;
-
-impl Keeper for Nothing {
-    fn look(&mut self, _alloc: Global, _repository: &Repository<'_>) {}
-
-    fn waits(&self) -> bool {
-        false
-    }
-}
-
-/// Serves one connection of an address. Answers whether it ended in order.
-fn serve_one(rt: &HostRuntime, listening: Listening) -> Result<bool, Fail> {
-    let alloc = rt.alloc();
-    let (mut repository, tokens) = opened(alloc)?;
-    let ends = Ends {
-        connections: Some(1),
-        input: false,
-    };
-    let ended = listening.serve(rt, alloc, &mut repository, &tokens, ends, &mut Nothing);
-    mem::forget(repository);
-    Ok(ended.is_ok())
-}
-
-/// What one connection of an address on this machine is told. Nothing where it doesn't end in order.
-fn told_by_socket(rt: &HostRuntime) -> Result<Vec<u8>, Fail> {
-    let listening = Listening::bind(rt, SocketAddr::from((Ipv4Addr::LOCALHOST, 0)))?;
-    let mut stream = ask(rt, listening.address())?;
-    let mut told = Vec::new(rt.alloc());
-    if serve_one(rt, listening)? {
-        stream.read_to_end(&mut told)?;
-    }
-    Ok(told)
-}
-
 #[test]
 fn connections_are_served(rt: HostRuntime) -> Result<(), Fail> {
     for (asked, told) in ROWS {
@@ -312,8 +260,5 @@ fn connections_are_served(rt: HostRuntime) -> Result<(), Fail> {
     for (asked, room, told, fault) in FAULTS {
         assert!(rt; is_cut_off(rt.alloc(), asked, room, told, fault)?);
     }
-    assert!(rt; is_token_fault(rt.alloc(), "", TokenFault::BadToken)?);
-    assert!(rt; is_token_fault(rt.alloc(), "ta", TokenFault::TwoTokens)?);
-    assert_eq!(rt; told_by_socket(&rt)?.as_slice(), TOLD);
     Ok(())
 }

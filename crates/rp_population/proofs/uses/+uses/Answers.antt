@@ -1,7 +1,7 @@
 use Rattle.std.proofs.Common.{◌≡◌, ◌∙◌, ap, sym}
 use Rattle.std.specs.List.{flat_map}
 use Rattle.rp_rows.specs.Contents.{references}
-use Rattle.rp_population.proofs.Using.{references-elements}
+use Rattle.rp_index.proofs.References.{references-elements}
 use Rattle.rp_population.proofs.uses.+uses.Goals as goal
 
 pub push_value-returns-in-Agg : goal.push_value-returns-in-Agg

@@ -1,4 +1,6 @@
 use Rattle.std.proofs.Common.{◌∙◌, ap}
+use Rattle.std.specs.List.{find}
+use Rattle.rp_rows.specs.Rows.{is_row}
 use Rattle.rp_population.specs.Populations.{population, has_place}
 use Rattle.rp_plain.specs.Readers.{counted_in}
 use Rattle.rp_sight.specs.Stored.{row_of}
@@ -20,7 +22,7 @@ returns-in-Some-find c =
     let ms = c.args.asked.now.models.now.rows in
     let g = row_of c.in-Some.group in
     c.counts_with.ensures
-    ∙ stands_there p g ms c.find.ensures.ascending (row_of c.in-Some-find.model) c.in-Some-find.ensures.found
+    ∙ stands_there p g ms c.find.ensures.ascending (row_of c.in-Some-find.model) (c.in-Some-find.ensures.found ∙ ap (λ k. find (is_row k) ms) c.key.ensures)
     ∙ ap (λ o. has_place (population (counted_in ms o)) p) c.in-Some.ensures
 
 pub returns-in-None : goal.returns-in-None
@@ -29,5 +31,5 @@ returns-in-None c =
     let p = c.args.place.now in
     let ms = c.args.asked.now.models.now.rows in
     let g = row_of c.in-Some.group in
-    stands_nowhere p g ms c.find.ensures.ascending c.in-None.ensures.found
+    stands_nowhere p g ms c.find.ensures.ascending (c.in-None.ensures.found ∙ ap (λ k. find (is_row k) ms) c.key.ensures)
     ∙ ap (λ o. has_place (population (counted_in ms o)) p) c.in-Some.ensures

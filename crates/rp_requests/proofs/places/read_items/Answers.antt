@@ -13,4 +13,4 @@ returns-clause-ok c =
     let name = item_found a b c.in_ok-name.field-0 c.in-Some-2.name c.in-Some-2.is c.in_ok-name.ensures.ok in
     let instance = item_found b d c.in_ok-instance.field-0 c.in-Some-3.instance c.in-Some-3.is c.in_ok-instance.ensures.ok in
     let over = list_over d r c.in_ok-next_item.field-0 (sym c.is_some.ensures ∙ c.if-is_some.false) c.in_ok-next_item.ensures.ok in
-    three_items _ _ _ _ (view c.in-Some.owner.value) (view c.in-Some-2.name.value) (view c.in-Some-3.instance.value) r owner name instance over ∙ ap (λ place. Some (place, r)) (sym c.place_of.ensures)
+    three_items _ _ _ _ (view c.in-Some.owner.value) (view c.in-Some-2.name.value) (view c.in-Some-3.instance.value) r owner name instance over ∙ ap (λ place. Some (place, r)) (sym c.in_ok-place.ensures)

@@ -1,7 +1,7 @@
 use Rattle.std.proofs.Common.{◌∙◌, ◌==◌, ap, sym}
 use Rattle.std.specs.List.{flat_map, list_any}
 use Rattle.rp_rows.specs.Contents.{references}
-use Rattle.rp_store.proofs.References.{references-elements}
+use Rattle.rp_index.proofs.References.{references-elements}
 use Rattle.rp_store.proofs.uses.+references.Goals as goal
 
 pub has_reference-returns-in-Agg : goal.has_reference-returns-in-Agg

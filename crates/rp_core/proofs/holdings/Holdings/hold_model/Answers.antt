@@ -18,8 +18,8 @@ invariant_of-self-2 c =
     let k : Key = c.args.key in
     let ms = c.self.inside.store.entries in
     let es = c.self.inside.access.models.entries in
-    let models : c.commit.new.self.entries ≡ store.with_model k (Some c.args.holds) ms = c.commit.ensures ∙ ap (store.with_model k (Some c.args.holds)) c.in_ok-reserve.ensures.models in
-    let rights : c.hold_model.new.self.models.entries ≡ granted_at k c.args.grants es = c.in_ok-hold_model.ensures.held ∙ ap (λ (j : Key). granted_at j c.args.grants es) c.in_ok-again.ensures in
+    let models : c.commit.new.self.entries ≡ store.with_model k (Some c.args.holds) ms = c.commit.ensures ∙ (λ i. store.with_model (c.in_ok-key.ensures i) (Some (c.in_ok-indexed.ensures i)) (c.in_ok-reserve.ensures.models i)) in
+    let rights : c.hold_model.new.self.models.entries ≡ granted_at k c.args.grants es = c.in_ok-hold_model.ensures.held ∙ ap (λ (j : Key). granted_at j c.args.grants es) (c.in_ok-again.ensures ∙ c.in_ok-key.ensures) in
     record {
       layouts = c.self.invariant.layouts;
       rules = c.self.invariant.rules;
@@ -31,8 +31,8 @@ returns-clause-held c =
     let k : Key = c.args.key in
     let ms = c.self.inside.store.entries in
     let es = c.self.inside.access.models.entries in
-    let models : c.commit.new.self.entries ≡ store.with_model k (Some c.args.holds) ms = c.commit.ensures ∙ ap (store.with_model k (Some c.args.holds)) c.in_ok-reserve.ensures.models in
-    let rights : c.hold_model.new.self.models.entries ≡ granted_at k c.args.grants es = c.in_ok-hold_model.ensures.held ∙ ap (λ (j : Key). granted_at j c.args.grants es) c.in_ok-again.ensures in
+    let models : c.commit.new.self.entries ≡ store.with_model k (Some c.args.holds) ms = c.commit.ensures ∙ (λ i. store.with_model (c.in_ok-key.ensures i) (Some (c.in_ok-indexed.ensures i)) (c.in_ok-reserve.ensures.models i)) in
+    let rights : c.hold_model.new.self.models.entries ≡ granted_at k c.args.grants es = c.in_ok-hold_model.ensures.held ∙ ap (λ (j : Key). granted_at j c.args.grants es) (c.in_ok-again.ensures ∙ c.in_ok-key.ensures) in
     let rows : joined c.commit.new.self.entries c.hold_model.new.self.models.entries ≡ restored (row_of k c.args.holds c.args.grants) (joined ms es) =
     (λ i. joined (models i) (rights i)) ∙ held_rows k c.args.holds c.args.grants ms es c.self.invariant.alike in
     (λ i. record {

@@ -12,7 +12,9 @@ use Rattle.rp_sight.specs.Stored.{row_of, joined, IsTable}
 use Rattle.rp_sight.specs.declared.groups.Groups.TheInside.{Inside}
 use Rattle.rp_sight.specs.Granted.{Names, KeepsGranted, names_at, relisted}
 use Rattle.rp_sight.proofs.Joining.{Makes, regrant_rows}
+use Rattle.rp_sight.specs.Told.{KeepsListed}
 use Rattle.rp_sight.proofs.Names.{regrant_keeps, none_regranted, regranted_rows}
+use Rattle.rp_sight.proofs.Told.{regranted_told}
 use Rattle.rp_sight.proofs.groups.Groups.regrant.Goals as goal
 use Rattle.rp_sight.proofs.groups.Groups.regrant.Goals.{then-is_some, else-is_some}
 
@@ -67,7 +69,11 @@ invariant_of-self c =
           subst (λ (i : Inside). KeepsGranted i.granted.entries (regranted_rows k r.grants rows)) (sym w.self-inside-is)
           (none_regranted k r.grants g.granted.entries rows (row_absent (find (is_row k) rows) (found ∙ w.if-is_some.false)) c.self.invariant.granted)
     ] in
-    record { table = made.table; granted = subst (KeepsGranted s.granted.entries) (sym made.rows_are) kept }
+    let listed : KeepsListed s.listers (regranted_rows k r.grants rows) = elim c.if-is_some.branch [
+      | then-is_some w ↦ subst (λ (i : Inside). KeepsListed i.listers (regranted_rows k r.grants rows)) (sym w.self-inside-is) (regranted_told k r.grants g.listers rows c.self.invariant.listed)
+      | else-is_some w ↦ subst (λ (i : Inside). KeepsListed i.listers (regranted_rows k r.grants rows)) (sym w.self-inside-is) (regranted_told k r.grants g.listers rows c.self.invariant.listed)
+    ] in
+    record { table = made.table; granted = subst (KeepsGranted s.granted.entries) (sym made.rows_are) kept; listed = subst (KeepsListed s.listers) (sym made.rows_are) listed }
 
 pub returns : goal.returns
 returns c =

@@ -6,7 +6,9 @@ use Rattle.rp_rows.specs.Alterations.{grants_of}
 use Rattle.rp_sight.specs.Granted.{KeepsGranted}
 use Rattle.rp_sight.specs.Stored.{joined}
 use Rattle.rp_sight.proofs.Joining.{remove_rows}
+use Rattle.rp_sight.specs.Told.{KeepsListed}
 use Rattle.rp_sight.proofs.Names.{remove_keeps}
+use Rattle.rp_sight.proofs.Told.{removed_told}
 use Rattle.rp_sight.proofs.groups.Groups.remove.Goals as goal
 
 pub invariant_of-self : goal.invariant_of-self
@@ -23,6 +25,7 @@ invariant_of-self c =
           subst (KeepsGranted c.forget.new.granted.entries) (sym made.rows_are)
           (remove_keeps k g.granted.entries c.forget.new.granted.entries rows c.self.invariant.granted c.forget.ensures.others c.forget.ensures.fewer
           (λ p granted. c.forget.ensures.gone p (ap (list_any (is_grant_to p)) grants ∙ granted)));
+      listed = subst (KeepsListed c.unlist.new.self) (sym made.rows_are) (removed_told k g.listers c.unlist.new.self rows c.unlist.ensures.others c.self.invariant.listed);
     })
 
 pub returns : goal.returns

@@ -15,4 +15,4 @@ entry-rights-requires g c =
 pub returns : goal.returns
 returns g c =
     let t = c.self.inside in
-    row_read t.held.now.entries t.rights.now.entries c.args.self.now.rows c.args.place c.entry-entry.result.now c.entry-rights.result.now c.as_slice.result.now (ap (λ s. s.rows) c.self.view_is) c.self.invariant.same c.requires c.entry-entry.ensures c.entry-rights.ensures c.as_slice.ensures
+    rw c.get.ensures (row_read t.held.now.entries t.rights.now.entries c.args.self.now.rows c.args.place c.entry-entry.result.now c.entry-rights.result.now c.as_slice.result.now (ap (λ s. s.rows) c.self.view_is) c.self.invariant.same c.requires c.entry-entry.ensures c.entry-rights.ensures c.as_slice.ensures)
