@@ -6,8 +6,8 @@ and go, instances that are set, dropped and made again, members that no longer c
     tests/indexes.py --self-test
 
 The replies of a row are worked out by hand. They have to be those of the plain repository too, and those of the program: in one run, and
-in several, of which each goes on from what the one before has saved. So a row has two readings, and an index would be met as it was kept and
-as it is made anew.
+in several, of which each goes on from what the one before has saved. So a row has two readings, and meets indexes that were kept, and such
+as were made anew.
 
 `--self-test` runs no program. The plain repository stands in for it, with each of FAULTS, which are those that an index may have: some
 row has to find each, each row has to find one, and none is found where there is none.

@@ -493,7 +493,8 @@ def session(shim, names_of_models=("m", "n"), may_end=False, more=(), **refusal)
     with Place() as place, place.serve("--until-input-ends", stdin=subprocess.PIPE, env=env, pass_fds=more) as server:
         try:
             held = create_each(server, place, names_of_models)
-        except ConnectionRefusedError:
+        except (ConnectionRefusedError, ConnectionResetError):
+            # (who connects as it ends is reset)
             if not may_end:
                 raise Wrong("it ended") from None
             held = [()]
