@@ -28,7 +28,7 @@ import sys
 
 TOP = os.path.dirname(os.path.dirname(os.path.abspath(__file__)))
 FILES = ("docs/CLAIMS.md", "docs/CLAIMS-OF-RULES.md", "docs/CLAIMS-OF-SCHEMAS.md", "docs/CLAIMS-OF-HTTP.md",
-         "docs/CLAIMS-OF-SNAPSHOTS.md")
+         "docs/CLAIMS-OF-SNAPSHOTS.md", "docs/CLAIMS-OF-THE-STORE.md")
 LISTS = ("calls", "edits", "tests")
 WIDEST = 200
 
