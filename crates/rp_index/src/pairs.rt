@@ -12,10 +12,12 @@ use std::collections::BTreeSet;
 /// A number, and who is found under it.
 pub type Pairs = BTreeSet<(u64, u64)>;
 
-/// The set of these.
-pub fn set_of(alloc: Global, pairs: Vec<(u64, u64)>) -> Result<Pairs, AllocError>
+/// The set of these, which is soonest made where those of one first come in the order of their seconds.
+pub fn set_of(alloc: Global, mut pairs: Vec<(u64, u64)>) -> Result<Pairs, AllocError>
     ensures { IfOk result (λ set. HasAll (has_pair set.keys) pairs.items) }
 {
+    // (one number is sooner compared than two, and a set is made of what is in order without room to sort it)
+    pairs.sort_by_key(|pair| pair.0)?;
     pairs.into_iter().collect(alloc)
 }
 
