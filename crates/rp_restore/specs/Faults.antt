@@ -1,5 +1,5 @@
 -- Which fault is told.
-use Rattle.std.specs.Prelude.{◌≡◌, Option, Some, None, Result, Ok, Err}
+use Rattle.std.specs.Prelude.{◌≡◌, ◌≢◌, ℕ, List, Option, Some, None, Result, Ok, Err}
 use Rattle.plain_data.specs.declared.failure.Failure.{Failure}
 use Rattle.plain_data.specs.declared.failure.Failure.TheVariants as failure
 use Rattle.rp_plain.specs.declared.messages.NewFault.{NewFault}
@@ -22,3 +22,10 @@ OpensFirst (Ok x) found = found ≡ None
 OpensFirst (Err NoMemory) found = Unit {0}
 OpensFirst (Err (New fault)) found = found ≡ Some fault
 OpensFirst (Err (BadSnapshot lack)) found = found ≡ None
+
+-- These bytes are this text; or they aren't, or memory was wanting.
+abbrev pub Compares : Result (Unit {0}) RestoreFault → (bytes text : List ℕ) → Type 0
+Compares (Ok x) bytes text = bytes ≡ text
+Compares (Err NoMemory) bytes text = Unit {0}
+Compares (Err (New fault)) bytes text = ⊥
+Compares (Err (BadSnapshot lack)) bytes text = bytes ≢ text

@@ -12,7 +12,7 @@ ghost use Rattle.rp_restore_laws.specs.Restoring.{with_rows};
 ghost use Rattle.rp_snapshot_texts.specs.Again.{rows_tokens};
 ghost use Rattle.rp_snapshots.specs.Snapshots.{first_version, file_in, snapshot_of};
 ghost use Rattle.rp_restore.specs.Again.{ComesBack, Gives, Restores};
-ghost use Rattle.rp_restore.specs.Faults.{OpensFirst};
+ghost use Rattle.rp_restore.specs.Faults.{Compares, OpensFirst};
 
 use crate::fault::{RestoreFault, SnapshotLack};
 use crate::groups::groups;
@@ -130,6 +130,17 @@ fn differs_at(alloc: Global, holdings: &Holdings<'_>, bytes: &[u8]) -> Result<us
     Ok(differs.unwrap_or(text.len().min(bytes.len())))
 }
 
+/// Refuses bytes that aren't the snapshot of what is held, with the first of them that isn't as in it.
+fn compare(alloc: Global, holdings: &Holdings<'_>, bytes: &[u8]) -> Result<(), RestoreFault>
+    ensures { Compares result bytes.now (snapshot_of holdings.now.content) }
+{
+    if are_its_snapshot(alloc, holdings, bytes)? {
+        return Ok(());
+    }
+    let at = differs_at(alloc, holdings, bytes)?;
+    Err(RestoreFault::BadSnapshot(SnapshotLack::Differs(at)))
+}
+
 /// The repository of these schemas and partners of which the bytes are the snapshot.
 ///
 /// # Errors
@@ -153,9 +164,6 @@ pub fn restore<'s>(
     step_keeps_validity();
     let mut holdings = Holdings::new(alloc, schemas, partners)?;
     hold_bytes(alloc, &mut holdings, bytes)?;
-    if !are_its_snapshot(alloc, &holdings, bytes)? {
-        let at = differs_at(alloc, &holdings, bytes)?;
-        return Err(RestoreFault::BadSnapshot(SnapshotLack::Differs(at)));
-    }
+    compare(alloc, &holdings, bytes)?;
     Ok(holdings)
 }

@@ -13,12 +13,12 @@ use Rattle.rp_rows.specs.declared.rows.Level.{Level}
 use Rattle.rp_rows.specs.declared.rows.Level.TheVariants.{Read, Group, Write}
 use Rattle.rp_rows.specs.declared.rows.Grant.{Grant}
 use Rattle.rp_rows.specs.declared.rows.Key.{Key}
-use Rattle.rp_rows.specs.Rows.{Model, GroupRow}
+use Rattle.rp_rows.specs.Rows.{key_of, Model, GroupRow}
 use Rattle.rp_snapshot_rows.specs.declared.lack.Lack.{Lack}
 use Rattle.rp_snapshot_rows.specs.Written.{level_word, grant_data, reader_data, member_data, link_data, model_data, group_data}
 use Rattle.rp_snapshot_rows.specs.Tokens.{listed, tokens_of, grant_tokens, reader_tokens, member_tokens, link_tokens, tail_tokens, behind_grants, behind_file, model_tokens, behind_readers, group_tokens}
 use Rattle.rp_snapshot_rows.specs.Again.{Again, Passed, HasNumbers, IsToRead}
-use Rattle.rp_snapshot_rows.specs.Reading.{Fails, Gives, Passes, level_of, pair_at, grant_at, reader_at, member_at, link_at, text_at, list_at, first_list_at, whole_at, whole_of, file_at, greatest_at, tail_at}
+use Rattle.rp_snapshot_rows.specs.Reading.{Fails, Gives, Passes, level_of, pair_at, grant_at, reader_at, member_at, link_at, text_at, list_at, first_list_at, numbered_at, whole_at, whole_of, file_at, greatest_at, tail_at}
 use Rattle.rp_snapshot_rows.proofs.ListLemmas.{items_tokens-map}
 
 -- ---- what can't be read isn't there
@@ -78,7 +78,7 @@ unfolding member_at pair_at
 member_again k ts = refl
 
 pub link_again : (l : Link) (ts : List Token) → HasNumbers l → link_at (link_tokens l ++ ts) ≡ Some (l, ts)
-unfolding link_at text_at whole_at
+unfolding link_at numbered_at text_at whole_at
 link_again l ts fits = rw (whole_again l.target fits.1, whole_again l.name fits.0) refl
 
 -- ---- rows
@@ -99,7 +99,7 @@ pub greatest_again : (n : ℕ) (ts : List Token) → n < 2 ^ 64 → greatest_at 
 unfolding greatest_at whole_at list_at
 greatest_again n ts h = rw (whole_again n h) refl
 
-pub tail_again : (owner name schema : List ℕ) (ts : List Token) → tail_at (tail_tokens owner name schema ++ ts) ≡ Some ((name, (owner, schema)), ts)
+pub tail_again : (owner name schema : List ℕ) (ts : List Token) → tail_at (tail_tokens owner name schema ++ ts) ≡ Some ((key_of owner name, schema), ts)
 unfolding tail_at text_at
 tail_again owner name schema ts = refl
 

@@ -76,6 +76,13 @@ first_list_at name ts = do
   opened ← after_begin_object ts
   list_at name opened
 
+-- a number and a text, of these names
+unfoldable pub numbered_at : (whole text : List ℕ) → List Token → Option ((ℕ × List ℕ) × List Token)
+numbered_at whole text ts = do
+  first ← whole_at whole ts
+  second ← text_at text first.1
+  Some ((first.0, second.0), second.1)
+
 -- ---- items of lists
 
 abbrev pub level_of : List ℕ → Option Level
@@ -108,12 +115,10 @@ member_at ts = do
 unfoldable pub link_at : List Token → Option (Link × List Token)
 link_at ts = do
   opened ← after_begin_object ts
-  target ← whole_at (codes "instance") opened
-  model ← text_at (codes "model") target.1
-  name ← whole_at (codes "name") model.1
-  owner ← text_at (codes "owner") name.1
-  behind ← after_end_object owner.1
-  Some (record { name = name.0; owner = owner.0; model = model.0; target = target.0 }, behind)
+  target ← numbered_at (codes "instance") (codes "model") opened
+  source ← numbered_at (codes "name") (codes "owner") target.1
+  behind ← after_end_object source.1
+  Some (record { name = source.0.0; owner = source.0.1; model = target.0.1; target = target.0.0 }, behind)
 
 -- ---- rows
 
@@ -130,14 +135,14 @@ greatest_at ts = do
   opened ← list_at (codes "links") greatest.1
   Some (greatest.0, opened)
 
--- the name, the owner and the schema of a row, and its end
-unfoldable pub tail_at : List Token → Option ((List ℕ × (List ℕ × List ℕ)) × List Token)
+-- the name, the owner and the schema of a row, and its end: its key and its schema
+unfoldable pub tail_at : List Token → Option ((Key × List ℕ) × List Token)
 tail_at ts = do
   name ← text_at (codes "name") ts
   owner ← text_at (codes "owner") name.1
   schema ← text_at (codes "schema") owner.1
   closed ← after_end_object schema.1
-  Some ((name.0, (owner.0, schema.0)), closed)
+  Some ((record { owner = owner.0; name = name.0 }, schema.0), closed)
 
 -- ---- what a function returned is what reading gives, unless memory ran out
 

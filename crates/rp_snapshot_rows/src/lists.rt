@@ -13,7 +13,7 @@ ghost use Rattle.rp_snapshot_rows.specs.Tokens.{listed, grant_tokens, reader_tok
 ghost use Rattle.rp_snapshot_rows.specs.Again.{Again, HasNumbers, IsToRead};
 
 use crate::lack::Lack;
-use crate::members::{text, whole};
+use crate::members::numbered;
 use crate::tokens::{begin_array, begin_object, end_array, end_object, string};
 use json::Reader;
 use plain_data::{Failure, Items, Rows, Text};
@@ -88,10 +88,8 @@ fn link(alloc: Global, reader: &mut Reader<'_>) -> Result<Link, Failure<Lack>>
     ensures shorter { OnOk result (length reader.new < length reader.old) }
 {
     begin_object(reader)?;
-    let target = whole(reader, "instance")?;
-    let model = text(reader, "model")?;
-    let name = whole(reader, "name")?;
-    let owner = text(reader, "owner")?;
+    let (target, model) = numbered(reader, "instance", "model")?;
+    let (name, owner) = numbered(reader, "name", "owner")?;
     end_object(reader)?;
     let model = Text::from_str(alloc, model)?;
     let owner = Text::from_str(alloc, owner)?;

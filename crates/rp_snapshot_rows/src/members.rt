@@ -28,6 +28,21 @@ pub(crate) fn whole(reader: &mut Reader<'_>, name: &str) -> Result<u64, Failure<
     number(reader)
 }
 
+/// A number and a text, of these names.
+#[tactic(auto, unfolding(crate::specs::Reading::numbered_at))]
+pub(crate) fn numbered<'a>(
+    reader: &mut Reader<'a>,
+    number: &str,
+    name: &str,
+) -> Result<(u64, &'a str), Failure<Lack>>
+    ensures read { Gives (λ p. (p.0, p.1.now)) result reader.new (spec.numbered_at number.now name.now reader.old) }
+    ensures shorter { OnOk result (length reader.new < length reader.old) }
+{
+    let number = whole(reader, number)?;
+    let text = text(reader, name)?;
+    Ok((number, text))
+}
+
 /// The bracket that opens the list of this name.
 pub(crate) fn list_at(reader: &mut Reader<'_>, name: &str) -> Result<(), Failure<Lack>>
     ensures read { Passes result reader.new (spec.list_at name.now reader.old) }

@@ -47,16 +47,19 @@ fn greatest(reader: &mut Reader<'_>) -> Result<u64, Failure<Lack>>
     Ok(greatest)
 }
 
-/// The name, the owner and the schema of a row, and its end.
-fn tail<'a>(reader: &mut Reader<'a>) -> Result<(&'a str, (&'a str, &'a str)), Failure<Lack>>
-    ensures read { Gives (λ t. (t.0.now, (t.1.0.now, t.1.1.now))) result reader.new (spec.tail_at reader.old) }
+/// The name, the owner and the schema of a row, and its end: its key and its schema.
+fn tail(alloc: Global, reader: &mut Reader<'_>) -> Result<(Key, Text), Failure<Lack>>
+    ensures read { Gives (λ t. t) result reader.new (spec.tail_at reader.old) }
     ensures shorter { OnOk result (length reader.new < length reader.old) }
 {
     let name = text(reader, "name")?;
     let owner = text(reader, "owner")?;
     let schema = text(reader, "schema")?;
     end_object(reader)?;
-    Ok((name, (owner, schema)))
+    let name = Text::from_str(alloc, name)?;
+    let owner = Text::from_str(alloc, owner)?;
+    let schema = Text::from_str(alloc, schema)?;
+    Ok((Key { owner, name }, schema))
 }
 
 fn file<'a>(reader: &mut Reader<'a>) -> Result<&'a str, Failure<Lack>>
@@ -92,12 +95,9 @@ pub fn model_row(alloc: Global, reader: &mut Reader<'_>) -> Result<SavedModel, F
     let grants = grants(alloc, reader)?;
     let greatest = greatest(reader)?;
     let links = links(alloc, reader)?;
-    let (name, (owner, schema)) = tail(reader)?;
-    let name = Text::from_str(alloc, name)?;
-    let owner = Text::from_str(alloc, owner)?;
-    let schema = Text::from_str(alloc, schema)?;
+    let (key, schema) = tail(alloc, reader)?;
     Ok(SavedModel {
-        key: Key { owner, name },
+        key,
         schema,
         greatest,
         grants,
@@ -118,12 +118,9 @@ pub fn group_row(alloc: Global, reader: &mut Reader<'_>) -> Result<SavedGroup, F
     let grants = group_grants(alloc, reader)?;
     list_at(reader, "members")?;
     let members = members(alloc, reader)?;
-    let (name, (owner, schema)) = tail(reader)?;
-    let name = Text::from_str(alloc, name)?;
-    let owner = Text::from_str(alloc, owner)?;
-    let schema = Text::from_str(alloc, schema)?;
+    let (key, schema) = tail(alloc, reader)?;
     Ok(SavedGroup {
-        key: Key { owner, name },
+        key,
         listing: Listing { schema, members },
         grants,
     })

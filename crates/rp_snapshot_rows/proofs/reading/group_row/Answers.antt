@@ -35,14 +35,14 @@ returns-in_err-members-clause-again c g rest reads is =
     let p = err_from_is_err_and c.from_residual-in_err-members.result c.from_residual-in_err-members.ensures.1 in
     rw p.1 (p.2 ∙ memory)
 
-pub returns-in_err-name-clause-again : goal.returns-in_err-name-clause-again
-returns-in_err-name-clause-again c g rest reads is =
+pub returns-in_err-key-clause-again : goal.returns-in_err-key-clause-again
+returns-in_err-key-clause-again c g rest reads is =
     let opened = some_is _ _ (sym c.in_ok-first_list_at.ensures.read ∙ ap (first_list_at (codes "grants")) is ∙ readers_opened g rest) in
     let granted = c.in_ok-grants.ensures.again g.grants (behind_readers g ++ rest) reads opened in
     let listed = some_is _ _ (sym c.in_ok-list_at.ensures.read ∙ ap (list_at (codes "members")) granted.1 ∙ members_opened g rest) in
     let members = c.in_ok-members.ensures.again g.holds.members (tail_tokens g.owner g.name g.holds.schema ++ rest) listed in
-    let memory = no_fault c.in_err-name.field-0.0 _ _ c.in_err-name.ensures.read (ap tail_at members.1 ∙ tail_again g.owner g.name g.holds.schema rest) in
-    let p = err_from_is_err_and c.from_residual-in_err-name.result c.from_residual-in_err-name.ensures.1 in
+    let memory = no_fault c.in_err-key.field-0.0 _ _ c.in_err-key.ensures.read (ap tail_at members.1 ∙ tail_again g.owner g.name g.holds.schema rest) in
+    let p = err_from_is_err_and c.from_residual-in_err-key.result c.from_residual-in_err-key.ensures.1 in
     rw p.1 (p.2 ∙ memory)
 
 pub returns-clause-again : goal.returns-clause-again
@@ -51,8 +51,5 @@ returns-clause-again c g rest reads is =
     let granted = c.in_ok-grants.ensures.again g.grants (behind_readers g ++ rest) reads opened in
     let listed = some_is _ _ (sym c.in_ok-list_at.ensures.read ∙ ap (list_at (codes "members")) granted.1 ∙ members_opened g rest) in
     let members = c.in_ok-members.ensures.again g.holds.members (tail_tokens g.owner g.name g.holds.schema ++ rest) listed in
-    let tailed = both_are _ _ (sym c.in_ok-name.ensures.read ∙ ap tail_at members.1 ∙ tail_again g.owner g.name g.holds.schema rest) in
-    let name = c.in_ok-name-2.ensures ∙ ap (λ t. t.0) tailed.0 in
-    let owner = c.in_ok-owner.ensures ∙ ap (λ t. t.1.0) tailed.0 in
-    let schema = c.in_ok-schema.ensures ∙ ap (λ t. t.1.1) tailed.0 in
-    (λ i. record { key = record { owner = owner i; name = name i }; listing = record { schema = schema i; members = members.0 i }; grants = granted.0 i }, tailed.1)
+    let tailed = both_are _ _ (sym c.in_ok-key.ensures.read ∙ ap tail_at members.1 ∙ tail_again g.owner g.name g.holds.schema rest) in
+    (λ i. record { key = (tailed.0 i).0; listing = record { schema = (tailed.0 i).1; members = members.0 i }; grants = granted.0 i }, tailed.1)

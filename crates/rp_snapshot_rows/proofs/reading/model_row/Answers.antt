@@ -35,14 +35,14 @@ returns-in_err-links-clause-again c m rest fits is =
     let p = err_from_is_err_and c.from_residual-in_err-links.result c.from_residual-in_err-links.ensures.1 in
     rw p.1 (p.2 ∙ memory)
 
-pub returns-in_err-name-clause-again : goal.returns-in_err-name-clause-again
-returns-in_err-name-clause-again c m rest fits is =
+pub returns-in_err-key-clause-again : goal.returns-in_err-key-clause-again
+returns-in_err-key-clause-again c m rest fits is =
     let opened = some_is _ _ (sym c.in_ok-list_at.ensures.read ∙ ap (list_at (codes "grants")) is ∙ grants_opened m rest) in
     let granted = c.in_ok-grants.ensures.again m.grants (behind_grants m ++ rest) opened in
     let greatest = both_are _ _ (sym c.in_ok-greatest.ensures.read ∙ ap greatest_at granted.1 ∙ greatest_read m rest fits.0) in
     let linked = c.in_ok-links.ensures.again m.holds.content.links (tail_tokens m.owner m.name m.holds.schema ++ rest) fits.1 greatest.1 in
-    let memory = no_fault c.in_err-name.field-0.0 _ _ c.in_err-name.ensures.read (ap tail_at linked.1 ∙ tail_again m.owner m.name m.holds.schema rest) in
-    let p = err_from_is_err_and c.from_residual-in_err-name.result c.from_residual-in_err-name.ensures.1 in
+    let memory = no_fault c.in_err-key.field-0.0 _ _ c.in_err-key.ensures.read (ap tail_at linked.1 ∙ tail_again m.owner m.name m.holds.schema rest) in
+    let p = err_from_is_err_and c.from_residual-in_err-key.result c.from_residual-in_err-key.ensures.1 in
     rw p.1 (p.2 ∙ memory)
 
 pub returns-clause-again : goal.returns-clause-again
@@ -51,8 +51,5 @@ returns-clause-again c m rest fits is =
     let granted = c.in_ok-grants.ensures.again m.grants (behind_grants m ++ rest) opened in
     let greatest = both_are _ _ (sym c.in_ok-greatest.ensures.read ∙ ap greatest_at granted.1 ∙ greatest_read m rest fits.0) in
     let linked = c.in_ok-links.ensures.again m.holds.content.links (tail_tokens m.owner m.name m.holds.schema ++ rest) fits.1 greatest.1 in
-    let tailed = both_are _ _ (sym c.in_ok-name.ensures.read ∙ ap tail_at linked.1 ∙ tail_again m.owner m.name m.holds.schema rest) in
-    let name = c.in_ok-name-2.ensures ∙ ap (λ t. t.0) tailed.0 in
-    let owner = c.in_ok-owner.ensures ∙ ap (λ t. t.1.0) tailed.0 in
-    let schema = c.in_ok-schema.ensures ∙ ap (λ t. t.1.1) tailed.0 in
-    (λ i. record { key = record { owner = owner i; name = name i }; schema = schema i; greatest = greatest.0 i; grants = granted.0 i; links = linked.0 i }, tailed.1)
+    let tailed = both_are _ _ (sym c.in_ok-key.ensures.read ∙ ap tail_at linked.1 ∙ tail_again m.owner m.name m.holds.schema rest) in
+    (λ i. record { key = (tailed.0 i).0; schema = (tailed.0 i).1; greatest = greatest.0 i; grants = granted.0 i; links = linked.0 i }, tailed.1)
