@@ -25,7 +25,7 @@ pub(crate) fn text_at<D: Folder>(
             Ok(text) => Ok(FileText::Text(Text::new(text))),
             Err(_) => Ok(FileText::Refused(Refusal::BadRequest)),
         },
-        Err(Failure::Fault(LoadFault::TooLarge(_))) => Ok(FileText::Refused(Refusal::TooLarge)),
+        Err(Failure::Fault(LoadFault::TooLarge(..))) => Ok(FileText::Refused(Refusal::TooLarge)),
         Err(failure) => Err(failure),
     }
 }

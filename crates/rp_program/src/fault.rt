@@ -11,7 +11,6 @@ use std::net::SocketAddr;
 use std::{fmt, io};
 
 /// Why there is nothing to work on.
-#[derive(Drop)]
 pub enum StartFault {
     /// A file gives nothing.
     Load(LoadFault),
@@ -24,7 +23,6 @@ pub enum StartFault {
 }
 
 /// Why a command ends before its work is done.
-#[derive(Drop)]
 pub enum Fault {
     /// There is nothing to work on, or memory is wanting. Nothing was read of the input, nor written.
     Start(Failure<StartFault>),
@@ -51,6 +49,38 @@ pub enum Unsaved {
     NoMemory,
     /// Its file can't be replaced.
     File(ReplaceFault),
+}
+
+// (written out, so that each is one call wherever a fault may be dropped)
+impl Drop for StartFault {
+    fn drop(self) {
+        match self {
+            StartFault::Load(fault) => drop(fault),
+            StartFault::Snapshot(path, lack) => {
+                drop(path);
+                drop(lack);
+            }
+            StartFault::New(_) | StartFault::Tokens(_) => {}
+        }
+    }
+}
+
+impl Drop for Fault {
+    fn drop(self) {
+        match self {
+            Fault::Start(failure) => drop(failure),
+            Fault::Refused(path, words) => {
+                drop(path);
+                drop(words);
+            }
+            Fault::Page(path, _) => drop(path),
+            Fault::Read
+            | Fault::Write
+            | Fault::Listen(_, _)
+            | Fault::Serve(_)
+            | Fault::Unsaved(_) => {}
+        }
+    }
 }
 
 impl fmt::Display for Unsaved {

@@ -23,7 +23,6 @@ pub enum RestoreFault {
 
 /// What bytes lack, so that they are no snapshot of a repository of these schemas and partners. Each byte that is told is
 /// counted from the first of all, which is 0.
-#[derive(Drop)]
 pub enum SnapshotLack {
     /// The first line of a snapshot.
     FirstLine,
@@ -64,6 +63,19 @@ pub enum RowReason {
     Twice,
     /// Its owner has as many as an owner may have.
     TooMany,
+}
+
+// (written out, so that it is one call wherever a lack may be dropped)
+impl Drop for SnapshotLack {
+    fn drop(self) {
+        match self {
+            SnapshotLack::Row(row) => drop(row),
+            SnapshotLack::FirstLine
+            | SnapshotLack::Utf8(_)
+            | SnapshotLack::Form(_, _)
+            | SnapshotLack::Differs(_) => {}
+        }
+    }
 }
 
 impl From<AllocError> for RestoreFault {

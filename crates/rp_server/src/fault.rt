@@ -12,7 +12,6 @@ use std::io::ErrorKind;
 use std::{fmt, io};
 
 /// Why the program ends with status 2.
-#[derive(Drop)]
 pub enum Fault {
     /// The command line asks for nothing.
     CommandLine(CommandLineFault),
@@ -23,6 +22,20 @@ pub enum Fault {
     /// The command ended so, and what is told beside it: of a bad snapshot the kind of a file's fault, of one that isn't saved the
     /// path, of all else the words behind a colon.
     Command(CommandFault, Option<String>),
+}
+
+// (written out, so that it is one call wherever a fault may be dropped)
+impl Drop for Fault {
+    fn drop(self) {
+        match self {
+            Fault::CommandLine(fault) => drop(fault),
+            Fault::Command(fault, beside) => {
+                drop(fault);
+                drop(beside);
+            }
+            Fault::Words | Fault::NoMemory => {}
+        }
+    }
 }
 
 impl fmt::Display for Fault {
