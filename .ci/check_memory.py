@@ -67,6 +67,8 @@ LISTED = [
     Listed("crates/rp_http/src/serve.rt", "serve_connection",
            "let Ok(mut connection) = Connection::new(alloc) else { return Err(ServeFault::NoMemory); };",
            "AllocError is the one error of Connection::new"),
+    Listed("crates/rp_server/src/fault.rt", "drop", "Fault::Words | Fault::NoMemory => {}",
+           "a fault that is let go of, of which nobody is told"),
 ]
 
 

@@ -4,7 +4,7 @@
     bench/all.py [--hostile] [PROGRAM]
 
 It runs the other scripts of this folder one after the other, on PROGRAM or else on the program that was built, and prints what they
-print; eval.py on the program of the trial of evaluation, where that was built. The hostile inputs take long, and come with --hostile
+print; eval.py on the program of the trials, where that was built. The hostile inputs take long, and come with --hostile
 alone.
 At the end stands the chart: the nanoseconds that each byte takes, of each kind of work at each size.
 """
@@ -20,7 +20,7 @@ import run
 from harness import PROGRAM, TOP, Folder, Table
 
 BENCH = os.path.join(TOP, "bench")
-TRIAL = os.path.join(TOP, "crates/rule_trial/out/rule_trial")
+TRIALS = os.path.join(TOP, "crates/trials/out/trials")
 NANOSECONDS_A_SIGN = 4
 
 
@@ -75,8 +75,8 @@ def measure(folder, program, with_hostile):
     failed = run_script("snapshot.py", program) or failed
     failed = run_script("legal.py", program) or failed
     failed = run_script("delivery.py", program) or failed
-    if os.access(TRIAL, os.X_OK):
-        failed = run_script("eval.py", TRIAL) or failed
+    if os.access(TRIALS, os.X_OK):
+        failed = run_script("eval.py", TRIALS) or failed
     if with_hostile:
         failed = run_script("hostile.py", program) or failed
     show_chart([

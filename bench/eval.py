@@ -1,9 +1,9 @@
 #!/usr/bin/env python3
-"""Measures evaluation by `rule_trial`: steps, memory, and the domain of a population.
+"""Measures evaluation by `trials rules`: steps, memory, and the domain of a population.
 
     bench/eval.py [PROGRAM]
 
-PROGRAM is that of the trial, crates/rule_trial/out/rule_trial where it is left out. The first table has a rule's clause for each
+PROGRAM is that of the trials, crates/trials/out/trials where it is left out. The first table has a rule's clause for each
 sort of expression, over 100,000 instances: millions of steps in a second of a processor, the best of three runs and the middle
 one. Each run evaluates it so often that this takes some seconds, and what loading takes, with the limit of that run 0, is taken
 off. The second has what the process holds after 1,000 evaluations and after 1,000,000, and what it holds after as many of a
@@ -23,7 +23,7 @@ from typing import NamedTuple
 from harness import FILE_LIMIT, TOP, Table, compare, run_bench
 from make_part21 import part21
 
-PROGRAM = os.path.join(TOP, "crates/rule_trial/out/rule_trial")
+PROGRAM = os.path.join(TOP, "crates/trials/out/trials")
 SCHEMA = os.path.join(TOP, "tests/data/automotive_design.exp")
 
 HEAD = "ISO-10303-21;HEADER;FILE_DESCRIPTION((''),'2;1');FILE_NAME('','',(''),(''),'','','');FILE_SCHEMA(('S'));ENDSEC;DATA;\n"
@@ -111,7 +111,7 @@ KINDS = [
 
 
 def words(*limits):
-    return ("schema.exp", "file.step", *map(str, limits))
+    return ("rules", "schema.exp", "file.step", *map(str, limits))
 
 
 def evaluated_seconds(folder, kind, load, turns):
@@ -170,11 +170,11 @@ def without_conditions(schema):
 
 def held(folder, name, before=0, *limits):
     """The allocations of a run, the bytes held before one of them, the most behind that, and those behind the last."""
-    return folder.held(("schema.exp", name, *map(str, limits)), before=before)[0]
+    return folder.held(("rules", "schema.exp", name, *map(str, limits)), before=before)[0]
 
 
 def least_seconds(folder, name, *limits):
-    return min(folder.processor_run(("schema.exp", name, *limits))[0] for _ in range(5))
+    return min(folder.processor_run(("rules", "schema.exp", name, *limits))[0] for _ in range(5))
 
 
 def measure_domain(folder):

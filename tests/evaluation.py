@@ -1,9 +1,9 @@
 #!/usr/bin/env python3
-"""Runs `rule_trial` over the rows of tests/data/expressions, and compares value and steps of each; over example/assembly too.
+"""Runs `trials rules` over the rows of tests/data/expressions, and compares value and steps of each; over example/assembly too.
 
     tests/evaluation.py [PROGRAM]
 
-PROGRAM is the program of the trial, crates/rule_trial/out/rule_trial where it is left out; of a path that ends in rp_server it
+PROGRAM is the program of the trials, crates/trials/out/trials where it is left out; of a path that ends in rp_server it
 is the one beside that. All rows of a setting stand in one schema. With a limit of 200,000 steps a row has its value or is LIMIT,
 with a limit of its own steps it has its value, and with one step less it is LIMIT. Of the files in example/assembly/broken each
 WHERE clause and rule has the verdict and the culprits of its report. The last line is 'evaluation: N passed, M failed', and the
@@ -18,7 +18,7 @@ from collections import defaultdict
 from expression_rows import MOST_STEPS, read_rows, schema_of, written
 from lib.harness import TOP, run_parts
 
-PROGRAM = os.path.join(TOP, "crates/rule_trial/out/rule_trial")
+PROGRAM = os.path.join(TOP, "crates/trials/out/trials")
 ASSEMBLY = os.path.join(TOP, "example/assembly")
 LINE = re.compile(r"(\d+) (\S+)\.(\S+) (\?|#\d+) (.*)")
 
@@ -27,7 +27,7 @@ def evaluated(folder, schema, file, limits):
     """What the program tells: by limit, owner, label and SELF the outcome. Errors are told as they are."""
     folder.write("schema.exp", schema)
     folder.write("file.step", file)
-    status, out, err = folder.run("schema.exp", "file.step", *map(str, limits))
+    status, out, err = folder.run("rules", "schema.exp", "file.step", *map(str, limits))
     if status or err:
         return f"status {status}, {err.decode()}"
     lines = [LINE.fullmatch(line).groups() for line in out.decode().split("\n")[:-1]]
@@ -114,34 +114,36 @@ FILE = ("ISO-10303-21;HEADER;FILE_DESCRIPTION((''),'2;1');FILE_NAME('','',(''),(
 def faulty_input(it):
     """One line, and status 2."""
     good = FILE.format("S", "#1=E(1);")
-    words = ["schema.exp", "file.step", "1"]
+    words = ["rules", "schema.exp", "file.step", "1"]
+    usage = b"trials rules SCHEMA FILE LIMIT.., or trials connection SCHEMA INPUT SIZE ROOM END"
     no_limit = b"a limit is no number up to 18446744073709551615"
     for name, schema, file, given, told in (
-            ("no words", SCHEMA, good, [], b"rule_trial SCHEMA FILE LIMIT.."), ("no number", SCHEMA, good, [*words, "-1"], no_limit),
+            ("no words", SCHEMA, good, [], usage), ("a schema alone", SCHEMA, good, words[:2], usage),
+            ("no number", SCHEMA, good, [*words, "-1"], no_limit),
             ("a number with a blank", SCHEMA, good, [*words, "1 "], no_limit), ("an empty word", SCHEMA, good, [*words, ""], no_limit),
             ("a limit of 65 bits", SCHEMA, good, [*words, str(2**64)], no_limit),
-            ("no file", SCHEMA, good, ["schema.exp", "none.step", "1"], b"a file can't be read or is over 8 MiB"),
+            ("no file", SCHEMA, good, ["rules", "schema.exp", "none.step", "1"], b"a file can't be read or is over 8 MiB"),
             ("no schema", "SCHEMA", good, words, b"Syntax line 1 column 7"), ("no exchange file", SCHEMA, "ISO", words, b"no exchange file: byte 0"),
             ("another schema", SCHEMA, FILE.format("T", ""), words, b"a file of another schema"),
             ("a faulty instance", SCHEMA, FILE.format("S", "#7=F();"), words, b"a faulty instance: #7")):
         it.folder.write("schema.exp", schema)
         it.folder.write("file.step", file)
-        it.expect(name, it.folder.run(*given), (2, b"", b"rule_trial: %s\n" % told))
+        it.expect(name, it.folder.run(*given), (2, b"", b"trials: %s\n" % told))
     it.folder.write("schema.exp", SCHEMA)
     it.folder.write("file.step", FILE.format("S", "#9=E($);#1=E(1);"))
     lines = b"1 E.W #1 1 1\n1 E.W #9 ? 1\n1 E.#2 #1 7 1\n1 E.#2 #9 7 1\n1 R.#1 ? TRUE 1\n"
     limited = b"0 E.W #1 LIMIT\n0 E.W #9 LIMIT\n0 E.#2 #1 LIMIT\n0 E.#2 #9 LIMIT\n0 R.#1 ? LIMIT\n"
-    it.expect("two limits", it.folder.run("schema.exp", "file.step", "1", "0"), (0, lines + limited, b""))
+    it.expect("two limits", it.folder.run("rules", "schema.exp", "file.step", "1", "0"), (0, lines + limited, b""))
     most = str(2**64 - 1).encode()
     greatest = b"".join(most + line[1:] for line in lines.splitlines(True))
-    it.expect("the greatest limit", it.folder.run("schema.exp", "file.step", most.decode()), (0, greatest, b""))
-    it.expect("no limit", it.folder.run("schema.exp", "file.step"), (0, b"", b""))
+    it.expect("the greatest limit", it.folder.run("rules", "schema.exp", "file.step", most.decode()), (0, greatest, b""))
+    it.expect("no limit", it.folder.run("rules", "schema.exp", "file.step"), (0, b"", b""))
 
 
 def program_of(words):
     """The program that is meant where another script's one is named."""
     if words and os.path.basename(words[0]) == "rp_server":
-        return [os.path.join(os.path.dirname(words[0]), "../../rule_trial/out/rule_trial"), *words[1:]]
+        return [os.path.join(os.path.dirname(words[0]), "../../trials/out/trials"), *words[1:]]
     return words or [PROGRAM]
 
 

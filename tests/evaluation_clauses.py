@@ -1,5 +1,5 @@
 #!/usr/bin/env python3
-"""Runs `rule_trial` over global rules of several clauses: the rule's locals and statements run anew before each of them.
+"""Runs `trials rules` over global rules of several clauses: the rule's locals and statements run anew before each of them.
 
     tests/evaluation_clauses.py [PROGRAM]
 

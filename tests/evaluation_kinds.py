@@ -1,5 +1,5 @@
 #!/usr/bin/env python3
-"""Runs `rule_trial` over each operator and each function of the language with operands of each kind, and compares values and steps.
+"""Runs `trials rules` over each operator and each function of the language with operands of each kind, and compares values and steps.
 
     tests/evaluation_kinds.py [PROGRAM]
 

@@ -1,5 +1,5 @@
 #!/usr/bin/env python3
-"""Runs `rule_trial` where an evaluation comes to its limits, of steps and of nested bodies, and beside instances that an expression
+"""Runs `trials rules` where an evaluation comes to its limits, of steps and of nested bodies, and beside instances that an expression
 doesn't see.
 
     tests/evaluation_limits.py [PROGRAM]

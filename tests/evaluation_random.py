@@ -1,5 +1,5 @@
 #!/usr/bin/env python3
-"""Compares what `rule_trial` tells of random schemas and populations with the plain reading of rules in lib/.
+"""Compares what `trials rules` tells of random schemas and populations with the plain reading of rules in lib/.
 
     tests/evaluation_random.py [--schemas N] [--populations N] [--instances N] [--seed S] [PROGRAM]
 

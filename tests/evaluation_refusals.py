@@ -1,5 +1,5 @@
 #!/usr/bin/env python3
-"""Refuses each allocation of a run of `rule_trial` in turn, and compares all that it writes.
+"""Refuses each allocation of a run of `trials rules` in turn, and compares all that it writes.
 
     tests/evaluation_refusals.py [PROGRAM]
 
@@ -88,10 +88,10 @@ WANTED = {
     "G.PRODUCT": [("?", "4", (1 + 1) + (1 + 1 + (1 + 2) + 2 * (1 + 1 + 1 + (1 + 1) + 1) + 2) + 1 + (1 + 1 + 2) + (1 + 1 + 2))],
 }
 LIMITS = (200_000, 9)
-COMMAND = ("schema.exp", "file.step", *map(str, LIMITS))
-OUT_OF_MEMORY = (2, b"", b"rule_trial: out of memory\n")
+COMMAND = ("rules", "schema.exp", "file.step", *map(str, LIMITS))
+OUT_OF_MEMORY = (2, b"", b"trials: out of memory\n")
 # (what the system gives of words tells want of memory by no name of its own)
-NO_WORDS = (2, b"", b"rule_trial: the command line isn't UTF-8\n")
+NO_WORDS = (2, b"", b"trials: the command line isn't UTF-8\n")
 
 
 def lines():
@@ -111,7 +111,7 @@ def each_refusal(it):
     it.expect("with no refusal", (whole.status, whole.output, whole.errors, whole.refusals), (*exact, 0))
 
     # (a run that reads no file takes only what comes before that, and the words of its fault)
-    words = run(Folder.program, folder, [], ("nothing.ex", *COMMAND[1:])).allocations
+    words = run(Folder.program, folder, [], ("rules", "nothing.ex", *COMMAND[2:])).allocations
 
     def one(turn):
         key, place = turn

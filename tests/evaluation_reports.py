@@ -1,5 +1,5 @@
 #!/usr/bin/env python3
-"""Runs `rule_trial` over the schemas and models of tests/data/reports, and compares the verdicts and the culprits of each WHERE clause
+"""Runs `trials rules` over the schemas and models of tests/data/reports, and compares the verdicts and the culprits of each WHERE clause
 of an entity and of each rule with those of the reports, which were worked out by hand.
 
     tests/evaluation_reports.py [PROGRAM]

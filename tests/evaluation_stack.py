@@ -1,5 +1,5 @@
 #!/usr/bin/env python3
-"""Runs `rule_trial` on a stack of 8 MiB over expressions and statements that are nested as deep as a schema may nest them.
+"""Runs `trials rules` on a stack of 8 MiB over expressions and statements that are nested as deep as a schema may nest them.
 
     tests/evaluation_stack.py [PROGRAM]
 
@@ -158,7 +158,7 @@ def small_stack():
 def found_on_small_stack(folder, number, text, limits):
     """What the program tells of W of #1, by limits, on a stack of 8 MiB."""
     folder.write(f"deep{number}.exp", text)
-    status, out, err = folder.run(f"deep{number}.exp", "deep.step", *map(str, limits), preexec_fn=small_stack)
+    status, out, err = folder.run("rules", f"deep{number}.exp", "deep.step", *map(str, limits), preexec_fn=small_stack)
     if status or err:
         return f"status {status}, {err.decode()}"
     return [line.partition(" #1 ")[2] for line in out.decode().splitlines()]

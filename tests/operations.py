@@ -1,5 +1,5 @@
 #!/usr/bin/env python3
-"""Runs `rule_trial` over the rows of tests/data/operations: how two values compare, and what operators give of them.
+"""Runs `trials rules` over the rows of tests/data/operations: how two values compare, and what operators give of them.
 
     tests/operations.py [PROGRAM]
 

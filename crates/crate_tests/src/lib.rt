@@ -1,6 +1,5 @@
-//! Tests of what no input of the program shows: how decimals compare, how values and instances are copied, what is said of values
-//! that no expression has, and how one connection over streams in memory is served. Here they are proved once, and no crate below
-//! is proved again for them.
+//! Tests of what no input of the program shows: how decimals compare, how values and instances are copied, and what is said of
+//! values that no expression has. Here they are proved once, and no crate below is proved again for them.
 #![tactic(auto)]
 
 #[cfg(test)]
