@@ -15,7 +15,7 @@ use Rattle.rp_rows.specs.Listings.{itself}
 abbrev pub joined_text : Key → List ℕ
 joined_text k = k.owner ++ 47 ∷ k.name
 
--- the first eight bytes of the digest of a key: nobody finds another key with the number of one that he is told
+-- the first eight bytes of the digest of a key
 unfoldable pub number_of : Key → ℕ
 number_of k = from_be_bytes w64 (take 8 (sha256 (joined_text k)))
 

@@ -20,8 +20,9 @@ fn digest_of(key: &Key) -> [u8; 32]
     hasher.finalize()
 }
 
-/// A number that few keys share, so that the key itself needn't be kept. Partners pick the names: of a digest they find no two
-/// that they would need, where another number of theirs would let many models stand in one place.
+/// A number that few keys share, so that the key itself needn't be kept: who asks for a model of one is told of the groups of each.
+/// Partners pick the names. Of a digest's first eight bytes they find two alike in 2^32 tries, and many alike in no time there is;
+/// a number that is sooner made would let many models stand in one place.
 pub fn number_of(key: &Key) -> u64
     ensures { result ≡ kept.number_of key.now }
 {

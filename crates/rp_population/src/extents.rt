@@ -178,7 +178,7 @@ impl<'s> Extent<'s> {
         ensures same { self.new ≡ self.old }
         ensures places { OnOk result (found.new.items ≡ found.old.items ++ flat_map (among.found_in self.old.schema self.old.entity model.now) instances.now) }
     {
-        // Both say that what they have is in order.
+        // (Both calls promise that what they are asked of is in order.)
         let (_, _) = (instances.ordered(), candidates.len());
         self.push_each(alloc, found, model, instances, candidates)
     }

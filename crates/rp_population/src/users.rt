@@ -110,7 +110,7 @@ fn push_among_in_all(
     requires { AreUsersAmong names.now.keys candidates.now.keys instances.now }
     ensures { OnOk result (found.new.items ≡ found.old.items ++ flat_map (spec.told_in_all names.now.keys model.now) instances.now) }
 {
-    // Both say that what they have is in order.
+    // (Both calls promise that what they are asked of is in order.)
     let (_, _) = (instances.ordered(), candidates.len());
     push_each_in_all(found, names, model, instances, candidates)
 }
@@ -212,7 +212,7 @@ fn push_among_in(
     ensures layouts { layouts.new ≡ layouts.old }
     ensures places { OnOk result (found.new.items ≡ found.old.items ++ flat_map (spec.told_in layouts.old attribute.now names.now.keys model.now) instances.now) }
 {
-    // Both say that what they have is in order.
+    // (Both calls promise that what they are asked of is in order.)
     let (_, _) = (instances.ordered(), candidates.len());
     push_each_in(
         alloc, found, layouts, attribute, names, model, instances, candidates,

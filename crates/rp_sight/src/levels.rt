@@ -61,7 +61,7 @@ fn counts_in_granted(groups: &Groups, caller: &Text, model: &RowRef<'_, Indexed>
     ensures order { IsAscending key_cmp row_key groups.now.rows }
 {
     let table = groups.table();
-    // (The table tells that its rows stand in order.)
+    // (Its length is asked for since that call promises that the rows stand in order.)
     let _count = table.len();
     groups
         .granted_to(caller)
@@ -122,6 +122,7 @@ fn counts_in_listers(
     ensures order { IsAscending key_cmp row_key groups.now.rows }
 {
     let table = groups.table();
+    // (as in counts_in_granted)
     let _count = table.len();
     let listers = groups.listers();
     let first = listers.first(number);

@@ -57,7 +57,7 @@ pub fn counted_models<'a>(
     requires { IsListed group.now.holds.now }
     ensures { IfOk result (λ out. map row_of out.items ≡ filter (λ m. sight.counts m (row_of group.now)) models.now.rows) }
 {
-    // (The table tells that its rows stand in order.)
+    // (Its length is asked for since that call promises that the rows stand in order.)
     let _count = models.len();
     let keys = group.holds.members.as_slice();
     counted_among(alloc, models, group, keys)
