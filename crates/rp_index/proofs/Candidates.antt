@@ -1,7 +1,8 @@
 -- What a part of a set of pairs has, and candidates that are told from all that is entered.
-use Rattle.std.proofs.Common.{◌≡◌, ◌<◌, ◌+◌, ℕ, zero, suc, Bool, true, false, ◌==◌, List, [], ◌∷◌, map, filter, length, take, refl, sym, ◌∙◌, ap, true≢false, subst, arith}
+use Rattle.std.proofs.Common.{◌≡◌, ◌≢◌, ◌<◌, ◌≤◌, ◌+◌, ℕ, zero, suc, Bool, true, false, ◌==◌, List, [], ◌∷◌, map, filter, length, take, drop, get_or, refl, sym, ◌∙◌, ap, true≢false, subst, arith}
 use Rattle.std.proofs.Common.{⊎_elim}
-use Rattle.std.proofs.lemmas.Bool.{and_parts, cases_Bool, eqb-true, eq-eqb}
+use Rattle.std.proofs.Math.Dec.{ltb, leb}
+use Rattle.std.proofs.lemmas.Bool.{and_parts, cases_Bool, eqb-true, eq-eqb, ltb-true, leb-false}
 use Rattle.std.proofs.lemmas.Bool.Decides.{nat_tests}
 use Rattle.std.proofs.lemmas.Cmp.{nat_cmp_total, tied_itself}
 use Rattle.std.specs.BTreeMap.Range.{range_contains}
@@ -54,6 +55,46 @@ seconds_have first u (p ∷ ps) there = ⊎_elim
     rw in_it (or_left (p.1 == u) (is_among (map (λ (q : ℕ × ℕ). q.1) (filter (within first) ps)) u) (eq-eqb p.1 u (sym same.1))))
     (λ (other : is_eq (pair_cmp (first, u) p) ≡ false).
     skipped (within first p) p (filter (within first) ps) u (seconds_have first u ps (rw other at there)))
+    (cases_Bool (is_eq (pair_cmp (first, u) p)))
+
+-- ---- the pairs of one first among those in order
+
+other_first : (q p : ℕ × ℕ) → p.0 ≢ q.0 → is_eq (pair_cmp q p) ≡ false
+other_first q p other = ⊎_elim
+    (λ (same : is_eq (pair_cmp q p) ≡ true). absurd (other (sym (same_pair q p same).0)))
+    (λ (apart : is_eq (pair_cmp q p) ≡ false). apart)
+    (cases_Bool (is_eq (pair_cmp q p)))
+
+-- where those before a place have other firsts, this pair stands behind it
+pub behind_has : (q : ℕ × ℕ) (ps : List (ℕ × ℕ)) (i : ℕ) → ((k : ℕ) (d : ℕ × ℕ) → k < i → (get_or ps k d).0 ≢ q.0) → has_pair ps q ≡ true → has_pair (drop i ps) q ≡ true
+behind_has q ps zero others there = there
+behind_has q [] (suc i) others there = there
+behind_has q (p ∷ ps) (suc i) others there =
+    behind_has q ps i (λ k d low. others (suc k) d (omega arith)) (rw (other_first q p (others 0 p (omega arith))) at there)
+
+-- where those from a place on have other firsts, this pair stands before it
+pub before_has : (q : ℕ × ℕ) (ps : List (ℕ × ℕ)) (i : ℕ) → ((k : ℕ) (d : ℕ × ℕ) → i ≤ k → k < length ps → (get_or ps k d).0 ≢ q.0) → has_pair ps q ≡ true → has_pair (take i ps) q ≡ true
+before_has q [] i others there = absurd (true≢false (sym there))
+before_has q (p ∷ ps) zero others there =
+    before_has q ps zero (λ k d low within. others (suc k) d (omega arith) (omega arith)) (rw (other_first q p (others 0 p (omega arith) (omega arith))) at there)
+before_has q (p ∷ ps) (suc i) others there = ⊎_elim
+    (λ (here : is_eq (pair_cmp q p) ≡ true). or_left (is_eq (pair_cmp q p)) (has_pair (take i ps) q) here)
+    (λ (other : is_eq (pair_cmp q p) ≡ false).
+    or_right (is_eq (pair_cmp q p)) (has_pair (take i ps) q) (before_has q ps i (λ k d low within. others (suc k) d (omega arith) (omega arith)) (rw other at there)))
+    (cases_Bool (is_eq (pair_cmp q p)))
+
+pub isnt_below : (a b : ℕ) → ltb a b ≡ true → a ≢ b
+isnt_below a b e = λ same. let low = ltb-true a b e in absurd (omega arith)
+
+pub isnt_above : (a b : ℕ) → leb a b ≡ false → a ≢ b
+isnt_above a b e = λ same. let high = leb-false a b e in absurd (omega arith)
+
+-- the second of a pair that is there
+pub second_there : (first u : ℕ) (ps : List (ℕ × ℕ)) → has_pair ps (first, u) ≡ true → is_among (map (λ (p : ℕ × ℕ). p.1) ps) u ≡ true
+second_there first u [] there = absurd (true≢false (sym there))
+second_there first u (p ∷ ps) there = ⊎_elim
+    (λ (here : is_eq (pair_cmp (first, u) p) ≡ true). or_left (p.1 == u) (is_among (map (λ (q : ℕ × ℕ). q.1) ps) u) (eq-eqb p.1 u (sym (same_pair (first, u) p here).1)))
+    (λ (other : is_eq (pair_cmp (first, u) p) ≡ false). or_right (p.1 == u) (is_among (map (λ (q : ℕ × ℕ). q.1) ps) u) (second_there first u ps (rw other at there)))
     (cases_Bool (is_eq (pair_cmp (first, u) p)))
 
 -- no more than so many of fewer are all

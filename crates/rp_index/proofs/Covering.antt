@@ -12,8 +12,8 @@ use Rattle.rp_rows.specs.Contents.{instance_name, references_of}
 use Rattle.rp_rows.specs.Instances.{is_instance, placed, dropped}
 use Rattle.rp_rows.proofs.Keys.{found_at}
 use Rattle.rp_index.specs.declared.index.Index.{Index}
-use Rattle.rp_index.specs.Pairs.{has_pair, HasAll, Grows, KeepsOthers}
-use Rattle.rp_index.specs.Index.{uses_of, written, kinds_of, is_under, Covers}
+use Rattle.rp_index.specs.Pairs.{HasAll, Grows, KeepsOthers}
+use Rattle.rp_index.specs.Index.{uses_of, written, kinds_of, is_under, has, IsInOrder, Covers}
 use Rattle.rp_index.proofs.Tests.{same_number, grown, has_both, has_parts}
 
 -- some numbers of an instance, each with its name
@@ -89,26 +89,30 @@ placed_has numbers has i is rest own =
 -- ---- indexes
 
 -- the pairs of all others are kept
-pub left : (n : ℕ) (x y : Index) → KeepsOthers n (has_pair x.uses.keys) (has_pair y.uses.keys) → KeepsOthers n (is_under x.kinds.items) (is_under y.kinds.items) → y.leads.keys ≡ x.leads.keys
+pub left : (n : ℕ) (x y : Index) → KeepsOthers n (has x.uses) (has y.uses) → (IsInOrder x.uses → IsInOrder y.uses) → KeepsOthers n (is_under x.kinds.items) (is_under y.kinds.items) → y.leads ≡ x.leads
     → (is : List Instance) (links : List Link) → Covers x is links → Covers y (dropped n is) links
-left n x y uses kinds same is links covers = record {
-  uses = dropped_kept references_of n (has_pair x.uses.keys) (has_pair y.uses.keys) uses is covers.uses;
+left n x y uses order kinds same is links covers = record {
+  uses = dropped_kept references_of n (has x.uses) (has y.uses) uses is covers.uses;
+  uses_order = order covers.uses_order;
   kinds = dropped_kept (λ i. written i.entities) n (is_under x.kinds.items) (is_under y.kinds.items) kinds is covers.kinds;
   leads = rw same covers.leads;
+  leads_order = rw same covers.leads_order;
 }
 
-pub entered : (i : Instance) (x y : Index) → Grows (has_pair x.uses.keys) (has_pair y.uses.keys) → HasAll (has_pair y.uses.keys) (uses_of i)
-    → Grows (is_under x.kinds.items) (is_under y.kinds.items) → HasAll (is_under y.kinds.items) (kinds_of i) → y.leads.keys ≡ x.leads.keys
+pub entered : (i : Instance) (x y : Index) → Grows (has x.uses) (has y.uses) → HasAll (has y.uses) (uses_of i) → (IsInOrder x.uses → IsInOrder y.uses)
+    → Grows (is_under x.kinds.items) (is_under y.kinds.items) → HasAll (is_under y.kinds.items) (kinds_of i) → y.leads ≡ x.leads
     → (is : List Instance) (links : List Link) → Covers x (dropped i.name is) links → Covers y (placed i is) links
-entered i x y uses used kinds kind same is links covers = record {
-  uses = placed_has references_of (has_pair y.uses.keys) i is (grown (has_pair x.uses.keys) (has_pair y.uses.keys) (flat_map uses_of (dropped i.name is)) uses covers.uses) used;
+entered i x y uses used order kinds kind same is links covers = record {
+  uses = placed_has references_of (has y.uses) i is (grown (has x.uses) (has y.uses) (flat_map uses_of (dropped i.name is)) uses covers.uses) used;
+  uses_order = order covers.uses_order;
   kinds = placed_has (λ j. written j.entities) (is_under y.kinds.items) i is (grown (is_under x.kinds.items) (is_under y.kinds.items) (flat_map kinds_of (dropped i.name is)) kinds covers.kinds) kind;
   leads = rw same covers.leads;
+  leads_order = rw same covers.leads_order;
 }
 
 -- nothing changes
 pub still : (n : ℕ) (x : Index) (is : List Instance) (links : List Link) → Covers x is links → Covers x (dropped n is) links
-still n x = left n x x (λ q other e. e) (λ q other e. e) refl
+still n x = left n x x (λ q other e. e) (λ order. order) (λ q other e. e) refl
 
 -- what is found under a name has it
 pub named : (n : ℕ) (is : List Instance) (i : Instance) → find (is_instance n) is ≡ Some i → i.name ≡ n

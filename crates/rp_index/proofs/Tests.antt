@@ -70,6 +70,20 @@ inserted p former later is = λ q e. is q ∙ more (is_eq (pair_cmp p q)) (forme
 pub removed : (p : ℕ × ℕ) (former later : ℕ × ℕ → Bool) → ((q : ℕ × ℕ) → later q ≡ cond (is_eq (pair_cmp p q)) false (former q)) → KeepsOthers p.1 former later
 removed p former later is = λ q other e. is q ∙ rw (apart p q other) e
 
+-- the same beside others that stay
+pub beside : (settled former later : ℕ × ℕ → Bool) → Grows former later → Grows (λ q. settled q || former q) (λ q. settled q || later q)
+beside settled former later up = λ q e. ⊎_elim
+    (λ (first : settled q ≡ true). or_left (settled q) (later q) first)
+    (λ (other : settled q ≡ false). or_right (settled q) (later q) (up q (rw other at e)))
+    (cases_Bool (settled q))
+
+pub removed_beside : (p : ℕ × ℕ) (settled former later : ℕ × ℕ → Bool) → ((q : ℕ × ℕ) → later q ≡ cond (is_eq (pair_cmp p q)) false (former q))
+    → KeepsOthers p.1 (λ q. settled q || former q) (λ q. settled q || later q)
+removed_beside p settled former later is = λ q other e. ⊎_elim
+    (λ (first : settled q ≡ true). or_left (settled q) (later q) first)
+    (λ (rest : settled q ≡ false). or_right (settled q) (later q) (removed p former later is q other (rw rest at e)))
+    (cases_Bool (settled q))
+
 pub kept_then : (n : ℕ) (a b c : ℕ × ℕ → Bool) → KeepsOthers n a b → KeepsOthers n b c → KeepsOthers n a c
 kept_then n a b c first second = λ q other e. second q other (first q other e)
 

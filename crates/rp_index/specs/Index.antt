@@ -1,6 +1,7 @@
 -- What an index keeps beside instances and links, and what candidates are. Too many may be kept, never too few.
-use Rattle.std.specs.Prelude.{◌≡◌, ℕ, Bool, true, false, ◌&&◌, ◌==◌, List, [], ◌∷◌, map, Option, Some, None, ⊤}
+use Rattle.std.specs.Prelude.{◌≡◌, ℕ, Bool, true, false, ◌&&◌, ◌||◌, ◌==◌, List, [], ◌∷◌, map, Option, Some, None, ⊤}
 use Rattle.std.specs.List.{flat_map, list_any, AllByRecursion}
+use Rattle.std.specs.List.Sorted.{IsNonDecreasingBy}
 use Rattle.plain_data.specs.Numbers.{is_among, numbered}
 use Rattle.rp_content.specs.declared.content.Content.{Content}
 use Rattle.rp_content.specs.declared.instance.Entities.{Entities}
@@ -10,6 +11,7 @@ use Rattle.rp_content.specs.declared.link.Link.{Link}
 use Rattle.rp_rows.specs.Contents.{references_of}
 use Rattle.rp_index.specs.declared.index.Index.{Index}
 use Rattle.rp_index.specs.declared.kinds.Kind.{Kind}
+use Rattle.rp_index.specs.declared.pairs.Pairs.{Pairs}
 use Rattle.rp_index.specs.Pairs.{has_pair, HasAll}
 
 -- ---- what is entered of instances and of links
@@ -40,10 +42,20 @@ is_in_kind q k = (k.entity == q.0) && is_among k.names.items q.1
 abbrev pub is_under : List Kind → ℕ × ℕ → Bool
 is_under kinds q = list_any (is_in_kind q) kinds
 
+-- whether a pair is among those that came first, or those that came since
+abbrev pub has : Pairs → ℕ × ℕ → Bool
+has x q = has_pair x.settled.items q || has_pair x.fresh.keys q
+
+-- those that came first stand in the order of their firsts
+abbrev pub IsInOrder : Pairs → Type 0
+IsInOrder x = IsNonDecreasingBy (λ (q : ℕ × ℕ). q.0) x.settled.items
+
 pub record Covers (x : Index) (instances : List Instance) (links : List Link) : Type 0 where
-  pub uses : HasAll (has_pair x.uses.keys) (flat_map uses_of instances)
+  pub uses : HasAll (has x.uses) (flat_map uses_of instances)
+  pub uses_order : IsInOrder x.uses
   pub kinds : HasAll (is_under x.kinds.items) (flat_map kinds_of instances)
-  pub leads : HasAll (has_pair x.leads.keys) (numbered lead links)
+  pub leads : HasAll (has x.leads) (numbered lead links)
+  pub leads_order : IsInOrder x.leads
 
 -- an index, if there is one, covers a content
 abbrev pub IsIndexOf : Content → Option Index → Type 0

@@ -3,11 +3,11 @@
 ghost use Rattle.std.specs.Prelude.{◌≡◌, IfOk};
 ghost use Rattle.std.specs.List.{flat_map};
 ghost use Rattle.plain_data.specs.Numbers.{numbered};
-ghost use Rattle.rp_index.specs.Pairs.{has_pair, HasAll};
+ghost use Rattle.rp_index.specs.Pairs.{HasAll};
 ghost use Rattle.rp_index.specs.Index as spec;
 
 use crate::kinds::{Kind, enter_kinds, kinds_of, remove_kinds};
-use crate::pairs::{Pairs, ascending_seconds_of, seconds_of, set_of};
+use crate::pairs::{Pairs, ascending_seconds_of};
 use crate::uses::{all_uses, enter_uses, remove_values};
 use rp_content::{Instance, Link};
 use std::alloc::{AllocError, Global};
@@ -25,10 +25,11 @@ pub struct Index {
 }
 
 fn uses_of(alloc: Global, instances: &[Instance]) -> Result<Pairs, AllocError>
-    ensures { IfOk result (λ uses. HasAll (has_pair uses.keys) (flat_map spec.uses_of instances.now)) }
+    ensures has { IfOk result (λ uses. HasAll (spec.has uses) (flat_map spec.uses_of instances.now)) }
+    ensures order { IfOk result spec.IsInOrder }
 {
     let uses = all_uses(alloc, instances)?;
-    set_of(alloc, uses)
+    Pairs::of(alloc, uses)
 }
 
 /// Where links lead, in their order.
@@ -43,10 +44,11 @@ fn all_leads(alloc: Global, links: &[Link]) -> Result<Vec<(u64, u64)>, AllocErro
 }
 
 fn leads_of(alloc: Global, links: &[Link]) -> Result<Pairs, AllocError>
-    ensures { IfOk result (λ leads. HasAll (has_pair leads.keys) (numbered spec.lead links.now)) }
+    ensures has { IfOk result (λ leads. HasAll (spec.has leads) (numbered spec.lead links.now)) }
+    ensures order { IfOk result spec.IsInOrder }
 {
     let leads = all_leads(alloc, links)?;
-    set_of(alloc, leads)
+    Pairs::of(alloc, leads)
 }
 
 impl Index {
@@ -83,6 +85,11 @@ impl Index {
         remove_kinds(&mut self.kinds, instance);
     }
 
+    /// Whether so much is gone that the index is better made anew.
+    pub fn is_worn(&self) -> bool {
+        self.uses.is_worn()
+    }
+
     /// Who may refer to one of the names, if those that refer to each are fewer than so many.
     pub fn users_of(
         &self,
@@ -104,7 +111,7 @@ impl Index {
     ) -> Result<Option<Vec<u64>>, AllocError>
         ensures { IfOk result (λ found. IfSome found (λ places. (is : List Instance) (links : List Link) → Covers self.now is links → AreLeadsAmong target places.items links)) }
     {
-        seconds_of(alloc, &self.leads, target, most)
+        self.leads.seconds_of(alloc, target, most)
     }
 
     /// The entities that are written with instances, with the names of these.

@@ -171,15 +171,17 @@ impl Indexed {
 
     // ---- changes
 
-    /// The index, or a new one if there is none. From then on the model has none, until a change brings one: no answer tells.
+    /// The index, or a new one if there is none or it is worn. From then on the model has none, until a change brings one: no answer tells.
     fn take_index(&mut self, alloc: Global) -> Result<Option<Index>, AllocError>
         ensures same { self.new ≡ self.old }
         ensures index { IfOk result (IsIndexOf self.old.content) }
     {
-        match self.held.index.take() {
-            Some(index) => Ok(Some(index)),
-            None => index_of(alloc, &self.held.model.content),
+        if let Some(index) = self.held.index.take() {
+            if !index.is_worn() {
+                return Ok(Some(index));
+            }
         }
+        index_of(alloc, &self.held.model.content)
     }
 
     /// The index for when this instance stands under its name. From then on the model has none, until a change brings one.

@@ -3,10 +3,10 @@
 ghost use Rattle.std.specs.Prelude.{◌≡◌, ◌++◌, ℕ, map, IfOk, OnOk};
 ghost use Rattle.std.specs.List.{flat_map};
 ghost use Rattle.rp_rows.specs.Contents.{references};
-ghost use Rattle.rp_index.specs.Pairs.{has_pair, HasAll, Grows, KeepsOthers};
+ghost use Rattle.rp_index.specs.Pairs.{HasAll, Grows, KeepsOthers};
 ghost use Rattle.rp_index.specs.Index as spec;
 
-use crate::pairs::{Pairs, insert_all};
+use crate::pairs::Pairs;
 use rp_content::Instance;
 use rp_value::Value;
 use std::alloc::{AllocError, Global};
@@ -54,22 +54,24 @@ pub fn all_uses(alloc: Global, instances: &[Instance]) -> Result<Vec<(u64, u64)>
 
 /// Enters the uses by an instance.
 pub fn enter_uses(alloc: Global, uses: &mut Pairs, instance: &Instance) -> Result<(), AllocError>
-    ensures grows { OnOk result (Grows (has_pair uses.old.keys) (has_pair uses.new.keys)) }
-    ensures has { OnOk result (HasAll (has_pair uses.new.keys) (spec.uses_of instance.now)) }
+    ensures grows { OnOk result (Grows (spec.has uses.old) (spec.has uses.new)) }
+    ensures has { OnOk result (HasAll (spec.has uses.new) (spec.uses_of instance.now)) }
+    ensures order { OnOk result (spec.IsInOrder uses.old → spec.IsInOrder uses.new) }
 {
     let mut found = Vec::new(alloc);
     push_values(&mut found, instance.name, instance.values.as_slice())?;
-    insert_all(uses, found.as_slice())
+    uses.insert_all(found.as_slice())
 }
 
 /// Takes out the uses by this user of what the value refers to. It takes no memory.
 #[cycle(removed)]
 fn remove_value(uses: &mut Pairs, user: u64, value: &Value)
-    ensures { KeepsOthers user (has_pair uses.old.keys) (has_pair uses.new.keys) }
+    ensures keeps { KeepsOthers user (spec.has uses.old) (spec.has uses.new) }
+    ensures order { spec.IsInOrder uses.old → spec.IsInOrder uses.new }
 {
     match value {
         Value::Inst(name) => {
-            uses.remove(&(*name, user));
+            uses.remove(*name, user);
         }
         Value::Agg { kind: _, elements } => remove_values(uses, user, elements.as_slice()),
         Value::Named {
@@ -83,7 +85,8 @@ fn remove_value(uses: &mut Pairs, user: u64, value: &Value)
 /// Takes out the uses by this user of what the values refer to. It takes no memory.
 #[cycle(removed)]
 pub fn remove_values(uses: &mut Pairs, user: u64, values: &[Value])
-    ensures { KeepsOthers user (has_pair uses.old.keys) (has_pair uses.new.keys) }
+    ensures keeps { KeepsOthers user (spec.has uses.old) (spec.has uses.new) }
+    ensures order { spec.IsInOrder uses.old → spec.IsInOrder uses.new }
 {
     for value in values {
         remove_value(uses, user, value);

@@ -4,7 +4,7 @@ use Rattle.std.specs.declared.ops.Bound.TheVariants.{Included, Excluded}
 use Rattle.plain_data.specs.Numbers.{is_among}
 use Rattle.rp_index.specs.Pairs.{pair_cmp}
 use Rattle.rp_index.proofs.Candidates.{seconds_have, all_taken}
-use Rattle.rp_index.proofs.pairs.seconds_of.Goals as goal
+use Rattle.rp_index.proofs.pairs.seconds_in.Goals as goal
 
 pub returns-then-len-most : goal.returns-then-len-most
 returns-then-len-most c = λ u there.
