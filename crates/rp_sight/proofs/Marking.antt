@@ -1,5 +1,5 @@
 -- Marks beside models.
-use Rattle.std.proofs.Common.{◌≡◌, ℕ, zero, suc, ◌<◌, Bool, true, false, ◌&&◌, ◌||◌, List, [], ◌∷◌, ◌+◌, ◌≤◌, length, set, get_or, drop, map, replicate, Option, Some, None, Result, Ok, Err, OnOk, refl, sym, ◌∙◌, ap, arith}
+use Rattle.std.proofs.Common.{◌≡◌, ℕ, zero, suc, ◌<◌, Bool, true, false, ◌&&◌, ◌||◌, List, [], ◌∷◌, ◌++◌, ◌+◌, ◌≤◌, length, set, get_or, drop, map, replicate, Option, Some, None, Result, Ok, Err, OnOk, refl, sym, ◌∙◌, ap, arith}
 use Rattle.std.specs.Prelude.{filter, if◌then◌else◌}
 use Rattle.std.specs.List.{find, list_any, AllByRecursion}
 use Rattle.std.specs.declared.cmp.Ordering.{Ordering}
@@ -245,7 +245,25 @@ length-none : (ms : List Model) → length (none_marked ms) ≡ length ms
 length-none [] = refl
 length-none (m ∷ ms) = ap suc (length-none ms)
 
-pub begin_unmarked : {X : Type 0} (t : X → Model → Bool) (ms : List Model) (now : List Bool) (xs : List X) → now ≡ replicate (length ms) false → IsMarking t ms (none_marked ms) now xs (drop 0 xs)
-begin_unmarked t ms now xs are =
-    let is : now ≡ none_marked ms = are ∙ marks_of ms in
-    record { long = ap length is ∙ length-none ms; marks = ap (λ ts. marked (any_of t xs) ts ms) is }
+-- ---- things in two parts
+
+pub any_in_two : {X : Type 0} (p : X → Bool) (xs ys : List X) → list_any p (xs ++ ys) ≡ (list_any p xs || list_any p ys)
+any_in_two p [] ys = refl
+any_in_two p (x ∷ xs) ys = by (p x) (any_in_two p xs ys)
+  where
+    by : (t : Bool) → list_any p (xs ++ ys) ≡ (list_any p xs || list_any p ys) → (t || list_any p (xs ++ ys)) ≡ ((t || list_any p xs) || list_any p ys)
+    by true rest = refl
+    by false rest = rest
+
+-- what both parts mark beside nothing
+pub marked_in_two : {X : Type 0} (t : X → Model → Bool) (ms : List Model) (now : List Bool) (xs ys : List X) → now ≡ replicate (length ms) false → marked (any_of t ys) (marked (any_of t xs) now ms) ms ≡ map (any_of t (xs ++ ys)) ms
+marked_in_two t ms now xs ys are =
+    marked_twice (any_of t xs) (any_of t ys) now ms
+    ∙ marked_alike (λ m. any_of t xs m || any_of t ys m) (any_of t (xs ++ ys)) (λ m. sym (any_in_two (λ x. t x m) xs ys)) now ms
+    ∙ ap (λ ts. marked (any_of t (xs ++ ys)) ts ms) (are ∙ marks_of ms)
+    ∙ marked_new (any_of t (xs ++ ys)) ms
+
+pub long_still : (b : Model → Bool) (ms : List Model) (now next : List Bool) → now ≡ replicate (length ms) false → next ≡ marked b now ms → length next ≡ length ms
+long_still b ms now next are is =
+    let long : length now ≡ length ms = ap length (are ∙ marks_of ms) ∙ length-none ms in
+    ap length is ∙ length-marked b now ms long ∙ long

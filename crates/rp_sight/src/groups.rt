@@ -1,6 +1,6 @@
 //! Groups, for each partner the names of those that he is granted, and for each model those that may list it.
 
-ghost use Rattle.std.specs.Prelude.{◌≡◌, true, false, ◌<◌, [], Some, None, OnOk, OnErr};
+ghost use Rattle.std.specs.Prelude.{◌≡◌, true, false, ◌<◌, ◌++◌, [], Some, None, OnOk, OnErr};
 ghost use Rattle.std.specs.List.{find, list_any};
 ghost use Rattle.sorted_tables.specs.Table.{with_row};
 ghost use Rattle.rp_rows.specs.declared.rows.Key.{Key as RowKey};
@@ -140,10 +140,10 @@ impl Groups {
         Table::of(&self.listings, &self.rights)
     }
 
-    /// The owners who grant groups to the partner, each with the names of those.
-    pub fn granted_to(&self, partner: &Text) -> &[Entry<Rows<Text>>]
-        ensures are { result.now ≡ granted_of partner.now self.now.names }
-        ensures whole { TellsGranted partner.now result.now self.now.rows }
+    /// The owners who grant groups to the partner, each with the names of those, in two parts.
+    pub fn granted_to(&self, partner: &Text) -> (&[Entry<Rows<Text>>], &[Entry<Rows<Text>>])
+        ensures are { result.0.now ++ result.1.now ≡ granted_of partner.now self.now.names }
+        ensures whole { TellsGranted partner.now (result.0.now ++ result.1.now) self.now.rows }
     {
         self.granted.of_owner(partner)
     }

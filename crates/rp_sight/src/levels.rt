@@ -54,6 +54,19 @@ fn counts_among(
     ))
 }
 
+fn counts_among_these(
+    groups: &Table<'_, Listing>,
+    caller: &Text,
+    model: &RowRef<'_, Indexed>,
+    granted: &[Entry<Rows<Text>>],
+) -> bool
+    ensures { result ≡ counts_in_any caller.now groups.now.rows granted.now (row_of model.now) }
+{
+    granted
+        .iter()
+        .any(|names| counts_among(groups, caller, model, names))
+}
+
 /// Whether the model counts in a group that the partner is granted, by a walk over all that he is granted.
 fn counts_in_granted(groups: &Groups, caller: &Text, model: &RowRef<'_, Indexed>) -> bool
     ensures counts { result ≡ counts_in_any caller.now groups.now.rows (granted_of caller.now groups.now.names) (row_of model.now) }
@@ -63,10 +76,9 @@ fn counts_in_granted(groups: &Groups, caller: &Text, model: &RowRef<'_, Indexed>
     let table = groups.table();
     // (Its length is asked for since that call promises that the rows stand in order.)
     let _count = table.len();
-    groups
-        .granted_to(caller)
-        .iter()
-        .any(|names| counts_among(&table, caller, model, names))
+    let (front, back) = groups.granted_to(caller);
+    counts_among_these(&table, caller, model, front)
+        || counts_among_these(&table, caller, model, back)
 }
 
 /// Whether the model counts in the group of a lister, and the partner is granted the group.
@@ -130,17 +142,22 @@ fn counts_in_listers(
     counts_for_first(&table, caller, model, first) || counts_for_one(&table, caller, model, others)
 }
 
-/// Whether there are fewer names than this.
-fn are_fewer(granted: &[Entry<Rows<Text>>], count: usize) -> bool {
+/// How many names more than these would be as many as this, if there are fewer.
+fn left_of(count: usize, granted: &[Entry<Rows<Text>>]) -> usize {
     let mut left = count;
     for names in granted {
-        let more = names.value.len();
-        if more >= left {
-            return false;
+        left = left.saturating_sub(names.value.len());
+        if left == 0 {
+            return 0;
         }
-        left -= more;
     }
-    0 < left
+    left
+}
+
+/// Whether the partner is granted fewer groups than this.
+fn is_granted_fewer(groups: &Groups, caller: &Text, count: usize) -> bool {
+    let (front, back) = groups.granted_to(caller);
+    0 < left_of(left_of(count, front), back)
 }
 
 /// Whether the model, which is neither the partner's nor granted to him, counts in a group that he sees. Either walk tells, that
@@ -152,7 +169,7 @@ fn is_counted(groups: &Groups, caller: &Text, model: &RowRef<'_, Indexed>) -> bo
 {
     let number = number_of(model.key);
     let others = groups.listers().others(number);
-    if are_fewer(groups.granted_to(caller), others.len()) {
+    if is_granted_fewer(groups, caller, others.len()) {
         counts_in_granted(groups, caller, model)
     } else {
         counts_in_listers(groups, caller, model, number)

@@ -146,6 +146,22 @@ fn mark_names(
     Ok(())
 }
 
+fn mark_granted(
+    models: &Table<'_, Indexed>,
+    groups: &Table<'_, Listing>,
+    caller: &Text,
+    granted: &[Entry<Rows<Text>>],
+    marks: &mut Marks,
+) -> Result<(), AllocError>
+    requires { length marks.old ≡ length models.now.rows }
+    ensures { OnOk result (marks.new ≡ marked (counts_in_any caller.now groups.now.rows granted.now) marks.old models.now.rows) }
+{
+    for names in granted {
+        mark_names(models, groups, caller, names, marks)?;
+    }
+    Ok(())
+}
+
 /// Of each model whether it counts in a group that the partner is granted.
 pub fn counted_marks(
     alloc: Global,
@@ -160,10 +176,9 @@ pub fn counted_marks(
     // (The table tells that its rows stand in order, and the names that they are whole, however this ends.)
     let table = groups.table();
     let _count = table.len();
-    let granted = groups.granted_to(caller);
+    let (front, back) = groups.granted_to(caller);
     let mut marks = Marks::none(alloc, models.len());
-    for names in granted {
-        mark_names(models, &table, caller, names, &mut marks)?;
-    }
+    mark_granted(models, &table, caller, front, &mut marks)?;
+    mark_granted(models, &table, caller, back, &mut marks)?;
     Ok(marks)
 }

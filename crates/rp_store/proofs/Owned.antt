@@ -14,7 +14,7 @@ use Rattle.rp_rows.proofs.Keys.{key_total}
 use Rattle.rp_store.specs.declared.keyed.Entry.{Entry}
 use Rattle.rp_store.specs.Entries.{entry_key}
 use Rattle.std.proofs.lemmas.List.Filters.{length-filter_both}
-use Rattle.rp_store.proofs.Counting.{is_earlier, is_not_later, is_owned, earlier_splits, not_later_splits, up_to_owner}
+use Rattle.rp_store.proofs.Counting.{is_earlier, is_not_later, is_owned, earlier_splits, not_later_splits}
 
 -- ---- a list whose front passes
 
@@ -86,18 +86,7 @@ own_part c xs order =
     ∙ rest_fails (is_earlier c) upto (earlier_splits c upto (filter_ascends key_cmp entry_key key_total (is_not_later c) xs order))
     ∙ own_alone c xs
 
--- ---- the same, where these are the places of its ends
+-- ---- it ends within the list
 
 pub last_within : {B : Type 0} (c : Text) (xs ys : List (Entry B)) (last : ℕ) → last ≡ length (filter (is_not_later c) xs) → ys ≡ xs → last ≤ length ys
 last_within c xs ys last is same = omega (arith, is, ap length same, length-filter_both (is_not_later c) (λ x. not (is_not_later c x)) (λ x. refl) xs)
-
-front_is : {B : Type 0} (c : Text) (xs ys front : List (Entry B)) (last : ℕ) → IsAscending key_cmp entry_key xs → last ≡ length (filter (is_not_later c) xs) → ys ≡ xs → front ≡ take last ys → front ≡ filter (is_not_later c) xs
-front_is c xs ys front last order is same taken = taken ∙ (λ i. take (is i) (same i)) ∙ front_passes (is_not_later c) xs (not_later_splits c xs order)
-
-pub first_within : {B : Type 0} (c : Text) (xs ys front : List (Entry B)) (first last : ℕ) → IsAscending key_cmp entry_key xs → first ≡ length (filter (is_earlier c) xs) → last ≡ length (filter (is_not_later c) xs) → ys ≡ xs → front ≡ take last ys → first ≤ length front
-first_within c xs ys front first last order is at same taken =
-    omega (arith, is, ap length (front_is c xs ys front last order at same taken), up_to_owner c xs)
-
-pub part_is : {B : Type 0} (c : Text) (xs ys front part : List (Entry B)) (first last : ℕ) → IsAscending key_cmp entry_key xs → first ≡ length (filter (is_earlier c) xs) → last ≡ length (filter (is_not_later c) xs) → ys ≡ xs → front ≡ take last ys → part ≡ drop first front → part ≡ filter (is_owned c) xs
-part_is c xs ys front part first last order is at same taken left =
-    left ∙ (λ i. drop (is i) (taken i)) ∙ (λ i. drop (length (filter (is_earlier c) xs)) (take (at i) (same i))) ∙ own_part c xs order

@@ -1,6 +1,6 @@
 //! What stands under keys, in the order of owner and name.
 
-ghost use Rattle.std.specs.Prelude.{◌≡◌, ◌<◌, ◌≤◌, [], ◌∷◌, Some, None, length, take, drop, filter, not, is_some, get_or, OnOk, OnErr, IfOk, MatchResult, option_copied, option_map};
+ghost use Rattle.std.specs.Prelude.{◌≡◌, ◌<◌, ◌≤◌, [], ◌∷◌, ◌++◌, Some, None, length, take, drop, filter, not, is_some, get_or, OnOk, OnErr, IfOk, MatchResult, option_copied, option_map};
 ghost use Rattle.std.specs.List.{find};
 ghost use Rattle.std.specs.Ordering.{is_lt, is_gt};
 ghost use Rattle.std.specs.Str.{bytes_eq};
@@ -15,6 +15,7 @@ use shared::Shared;
 use sorted_tables::{Row, Sought};
 use std::alloc::{AllocError, Global};
 use std::cmp::Ordering;
+use std::collections::VecDeque;
 use std::marker::Model;
 use std::mem::replace;
 
@@ -25,15 +26,16 @@ pub struct Entry<B> {
     pub value: B,
 }
 
-/// Entries in the order of their keys, each key once.
+/// Entries in the order of their keys, each key once. They stand in a ring, so that one which comes or goes moves the entries
+/// before it or those behind it, whichever are fewer.
 #[derive(Drop)]
 pub struct Keyed<B> {
-    pub(crate) entries: Vec<Entry<B>>,
+    pub(crate) entries: VecDeque<Entry<B>>,
 }
 
 impl<B> Model for Keyed<B> {
-    ghost use Rattle.std.specs.Prelude.{◌-◌, vec_len};
-    ghost use Rattle.std.specs.Vec.{vec_capacity};
+    ghost use Rattle.std.specs.Prelude.{◌-◌};
+    ghost use Rattle.std.specs.VecDeque.{deque_len, deque_capacity};
     ghost use Rattle.sorted_tables.specs.Table.{IsAscending};
     ghost use Rattle.rp_rows.specs.Rows.{key_cmp};
     ghost use Rattle.rp_store.specs.Entries.{Entries, entry_key};
@@ -42,7 +44,7 @@ impl<B> Model for Keyed<B> {
 
     ghost view = { λ k. record {
       entries = k.entries.items;
-      room = vec_capacity k.entries - vec_len k.entries;
+      room = deque_capacity k.entries - deque_len k.entries;
     } };
 
     ghost invariant = { λ k. IsAscending key_cmp entry_key k.entries.items };
@@ -103,41 +105,21 @@ fn is_not_of_later(owner: &Text, key: &Key) -> bool
     key.owner.order(owner).is_le()
 }
 
-fn front<B>(entries: &[Entry<B>], count: usize) -> &[Entry<B>]
-    requires { count ≤ length entries.now }
-    ensures { result.now ≡ take count entries.now }
-{
-    &entries[..count]
-}
-
-fn behind<B>(entries: &[Entry<B>], count: usize) -> &[Entry<B>]
-    requires { count ≤ length entries.now }
-    ensures { result.now ≡ drop count entries.now }
-{
-    &entries[count..]
-}
-
 impl<B> Keyed<B> {
     pub fn new(alloc: Global) -> Keyed<B>
         ensures { result.entries ≡ [] }
     {
         Keyed {
-            entries: Vec::new(alloc),
+            entries: VecDeque::new(alloc),
         }
     }
 
+    /// How many there are, whose keys ascend.
     pub fn len(&self) -> usize
-        ensures { result ≡ length self.now.entries }
-    {
-        self.entries.len()
-    }
-
-    /// All of them, whose keys ascend.
-    pub fn entries(&self) -> &[Entry<B>]
-        ensures are { result.now ≡ self.now.entries }
+        ensures len { result ≡ length self.now.entries }
         ensures order { IsAscending key_cmp entry_key self.now.entries }
     {
-        self.entries.as_slice()
+        self.entries.len()
     }
 
     pub fn entry(&self, place: usize) -> &Entry<B>
@@ -151,28 +133,28 @@ impl<B> Keyed<B> {
     pub fn search_for(&self, owner: &Text, name: &Text) -> Result<usize, usize>
         ensures { MatchResult result (IsThere key_cmp entry_key (key_of owner.now name.now) self.now.entries) (IsAbsent key_cmp entry_key (key_of owner.now name.now) self.now.entries) }
     {
-        sorted_tables::search(&self.entries, &Parts { owner, name })
+        sorted_rings::search(&self.entries, &Parts { owner, name })
     }
 
     /// Where the key stands, or where it is to stand.
     pub(crate) fn search(&self, key: &Key) -> Result<usize, usize>
         ensures { MatchResult result (IsThere key_cmp entry_key key.now self.now.entries) (IsAbsent key_cmp entry_key key.now self.now.entries) }
     {
-        sorted_tables::search(&self.entries, key)
+        sorted_rings::search(&self.entries, key)
     }
 
     /// What stands under the key of this owner and name.
     pub fn find_for(&self, owner: &Text, name: &Text) -> Option<&Entry<B>>
         ensures { option_copied result ≡ find (is_entry (key_of owner.now name.now)) self.now.entries }
     {
-        sorted_tables::find(&self.entries, &Parts { owner, name })
+        sorted_rings::find(&self.entries, &Parts { owner, name })
     }
 
     /// What stands under the key.
     pub fn find(&self, key: &Key) -> Option<&Entry<B>>
         ensures { option_copied result ≡ find (is_entry key.now) self.now.entries }
     {
-        sorted_tables::find(&self.entries, key)
+        sorted_rings::find(&self.entries, key)
     }
 
     /// How many keys are of owners before this one.
@@ -198,13 +180,14 @@ impl<B> Keyed<B> {
         self.last_place(owner) - self.first_place(owner)
     }
 
-    /// What stands under the keys of the owner. Those of others aren't walked over.
-    pub fn of_owner(&self, owner: &Text) -> &[Entry<B>]
-        ensures { result.now ≡ filter (λ x. bytes_eq x.key.owner owner.now) self.now.entries }
+    /// What stands under the keys of the owner, in two parts, of which the second is mostly empty. Those of others aren't walked
+    /// over.
+    pub fn of_owner(&self, owner: &Text) -> (&[Entry<B>], &[Entry<B>])
+        ensures { result.0.now ++ result.1.now ≡ filter (λ x. bytes_eq x.key.owner owner.now) self.now.entries }
     {
         let first = self.first_place(owner);
         let last = self.last_place(owner);
-        behind(front(&self.entries, last), first)
+        sorted_rings::part(&self.entries, first, last)
     }
 }
 
@@ -222,7 +205,10 @@ impl<B: Drop> Keyed<B> {
         requires { 0 < self.old.room }
         ensures { self.new.entries ≡ with_row key_cmp entry_key key (Some (record { key = key; value = value })) self.old.entries }
     {
-        sorted_tables::put(&mut self.entries, Entry { key, value });
+        match self.search(key.get()) {
+            Ok(place) => self.entries[place] = Entry { key, value },
+            Err(place) => sorted_rings::insert(&mut self.entries, place, Entry { key, value }),
+        }
     }
 
     /// This stands under the key from now on, unless something stands there.
@@ -230,10 +216,9 @@ impl<B: Drop> Keyed<B> {
         requires { 0 < self.old.room }
         ensures { self.new.entries ≡ with_row key_cmp entry_key key (Some (standing key value (find (is_entry key) self.old.entries))) self.old.entries }
     {
-        if self.find(key.get()).is_some() {
-            return;
+        if let Err(place) = self.search(key.get()) {
+            sorted_rings::insert(&mut self.entries, place, Entry { key, value });
         }
-        sorted_tables::put(&mut self.entries, Entry { key, value });
     }
 
     /// This stands under the key from now on, if something stands there.
@@ -249,7 +234,7 @@ impl<B: Drop> Keyed<B> {
     pub fn remove(&mut self, key: &Key)
         ensures { self.new.entries ≡ with_row key_cmp entry_key key.now None self.old.entries }
     {
-        sorted_tables::remove(&mut self.entries, key);
+        sorted_rings::remove(&mut self.entries, key);
     }
 }
 
@@ -318,12 +303,14 @@ impl Keyed<Rows<Text>> {
         ensures kept { OnErr result (self.new.entries ≡ self.old.entries) }
     {
         let name = name.copy(alloc)?;
-        if let Ok(place) = self.search_for(owner, other) {
-            return push_name(&mut self.entries[place], name);
+        match self.search_for(owner, other) {
+            Ok(place) => push_name(&mut self.entries[place], name),
+            Err(place) => {
+                let entry = first_name(alloc, owner, other, name)?;
+                self.reserve()?;
+                sorted_rings::insert(&mut self.entries, place, entry);
+                Ok(())
+            }
         }
-        let entry = first_name(alloc, owner, other, name)?;
-        self.reserve()?;
-        sorted_tables::put(&mut self.entries, entry);
-        Ok(())
     }
 }

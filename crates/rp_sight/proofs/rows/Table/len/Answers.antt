@@ -7,7 +7,7 @@ use Rattle.rp_sight.proofs.rows.Table.len.Goals as goal
 pub returns-clause-len : goal.returns-clause-len
 returns-clause-len g c =
     let t = c.self.inside in
-    c.len.ensures ∙ sym (length-joined t.held.now.entries t.rights.now.entries c.self.invariant.same) ∙ ap (λ s. length s.rows) c.self.view_is
+    c.len.ensures.len ∙ sym (length-joined t.held.now.entries t.rights.now.entries c.self.invariant.same) ∙ ap (λ s. length s.rows) c.self.view_is
 
 pub returns-clause-ascending : goal.returns-clause-ascending
 returns-clause-ascending g c =

@@ -1,4 +1,4 @@
-use Rattle.std.proofs.Common.{◌≡◌, rules, length, ◌∙◌, ap}
+use Rattle.std.proofs.Common.{◌≤◌, rules, length, ◌∙◌, ap, arith}
 use Rattle.std.specs.Prelude.{filter}
 use Rattle.std.proofs.lemmas.List.Sorted.{IsPartitionPoint-from_clause}
 use Rattle.sorted_tables.proofs.Searching.{point_counts}
@@ -8,11 +8,9 @@ use Rattle.rp_store.proofs.keyed.Keyed.last_place.Goals as goal
 pub returns : goal.returns
 returns g c =
     let who = c.args.owner.now in
-    let t = c.self.inside in
-    let xs = c.deref.result.now in
-    let is : xs ≡ t.entries.items = c.deref.ensures.value in
+    let ring = c.self.inside.entries in
     let place = c.partition_point.result in
-    let point = IsPartitionPoint-from_clause (is_not_later who) xs place c.partition_point.ensures.partitioned (rw is (not_later_splits who t.entries.items c.self.invariant)) (λ a r f called. search rules) in
-    point_counts (is_not_later who) xs place c.partition_point.ensures.bound point
-    ∙ ap (λ ys. length (filter (is_not_later who) ys)) is
+    let within : place ≤ length ring.items = omega (arith, c.partition_point.ensures.bound, ring.ok.0) in
+    let point = IsPartitionPoint-from_clause (is_not_later who) ring.items place c.partition_point.ensures.partitioned (not_later_splits who ring.items c.self.invariant) (λ a r f called. search rules) in
+    point_counts (is_not_later who) ring.items place within point
     ∙ ap (λ s. length (filter (is_not_later who) s.entries)) c.self.view_is

@@ -1,8 +1,0 @@
-use Rattle.std.proofs.Common.{drop}
-use Rattle.rp_sight.specs.Granted.{counts_under}
-use Rattle.rp_sight.specs.Kept.{unmarked}
-use Rattle.rp_sight.proofs.Marking.{IsMarking}
-use Rattle.rp_sight.proofs.marks.counted_marks.Given as goal
-
-abbrev pub invariant-loop-names : goal.invariant-loop-names
-invariant-loop-names l = IsMarking (λ e m. counts_under l.caller l.groups.rows e m) l.models.rows (unmarked l.models.rows) l.marks l.granted (drop l.names-index l.granted)
