@@ -74,7 +74,8 @@ LINKS = 10
 # ---- what is aimed at, in milliseconds, of a request alone and among others
 MILLISECONDS = {
     "get": 0.1, "grant": 0.1, "add, referring anywhere": 0.1, "add, referring to the first": 0.1, "set": None, "create_model": 0.1,
-    "delete_model": None, "drop, of the last 10,000": 0.1, "drop, of the first": 1, "drop, in the middle": 1, "drop that is refused": None,
+    "create_model, amid others": 0.1, "delete_model": None, "delete_model, amid others": None,
+    "drop, of the last 10,000": 0.1, "drop, of the first": 1, "drop, in the middle": 1, "drop that is refused": None,
     "users of ten": 0.2, "extent of one": 0.2,
 }
 AMONG_OTHERS = 1.5
@@ -126,6 +127,7 @@ class Rounds:
         self.middle = iter(faces[len(faces) // 2:])
         self.are_set = faces[len(faces) // 4:len(faces) // 3]
         self.levels = itertools.cycle(["read", "group", "write"])
+        self.owners = sizes.owners
         self.partners = itertools.cycle(map(groups.name_of, range(sizes.owners)))
 
     def make(self, session, count):
@@ -160,12 +162,16 @@ class Rounds:
     def turns(self):
         """The lines of one round by the words that tell of them."""
         names = [f"c{k:02}" for k in range(60)]
+        # (ann's models stand before all others, and his in their middle)
+        who = groups.name_of(self.owners // 2)
         roles = ["", f"{SCHEMA_NAME}.VERTEX_POINT.VERTEX_GEOMETRY"]
         users = reply_of(users=[["ann", "m", it] for it in self.users])
         return {
             "get": self.gets(), "grant": self.grants(), "add, referring anywhere": self.adds(), "add, referring to the first": self.adds(1),
             "set": self.sets(), "create_model": [(request("create_model", name=it, schema=SCHEMA_NAME), OK) for it in names],
             "delete_model": [(request("delete_model", name=it), OK) for it in names],
+            "create_model, amid others": [(asked(who, "create_model", name=it, schema=SCHEMA_NAME), OK) for it in names],
+            "delete_model, amid others": [(asked(who, "delete_model", name=it), OK) for it in names],
             "drop, of the last 10,000": self.drops(self.last), "drop, of the first": self.drops(self.first), "drop, in the middle": self.drops(self.middle),
             "drop that is refused": [(single("drop", instance=self.anywhere((2, 3, 4, 5))), IN_USE) for _ in range(self.few)],
             "users of ten": [(request("users", owner="ann", group="g", of=["ann", "m", self.used], role=roles[k % 2]), users) for k in range(20)],
