@@ -3,9 +3,8 @@ use Rattle.std.proofs.Common.{◌≡◌, ◌<◌, ℕ, suc, ◌+◌, Bool, true,
 use Rattle.std.proofs.lemmas.List.{take-append-drop}
 use Rattle.std.proofs.lemmas.Str.{IsAscii-append}
 use Rattle.std.proofs.lemmas.Str.Ascii.{IsAscii-cons, IsAscii-nil}
-use Rattle.std.specs.List.{list_all, prefix_len}
+use Rattle.std.specs.List.{prefix_len}
 use Rattle.std.specs.Str.{IsAscii}
-use Rattle.p21_spelling.proofs.Runs.{first_holds, second_holds}
 
 -- what stands in front and what stands behind
 pub parts_ascii : (n : ℕ) (z : List ℕ) → IsAscii (take n z) → IsAscii (drop n z) → IsAscii z
@@ -13,10 +12,6 @@ parts_ascii n z front behind = subst IsAscii (take-append-drop n z) (IsAscii-app
 
 -- a test that no byte passes from 128 on
 module _ (test : ℕ → Bool) (low : (b : ℕ) → test b ≡ true → b < 128) where
-  pub all_ascii : (t : List ℕ) → list_all test t ≡ true → IsAscii t
-  all_ascii [] all = IsAscii-nil
-  all_ascii (b ∷ t) all = IsAscii-cons b t (low b (first_holds (test b) (list_all test t) all)) (all_ascii t (second_holds (test b) (list_all test t) all))
-
   run_next : (t : Bool) (b : ℕ) (z : List ℕ) → test b ≡ t → IsAscii (take (prefix_len test z) z) → IsAscii (take (if t then 1 + prefix_len test z else 0) (b ∷ z))
   run_next true b z is more =
       let next : 1 + prefix_len test z ≡ suc (prefix_len test z) = omega arith in

@@ -9,6 +9,7 @@ use Rattle.ex_schemas.specs.Schemas.{Checked}
 use Rattle.p21_canonical.proofs.Ascii.{encoded_is}
 use Rattle.p21_canonical.specs.Trees.{canonical, content_tree, header_tree, header_value_tree, instance_tree}
 use Rattle.p21_escapes.specs.Encoding.{encoded}
+use Rattle.p21_spelling.proofs.Ascii.{all_ascii}
 use Rattle.p21_spelling.proofs.Runs.{first_holds, second_holds}
 use Rattle.p21_spelling.specs.Files.{data_text, entity_text, file_text, header_text, is_file, is_header, line, schema_text}
 use Rattle.p21_spelling.specs.Instances.{are_values, is_instance, lines}
@@ -19,7 +20,6 @@ use Rattle.rp_content.specs.declared.content.Content.{Content}
 use Rattle.rp_content.specs.declared.header.Header.{Header}
 use Rattle.rp_content.specs.declared.instance.Instance.{Instance}
 use Rattle.rp_value.specs.declared.value.Value.{Value}
-use Rattle.p21_ascii.proofs.Bytes.{all_ascii}
 use Rattle.p21_ascii.proofs.Instances.{lines_ascii, values_ascii}
 use Rattle.p21_ascii.proofs.Tokens.{enclosed_ascii, quoted_ascii}
 use Rattle.p21_ascii.proofs.Values.{header_values_low}

@@ -10,6 +10,7 @@ use Rattle.ex_named.specs.declared.declaration.NamedType.{NamedType}
 use Rattle.ex_schemas.specs.Schemas.{Checked}
 use Rattle.p21_canonical.specs.Trees.{Part, attribute_at, attribute_tree, instance_tree, leaf_part, mapping, own_parts, record_of, records, types}
 use Rattle.p21_grammar.specs.Grammar.{max_nesting}
+use Rattle.p21_spelling.proofs.Ascii.{word_ascii}
 use Rattle.p21_spelling.proofs.Runs.{first_holds, second_holds}
 use Rattle.p21_spelling.specs.Instances.{are_values, instance_text, is_instance, is_mapping, is_record, lines, mapping_text, record_text}
 use Rattle.p21_spelling.specs.Tokens.{enclosed, is_name, is_word}
@@ -20,7 +21,7 @@ use Rattle.rp_content.specs.declared.instance.Entities.{Entities}
 use Rattle.rp_content.specs.declared.instance.Entities.TheVariants.{Leaf, Several}
 use Rattle.rp_content.specs.declared.instance.Instance.{Instance}
 use Rattle.rp_value.specs.declared.value.Value.{Value}
-use Rattle.p21_ascii.proofs.Tokens.{enclosed_ascii, name_ascii, word_ascii}
+use Rattle.p21_ascii.proofs.Tokens.{enclosed_ascii, name_ascii}
 use Rattle.p21_ascii.proofs.Values.{AreLow, IsLow, derived_low, listed_ascii, value_low}
 
 -- ---- what stands between parentheses

@@ -9,7 +9,8 @@ use Rattle.std.specs.Prelude.{is_ok, slice_index}
 use Rattle.std.specs.Str.{IsAscii}
 use Rattle.rp_numbers.specs.Spelling.{Real, decimal_of, digits_len, is_negative, parse, power, real, sign_len}
 use Rattle.p21_spelling.proofs.Runs.{first_holds, second_holds}
-use Rattle.p21_ascii.proofs.Bytes.{all_ascii, parts_ascii, run_ascii}
+use Rattle.p21_spelling.proofs.Ascii.{all_ascii}
+use Rattle.p21_ascii.proofs.Bytes.{parts_ascii, run_ascii}
 
 digit_low : (b : ℕ) → is_ascii_digit b ≡ true → b < 128
 digit_low b is = grind (arith, nat_tests)

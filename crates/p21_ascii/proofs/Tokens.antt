@@ -8,13 +8,12 @@ use Rattle.std.specs.Char.{is_ascii_digit, is_ascii_hexdigit}
 use Rattle.std.specs.List.{list_all}
 use Rattle.std.specs.Prelude.{slice_index}
 use Rattle.std.specs.Str.{IsAscii}
-use Rattle.p21_lexemes.specs.Lexical.{greatest, is_binary, is_letter}
+use Rattle.p21_lexemes.specs.Lexical.{greatest, is_binary}
+use Rattle.p21_spelling.proofs.Ascii.{all_ascii}
 use Rattle.p21_spelling.proofs.Runs.{first_holds, second_holds}
-use Rattle.p21_spelling.specs.Tokens.{are_digits, enclosed, is_bits, is_integer, is_name, is_word, quoted}
+use Rattle.p21_spelling.specs.Tokens.{are_digits, enclosed, is_bits, is_integer, is_name, quoted}
 use Rattle.rp_numbers.specs.Spelling.{sign_len}
 use Rattle.rp_numbers.specs.Whole.{value}
-use Rattle.text_forms.specs.Words.{is_word_byte}
-use Rattle.p21_ascii.proofs.Bytes.{all_ascii}
 use Rattle.p21_ascii.proofs.Numbers.{signed_digits_ascii}
 
 -- ---- marks around a text
@@ -30,19 +29,6 @@ quoted_ascii t is = between_ascii 39 39 t (omega arith) (omega arith) is
 
 pub enclosed_ascii : (t : List ℕ) → IsAscii t → IsAscii (enclosed t)
 enclosed_ascii t is = between_ascii 40 41 t (omega arith) (omega arith) is
-
--- ---- words
-
-letter_low : (b : ℕ) → is_letter b ≡ true → b < 128
-letter_low b is = grind (arith, nat_tests)
-
-word_byte_low : (b : ℕ) → is_word_byte b ≡ true → b < 128
-word_byte_low b is = grind (arith, nat_tests)
-
-pub word_ascii : (t : List ℕ) → is_word t ≡ true → IsAscii t
-word_ascii [] is = IsAscii-nil
-word_ascii (b ∷ t) is =
-    IsAscii-cons b t (letter_low b (first_holds (is_letter b) (list_all is_word_byte t) is)) (all_ascii is_word_byte word_byte_low t (second_holds (is_letter b) (list_all is_word_byte t) is))
 
 -- ---- numbers
 

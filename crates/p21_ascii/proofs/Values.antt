@@ -10,6 +10,7 @@ use Rattle.p21_canonical.proofs.Ascii.{encoded_is}
 use Rattle.p21_canonical.specs.Binaries.{binary}
 use Rattle.p21_canonical.specs.Trees.{header_layer, header_value_tree, item_name, layer, logical_name, type_name, value_tree}
 use Rattle.p21_escapes.specs.Encoding.{encoded}
+use Rattle.p21_spelling.proofs.Ascii.{word_ascii}
 use Rattle.p21_spelling.proofs.Equations as spelled
 use Rattle.p21_spelling.proofs.Runs.{first_holds, second_holds}
 use Rattle.p21_spelling.specs.Tokens.{enclosed, is_word}
@@ -24,7 +25,7 @@ use Rattle.rp_value.specs.declared.value.Value.TheFolds.{fold-roll-Value, ind-Va
 use Rattle.rp_value.specs.declared.value.Value.TheOpen.{Value-F}
 use Rattle.rp_value.specs.declared.value.Value.TheViews.{roll-Value}
 use Rattle.p21_ascii.proofs.Numbers.{real_ascii}
-use Rattle.p21_ascii.proofs.Tokens.{between_ascii, bits_ascii, enclosed_ascii, integer_ascii, name_ascii, quoted_ascii, word_ascii}
+use Rattle.p21_ascii.proofs.Tokens.{between_ascii, bits_ascii, enclosed_ascii, integer_ascii, name_ascii, quoted_ascii}
 
 -- ASCII where it is well spelled
 abbrev pub IsLow : Spelling → Type 0

@@ -1,11 +1,9 @@
 -- What is written of what was read is well spelled, and so it is read again.
-use Rattle.std.proofs.Common.{◌≡◌, ◌≤◌, ◌<◌, ℕ, zero, suc, Bool, true, ◌&&◌, nat_le, ◌==◌, nat_lt, List, [], ◌∷◌, ◌++◌, length, map, Ok, IsUtf8, refl, sym, ◌∙◌, ap, subst, arith}
+use Rattle.std.proofs.Common.{◌≡◌, ◌≤◌, ℕ, suc, Bool, true, ◌&&◌, nat_le, ◌==◌, nat_lt, List, [], ◌∷◌, ◌++◌, length, map, Ok, refl, sym, ◌∙◌, ap, subst, arith}
 use Rattle.std.proofs.lemmas.Bool.{or_left, or_right}
 use Rattle.std.proofs.lemmas.Bool.Decides.{nat_tests}
 use Rattle.std.proofs.lemmas.List.Folds.{list_any-append}
-use Rattle.std.proofs.lemmas.Str.{IsUtf8-from_ascii}
 use Rattle.std.specs.List.{AllByRecursion, list_all}
-use Rattle.std.specs.Str.{IsAscii}
 use Rattle.plain_data.specs.Numbers.{is_among}
 use Rattle.ex_slots.specs.Slots.{Slot}
 use Rattle.ex_types.specs.Checked.{Checked}
@@ -14,6 +12,7 @@ use Rattle.p21_mappings.specs.Contents.{content, header}
 use Rattle.p21_mappings.specs.Instances.{instance}
 use Rattle.p21_grammar.specs.File.{file_of}
 use Rattle.p21_grammar.specs.Grammar.{max_nesting}
+use Rattle.p21_spelling.proofs.Ascii.{word_utf8}
 use Rattle.p21_spelling.proofs.Files.{file_again}
 use Rattle.p21_spelling.proofs.Runs.{both_hold, first_holds, second_holds}
 use Rattle.p21_spelling.proofs.WellSpelled.{file_is}
@@ -23,8 +22,6 @@ use Rattle.p21_spelling.specs.Instances.{are_values, is_instance, is_mapping, is
 use Rattle.p21_spelling.specs.Tokens.{is_name, is_string, is_word}
 use Rattle.p21_spelling.specs.Values.{all_spelled, deepest, spelling}
 use Rattle.p21_escapes.specs.Encoding.{encoded}
-use Rattle.text_forms.specs.Words.{is_word_byte}
-use Rattle.p21_lexemes.specs.Lexical.{is_letter}
 use Rattle.p21_tree.specs.declared.header.Header as spelled_header
 use Rattle.p21_tree.specs.declared.instance.Instance as tree
 use Rattle.p21_tree.specs.declared.instance.Mapping.{Mapping}
@@ -49,27 +46,6 @@ use Rattle.p21_laws.proofs.Shapes.{OfEntities, leaf_passes, made, record_by, sev
 use Rattle.p21_laws.specs.Contents.{AreAmong, IsRead}
 use Rattle.p21_laws.specs.Instances.{parts}
 use Rattle.p21_laws.specs.Schemas.{IsAccepted}
-
--- ---- words are of characters
-
-letter_ascii : (b : ℕ) → is_letter b ≡ true → b < 128
-letter_ascii b e = grind (arith, nat_tests)
-
-byte_ascii : (b : ℕ) → is_word_byte b ≡ true → b < 128
-byte_ascii b e = grind (arith, nat_tests)
-
-bytes_ascii : (t : List ℕ) → list_all is_word_byte t ≡ true → IsAscii t
-bytes_ascii [] e i = omega arith
-bytes_ascii (b ∷ t) e zero = byte_ascii b (first_holds (is_word_byte b) (list_all is_word_byte t) e)
-bytes_ascii (b ∷ t) e (suc i) = bytes_ascii t (second_holds (is_word_byte b) (list_all is_word_byte t) e) i
-
-word_ascii : (t : List ℕ) → is_word t ≡ true → IsAscii t
-word_ascii [] e i = cc
-word_ascii (b ∷ t) e zero = letter_ascii b (first_holds (is_letter b) (list_all is_word_byte t) e)
-word_ascii (b ∷ t) e (suc i) = bytes_ascii t (second_holds (is_letter b) (list_all is_word_byte t) e) i
-
-pub word_utf8 : (t : List ℕ) → is_word t ≡ true → IsUtf8 t
-word_utf8 t e = IsUtf8-from_ascii t (word_ascii t e)
 
 -- ---- values
 

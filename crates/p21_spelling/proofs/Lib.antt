@@ -1,4 +1,5 @@
 pub mod Runs
+pub mod Ascii
 pub mod Fronts
 pub mod Names
 pub mod Steps

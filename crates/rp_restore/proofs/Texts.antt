@@ -1,5 +1,5 @@
 -- The rows of a valid repository are texts: their names and their files are UTF-8, and their numbers are of 64 bits.
-use Rattle.std.proofs.Common.{◌≡◌, ◌<◌, ◌||◌, ℕ, zero, suc, Bool, true, false, List, [], ◌∷◌, Some, None, IsUtf8, refl, sym, ap, ◌∙◌, subst, arith}
+use Rattle.std.proofs.Common.{◌≡◌, ◌<◌, ◌||◌, ℕ, Bool, true, false, List, [], ◌∷◌, Some, None, IsUtf8, refl, sym, ap, ◌∙◌, subst, arith}
 use Rattle.std.specs.Prelude.{if◌then◌else◌, length, map, nat_lt, not}
 use Rattle.std.specs.List.{AllByRecursion, list_all}
 use Rattle.std.specs.Str.{bytes_eq, IsAscii}
@@ -9,9 +9,7 @@ use Rattle.std.proofs.lemmas.Slice.Eq.{bytes_eq-Decides}
 use Rattle.std.proofs.lemmas.Str.{IsUtf8-from_ascii}
 use Rattle.ex_types.specs.Checked.{Checked}
 use Rattle.p21_canonical.specs.Trees.{canonical}
-use Rattle.p21_spelling.specs.Tokens.{is_word}
-use Rattle.p21_lexemes.specs.Lexical.{is_letter}
-use Rattle.text_forms.specs.Words.{is_word_byte}
+use Rattle.p21_spelling.proofs.Ascii.{all_ascii, word_utf8}
 use Rattle.p21_laws.specs.Contents.{IsRead}
 use Rattle.p21_laws.specs.Schemas.{IsAccepted}
 use Rattle.rp_content.specs.declared.content.Content.{Content}
@@ -35,13 +33,8 @@ use Rattle.rp_snapshot_texts.specs.Again.{IsTextGrant, IsTextGroup, IsTextKey, I
 byte_ascii : (b : ℕ) → is_byte_of_name b ≡ true → b < 128
 byte_ascii b e = grind (arith, nat_tests)
 
-bytes_ascii : (t : List ℕ) → list_all is_byte_of_name t ≡ true → IsAscii t
-bytes_ascii [] e i = omega arith
-bytes_ascii (b ∷ t) e zero = byte_ascii b (and_parts (is_byte_of_name b) (list_all is_byte_of_name t) e).0
-bytes_ascii (b ∷ t) e (suc i) = bytes_ascii t (and_parts (is_byte_of_name b) (list_all is_byte_of_name t) e).1 i
-
 name_utf8 : (t : List ℕ) → is_name t ≡ true → IsUtf8 t
-name_utf8 t e = IsUtf8-from_ascii t (bytes_ascii t (and_parts _ (list_all is_byte_of_name t) e).1)
+name_utf8 t e = IsUtf8-from_ascii t (all_ascii is_byte_of_name byte_ascii t (and_parts _ (list_all is_byte_of_name t) e).1)
 
 -- a text that stands among others passes where they do
 among : (p : List ℕ → Bool) (ts : List (List ℕ)) (s : List ℕ) → list_all p ts ≡ true → has_text ts s ≡ true → p s ≡ true
@@ -53,25 +46,6 @@ among p (t ∷ ts) s all there = let both = and_parts (p t) (list_all p ts) all 
     by first others false e is = others is
 
 -- ---- schemas
-
-letter_ascii : (b : ℕ) → is_letter b ≡ true → b < 128
-letter_ascii b e = grind (arith, nat_tests)
-
-word_byte_ascii : (b : ℕ) → is_word_byte b ≡ true → b < 128
-word_byte_ascii b e = grind (arith, nat_tests)
-
-word_bytes_ascii : (t : List ℕ) → list_all is_word_byte t ≡ true → IsAscii t
-word_bytes_ascii [] e i = omega arith
-word_bytes_ascii (b ∷ t) e zero = word_byte_ascii b (and_parts (is_word_byte b) (list_all is_word_byte t) e).0
-word_bytes_ascii (b ∷ t) e (suc i) = word_bytes_ascii t (and_parts (is_word_byte b) (list_all is_word_byte t) e).1 i
-
-word_ascii : (t : List ℕ) → is_word t ≡ true → IsAscii t
-word_ascii [] e i = cc
-word_ascii (b ∷ t) e zero = letter_ascii b (and_parts (is_letter b) (list_all is_word_byte t) e).0
-word_ascii (b ∷ t) e (suc i) = word_bytes_ascii t (and_parts (is_letter b) (list_all is_word_byte t) e).1 i
-
-word_utf8 : (t : List ℕ) → is_word t ≡ true → IsUtf8 t
-word_utf8 t e = IsUtf8-from_ascii t (word_ascii t e)
 
 abbrev pub AllAccepted : List Checked → Type 0
 AllAccepted = AllByRecursion (λ (schema : Checked). IsAccepted schema.named)
