@@ -1,15 +1,16 @@
 -- Whether an instance of a population stands at a place, told by a look at one model alone.
-use Rattle.std.proofs.Common.{◌≡◌, ℕ, Bool, ◌&&◌, ◌||◌, ◌==◌, true, false, List, [], ◌∷◌, ◌++◌, map, Option, Some, None, is_some, refl, sym, ◌∙◌, ap, arith}
+use Rattle.std.proofs.Common.{◌≡◌, ℕ, Bool, ◌&&◌, ◌||◌, ◌==◌, true, false, List, [], ◌∷◌, map, Option, Some, None, is_some, refl, sym, ◌∙◌, ap, arith}
 use Rattle.std.specs.Prelude.{filter, if◌then◌else◌}
 use Rattle.std.specs.List.{find, list_any}
 use Rattle.std.proofs.lemmas.Bool.Decides.{nat_tests}
+use Rattle.std.proofs.lemmas.List.Folds.{list_any-append}
 use Rattle.sorted_tables.specs.Table.{IsAscending}
 use Rattle.sorted_tables.proofs.Searching.{chosen}
 use Rattle.rp_content.specs.declared.instance.Instance.{Instance}
 use Rattle.rp_rows.specs.Rows.{key_cmp, same_key, row_key, is_row, Model, GroupRow}
 use Rattle.rp_rows.specs.Sight.{counts}
 use Rattle.rp_population.specs.declared.place.Place.{Place}
-use Rattle.rp_population.specs.Populations.{Counted, Placed, placed, placed_all, population, has_place, is_at}
+use Rattle.rp_population.specs.Populations.{Counted, placed, placed_all, population, has_place, is_at}
 use Rattle.rp_plain.specs.Readers.{as_counted, counted_in}
 use Rattle.rp_readers.proofs.Counts.{same_at}
 use Rattle.rp_readers.proofs.Looking.{seen_found}
@@ -31,14 +32,6 @@ at_place p m (i ∷ is) = by (same_key p.model m.model) (at_place p m is)
     by : (t : Bool) → list_any (is_at p) (map (placed m) is) ≡ (t && has_name p.instance is)
         → ((t && p.instance == i.name) || list_any (is_at p) (map (placed m) is)) ≡ (t && (i.name == p.instance || has_name p.instance is))
     by true rest = λ k. same_number p.instance i.name k || rest k
-    by false rest = rest
-
-any_parts : (q : Placed → Bool) (xs ys : List Placed) → list_any q (xs ++ ys) ≡ (list_any q xs || list_any q ys)
-any_parts q [] ys = refl
-any_parts q (x ∷ xs) ys = by (q x) (any_parts q xs ys)
-  where
-    by : (t : Bool) → list_any q (xs ++ ys) ≡ (list_any q xs || list_any q ys) → (t || list_any q (xs ++ ys)) ≡ ((t || list_any q xs) || list_any q ys)
-    by true rest = refl
     by false rest = rest
 
 is_found : {X : Type 0} (q : X → Bool) (xs : List X) → is_some (find q xs) ≡ list_any q xs
@@ -70,7 +63,7 @@ module _ (p : Place) (g : GroupRow) where
           → has_place (population (map as_counted (if t then m ∷ rest else rest))) p
           ≡ ((is_row p.model m && (t && has_name p.instance m.holds.content.instances)) || list_any (λ n. is_row p.model n && counts_with n) ms)
       by true standing =
-          any_parts (is_at p) (placed_all (as_counted m)) (population (map as_counted rest))
+          list_any-append (is_at p) (placed_all (as_counted m)) (population (map as_counted rest))
           ∙ (λ k. at_place p (as_counted m) m.holds.content.instances k || standing k)
           ∙ ap (λ t. (t && has_name p.instance m.holds.content.instances) || list_any (λ n. is_row p.model n && counts_with n) ms) (same_at p.model m)
       by false standing = standing ∙ none_more (is_row p.model m) (list_any (λ n. is_row p.model n && counts_with n) ms)

@@ -1,4 +1,5 @@
 -- Marks beside models.
+use Rattle.std.proofs.lemmas.List.Folds.{list_any-append}
 use Rattle.std.proofs.Common.{◌≡◌, ℕ, zero, suc, ◌<◌, Bool, true, false, ◌&&◌, ◌||◌, List, [], ◌∷◌, ◌++◌, ◌+◌, ◌≤◌, length, set, get_or, drop, map, replicate, Option, Some, None, Result, Ok, Err, OnOk, refl, sym, ◌∙◌, ap, arith}
 use Rattle.std.specs.Prelude.{filter, if◌then◌else◌}
 use Rattle.std.specs.List.{find, list_any, AllByRecursion}
@@ -247,19 +248,11 @@ length-none (m ∷ ms) = ap suc (length-none ms)
 
 -- ---- things in two parts
 
-pub any_in_two : {X : Type 0} (p : X → Bool) (xs ys : List X) → list_any p (xs ++ ys) ≡ (list_any p xs || list_any p ys)
-any_in_two p [] ys = refl
-any_in_two p (x ∷ xs) ys = by (p x) (any_in_two p xs ys)
-  where
-    by : (t : Bool) → list_any p (xs ++ ys) ≡ (list_any p xs || list_any p ys) → (t || list_any p (xs ++ ys)) ≡ ((t || list_any p xs) || list_any p ys)
-    by true rest = refl
-    by false rest = rest
-
 -- what both parts mark beside nothing
 pub marked_in_two : {X : Type 0} (t : X → Model → Bool) (ms : List Model) (now : List Bool) (xs ys : List X) → now ≡ replicate (length ms) false → marked (any_of t ys) (marked (any_of t xs) now ms) ms ≡ map (any_of t (xs ++ ys)) ms
 marked_in_two t ms now xs ys are =
     marked_twice (any_of t xs) (any_of t ys) now ms
-    ∙ marked_alike (λ m. any_of t xs m || any_of t ys m) (any_of t (xs ++ ys)) (λ m. sym (any_in_two (λ x. t x m) xs ys)) now ms
+    ∙ marked_alike (λ m. any_of t xs m || any_of t ys m) (any_of t (xs ++ ys)) (λ m. sym (list_any-append (λ x. t x m) xs ys)) now ms
     ∙ ap (λ ts. marked (any_of t (xs ++ ys)) ts ms) (are ∙ marks_of ms)
     ∙ marked_new (any_of t (xs ++ ys)) ms
 
