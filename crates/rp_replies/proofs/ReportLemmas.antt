@@ -7,7 +7,8 @@ use Rattle.serde_json.specs.Written.{members_outline}
 use Rattle.rp_plain.specs.declared.reports.RuleName.{RuleName}
 use Rattle.rp_plain.specs.declared.reports.ToldCheck.{ToldCheck}
 use Rattle.rp_plain.specs.declared.reports.ToldCulprit.{ToldCulprit}
-use Rattle.rp_replies.specs.Replies.{check_members, verdict_word, with_culprits, with_rule, with_string}
+use Rattle.rp_json.specs.Written.{with_string}
+use Rattle.rp_replies.specs.Replies.{check_members, verdict_word, with_culprits, with_rule}
 use Rattle.serde_json.specs.Data.{no_members}
 use Rattle.rp_replies.specs.Tokens.{culprits_tokens, rule_tokens}
 

@@ -1,13 +1,12 @@
 -- The bytes of a reply.
-use Rattle.std.specs.Prelude.{ℕ, List, [], ◌∷◌, ◌++◌, map, Option, Some, None, codes}
+use Rattle.std.specs.Prelude.{ℕ, List, [], ◌∷◌, ◌++◌, Option, Some, None, codes}
 use Rattle.serde_json.specs.Data.{Data, boolean, number, unsigned, string, array, Items, no_items, item, object, Members, no_members, member}
-use Rattle.serde_json.specs.View.{items_of}
 use Rattle.serde_json.specs.Written.{compact_text}
 use Rattle.p21_tree.specs.declared.fault.FaultKind.{FaultKind}
 use Rattle.p21_tree.specs.declared.fault.FaultKind.TheVariants.{Token, Open, Escape, Page, Code, Utf8, Number, Syntax, Sections, Deep}
 use Rattle.p21_tree.specs.declared.fault.InstanceFaultKind.{InstanceFaultKind}
 use Rattle.p21_tree.specs.declared.fault.InstanceFaultKind.TheVariants.{Twice, UnknownEntity, IllegalCombination, WrongCount, NotDerived, WrongKind, Undefined}
-use Rattle.rp_content.specs.declared.link.Link.{Link}
+use Rattle.rp_json.specs.Written.{with_number, with_string, list_of, link_data}
 use Rattle.rp_rows.specs.declared.rows.Right.{Right}
 use Rattle.rp_rows.specs.declared.rows.Right.TheVariants.{Unseen, Reads, Groups, Writes, Owns}
 use Rattle.rp_population.specs.declared.place.Place.{Place}
@@ -31,21 +30,9 @@ use Rattle.rp_plain.specs.declared.messages.Reply.TheVariants.{Done, Stored, Fil
 use Rattle.ex_check.specs.declared.fault.SchemaFault.{SchemaFault}
 use Rattle.ex_check.specs.Check.{name as fault_name, place as fault_place}
 
--- ---- members, whose keys are to be in byte order
-
-abbrev pub with_number : List ℕ → ℕ → Members → Members
-with_number key n ms = member key (number (unsigned n)) ms
-
-abbrev pub with_string : List ℕ → List ℕ → Members → Members
-with_string key text ms = member key (string text) ms
-
 -- an object of one member
 abbrev pub only : List ℕ → Data → Data
 only key d = object (member key d no_members)
-
--- a list of the objects that are made of these
-abbrev pub list_of : {A : Type 0} → (A → Data) → List A → Data
-list_of make xs = array (items_of (map make xs))
 
 -- ---- refusals
 
@@ -116,9 +103,6 @@ level_word Owns = codes "owner"
 
 abbrev pub item_data : Item → Data
 item_data i = object (with_string (codes "level") (level_word i.right) (with_string (codes "name") i.name (with_string (codes "owner") i.owner (with_string (codes "schema") i.schema no_members))))
-
-abbrev pub link_data : Link → Data
-link_data l = object (with_number (codes "instance") l.target (with_string (codes "model") l.model (with_number (codes "name") l.name (with_string (codes "owner") l.owner no_members))))
 
 -- whether it counts, and the model
 abbrev pub member_data : Member → Data

@@ -1,15 +1,11 @@
 -- The tokens that are written for JSON.
 use Rattle.std.specs.Prelude.{ℕ, List, [], ◌∷◌, Option, Some, None, codes}
 use Rattle.json.specs.Token.{Token, key, string}
-use Rattle.json.specs.Tree.{json_tokens}
-use Rattle.serde_json.specs.Data.{Data}
-use Rattle.serde_json.specs.Written.{outline}
 use Rattle.rp_plain.specs.declared.reports.RuleName.{RuleName}
 use Rattle.rp_plain.specs.declared.reports.ToldCulprit.{ToldCulprit}
-use Rattle.rp_replies.specs.Replies.{culprit_data, list_of}
-
-abbrev pub tokens_of : Data → List Token
-tokens_of d = json_tokens (outline d)
+use Rattle.rp_json.specs.Written.{list_of}
+use Rattle.rp_json.specs.Tokens.{tokens_of}
+use Rattle.rp_replies.specs.Replies.{culprit_data}
 
 -- ---- members of a report that may be left out
 

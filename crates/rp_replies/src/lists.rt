@@ -2,14 +2,15 @@
 
 ghost use Rattle.std.specs.Prelude.{◌≡◌, ◌∷◌, ◌++◌, OnOk};
 ghost use Rattle.json.specs.Token.{key as key_token};
-ghost use Rattle.rp_replies.specs.Replies.{listed_instance_data, level_word, item_data, member_data, instance_data, link_data, warning_data, list_of};
-ghost use Rattle.rp_replies.specs.Tokens.{tokens_of};
+ghost use Rattle.rp_json.specs.Written.{list_of};
+ghost use Rattle.rp_json.specs.Tokens.{tokens_of};
+ghost use Rattle.rp_replies.specs.Replies.{listed_instance_data, level_word, item_data, member_data, instance_data, warning_data};
 ghost use Rattle.serde_json.specs.Data.{string};
 
-use crate::writing::{boolean_at, number_at, place_of_kind, string_at};
+use crate::writing::{boolean_at, place_of_kind};
 use json::Writer;
 use plain_data::Text;
-use rp_content::Link;
+use rp_json::{number_at, string_at};
 use rp_plain::lists::{Item, ListedInstance, Member};
 use rp_population::Place;
 use rp_rows::rows::Right;
@@ -126,29 +127,6 @@ fn write_place(out: &mut Writer, place: &Place) -> Result<(), AllocError>
     out.string(model.name.as_str())?;
     out.u64(place.instance)?;
     out.end_array()
-}
-
-pub(crate) fn write_links(out: &mut Writer, links: &[Link]) -> Result<(), AllocError>
-    ensures ok { OnOk result (out.new.tokens ≡ out.old.tokens ++ tokens_of (list_of link_data links.now)) }
-    ensures before { out.new.before ≡ out.old.before }
-{
-    out.begin_array()?;
-    for link in links {
-        write_link(out, link)?;
-    }
-    out.end_array()
-}
-
-fn write_link(out: &mut Writer, link: &Link) -> Result<(), AllocError>
-    ensures ok { OnOk result (out.new.tokens ≡ out.old.tokens ++ tokens_of (link_data link.now)) }
-    ensures before { out.new.before ≡ out.old.before }
-{
-    out.begin_object()?;
-    number_at(out, "instance", link.target)?;
-    string_at(out, "model", link.model.as_str())?;
-    number_at(out, "name", link.name)?;
-    string_at(out, "owner", link.owner.as_str())?;
-    out.end_object()
 }
 
 pub(crate) fn write_texts(out: &mut Writer, texts: &[Text]) -> Result<(), AllocError>

@@ -3,11 +3,11 @@
 ghost use Rattle.std.specs.Prelude.{◌≡◌, ◌++◌, OnOk};
 ghost use Rattle.serde_json.specs.Data.{object};
 ghost use Rattle.rp_replies.specs.Replies.{file_kind, instance_kind, link_kind, coded, refusal_members};
-ghost use Rattle.rp_replies.specs.Tokens.{tokens_of};
+ghost use Rattle.rp_json.specs.Tokens.{tokens_of};
 
-use crate::writing::{number_at, string_at};
 use json::Writer;
 use p21_tree::{FaultKind, FileFault, InstanceFault, InstanceFaultKind};
+use rp_json::{number_at, string_at};
 use rp_plain::messages::{LinkFault, LinkFaultKind, Refusal};
 use std::alloc::AllocError;
 

@@ -2,20 +2,22 @@
 
 ghost use Rattle.std.specs.Prelude.{◌≡◌, ◌++◌, codes, IfOk, OnOk};
 ghost use Rattle.serde_json.specs.Data.{number as data_number, unsigned, string};
-ghost use Rattle.rp_replies.specs.Replies.{only, list_of, instance_data, reply_data, reply_text, line_of_reply};
-ghost use Rattle.rp_replies.specs.Tokens.{tokens_of};
+ghost use Rattle.rp_json.specs.Written.{list_of};
+ghost use Rattle.rp_json.specs.Tokens.{tokens_of};
+ghost use Rattle.rp_replies.specs.Replies.{only, instance_data, reply_data, reply_text, line_of_reply};
 
 use crate::lists::{
-    write_items_at, write_links, write_listed_instances, write_members, write_places, write_texts,
+    write_items_at, write_listed_instances, write_members, write_places, write_texts,
     write_warnings,
 };
 use crate::refusals::write_refusal;
 use crate::reports::write_checks;
-use crate::writing::{close, number_at, open, place_of_kind, string_at};
+use crate::writing::{close, open, place_of_kind};
 use ex_check::SchemaFault;
 use json::Writer;
 use plain_data::Text;
 use rp_content::Link;
+use rp_json::{number_at, string_at, write_links};
 use rp_plain::lists::{Item, ListedInstance, Member};
 use rp_plain::messages::{Refusal, Reply};
 use rp_plain::reports::ToldReport;

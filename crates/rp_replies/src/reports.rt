@@ -2,12 +2,14 @@
 
 ghost use Rattle.std.specs.Prelude.{◌≡◌, [], ◌∷◌, ◌++◌, codes, option_copied, OnOk};
 ghost use Rattle.json.specs.Token.{begin_object, key as key_token, string as string_token};
-ghost use Rattle.rp_replies.specs.Replies.{check_word, verdict_word, culprit_data, check_data, list_of};
-ghost use Rattle.rp_replies.specs.Tokens.{tokens_of, culprits_tokens, rule_tokens, text_tokens};
+ghost use Rattle.rp_json.specs.Written.{list_of};
+ghost use Rattle.rp_json.specs.Tokens.{tokens_of};
+ghost use Rattle.rp_replies.specs.Replies.{check_word, verdict_word, culprit_data, check_data};
+ghost use Rattle.rp_replies.specs.Tokens.{culprits_tokens, rule_tokens, text_tokens};
 
-use crate::writing::string_at;
 use json::Writer;
 use plain_data::Text;
+use rp_json::string_at;
 use rp_meaning::Verdict;
 use rp_plain::reports::{CheckKind, RuleName, ToldCheck, ToldCulprit};
 use shared::Shared;

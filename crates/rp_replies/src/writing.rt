@@ -1,11 +1,12 @@
 //! Members of JSON objects, written one after another.
 
-ghost use Rattle.std.specs.Prelude.{◌≡◌, [], ◌∷◌, ◌++◌, OnOk, decimal};
-ghost use Rattle.json.specs.Token.{begin_object, end_object, boolean as boolean_token, key as key_token, number as number_token, string as string_token};
+ghost use Rattle.std.specs.Prelude.{◌≡◌, [], ◌∷◌, ◌++◌, OnOk};
+ghost use Rattle.json.specs.Token.{begin_object, end_object, boolean as boolean_token, key as key_token};
 ghost use Rattle.rp_replies.specs.Replies.{place_data};
-ghost use Rattle.rp_replies.specs.Tokens.{tokens_of};
+ghost use Rattle.rp_json.specs.Tokens.{tokens_of};
 
 use json::Writer;
+use rp_json::{number_at, string_at};
 use std::alloc::AllocError;
 
 /// The beginning of an object whose one member is an object.
@@ -33,22 +34,6 @@ pub(crate) fn boolean_at(out: &mut Writer, key: &str, truth: bool) -> Result<(),
 {
     out.key(key)?;
     out.boolean(truth)
-}
-
-pub(crate) fn number_at(out: &mut Writer, key: &str, n: u64) -> Result<(), AllocError>
-    ensures ok { OnOk result (out.new.tokens ≡ out.old.tokens ++ key_token key.now ∷ number_token (decimal n) ∷ []) }
-    ensures before { out.new.before ≡ out.old.before }
-{
-    out.key(key)?;
-    out.u64(n)
-}
-
-pub(crate) fn string_at(out: &mut Writer, key: &str, text: &str) -> Result<(), AllocError>
-    ensures ok { OnOk result (out.new.tokens ≡ out.old.tokens ++ key_token key.now ∷ string_token text.now ∷ []) }
-    ensures before { out.new.before ≡ out.old.before }
-{
-    out.key(key)?;
-    out.string(text)
 }
 
 /// An object with a place in a text, and of which kind it is.

@@ -8,7 +8,7 @@ use Rattle.rp_rows.specs.Rows.{Model, GroupRow}
 use Rattle.rp_plain.specs.Plain.{Plain}
 use Rattle.rp_restore_laws.specs.Restoring.{with_group, with_model, with_models, with_rows}
 use Rattle.rp_restore_laws.specs.Laws.{MayTakeGroup, MayTakeModel, MayTakeModels, MayTakeRows}
-use Rattle.rp_snapshot_rows.specs.Tokens.{listed}
+use Rattle.rp_json.specs.Tokens.{listed}
 use Rattle.rp_restore.specs.Again.{group_tokens, model_tokens}
 
 cut : {X : Type 0} (each : X → List Token) (x : X) (xs : List X) (rest : List Token) → listed each (x ∷ xs) ++ rest ≡ each x ++ (listed each xs ++ rest)

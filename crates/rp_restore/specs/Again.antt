@@ -12,7 +12,7 @@ use Rattle.rp_restore_laws.specs.Laws.{MayTakeModels}
 use Rattle.rp_restored_rows.specs.declared.models.RestoredModel.{RestoredModel}
 use Rattle.rp_restored_rows.specs.Models.{model_of}
 use Rattle.rp_snapshot_rows.specs.Written.{group_data, model_data}
-use Rattle.rp_snapshot_rows.specs.Tokens.{tokens_of}
+use Rattle.rp_json.specs.Tokens.{tokens_of}
 use Rattle.rp_restore.specs.declared.fault.RestoreFault.{RestoreFault}
 use Rattle.rp_restore.specs.declared.fault.RestoreFault.TheVariants.{NoMemory}
 use Rattle.rp_restore.specs.declared.fault.RowReason.{RowReason}

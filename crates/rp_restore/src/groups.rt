@@ -8,7 +8,7 @@ ghost use Rattle.rp_restore_laws.specs.Laws.{MayTakeGroup, MayTakeRows};
 ghost use Rattle.rp_restore_laws.specs.Restoring.{with_group, with_rows};
 ghost use Rattle.rp_restored_rows.specs.Groups.{group_of};
 ghost use Rattle.rp_snapshot_rows.specs.Again.{saved_group};
-ghost use Rattle.rp_snapshot_rows.specs.Tokens.{listed};
+ghost use Rattle.rp_json.specs.Tokens.{listed};
 ghost use Rattle.rp_restore.specs.Again.{group_tokens, HoldsAgain, GroupsHeld};
 
 use crate::fault::{RefusedRow, RowKind, RowReason, SnapshotLack};

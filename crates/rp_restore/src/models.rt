@@ -8,7 +8,7 @@ ghost use Rattle.rp_restore_laws.specs.Laws.{MayTakeModel, MayTakeModels};
 ghost use Rattle.rp_restore_laws.specs.Restoring.{with_model, with_models};
 ghost use Rattle.rp_restored_rows.specs.Models.{model_of};
 ghost use Rattle.rp_snapshot_rows.specs.Again.{saved_model};
-ghost use Rattle.rp_snapshot_rows.specs.Tokens.{listed};
+ghost use Rattle.rp_json.specs.Tokens.{listed};
 ghost use Rattle.rp_snapshots.specs.Snapshots.{first_version, file_in};
 ghost use Rattle.rp_restore.specs.Again.{model_tokens, HoldsAgain, TakesModel};
 

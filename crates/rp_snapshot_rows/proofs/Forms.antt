@@ -15,11 +15,13 @@ use Rattle.rp_rows.specs.declared.rows.Grant.{Grant}
 use Rattle.rp_rows.specs.declared.rows.Key.{Key}
 use Rattle.rp_rows.specs.Rows.{key_of, Model, GroupRow}
 use Rattle.rp_snapshot_rows.specs.declared.lack.Lack.{Lack}
-use Rattle.rp_snapshot_rows.specs.Written.{level_word, grant_data, reader_data, member_data, link_data, model_data, group_data}
-use Rattle.rp_snapshot_rows.specs.Tokens.{listed, tokens_of, grant_tokens, reader_tokens, member_tokens, link_tokens, tail_tokens, behind_grants, behind_file, model_tokens, behind_readers, group_tokens}
+use Rattle.rp_json.specs.Written.{link_data}
+use Rattle.rp_json.specs.Tokens.{listed, tokens_of}
+use Rattle.rp_json.proofs.ListLemmas.{items_tokens-map}
+use Rattle.rp_snapshot_rows.specs.Written.{level_word, grant_data, reader_data, member_data, model_data, group_data}
+use Rattle.rp_snapshot_rows.specs.Tokens.{grant_tokens, reader_tokens, member_tokens, link_tokens, tail_tokens, behind_grants, behind_file, model_tokens, behind_readers, group_tokens}
 use Rattle.rp_snapshot_rows.specs.Again.{Again, Passed, HasNumbers, IsToRead}
 use Rattle.rp_snapshot_rows.specs.Reading.{Fails, Gives, Passes, level_of, pair_at, grant_at, reader_at, member_at, link_at, text_at, list_at, first_list_at, numbered_at, whole_at, whole_of, file_at, greatest_at, tail_at}
-use Rattle.rp_snapshot_rows.proofs.ListLemmas.{items_tokens-map}
 
 -- ---- what can't be read isn't there
 

@@ -1,22 +1,13 @@
 -- The tokens of what is written.
 use Rattle.std.specs.Prelude.{ℕ, List, [], ◌∷◌, ◌++◌, codes, decimal}
-use Rattle.std.specs.List.{flat_map}
-use Rattle.json.specs.Token.{Token, begin_object, end_object, begin_array, end_array, key, string, number}
-use Rattle.json.specs.Tree.{json_tokens}
-use Rattle.serde_json.specs.Data.{Data}
-use Rattle.serde_json.specs.Written.{outline}
+use Rattle.json.specs.Token.{Token, begin_object, end_object, begin_array, key, string, number}
 use Rattle.rp_content.specs.declared.link.Link.{Link}
 use Rattle.rp_rows.specs.declared.rows.Grant.{Grant}
 use Rattle.rp_rows.specs.declared.rows.Key.{Key}
 use Rattle.rp_rows.specs.Rows.{Model, GroupRow}
-use Rattle.rp_snapshot_rows.specs.Written.{grant_data, reader_data, link_data, member_data}
-
-abbrev pub tokens_of : Data → List Token
-tokens_of d = json_tokens (outline d)
-
--- what is written of each, and the bracket that closes the list
-abbrev pub listed : {A : Type 0} → (A → List Token) → List A → List Token
-listed each xs = flat_map each xs ++ end_array ∷ []
+use Rattle.rp_json.specs.Written.{link_data}
+use Rattle.rp_json.specs.Tokens.{tokens_of, listed}
+use Rattle.rp_snapshot_rows.specs.Written.{grant_data, reader_data, member_data}
 
 -- ---- items of lists
 

@@ -1,29 +1,18 @@
 -- What a snapshot has of a model and of a group: objects of JSON whose keys stand in byte order.
-use Rattle.std.specs.Prelude.{ℕ, List, map, codes}
-use Rattle.serde_json.specs.Data.{Data, number, unsigned, string, array, no_items, item, object, Members, no_members, member}
-use Rattle.serde_json.specs.View.{items_of}
-use Rattle.rp_content.specs.declared.link.Link.{Link}
+use Rattle.std.specs.Prelude.{ℕ, List, codes}
+use Rattle.serde_json.specs.Data.{Data, string, array, no_items, item, object, Members, no_members, member}
 use Rattle.rp_rows.specs.declared.rows.Level.{Level}
 use Rattle.rp_rows.specs.declared.rows.Level.TheVariants.{Read, Group, Write}
 use Rattle.rp_rows.specs.declared.rows.Grant.{Grant}
 use Rattle.rp_rows.specs.declared.rows.Key.{Key}
 use Rattle.rp_rows.specs.Rows.{Model, GroupRow}
-
-abbrev pub with_number : List ℕ → ℕ → Members → Members
-with_number key n ms = member key (number (unsigned n)) ms
-
-abbrev pub with_string : List ℕ → List ℕ → Members → Members
-with_string key text ms = member key (string text) ms
-
--- a list of what is made of these
-abbrev pub list_of : {A : Type 0} → (A → Data) → List A → Data
-list_of make xs = array (items_of (map make xs))
+use Rattle.rp_json.specs.Written.{with_number, with_string, list_of, link_data}
 
 -- a list of two texts
 abbrev pub pair_of : List ℕ → List ℕ → Data
 pair_of first second = array (item (string first) (item (string second) no_items))
 
--- ---- grants, links and members
+-- ---- grants and members
 
 abbrev pub level_word : Level → List ℕ
 level_word Read = codes "read"
@@ -37,9 +26,6 @@ grant_data g = pair_of g.partner (level_word g.level)
 -- of a grant on a group, which is to read: to whom
 abbrev pub reader_data : Grant → Data
 reader_data g = string g.partner
-
-abbrev pub link_data : Link → Data
-link_data l = object (with_number (codes "instance") l.target (with_string (codes "model") l.model (with_number (codes "name") l.name (with_string (codes "owner") l.owner no_members))))
 
 -- of a model that a group lists: its owner and its name
 abbrev pub member_data : Key → Data

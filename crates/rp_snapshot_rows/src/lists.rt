@@ -9,7 +9,8 @@ ghost use Rattle.rp_rows.specs.declared.rows.Grant.{Grant as SpecGrant};
 ghost use Rattle.rp_rows.specs.declared.rows.Key.{Key as SpecKey};
 ghost use Rattle.rp_snapshot_rows.specs.Reading as spec;
 ghost use Rattle.rp_snapshot_rows.specs.Reading.{Gives};
-ghost use Rattle.rp_snapshot_rows.specs.Tokens.{listed, grant_tokens, reader_tokens, member_tokens, link_tokens};
+ghost use Rattle.rp_json.specs.Tokens.{listed};
+ghost use Rattle.rp_snapshot_rows.specs.Tokens.{grant_tokens, reader_tokens, member_tokens, link_tokens};
 ghost use Rattle.rp_snapshot_rows.specs.Again.{Again, HasNumbers, IsToRead};
 
 use crate::lack::Lack;

@@ -8,7 +8,8 @@ ghost use Rattle.rp_rows.specs.Rows.{Model as SpecModel, GroupRow as SpecGroup};
 ghost use Rattle.rp_snapshot_rows.specs.Reading as spec;
 ghost use Rattle.rp_snapshot_rows.specs.Reading.{Gives};
 ghost use Rattle.rp_snapshot_rows.specs.Written.{model_data, group_data};
-ghost use Rattle.rp_snapshot_rows.specs.Tokens.{tokens_of, behind_file};
+ghost use Rattle.rp_json.specs.Tokens.{tokens_of};
+ghost use Rattle.rp_snapshot_rows.specs.Tokens.{behind_file};
 ghost use Rattle.rp_snapshot_rows.specs.Again.{Again, Passed, saved_model, saved_group, HasModelNumbers, IsToRead};
 
 use crate::lack::Lack;

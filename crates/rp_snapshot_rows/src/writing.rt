@@ -2,13 +2,13 @@
 
 ghost use Rattle.std.specs.Prelude.{◌≡◌, ◌++◌, OnOk};
 ghost use Rattle.rp_snapshot_rows.specs.Written.{model_data, group_data};
-ghost use Rattle.rp_snapshot_rows.specs.Tokens.{tokens_of, tail_tokens};
+ghost use Rattle.rp_json.specs.Tokens.{tokens_of};
+ghost use Rattle.rp_snapshot_rows.specs.Tokens.{tail_tokens};
 
-use crate::written_lists::{
-    number_at, string_at, write_grants, write_group_grants, write_links, write_members,
-};
+use crate::written_lists::{write_grants, write_group_grants, write_members};
 use json::Writer;
 use plain_data::Text;
+use rp_json::{number_at, string_at, write_links};
 use rp_rows::rows::{Grant, Key, Listing, ModelContent};
 use std::alloc::AllocError;
 

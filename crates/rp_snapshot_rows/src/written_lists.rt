@@ -1,30 +1,13 @@
 //! The lists of rows, written.
 
-ghost use Rattle.std.specs.Prelude.{◌≡◌, [], ◌∷◌, ◌++◌, OnOk, decimal};
-ghost use Rattle.json.specs.Token.{key as key_token, number as number_token, string as string_token};
-ghost use Rattle.rp_snapshot_rows.specs.Written.{level_word, grant_data, reader_data, member_data, link_data, pair_of, list_of};
-ghost use Rattle.rp_snapshot_rows.specs.Tokens.{tokens_of};
+ghost use Rattle.std.specs.Prelude.{◌≡◌, ◌++◌, OnOk};
+ghost use Rattle.rp_json.specs.Written.{list_of};
+ghost use Rattle.rp_json.specs.Tokens.{tokens_of};
+ghost use Rattle.rp_snapshot_rows.specs.Written.{level_word, grant_data, reader_data, member_data, pair_of};
 
 use json::Writer;
-use rp_content::Link;
 use rp_rows::rows::{Grant, Key, Level};
 use std::alloc::AllocError;
-
-pub(crate) fn string_at(out: &mut Writer, key: &str, text: &str) -> Result<(), AllocError>
-    ensures ok { OnOk result (out.new.tokens ≡ out.old.tokens ++ key_token key.now ∷ string_token text.now ∷ []) }
-    ensures before { out.new.before ≡ out.old.before }
-{
-    out.key(key)?;
-    out.string(text)
-}
-
-pub(crate) fn number_at(out: &mut Writer, key: &str, n: u64) -> Result<(), AllocError>
-    ensures ok { OnOk result (out.new.tokens ≡ out.old.tokens ++ key_token key.now ∷ number_token (decimal n) ∷ []) }
-    ensures before { out.new.before ≡ out.old.before }
-{
-    out.key(key)?;
-    out.u64(n)
-}
 
 fn word_of(level: Level) -> &'static str
     ensures { result.now ≡ level_word level }
@@ -63,18 +46,6 @@ fn write_member(out: &mut Writer, member: &Key) -> Result<(), AllocError>
     write_pair(out, member.owner.as_str(), member.name.as_str())
 }
 
-fn write_link(out: &mut Writer, link: &Link) -> Result<(), AllocError>
-    ensures ok { OnOk result (out.new.tokens ≡ out.old.tokens ++ tokens_of (link_data link.now)) }
-    ensures before { out.new.before ≡ out.old.before }
-{
-    out.begin_object()?;
-    number_at(out, "instance", link.target)?;
-    string_at(out, "model", link.model.as_str())?;
-    number_at(out, "name", link.name)?;
-    string_at(out, "owner", link.owner.as_str())?;
-    out.end_object()
-}
-
 /// The grants on a model.
 pub(crate) fn write_grants(out: &mut Writer, grants: &[Grant]) -> Result<(), AllocError>
     ensures ok { OnOk result (out.new.tokens ≡ out.old.tokens ++ tokens_of (list_of grant_data grants.now)) }
@@ -107,17 +78,6 @@ pub(crate) fn write_members(out: &mut Writer, members: &[Key]) -> Result<(), All
     out.begin_array()?;
     for member in members {
         write_member(out, member)?;
-    }
-    out.end_array()
-}
-
-pub(crate) fn write_links(out: &mut Writer, links: &[Link]) -> Result<(), AllocError>
-    ensures ok { OnOk result (out.new.tokens ≡ out.old.tokens ++ tokens_of (list_of link_data links.now)) }
-    ensures before { out.new.before ≡ out.old.before }
-{
-    out.begin_array()?;
-    for link in links {
-        write_link(out, link)?;
     }
     out.end_array()
 }

@@ -19,10 +19,11 @@ use Rattle.rp_rows.specs.declared.rows.Key.{Key}
 use Rattle.rp_rows.specs.declared.rows.ModelContent.{ModelContent}
 use Rattle.rp_rows.specs.Rows.{Model, GroupRow}
 use Rattle.rp_snapshot_rows.specs.Written.{level_word, group_data}
-use Rattle.rp_snapshot_rows.specs.Tokens.{tokens_of, listed, grant_tokens, reader_tokens, link_tokens, member_tokens, tail_tokens, behind_grants, model_tokens, behind_readers, group_tokens}
+use Rattle.rp_json.specs.Tokens.{tokens_of, listed}
+use Rattle.rp_json.proofs.ListLemmas.{items_tokens-map}
+use Rattle.rp_snapshot_rows.specs.Tokens.{grant_tokens, reader_tokens, link_tokens, member_tokens, tail_tokens, behind_grants, model_tokens, behind_readers, group_tokens}
 use Rattle.rp_snapshot_rows.specs.Again.{HasNumbers}
 use Rattle.rp_snapshot_rows.proofs.Forms.{model_written, group_written}
-use Rattle.rp_snapshot_rows.proofs.ListLemmas.{items_tokens-map}
 use Rattle.rp_snapshot_texts.specs.Texts.{model_by, rows_data}
 use Rattle.rp_snapshot_texts.specs.Again.{from_models, rows_tokens, IsTextGrant, IsTextKey, IsTextLink, IsTextGroup, IsTextModel}
 

@@ -9,7 +9,7 @@ use Rattle.rp_rows.specs.declared.rows.Grant.{Grant}
 use Rattle.rp_rows.specs.declared.rows.Key.{Key}
 use Rattle.rp_rows.specs.Rows.{Model, GroupRow}
 use Rattle.rp_snapshot_rows.specs.Written.{group_data}
-use Rattle.rp_snapshot_rows.specs.Tokens.{tokens_of, listed}
+use Rattle.rp_json.specs.Tokens.{tokens_of, listed}
 use Rattle.rp_snapshot_rows.specs.Again.{HasModelNumbers}
 use Rattle.rp_snapshot_texts.specs.Texts.{model_by}
 

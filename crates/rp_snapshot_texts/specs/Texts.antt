@@ -4,7 +4,8 @@ use Rattle.serde_json.specs.Data.{Data, object, no_members, member}
 use Rattle.serde_json.specs.Written.{compact_text}
 use Rattle.rp_rows.specs.declared.rows.ModelContent.{ModelContent}
 use Rattle.rp_rows.specs.Rows.{Model, GroupRow}
-use Rattle.rp_snapshot_rows.specs.Written.{list_of, model_data, group_data}
+use Rattle.rp_json.specs.Written.{list_of}
+use Rattle.rp_snapshot_rows.specs.Written.{model_data, group_data}
 
 abbrev pub first_line : ℕ → List ℕ
 first_line version = codes "STEPREPO " ++ (decimal version ++ 10 ∷ [])

@@ -2,7 +2,7 @@ use Rattle.std.proofs.Common.{◌≡◌, [], ◌∷◌, ◌++◌, codes, rules}
 use Rattle.std.proofs.lemmas.Result.{on_ok_weaker}
 use Rattle.json.specs.Token.{begin_object, key, string}
 use Rattle.rp_replies.specs.Replies.{level_word}
-use Rattle.rp_replies.proofs.ListLemmas.{joined}
+use Rattle.rp_json.proofs.ListLemmas.{joined}
 use Rattle.rp_replies.proofs.lists.write_item.Goals as goal
 
 pub returns-clause-ok : goal.returns-clause-ok

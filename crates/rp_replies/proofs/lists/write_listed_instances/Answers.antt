@@ -2,10 +2,10 @@ use Rattle.std.proofs.Common.{◌≡◌, [], ◌∷◌, ◌++◌, rules}
 use Rattle.std.proofs.lemmas.Result.{on_ok_weaker}
 use Rattle.json.specs.Token.{begin_array}
 use Rattle.rp_replies.specs.Replies.{listed_instance_data}
-use Rattle.rp_replies.proofs.ListLemmas.{listed}
+use Rattle.rp_json.proofs.ListLemmas.{bracketed}
 use Rattle.rp_replies.proofs.lists.write_listed_instances.Goals as goal
 
 pub returns-clause-ok : goal.returns-clause-ok
 returns-clause-ok c =
     let begun : c.begin_array.new.self.tokens ≡ c.args.out.now.tokens ++ begin_array ∷ [] = search rules in
-    on_ok_weaker c.end_array.result (listed listed_instance_data c.args.names.now c.loop-named.named-index _ _ _ _ begun c.loop-named.invariant.tokens c.loop-named-test.false) c.end_array.ensures.ok
+    on_ok_weaker c.end_array.result (bracketed listed_instance_data c.args.names.now c.loop-named.named-index _ _ _ _ begun c.loop-named.invariant.tokens c.loop-named-test.false) c.end_array.ensures.ok

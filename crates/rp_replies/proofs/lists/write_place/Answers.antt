@@ -4,8 +4,8 @@ use Rattle.std.specs.Fmt.{decimal}
 use Rattle.json.specs.Token.{begin_array, string, number}
 use Rattle.rp_rows.specs.declared.rows.Key.{Key}
 use Rattle.rp_replies.specs.Replies.{instance_data}
-use Rattle.rp_replies.specs.Tokens.{tokens_of}
-use Rattle.rp_replies.proofs.ListLemmas.{joined}
+use Rattle.rp_json.specs.Tokens.{tokens_of}
+use Rattle.rp_json.proofs.ListLemmas.{joined}
 use Rattle.rp_replies.proofs.lists.write_place.Goals as goal
 
 pub returns-clause-ok : goal.returns-clause-ok

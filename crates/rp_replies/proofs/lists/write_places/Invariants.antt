@@ -1,6 +1,6 @@
 use Rattle.std.proofs.Common.{◌≡◌, ◌++◌, flat_map, take}
 use Rattle.rp_replies.specs.Replies.{instance_data}
-use Rattle.rp_replies.specs.Tokens.{tokens_of}
+use Rattle.rp_json.specs.Tokens.{tokens_of}
 use Rattle.rp_replies.proofs.lists.write_places.Given as goal
 
 abbrev pub invariant-loop-place : goal.invariant-loop-place

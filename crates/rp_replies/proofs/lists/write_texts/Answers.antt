@@ -2,10 +2,10 @@ use Rattle.std.proofs.Common.{◌≡◌, [], ◌∷◌, ◌++◌, rules}
 use Rattle.std.proofs.lemmas.Result.{on_ok_weaker}
 use Rattle.json.specs.Token.{begin_array}
 use Rattle.serde_json.specs.Data.{string}
-use Rattle.rp_replies.proofs.ListLemmas.{listed}
+use Rattle.rp_json.proofs.ListLemmas.{bracketed}
 use Rattle.rp_replies.proofs.lists.write_texts.Goals as goal
 
 pub returns-clause-ok : goal.returns-clause-ok
 returns-clause-ok c =
     let begun : c.begin_array.new.self.tokens ≡ c.args.out.now.tokens ++ begin_array ∷ [] = search rules in
-    on_ok_weaker c.end_array.result (listed string c.args.texts.now c.loop-text.text-index _ _ _ _ begun c.loop-text.invariant.tokens c.loop-text-test.false) c.end_array.ensures.ok
+    on_ok_weaker c.end_array.result (bracketed string c.args.texts.now c.loop-text.text-index _ _ _ _ begun c.loop-text.invariant.tokens c.loop-text-test.false) c.end_array.ensures.ok

@@ -1,6 +1,6 @@
 use Rattle.std.proofs.Common.{◌≡◌, ◌++◌, flat_map, take}
 use Rattle.serde_json.specs.Data.{string}
-use Rattle.rp_replies.specs.Tokens.{tokens_of}
+use Rattle.rp_json.specs.Tokens.{tokens_of}
 use Rattle.rp_replies.proofs.lists.write_texts.Given as goal
 
 abbrev pub invariant-loop-text : goal.invariant-loop-text

@@ -3,7 +3,7 @@ use Rattle.std.proofs.lemmas.Result.{on_ok_weaker}
 use Rattle.std.specs.Fmt.{decimal}
 use Rattle.json.specs.Token.{begin_object, key, string, number}
 use Rattle.rp_replies.specs.Replies.{instance_kind}
-use Rattle.rp_replies.proofs.ListLemmas.{joined}
+use Rattle.rp_json.proofs.ListLemmas.{joined}
 use Rattle.rp_replies.proofs.refusals.write_instance_fault.Goals as goal
 
 pub returns-clause-ok : goal.returns-clause-ok

@@ -1,9 +1,10 @@
 use Rattle.std.proofs.Common.{◌≡◌, [], ◌∷◌, ◌++◌, codes, ap, sym, ◌∙◌, append_assoc, rules}
 use Rattle.std.proofs.lemmas.Result.{on_ok_weaker}
 use Rattle.json.specs.Token.{begin_object, end_object, key, string}
-use Rattle.rp_replies.specs.Replies.{list_of, warning_data}
-use Rattle.rp_replies.specs.Tokens.{tokens_of}
-use Rattle.rp_replies.proofs.ListLemmas.{joined}
+use Rattle.rp_json.specs.Written.{list_of}
+use Rattle.rp_json.specs.Tokens.{tokens_of}
+use Rattle.rp_json.proofs.ListLemmas.{joined}
+use Rattle.rp_replies.specs.Replies.{warning_data}
 use Rattle.rp_replies.proofs.replies.write_checked.Goals as goal
 
 pub returns-clause-ok : goal.returns-clause-ok

@@ -1,9 +1,11 @@
 use Rattle.std.proofs.Common.{[], ◌∷◌, ◌++◌, codes, ap, ◌∙◌}
 use Rattle.std.proofs.lemmas.Result.{on_ok_weaker}
 use Rattle.json.specs.Token.{begin_object, end_object, key}
-use Rattle.rp_replies.specs.Replies.{list_of, item_data}
-use Rattle.rp_replies.specs.Tokens.{tokens_of}
-use Rattle.rp_replies.proofs.ListLemmas.{joined, two_lists}
+use Rattle.rp_json.specs.Written.{list_of}
+use Rattle.rp_json.specs.Tokens.{tokens_of}
+use Rattle.rp_json.proofs.ListLemmas.{joined}
+use Rattle.rp_replies.specs.Replies.{item_data}
+use Rattle.rp_replies.proofs.ListLemmas.{two_lists}
 use Rattle.rp_replies.proofs.replies.write_listed.Goals as goal
 
 pub returns-clause-ok : goal.returns-clause-ok

@@ -2,7 +2,7 @@ use Rattle.std.proofs.Common.{[], ◌∷◌, codes}
 use Rattle.std.proofs.lemmas.Result.{on_ok_weaker}
 use Rattle.std.specs.Fmt.{decimal}
 use Rattle.json.specs.Token.{begin_object, key, number}
-use Rattle.rp_replies.proofs.ListLemmas.{joined}
+use Rattle.rp_json.proofs.ListLemmas.{joined}
 use Rattle.rp_replies.proofs.replies.write_number_at.Goals as goal
 
 pub returns-clause-ok : goal.returns-clause-ok

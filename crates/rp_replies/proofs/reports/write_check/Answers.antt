@@ -3,7 +3,7 @@ use Rattle.std.proofs.lemmas.Result.{on_ok_weaker}
 use Rattle.json.specs.Token.{begin_object, end_object, key, string}
 use Rattle.rp_replies.specs.Replies.{check_word, verdict_word}
 use Rattle.rp_replies.specs.Tokens.{culprits_tokens, rule_tokens}
-use Rattle.rp_replies.proofs.ListLemmas.{joined}
+use Rattle.rp_json.proofs.ListLemmas.{joined}
 use Rattle.rp_replies.proofs.ReportLemmas.{check_members-written, in_turn, verdict_tokens}
 use Rattle.rp_replies.proofs.reports.write_check.Goals as goal
 

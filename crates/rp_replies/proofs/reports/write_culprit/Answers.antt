@@ -6,7 +6,7 @@ use Rattle.json.specs.Tree.{items_tokens}
 use Rattle.serde_json.specs.Written.{items_outline}
 use Rattle.rp_replies.specs.Replies.{item_if_any}
 use Rattle.rp_replies.specs.Tokens.{text_tokens}
-use Rattle.rp_replies.proofs.ListLemmas.{joined}
+use Rattle.rp_json.proofs.ListLemmas.{joined}
 use Rattle.rp_replies.proofs.reports.write_culprit.Goals as goal
 
 last : (text : Option (List ℕ)) → text_tokens text ++ end_array ∷ [] ≡ items_tokens (items_outline (item_if_any text))

@@ -1,6 +1,6 @@
 use Rattle.std.proofs.Common.{◌≡◌, ◌++◌, flat_map, take}
 use Rattle.rp_replies.specs.Replies.{culprit_data}
-use Rattle.rp_replies.specs.Tokens.{tokens_of}
+use Rattle.rp_json.specs.Tokens.{tokens_of}
 use Rattle.rp_replies.proofs.reports.write_each.Given as goal
 
 abbrev pub invariant-loop-culprit : goal.invariant-loop-culprit

@@ -1,6 +1,6 @@
 use Rattle.std.proofs.Common.{◌++◌, ◌∙◌}
 use Rattle.std.proofs.lemmas.Result.{err_from_is_err_and}
-use Rattle.rp_snapshot_rows.specs.Tokens.{listed}
+use Rattle.rp_json.specs.Tokens.{listed}
 use Rattle.rp_restore.specs.Again.{group_tokens}
 use Rattle.rp_restore.proofs.Left.{group_held, group_next, groups_closed}
 use Rattle.rp_restore.proofs.groups.groups.Goals as goal

@@ -1,6 +1,6 @@
 use Rattle.std.proofs.Common.{◌++◌, sym, ap, ◌∙◌}
 use Rattle.std.proofs.lemmas.Result.{err_from_is_err_and}
-use Rattle.rp_snapshot_rows.specs.Tokens.{listed}
+use Rattle.rp_json.specs.Tokens.{listed}
 use Rattle.rp_snapshots.specs.Snapshots.{first_version, file_in}
 use Rattle.rp_restore.specs.Again.{model_tokens}
 use Rattle.rp_restore.proofs.Left.{model_held, model_next, models_closed}

@@ -3,7 +3,8 @@ use Rattle.std.specs.List.{AllByRecursion}
 use Rattle.std.proofs.lemmas.Result.{err_from_is_err_and}
 use Rattle.rp_snapshot_rows.specs.Again.{IsToRead}
 use Rattle.rp_snapshot_rows.specs.Reading.{reader_at}
-use Rattle.rp_snapshot_rows.specs.Tokens.{listed, reader_tokens}
+use Rattle.rp_json.specs.Tokens.{listed}
+use Rattle.rp_snapshot_rows.specs.Tokens.{reader_tokens}
 use Rattle.rp_snapshot_rows.proofs.Forms.{both_are, reader_again, no_fault}
 use Rattle.rp_snapshot_rows.proofs.ListLemmas.{at_last, at_next, read_one, there}
 use Rattle.rp_snapshot_rows.proofs.lists.group_grants.Goals as goal

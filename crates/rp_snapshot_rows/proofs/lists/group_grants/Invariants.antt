@@ -3,7 +3,8 @@ use Rattle.std.specs.List.{AllByRecursion}
 use Rattle.json.specs.Token.{Token}
 use Rattle.rp_rows.specs.declared.rows.Grant.{Grant}
 use Rattle.rp_snapshot_rows.specs.Again.{IsToRead}
-use Rattle.rp_snapshot_rows.specs.Tokens.{listed, reader_tokens}
+use Rattle.rp_json.specs.Tokens.{listed}
+use Rattle.rp_snapshot_rows.specs.Tokens.{reader_tokens}
 use Rattle.rp_snapshot_rows.proofs.ListLemmas.{AreLeft}
 use Rattle.rp_snapshot_rows.proofs.lists.group_grants.Given as goal
 

@@ -3,7 +3,8 @@ use Rattle.std.specs.List.{AllByRecursion}
 use Rattle.std.proofs.lemmas.Result.{err_from_is_err_and}
 use Rattle.rp_snapshot_rows.specs.Again.{HasNumbers}
 use Rattle.rp_snapshot_rows.specs.Reading.{link_at}
-use Rattle.rp_snapshot_rows.specs.Tokens.{listed, link_tokens}
+use Rattle.rp_json.specs.Tokens.{listed}
+use Rattle.rp_snapshot_rows.specs.Tokens.{link_tokens}
 use Rattle.rp_snapshot_rows.proofs.Forms.{both_are, link_again, no_fault}
 use Rattle.rp_snapshot_rows.proofs.ListLemmas.{at_last, at_next, read_one, there}
 use Rattle.rp_snapshot_rows.proofs.lists.links.Goals as goal

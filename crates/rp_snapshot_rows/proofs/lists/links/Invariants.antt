@@ -3,7 +3,8 @@ use Rattle.std.specs.List.{AllByRecursion}
 use Rattle.json.specs.Token.{Token}
 use Rattle.rp_content.specs.declared.link.Link.{Link}
 use Rattle.rp_snapshot_rows.specs.Again.{HasNumbers}
-use Rattle.rp_snapshot_rows.specs.Tokens.{listed, link_tokens}
+use Rattle.rp_json.specs.Tokens.{listed}
+use Rattle.rp_snapshot_rows.specs.Tokens.{link_tokens}
 use Rattle.rp_snapshot_rows.proofs.ListLemmas.{AreLeft}
 use Rattle.rp_snapshot_rows.proofs.lists.links.Given as goal
 

@@ -1,7 +1,8 @@
 use Rattle.std.proofs.Common.{◌++◌, length, refl, sym, ap, ◌∙◌, arith}
 use Rattle.std.proofs.lemmas.Result.{err_from_is_err_and}
 use Rattle.rp_snapshot_rows.specs.Reading.{member_at}
-use Rattle.rp_snapshot_rows.specs.Tokens.{listed, member_tokens}
+use Rattle.rp_json.specs.Tokens.{listed}
+use Rattle.rp_snapshot_rows.specs.Tokens.{member_tokens}
 use Rattle.rp_snapshot_rows.proofs.Forms.{both_are, member_again, no_fault}
 use Rattle.rp_snapshot_rows.proofs.ListLemmas.{at_last, at_next, read_one}
 use Rattle.rp_snapshot_rows.proofs.lists.members.Goals as goal

@@ -1,9 +1,10 @@
 use Rattle.std.proofs.Common.{◌≡◌, [], ◌∷◌, ◌++◌, codes, rules}
 use Rattle.std.proofs.lemmas.Result.{on_ok_weaker}
 use Rattle.json.specs.Token.{begin_object, key}
-use Rattle.rp_snapshot_rows.specs.Written.{reader_data, member_data, list_of}
-use Rattle.rp_snapshot_rows.specs.Tokens.{tokens_of}
-use Rattle.rp_snapshot_rows.proofs.ListLemmas.{joined}
+use Rattle.rp_json.specs.Written.{list_of}
+use Rattle.rp_json.specs.Tokens.{tokens_of}
+use Rattle.rp_json.proofs.ListLemmas.{joined}
+use Rattle.rp_snapshot_rows.specs.Written.{reader_data, member_data}
 use Rattle.rp_snapshot_rows.proofs.writing.write_group.Goals as goal
 
 pub returns-clause-ok : goal.returns-clause-ok

@@ -1,9 +1,10 @@
 use Rattle.std.proofs.Common.{◌≡◌, [], ◌∷◌, ◌++◌, codes, decimal, rules}
 use Rattle.std.proofs.lemmas.Result.{on_ok_weaker}
 use Rattle.json.specs.Token.{begin_object, key, string, number}
-use Rattle.rp_snapshot_rows.specs.Written.{grant_data, link_data, list_of}
-use Rattle.rp_snapshot_rows.specs.Tokens.{tokens_of}
-use Rattle.rp_snapshot_rows.proofs.ListLemmas.{joined}
+use Rattle.rp_json.specs.Written.{link_data, list_of}
+use Rattle.rp_json.specs.Tokens.{tokens_of}
+use Rattle.rp_json.proofs.ListLemmas.{joined}
+use Rattle.rp_snapshot_rows.specs.Written.{grant_data}
 use Rattle.rp_snapshot_rows.proofs.writing.write_model.Goals as goal
 
 pub returns-clause-ok : goal.returns-clause-ok

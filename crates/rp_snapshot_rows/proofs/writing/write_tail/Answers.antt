@@ -1,7 +1,7 @@
 use Rattle.std.proofs.Common.{◌≡◌, [], ◌∷◌, ◌++◌, codes, rules}
 use Rattle.std.proofs.lemmas.Result.{on_ok_weaker}
 use Rattle.json.specs.Token.{key, string}
-use Rattle.rp_snapshot_rows.proofs.ListLemmas.{joined}
+use Rattle.rp_json.proofs.ListLemmas.{joined}
 use Rattle.rp_snapshot_rows.proofs.writing.write_tail.Goals as goal
 
 pub returns-clause-ok : goal.returns-clause-ok

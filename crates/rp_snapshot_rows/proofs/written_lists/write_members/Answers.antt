@@ -2,7 +2,7 @@ use Rattle.std.proofs.Common.{◌≡◌, [], ◌∷◌, ◌++◌, rules}
 use Rattle.std.proofs.lemmas.Result.{on_ok_weaker}
 use Rattle.json.specs.Token.{begin_array}
 use Rattle.rp_snapshot_rows.specs.Written.{member_data}
-use Rattle.rp_snapshot_rows.proofs.ListLemmas.{bracketed}
+use Rattle.rp_json.proofs.ListLemmas.{bracketed}
 use Rattle.rp_snapshot_rows.proofs.written_lists.write_members.Goals as goal
 
 pub returns-clause-ok : goal.returns-clause-ok

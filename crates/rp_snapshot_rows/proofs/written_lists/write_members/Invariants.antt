@@ -1,6 +1,6 @@
 use Rattle.std.proofs.Common.{◌≡◌, ◌++◌, flat_map, take}
 use Rattle.rp_snapshot_rows.specs.Written.{member_data}
-use Rattle.rp_snapshot_rows.specs.Tokens.{tokens_of}
+use Rattle.rp_json.specs.Tokens.{tokens_of}
 use Rattle.rp_snapshot_rows.proofs.written_lists.write_members.Given as goal
 
 abbrev pub invariant-loop-member : goal.invariant-loop-member

@@ -5,7 +5,7 @@ use Rattle.serde_json.specs.Written.{comma_if}
 use Rattle.serde_json.proofs.Texts.{print-outline}
 use Rattle.rp_sight.specs.Stored.{row_of}
 use Rattle.rp_snapshot_rows.specs.Written.{group_data}
-use Rattle.rp_snapshot_rows.specs.Tokens.{tokens_of}
+use Rattle.rp_json.specs.Tokens.{tokens_of}
 use Rattle.rp_snapshot_texts.proofs.pieces.group_piece.Goals as goal
 
 pub returns : goal.returns

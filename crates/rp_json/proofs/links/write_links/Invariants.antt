@@ -1,7 +1,7 @@
 use Rattle.std.proofs.Common.{◌≡◌, ◌++◌, flat_map, take}
-use Rattle.rp_snapshot_rows.specs.Written.{link_data}
-use Rattle.rp_snapshot_rows.specs.Tokens.{tokens_of}
-use Rattle.rp_snapshot_rows.proofs.written_lists.write_links.Given as goal
+use Rattle.rp_json.specs.Written.{link_data}
+use Rattle.rp_json.specs.Tokens.{tokens_of}
+use Rattle.rp_json.proofs.links.write_links.Given as goal
 
 abbrev pub invariant-loop-link : goal.invariant-loop-link
 invariant-loop-link l =

@@ -2,8 +2,8 @@ use Rattle.std.proofs.Common.{◌≡◌, [], ◌∷◌, ◌++◌, codes, rules}
 use Rattle.std.proofs.lemmas.Result.{on_ok_weaker}
 use Rattle.std.specs.Fmt.{decimal}
 use Rattle.json.specs.Token.{begin_object, key, string, number}
-use Rattle.rp_snapshot_rows.proofs.ListLemmas.{joined}
-use Rattle.rp_snapshot_rows.proofs.written_lists.write_link.Goals as goal
+use Rattle.rp_json.proofs.ListLemmas.{joined}
+use Rattle.rp_json.proofs.links.write_link.Goals as goal
 
 pub returns-clause-ok : goal.returns-clause-ok
 returns-clause-ok c =

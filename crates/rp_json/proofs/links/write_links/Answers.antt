@@ -1,9 +1,9 @@
 use Rattle.std.proofs.Common.{◌≡◌, [], ◌∷◌, ◌++◌, rules}
 use Rattle.std.proofs.lemmas.Result.{on_ok_weaker}
 use Rattle.json.specs.Token.{begin_array}
-use Rattle.rp_snapshot_rows.specs.Written.{link_data}
-use Rattle.rp_snapshot_rows.proofs.ListLemmas.{bracketed}
-use Rattle.rp_snapshot_rows.proofs.written_lists.write_links.Goals as goal
+use Rattle.rp_json.specs.Written.{link_data}
+use Rattle.rp_json.proofs.ListLemmas.{bracketed}
+use Rattle.rp_json.proofs.links.write_links.Goals as goal
 
 pub returns-clause-ok : goal.returns-clause-ok
 returns-clause-ok c =
