@@ -1,9 +1,8 @@
 -- How the lines of an input were answered, told of a repository that a command starts with.
-use Rattle.std.proofs.Common.{◌≡◌, ℕ, List, Option, IfSome, Result, Ok, Err, subst, sym}
+use Rattle.std.proofs.Common.{◌≡◌, ℕ, List, Option, None, IfSome, IsSome, Result, Ok, Err, subst, sym}
 use Rattle.plain_data.specs.declared.failure.Failure.{Failure}
 use Rattle.plain_data.specs.declared.failure.Failure.TheVariants.{NoMemory}
 use Rattle.rp_files.specs.Files.{Held}
-use Rattle.rp_config.specs.Loading.{loaded_at}
 use Rattle.rp_config.specs.declared.loading.Loaded.{Loaded}
 use Rattle.rp_repo.specs.LineRuns.{IsWholeRun}
 use Rattle.rp_plain.specs.Plain.{Plain}
@@ -13,7 +12,7 @@ use Rattle.rp_program.specs.declared.ending.Done.TheVariants.{Helped, Answered, 
 use Rattle.rp_program.specs.declared.fault.StartFault.{StartFault}
 use Rattle.rp_program.specs.declared.fault.Fault.{Fault}
 use Rattle.rp_program.specs.declared.fault.Fault.TheVariants.{Start, Read, Write, Refused, Page, Listen, Serve, Unsaved}
-use Rattle.rp_program.specs.Starts.{SnapshotFile, IsGiven, IsStart, Starts, StartsAt, FailsBy, FailsToStart}
+use Rattle.rp_program.specs.Starts.{SnapshotFile, IsBegun, IsStart, Starts, FailsAt, FailsBy, FailsToStart}
 use Rattle.rp_program.specs.Runs.{RunsFrom, Seen, IsBatched}
 use Rattle.rp_program.proofs.StartLemmas.{start_fails, runs_from}
 
@@ -28,7 +27,7 @@ module _ (Lacks More : Failure StartFault → Type 0) (Leads Then : (Plain → P
   batched_so (Err (Start why)) is = (lacks why is.0, is.1)
   batched_so (Err Read) is = (leads _ is.0, is.1)
   batched_so (Err Write) is = (leads _ is.0, is.1)
-  batched_so (Err (Unsaved why)) is = leads _ is
+  batched_so (Err (Unsaved why)) is = (is.0, leads _ is.1)
   batched_so (Err (Refused path words)) is = is
   batched_so (Err (Page path error)) is = is
   batched_so (Err (Listen at error)) is = is
@@ -36,21 +35,27 @@ module _ (Lacks More : Failure StartFault → Type 0) (Leads Then : (Plain → P
 
 -- ---- what the lines led to is saved
 
+-- there is no path
+no_path : IsSome {T = List ℕ} None → ⊥
+no_path is = cc
+
 abbrev Here : Plain → Plain → (Plain → Plain → Type 0) → Type 0
 Here old new Told = Told old new
 
-module _ (Lacks : Failure StartFault → Type 0) (old new : Plain) (it : Seen) (Saved : Plain → Type 0) where
-  pub failed : (fault : Fault) → IsBatched (λ _. ⊥) (Here old new) it (Err fault) → IsBatched Lacks (Here old new) (record it { saved = Saved }) (Err fault)
+module _ (Lacks : Failure StartFault → Type 0) (old new : Plain) (it : Seen) (save : Option (List ℕ)) (Saved : Plain → Type 0) where
+  -- nothing was to be saved by then
+  pub failed : (fault : Fault) → IsBatched (λ _. ⊥) (Here old new) (record it { save = None }) (Err fault) → IsBatched Lacks (Here old new) (record it { save = save; saved = Saved }) (Err fault)
   failed (Start why) is = absurd is.0
   failed Read is = is
   failed Write is = is
-  failed (Unsaved why) is = is
+  failed (Unsaved why) is = absurd (no_path is.0)
   failed (Refused path words) is = is
   failed (Page path error) is = is
   failed (Listen at error) is = is
   failed (Serve fault) is = is
 
-  pub saved_as : Saved new → (result : Result Done Fault) → IsBatched (λ _. ⊥) (Here old new) it result → IsBatched Lacks (Here old new) (record it { saved = Saved }) result
+  pub saved_as : IfSome save (λ _. Saved new) → (result : Result Done Fault) → IsBatched (λ _. ⊥) (Here old new) (record it { save = None }) result
+      → IsBatched Lacks (Here old new) (record it { save = save; saved = Saved }) result
   saved_as saved (Ok (Answered lines)) is = (is.0, saved)
   saved_as saved (Ok Helped) is = is
   saved_as saved (Ok Served) is = is
@@ -89,12 +94,10 @@ batched_of loaded given start end starts valid it result is =
     (λ why none. subst (λ w. FailsBy w (λ fault. Starts loaded given (Err fault))) (sym none) tt)
     (λ Told told. record { start = start; is_start = starts; end = end; ends = told; valid = valid }) result is
 
-pub batched_from : (files : Option Held) (path : List ℕ) (asked : Option (List ℕ)) (loaded : Loaded) (given : Option SnapshotFile)
-    → IfSome files (λ held. loaded_at held path ≡ Ok loaded) → IsGiven files asked given
+pub batched_from : (files : Option Held) (path : List ℕ) (asked : Option (List ℕ)) (loaded : Loaded) (given : Option SnapshotFile) → IsBegun files path asked loaded given
     → (it : Seen) (result : Result Done Fault) → IsBatched (λ why. FailsBy why (λ fault. Starts loaded given (Err fault))) (RunsFrom (λ r. Starts loaded given (Ok r))) it result
-    → IsBatched (λ why. IfSome files (λ held. FailsBy why (λ fault. StartsAt held path asked (Err fault)))) (RunsFrom (IsStart files path asked)) it result
-batched_from files path asked loaded given known is_given it result is =
-    batched_so (λ why. FailsBy why (λ fault. Starts loaded given (Err fault))) (λ why. IfSome files (λ held. FailsBy why (λ fault. StartsAt held path asked (Err fault))))
+    → IsBatched (FailsAt files path asked) (RunsFrom (IsStart files path asked)) it result
+batched_from files path asked loaded given begun it result is =
+    batched_so (λ why. FailsBy why (λ fault. Starts loaded given (Err fault))) (FailsAt files path asked)
     (RunsFrom (λ r. Starts loaded given (Ok r))) (RunsFrom (IsStart files path asked)) it
-    (λ why. start_fails files path asked loaded given why known is_given)
-    (λ Told. runs_from files path asked loaded given known is_given Told) result is
+    (λ why. start_fails files path asked loaded given why begun) (runs_from files path asked loaded given begun) result is

@@ -17,7 +17,7 @@ use Rattle.rp_program.specs.declared.fault.StartFault.{StartFault}
 use Rattle.rp_program.specs.declared.fault.StartFault.TheVariants.{Load}
 use Rattle.rp_program.specs.declared.fault.Fault.{Fault}
 use Rattle.rp_program.specs.declared.fault.Fault.TheVariants.{Start, Read, Write, Refused, Page, Listen, Serve, Unsaved}
-use Rattle.rp_program.specs.Starts.{SnapshotFile, snapshot_at, IsGiven, Lacks, Starts, StartsIf, StartsAt, FailsBy, FailsToStart, OpensOr, IsStart, load_failure, new_failure}
+use Rattle.rp_program.specs.Starts.{SnapshotFile, snapshot_at, IsBegun, Lacks, Starts, StartsIf, FailsAt, FailsBy, FailsToStart, OpensOr, IsStart, load_failure, new_failure}
 use Rattle.rp_program.specs.Runs.{RunsFrom}
 
 -- what holds of a value that there is
@@ -55,33 +55,31 @@ opens_so Was Is Why Then is so (Err fault) none = passed_on Why Then fault none 
 -- ---- what stands at the paths
 
 -- there was no memory
-pub no_memory : (files : Option Held) (path : List ℕ) (asked : Option (List ℕ)) → IfSome files (λ held. FailsBy failure.NoMemory (λ fault. StartsAt held path asked (Err fault)))
+pub no_memory : (files : Option Held) (path : List ℕ) (asked : Option (List ℕ)) → FailsAt files path asked failure.NoMemory
 no_memory None path asked = tt
 no_memory (Some held) path asked = tt
 
 -- nothing was loaded
 pub load_fails : (files : Option Held) (path : List ℕ) (asked : Option (List ℕ)) (fails : Failure LoadFault) → IfSome files (λ held. Fails fails (loaded_at held path))
-    → IfSome files (λ held. FailsBy (load_failure fails) (λ fault. StartsAt held path asked (Err fault)))
+    → FailsAt files path asked (load_failure fails)
 load_fails None path asked fails known = tt
 load_fails (Some held) path asked failure.NoMemory known = tt
 load_fails (Some held) path asked (failure.Fault fault) known = subst (λ found. StartsIf found (option_map (snapshot_at held) asked) (Err (Load fault))) (sym known) refl
 
 -- what is lacking of what was loaded and given is lacking of what stands at the paths
 pub start_fails : (files : Option Held) (path : List ℕ) (asked : Option (List ℕ)) (loaded : Loaded) (given : Option SnapshotFile) (why : Failure StartFault)
-    → IfSome files (λ held. loaded_at held path ≡ Ok loaded) → IsGiven files asked given → FailsBy why (λ fault. Starts loaded given (Err fault))
-    → IfSome files (λ held. FailsBy why (λ fault. StartsAt held path asked (Err fault)))
-start_fails None path asked loaded given why known is fails = tt
-start_fails (Some held) path asked loaded given failure.NoMemory known is fails = tt
-start_fails (Some held) path asked loaded given (failure.Fault fault) known is fails =
-    subst (λ found. StartsIf found (option_map (snapshot_at held) asked) (Err fault)) (sym known) (subst (λ g. Starts loaded g (Err fault)) is.1 fails)
+    → IsBegun files path asked loaded given → FailsBy why (λ fault. Starts loaded given (Err fault)) → FailsAt files path asked why
+start_fails None path asked loaded given why begun fails = tt
+start_fails (Some held) path asked loaded given failure.NoMemory begun fails = tt
+start_fails (Some held) path asked loaded given (failure.Fault fault) begun fails =
+    subst (λ found. StartsIf found (option_map (snapshot_at held) asked) (Err fault)) (sym begun.is_loaded) (subst (λ g. Starts loaded g (Err fault)) begun.is_given.1 fails)
 
 -- a run from what was loaded and given is one from what stands at the paths
-pub runs_from : (files : Option Held) (path : List ℕ) (asked : Option (List ℕ)) (loaded : Loaded) (given : Option SnapshotFile)
-    → IfSome files (λ held. loaded_at held path ≡ Ok loaded) → IsGiven files asked given
+pub runs_from : (files : Option Held) (path : List ℕ) (asked : Option (List ℕ)) (loaded : Loaded) (given : Option SnapshotFile) → IsBegun files path asked loaded given
     → (Ends : Plain → Plain → Type 0) → RunsFrom (λ r. Starts loaded given (Ok r)) Ends → RunsFrom (IsStart files path asked) Ends
-runs_from files path asked loaded given known is Ends run = record {
+runs_from files path asked loaded given begun Ends run = record {
   start = run.start;
-  is_start = record { loaded = loaded; is_loaded = known; given = given; is_given = is; told = run.is_start };
+  is_start = record { loaded = loaded; given = given; begun = begun; told = run.is_start };
   end = run.end;
   ends = run.ends;
   valid = run.valid;

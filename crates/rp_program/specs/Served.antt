@@ -1,5 +1,5 @@
 -- Connections that are served from the repository that a command starts with.
-use Rattle.std.specs.Prelude.{◌≡◌, ℕ, List, Option, Ok, Err, Result}
+use Rattle.std.specs.Prelude.{◌≡◌, ℕ, List, Option, IsSome, Ok, Err, Result}
 use Rattle.std.specs.declared.net.socket_addr.SocketAddr.{SocketAddr}
 use Rattle.plain_data.specs.declared.failure.Failure.{Failure}
 use Rattle.rp_config.specs.declared.loading.Loaded.{Loaded}
@@ -27,18 +27,18 @@ abbrev pub ServesFrom : Option Held → List ℕ → Option (List ℕ) → Type 
 ServesFrom files path asked = StartedWith files path asked Serves
 
 -- How the command ended that serves an address: there was no repository to serve, for this reason; or there was one, which was served until
--- that was to end or could no more be done, or couldn't be saved; or this address can't be listened on.
-abbrev pub IsServed : (Failure StartFault → Type 0) → Type 0 → SocketAddr → Result Done Fault → Type 0
-IsServed Lacks It address (Ok Served) = It
-IsServed Lacks It address (Ok Helped) = ⊥
-IsServed Lacks It address (Ok (Answered lines)) = ⊥
-IsServed Lacks It address (Ok (Checked verdict)) = ⊥
-IsServed Lacks It address (Ok (Validated judgement)) = ⊥
-IsServed Lacks It address (Err (Start why)) = Lacks why
-IsServed Lacks It address (Err (Listen at error)) = (at ≡ address) × It
-IsServed Lacks It address (Err (Serve fault)) = It
-IsServed Lacks It address (Err Read) = ⊥
-IsServed Lacks It address (Err Write) = ⊥
-IsServed Lacks It address (Err (Refused path words)) = ⊥
-IsServed Lacks It address (Err (Page path error)) = ⊥
-IsServed Lacks It address (Err (Unsaved why)) = It
+-- that was to end or could no more be done, or couldn't be saved where it is to be, at the path; or this address can't be listened on.
+abbrev pub IsServed : (Failure StartFault → Type 0) → Type 0 → Option (List ℕ) → SocketAddr → Result Done Fault → Type 0
+IsServed Lacks It save address (Ok Served) = It
+IsServed Lacks It save address (Ok Helped) = ⊥
+IsServed Lacks It save address (Ok (Answered lines)) = ⊥
+IsServed Lacks It save address (Ok (Checked verdict)) = ⊥
+IsServed Lacks It save address (Ok (Validated judgement)) = ⊥
+IsServed Lacks It save address (Err (Start why)) = Lacks why
+IsServed Lacks It save address (Err (Listen at error)) = (at ≡ address) × It
+IsServed Lacks It save address (Err (Serve fault)) = It
+IsServed Lacks It save address (Err Read) = ⊥
+IsServed Lacks It save address (Err Write) = ⊥
+IsServed Lacks It save address (Err (Refused path words)) = ⊥
+IsServed Lacks It save address (Err (Page path error)) = ⊥
+IsServed Lacks It save address (Err (Unsaved why)) = IsSome save × It

@@ -102,12 +102,21 @@ abbrev pub OpensOr : {T : Type 0} → (T → Type 0) → (Failure StartFault →
 OpensOr Is Why (Ok t) = Is t
 OpensOr Is Why (Err fault) = FailsToStart Why fault
 
--- what a command was started with: of these files, where they are known, and else of some
+-- What a command begins with: what the configuration at a path names, and the snapshot at another, if one is asked for; of these files,
+-- where they are known, and else of some.
+pub record IsBegun (files : Option Held) (path : List ℕ) (asked : Option (List ℕ)) (loaded : Loaded) (given : Option SnapshotFile) : Type 0 where
+  pub is_loaded : IfSome files (λ held. loaded_at held path ≡ Ok loaded)
+  pub is_given : IsGiven files asked given
+
+-- there is nothing to begin with, or no repository of it, for this reason
+abbrev pub FailsAt : Option Held → List ℕ → Option (List ℕ) → Failure StartFault → Type 0
+FailsAt files path asked why = IfSome files (λ held. FailsBy why (λ fault. StartsAt held path asked (Err fault)))
+
+-- what a command was started with
 pub record StartedWith (files : Option Held) (path : List ℕ) (asked : Option (List ℕ)) (Told : Loaded → Option SnapshotFile → Type 0) : Type 0 where
   pub loaded : Loaded
-  pub is_loaded : IfSome files (λ held. loaded_at held path ≡ Ok loaded)
   pub given : Option SnapshotFile
-  pub is_given : IsGiven files asked given
+  pub begun : IsBegun files path asked loaded given
   pub told : Told loaded given
 
 -- it is the repository that a command starts with

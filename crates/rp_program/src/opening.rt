@@ -1,12 +1,12 @@
 //! The repository that a command begins with, and the tokens of its partners.
-ghost use Rattle.std.specs.Prelude.{◌≡◌, ℕ, List, Ok, IfOk, None, Some, option_copied};
+ghost use Rattle.std.specs.Prelude.{◌≡◌, ◌≤◌, ℕ, List, length, Ok, IfOk, None, Some, option_copied};
 ghost use Rattle.rp_plain.specs.Opening.{new_fault};
-ghost use Rattle.rp_program.specs.Starts.{IsGiven, BeginsAs, IsRestored, Lacks, Starts, FailsBy, OpensOr};
+ghost use Rattle.rp_program.specs.Starts.{IsGiven, IsBegun, BeginsAs, IsRestored, Lacks, Starts, FailsAt, FailsBy, OpensOr};
 
 use crate::fault::{Fault, StartFault};
 use http_routes::{Tokens, is_token};
 use plain_data::{Failure, Rows, Text};
-use rp_config::{Shown, config_at};
+use rp_config::{Loaded, Shown, config_at, load_all};
 use rp_files::{Folder, LoadFault, whole_file};
 use rp_repo::{Compiled, LoadedSchema, Repository, RestoreFault};
 use std::alloc::{AllocError, Global};
@@ -40,8 +40,24 @@ impl<'a> Model for Given<'a> {
     ghost view = { λ g. record { path = g.path.now; bytes = option_map (λ bytes. bytes.items) g.bytes } };
 }
 
+/// What a command begins with: what the configuration at the first path names, and the snapshot at the other, if one is asked for.
+pub(crate) fn begin_with<'a, D: Folder>(
+    alloc: Global,
+    folder: &D,
+    path: &str,
+    snapshot: Option<&'a str>,
+) -> Result<(Loaded, Option<Given<'a>>), Fault>
+    ensures begun { OpensOr (λ begun. IsBegun (D.files folder.now) path.now (option_copied snapshot.entry) begun.0 begun.1)
+        (FailsAt (D.files folder.now) path.now (option_copied snapshot.entry)) result }
+    ensures tokens { IfOk result (λ begun. length begun.0.tokens ≤ length begun.0.partners) }
+{
+    let loaded = load_all(alloc, folder, path)?;
+    let given = given_at(alloc, folder, snapshot)?;
+    Ok((loaded, given))
+}
+
 /// The snapshot at this path, if one is asked for.
-pub(crate) fn given_at<'a, D: Folder>(
+fn given_at<'a, D: Folder>(
     alloc: Global,
     folder: &D,
     path: Option<&'a str>,

@@ -1,17 +1,17 @@
 //! All lines of an input, answered by the repository that a command starts with, and what it comes to saved.
-ghost use Rattle.std.specs.Prelude.{◌≡◌, ⊤, Ok, Err, IfSome, option_copied};
+ghost use Rattle.std.specs.Prelude.{◌≡◌, ⊤, None, Ok, option_copied};
 ghost use Rattle.plain_data.specs.declared.failure.Failure.TheVariants.{NoMemory};
 ghost use Rattle.rp_snapshots.specs.Snapshots.{snapshot_of};
-ghost use Rattle.rp_program.specs.Starts.{IsStart, Starts, StartsAt, FailsBy};
+ghost use Rattle.rp_program.specs.Starts.{IsStart, Starts, FailsAt, FailsBy};
 ghost use Rattle.rp_program.specs.Runs.{RunsFrom, IsBatched, seen};
 ghost use Rattle.rp_program.specs.Saved.{IsSaved};
 
 use crate::ending::Done;
 use crate::fault::{Fault, Unsaved};
-use crate::opening::{Given, given_at, open};
+use crate::opening::{Given, begin_with, open};
 use crate::saving::{Snapshots, begin, save_in};
 use plain_data::Failure;
-use rp_config::{Loaded, load_all};
+use rp_config::Loaded;
 use rp_files::Folder;
 use rp_repo::{Repository, RunFault, Sink, Source, run_lines};
 use rp_saved_file::Places;
@@ -32,13 +32,12 @@ pub fn batch<D: Folder, F: Places + Drop, R: Source, W: Sink>(
 ) -> Result<Done, Fault>
     // It answers all lines by the repository that it starts with, and saves what they lead to. Where there is none, the fault is the
     // first that there is.
-    ensures { IsBatched (λ why. IfSome (D.files folder.now) (λ held. FailsBy why (λ fault. StartsAt held path.now (option_copied snapshots.entry.load) (Err fault))))
+    ensures { IsBatched (FailsAt (D.files folder.now) path.now (option_copied snapshots.entry.load))
         (RunsFrom (IsStart (D.files folder.now) path.now (option_copied snapshots.entry.load)))
         (seen R.remaining R.read_failures R.reads_made W.contents W.write_failures reader.old reader.new writer.old writer.new
-        (λ r. IfSome (option_copied snapshots.entry.save) (λ _. IsSaved F.Part.contents F.Part.may_leave F.Part.left_since F.Part.could_leave (snapshot_of r)))) result }
+        (option_copied snapshots.entry.save) (λ r. IsSaved F.Part.contents F.Part.may_leave F.Part.left_since F.Part.could_leave (snapshot_of r))) result }
 {
-    let loaded = load_all(alloc, folder, path)?;
-    let given = given_at(alloc, folder, snapshots.load)?;
+    let (loaded, given) = begin_with(alloc, folder, path, snapshots.load)?;
     run_loaded(alloc, loaded, given, &files, snapshots.save, reader, writer)
 }
 
@@ -54,7 +53,7 @@ fn run_loaded<F: Places, R: Source, W: Sink>(
 ) -> Result<Done, Fault>
     ensures { IsBatched (λ why. FailsBy why (λ fault. Starts loaded given.entry (Err fault))) (RunsFrom (λ r. Starts loaded given.entry (Ok r)))
         (seen R.remaining R.read_failures R.reads_made W.contents W.write_failures reader.old reader.new writer.old writer.new
-        (λ r. IfSome (option_copied save.entry) (λ _. IsSaved F.Part.contents F.Part.may_leave F.Part.left_since F.Part.could_leave (snapshot_of r)))) result }
+        (option_copied save.entry) (λ r. IsSaved F.Part.contents F.Part.may_leave F.Part.left_since F.Part.could_leave (snapshot_of r))) result }
 {
     let Loaded {
         partners,
@@ -81,7 +80,7 @@ fn run_and_save<F: Places, R: Source, W: Sink>(
 ) -> Result<Done, Fault>
     ensures { IsBatched (λ why. why ≡ NoMemory) (λ Told. Told repository.old.content repository.new.content)
         (seen R.remaining R.read_failures R.reads_made W.contents W.write_failures reader.old reader.new writer.old writer.new
-        (λ r. IfSome (option_copied save.entry) (λ _. IsSaved F.Part.contents F.Part.may_leave F.Part.left_since F.Part.could_leave (snapshot_of r)))) result }
+        (option_copied save.entry) (λ r. IsSaved F.Part.contents F.Part.may_leave F.Part.left_since F.Part.could_leave (snapshot_of r))) result }
 {
     let Some(path) = save else {
         return run(alloc, repository, reader, writer);
@@ -108,7 +107,7 @@ fn run<R: Source, W: Sink>(
     writer: &mut W,
 ) -> Result<Done, Fault>
     ensures { IsBatched (λ _. ⊥) (λ Told. Told repository.old.content repository.new.content)
-        (seen R.remaining R.read_failures R.reads_made W.contents W.write_failures reader.old reader.new writer.old writer.new (λ _. ⊤)) result }
+        (seen R.remaining R.read_failures R.reads_made W.contents W.write_failures reader.old reader.new writer.old writer.new None (λ _. ⊤)) result }
 {
     match run_lines(alloc, repository, reader, writer) {
         Ok(lines) => Ok(Done::Answered(lines)),

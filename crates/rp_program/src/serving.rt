@@ -1,19 +1,19 @@
 //! The connections of an address, answered by the repository that a command starts with, and what it comes to saved.
-ghost use Rattle.std.specs.Prelude.{◌≡◌, ◌≤◌, ⊤, length, Err, IfSome, option_copied};
+ghost use Rattle.std.specs.Prelude.{◌≡◌, ◌≤◌, ⊤, length, Err, IsSome, OnErr, option_copied};
 ghost use Rattle.std.specs.declared.net.socket_addr.SocketAddr.{SocketAddr};
 ghost use Rattle.plain_data.specs.declared.failure.Failure.TheVariants.{NoMemory};
 ghost use Rattle.rp_http.specs.Turns.{Leaves};
-ghost use Rattle.rp_program.specs.Starts.{Starts, StartsAt, FailsBy};
+ghost use Rattle.rp_program.specs.Starts.{Starts, FailsAt, FailsBy};
 ghost use Rattle.rp_program.specs.Served.{ServesFrom, Serves, IsServed};
 
 use crate::ending::Done;
 use crate::fault::{Fault, Unsaved};
 use crate::keeping::SnapshotKeeper;
-use crate::opening::{Given, given_at, open};
+use crate::opening::{Given, begin_with, open};
 use crate::saving::{Snapshots, begin, save_at};
 use http_routes::Tokens;
 use plain_data::Failure;
-use rp_config::{Loaded, load_all};
+use rp_config::Loaded;
 use rp_files::Folder;
 use rp_repo::Repository;
 use rp_sockets::{Ends, Listening, ServeFault};
@@ -39,11 +39,10 @@ pub fn serve<D: Folder, R: Net + Clock + Input + Eprint + Files>(
 ) -> Result<Done, Fault>
     // However it ends, a run of messages of its partners is all that happened to the repository. Where there is none, the fault
     // is the first that there is.
-    ensures { IsServed (λ why. IfSome (D.files folder.now) (λ held. FailsBy why (λ fault. StartsAt held path.now (option_copied snapshots.entry.load) (Err fault))))
-        (ServesFrom (D.files folder.now) path.now (option_copied snapshots.entry.load)) address result }
+    ensures { IsServed (FailsAt (D.files folder.now) path.now (option_copied snapshots.entry.load))
+        (ServesFrom (D.files folder.now) path.now (option_copied snapshots.entry.load)) (option_copied snapshots.entry.save) address result }
 {
-    let loaded = load_all(alloc, folder, path)?;
-    let given = given_at(alloc, folder, snapshots.load)?;
+    let (loaded, given) = begin_with(alloc, folder, path, snapshots.load)?;
     serve_loaded(alloc, loaded, given, snapshots.save, rt, address, ends)
 }
 
@@ -58,7 +57,7 @@ fn serve_loaded<R: Net + Clock + Input + Eprint + Files>(
     ends: Ends,
 ) -> Result<Done, Fault>
     requires { length loaded.tokens ≤ length loaded.partners }
-    ensures { IsServed (λ why. FailsBy why (λ fault. Starts loaded given.entry (Err fault))) (Serves loaded given.entry) address result }
+    ensures { IsServed (λ why. FailsBy why (λ fault. Starts loaded given.entry (Err fault))) (Serves loaded given.entry) (option_copied save.entry) address result }
 {
     let Loaded {
         partners,
@@ -86,7 +85,7 @@ fn serve_at<R: Net + Clock + Input + Eprint + Files>(
 ) -> Result<Done, Fault>
     requires few { length tokens.now ≤ length repository.old.content.partners }
     ensures run { Leaves tokens.now repository.old.content repository.new.content }
-    ensures ended { IsServed (λ why. why ≡ NoMemory) ⊤ address result }
+    ensures ended { IsServed (λ why. why ≡ NoMemory) ⊤ (option_copied save.entry) address result }
 {
     let listening = match Listening::bind(rt, address) {
         Ok(listening) => listening,
@@ -112,7 +111,9 @@ fn meanwhile(save: Option<&str>, ends: Ends) -> Option<&str> {
 }
 
 /// Begins to replace the file of this path and lets go of it, so that a wrong place is told before any work is done.
-fn try_place<R: Files>(alloc: Global, rt: &R, save: Option<&str>) -> Result<(), Unsaved> {
+fn try_place<R: Files>(alloc: Global, rt: &R, save: Option<&str>) -> Result<(), Unsaved>
+    ensures { OnErr result (IsSome (option_copied save.entry)) }
+{
     if let Some(path) = save {
         begin(alloc, &rt, path)?;
     }
@@ -127,7 +128,7 @@ fn at_end<R: Files>(
     rt: &R,
     ended: Result<(), Failure<ServeFault>>,
 ) -> Result<Done, Fault>
-    ensures { (address : SocketAddr) → IsServed (λ why. why ≡ NoMemory) ⊤ address result }
+    ensures { (address : SocketAddr) → IsServed (λ why. why ≡ NoMemory) ⊤ (option_copied save.entry) address result }
 {
     match ended {
         Ok(()) => {}
