@@ -27,7 +27,7 @@ abbrev pub ServesFrom : Option Held → List ℕ → Option (List ℕ) → Type 
 ServesFrom files path asked = StartedWith files path asked Serves
 
 -- How the command ended that serves an address: there was no repository to serve, for this reason; or there was one, which was served until
--- that was to end or could no more be done, or couldn't be saved where it is to be, at the path; or this address can't be listened on.
+-- that was to end or could no more be done, or which is to be saved and couldn't be; or this address can't be listened on.
 abbrev pub IsServed : (Failure StartFault → Type 0) → Type 0 → Option (List ℕ) → SocketAddr → Result Done Fault → Type 0
 IsServed Lacks It save address (Ok Served) = It
 IsServed Lacks It save address (Ok Helped) = ⊥
