@@ -1,0 +1,3 @@
+mod OperationsCounts
+mod OperationsAlike
+mod OperationsAggregates

@@ -1,0 +1,12 @@
+//! What holds of rules, their operators and their reports.
+//!
+//! Each function has a law as its contract, over the definitions that the repository's own calls cite.
+#![tactic(auto)]
+
+mod operations;
+
+pub use operations::{
+    all_within_counts, class_is_what_is_the_same, common_counts, difference_counts,
+    elements_have_classes, intersection_counts, is_within_counts, joined_counts, less_counts,
+    same_where_seen_alike, set_union_counts, union_counts,
+};
