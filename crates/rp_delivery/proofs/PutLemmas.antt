@@ -1,5 +1,5 @@
 -- The files of a delivery, one after another.
-use Rattle.std.proofs.Common.{◌≡◌, ◌⊎◌, ◌<◌, ◌≤◌, ◌+◌, ℕ, zero, suc, Bool, true, false, List, [], ◌∷◌, ◌++◌, length, get_or, take, drop, map, Option, Some, None, IfSome, Ok, refl, sym, ap, subst, ◌∙◌, append_assoc, append-nil, inl, inr, arith}
+use Rattle.std.proofs.Common.{◌≡◌, ◌⊎◌, ◌<◌, ◌≤◌, ◌+◌, ℕ, zero, suc, Bool, true, false, List, [], ◌∷◌, ◌++◌, length, get_or, take, drop, map, Option, Some, None, IfSome, Ok, refl, sym, ap, subst, ◌∙◌, append_assoc, append-nil, inl, inr, ⊎_elim, arith}
 use Rattle.std.specs.Prelude.{nat_le, if◌then◌else◌}
 use Rattle.std.proofs.lemmas.Bool.Decides.{nat_tests}
 use Rattle.std.proofs.lemmas.List.{take_all, map_more}
@@ -98,7 +98,13 @@ module _ (files : Option Held) (schemas : List Checked) (old new : Plain) (befor
         answer = inl (turns_of r reply (were.texts ++ text ∷ []) left (schema_of schemas (were.texts ++ text ∷ [])) refused
             (subst (λ ts. IsAnswer r ts reply) (sym (puts_of schemas were.texts text place n were.number name))
             (answer_behind r old (puts (schema_of schemas were.texts) 1 were.texts) (create (name_of schemas place) n ∷ put n text ∷ []) reply were.taken makes.answer)));
+        ends = inr refused;
       }
+
+-- what is in no request is refused
+unasked_refused : (files : Option Held) (path : List ℕ) (reply : Reply) → IsUnasked files path reply → is_refused reply ≡ true
+unasked_refused None path reply is = ⊎_elim (λ large. ap is_refused large) (λ bad. ap is_refused bad) is
+unasked_refused (Some held) path reply is = ⊎_elim (λ large. ap is_refused large.1) (λ bad. ap is_refused bad.3) is
 
 -- a file that is in no request
 pub unasked : (files : Option Held) (schemas : List Checked) (old : Plain) (before n : ℕ) (path : List ℕ) (reply : Reply) → IsUnasked files path reply
@@ -110,6 +116,7 @@ unasked files schemas old before n path reply is r paths left were = record {
   texts = were.texts;
   held = were.held;
   answer = inr (old, were.taken, path, left, refl, is);
+  ends = inr (unasked_refused files path reply is);
 }
 
 -- ---- all files
@@ -131,6 +138,7 @@ validated files r now schemas paths place n count reply were number a =
       held = were.held;
       answer = inl (answer_behind r now (puts (schema_of schemas were.texts) 1 were.texts) (validation (schema_of schemas were.texts) (length were.texts)) reply were.taken
           (subst (λ k. IsAnswer now (validation (schema_of schemas were.texts) k) reply) so_many (subst (λ x. IsAnswer now (validation x count) reply) were.name a)));
+      ends = inl refl;
     }
 
 -- ---- paths

@@ -1,5 +1,5 @@
 -- What a delivery of files answers.
-use Rattle.std.specs.Prelude.{◌≡◌, ◌⊎◌, ℕ, zero, suc, false, List, [], ◌∷◌, ◌++◌, ◌+◌, length, nat_le, if◌then◌else◌, Option, Some, None, Ok, Err, ⊤}
+use Rattle.std.specs.Prelude.{◌≡◌, ◌⊎◌, ℕ, zero, suc, true, false, List, [], ◌∷◌, ◌++◌, ◌+◌, length, nat_le, if◌then◌else◌, Option, Some, None, Ok, Err, ⊤}
 use Rattle.std.specs.Str.{is_utf8}
 use Rattle.ex_types.specs.Checked.{Checked}
 use Rattle.rp_files.specs.declared.fault.LoadFault.TheVariants.{TooLarge as FileTooLarge}
@@ -13,7 +13,7 @@ use Rattle.rp_plain.specs.Turns.{Turn}
 use Rattle.rp_delivery.specs.declared.texts.FileText.{FileText}
 use Rattle.rp_delivery.specs.declared.texts.FileText.TheVariants as file
 use Rattle.rp_delivery.specs.Choice.{place_named}
-use Rattle.rp_delivery.specs.Requests.{Taken, IsAnswer, puts, validation}
+use Rattle.rp_delivery.specs.Requests.{Taken, IsAnswer, is_refused, puts, validation}
 
 -- ---- files
 
@@ -79,8 +79,8 @@ abbrev pub turns : List ℕ → List (List ℕ) → List (List ℕ) → List Tur
 turns schema texts [] = puts schema 1 texts ++ validation schema (length texts)
 turns schema texts (path ∷ left) = puts schema 1 texts
 
--- The files of the first paths were put, one after another. The reply is the last one's, or that of the first put that was refused;
--- or it is why the next file is in no request.
+-- The files of the first paths were put, one after another. The reply is that of the validation, or of the first request that was refused;
+-- or it is why the next file is in no request. Where paths are left, it is a refusal.
 pub record IsDelivered (files : Option Held) (r : Plain) (schemas : List Checked) (paths : List (List ℕ)) (reply : Reply) : Type 0 where
   pub read : List (List ℕ)
   pub left : List (List ℕ)
@@ -89,6 +89,7 @@ pub record IsDelivered (files : Option Held) (r : Plain) (schemas : List Checked
   pub held : AreTexts files read texts
   pub answer : IsAnswer r (turns (schema_of schemas texts) texts left) reply
       ⊎ ((end : Plain) × Taken r (puts (schema_of schemas texts) 1 texts) end × (path : List ℕ) × (others : List (List ℕ)) × (left ≡ path ∷ others) × IsUnasked files path reply)
+  pub ends : (left ≡ []) ⊎ (is_refused reply ≡ true)
 
 -- the reply to the file of this path ends the delivery
 abbrev pub EndsWith : Option Held → List Checked → Plain → ℕ → ℕ → List ℕ → Reply → Type 0
