@@ -33,15 +33,15 @@ use Rattle.rp_meaning.specs.Report.{world}
 use Rattle.rp_meaning.specs.Uses.{User, is_in, places_among, uses_at, uses_from, user_places}
 use Rattle.rp_positions.specs.Positions.{place_position, position_of}
 use Rattle.rp_positions.specs.Seen.{all_seen_by, seen_by}
-use Rattle.rp_use_laws.proofs.Lists.{given}
+use Rattle.rp_use_laws.proofs.Lists.{each_by, given}
 use Rattle.rp_use_laws.proofs.Naming.{AreApart, DenotesOnce, IsFree, StandFrom, all_stand, once, place_same, position_is}
-use Rattle.rp_use_laws.proofs.Populations.{IsGood, all_good, population_apart}
+use Rattle.rp_use_laws.proofs.Populations.{InstancesAscend, IsGood, all_good, population_apart}
 use Rattle.rp_use_laws.proofs.NoRoles.{none_named}
 use Rattle.rp_use_laws.proofs.Roles.{entities_once, plain_name, role_found}
 use Rattle.rp_use_laws.proofs.Slots.{length_map}
 use Rattle.rp_use_laws.proofs.Using.{all_told, held_in, refers, role_as, told_from}
 use Rattle.rp_use_laws.specs.Schemas.{IsBound}
-use Rattle.rp_use_laws.specs.Uses.{AllUsersAgree, AreSound, HasUsers, bag_of, entities_in, standing}
+use Rattle.rp_use_laws.specs.Uses.{AllUsersAgree, AreSound, HasUsers, IsSound, bag_of, entities_in, standing}
 use Rattle.rp_use_laws.specs.Uses as law
 
 -- ---- what stands at a place is free to be named
@@ -222,7 +222,7 @@ module _ (schema : Checked) (bound : IsBound schema.named) (ms : List Counted) (
   found_for None is = by_no_name below schema bound (all_seen_by (compiled schema) schema xs) (place_position xs p) role is
   found_for (Some taken) is =
       by_name below schema bound (all_seen_by (compiled schema) schema xs) (place_position xs p) role taken is
-      ∙ ap instances (by_role schema bound xs p there taken (population_apart schema ms sound.order sound.models) (all_good schema ms sound.order sound.models))
+      ∙ ap instances (by_role schema bound xs p there taken (population_apart ms sound.order (each_by (IsSound schema) InstancesAscend (λ m is. is.instances) ms sound.models)) (all_good schema ms sound.order sound.models))
 
   found_are : found ≡ standing schema xs (places (users schema role p xs))
   found_are = found_for (role_of schema role) refl

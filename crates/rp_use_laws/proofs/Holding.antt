@@ -88,19 +88,20 @@ module _ (schema : Checked) (taken : IsTaken schema) where
 
 -- ---- repositories
 
--- a schema that is found is one of them
-found_taken : (test : Checked → Bool) (schemas : List Checked) (schema : Checked) → AllByRecursion IsTaken schemas → find test schemas ≡ Some schema → IsTaken schema
-found_taken test [] schema all found = cc
-found_taken test (x ∷ xs) schema all found = by (found_taken test xs schema all.1) (test x) found
-  where
-    by : (find test xs ≡ Some schema → IsTaken schema) → (t : Bool) → (if t then Some x else find test xs) ≡ Some schema → IsTaken schema
-    by rest true e = let same : x ≡ schema = cc in subst IsTaken same all.0
-    by rest false e = rest e
+module _ (P : Checked → Type 0) where
+  -- a schema that is found is one of them
+  found_holds : (test : Checked → Bool) (schemas : List Checked) (schema : Checked) → AllByRecursion P schemas → find test schemas ≡ Some schema → P schema
+  found_holds test [] schema all found = cc
+  found_holds test (x ∷ xs) schema all found = by (found_holds test xs schema all.1) (test x) found
+    where
+      by : (find test xs ≡ Some schema → P schema) → (t : Bool) → (if t then Some x else find test xs) ≡ Some schema → P schema
+      by rest true e = let same : x ≡ schema = cc in subst P same all.0
+      by rest false e = rest e
 
--- and so is that of a group
-group_taken : (r : Plain) (schema : Checked) → AllByRecursion IsTaken r.schemas → (g : Option GroupRow) → group_schema r.schemas (held g) ≡ Some schema → IsTaken schema
-group_taken r schema all None loaded = cc
-group_taken r schema all (Some g) loaded = found_taken (λ s. bytes_eq g.holds.schema (schema_name s)) r.schemas schema all loaded
+  -- and so is that of a group
+  pub group_holds : (r : Plain) (schema : Checked) → AllByRecursion P r.schemas → (g : Option GroupRow) → group_schema r.schemas (held g) ≡ Some schema → P schema
+  group_holds r schema all None loaded = cc
+  group_holds r schema all (Some g) loaded = found_holds (λ s. bytes_eq g.holds.schema (schema_name s)) r.schemas schema all loaded
 
 -- ---- replies
 
@@ -117,7 +118,7 @@ valid_agree : (schemas : List Checked) → AllByRecursion IsTaken schemas → Va
 valid_agree schemas all r same valid c k p role found told schema loaded x at below =
     let a = asked r c in
     let xs : List Placed = population (a.counted k) in
-    let taken = group_taken r schema (subst (AllByRecursion IsTaken) (sym same) all) (group_at r c k) loaded in
+    let taken = group_holds IsTaken r schema (subst (AllByRecursion IsTaken) (sym same) all) (group_at r c k) loaded in
     let both = replied (key_fault k) (is_no_partner a k.owner) (unseen (a.group_right k)) (has_place xs p) (request_users a k p role) found told in
     let said : reply.Users (places (users_by (group_schema r.schemas (a.listing k)) role p xs)) ≡ reply.Users found = both.1 in
     let given : places (users_by (group_schema r.schemas (a.listing k)) role p xs) ≡ found = cc in

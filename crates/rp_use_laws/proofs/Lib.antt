@@ -10,3 +10,4 @@ pub mod NoRoles
 pub mod Agreeing
 pub mod Read
 pub mod Holding
+pub mod Instances

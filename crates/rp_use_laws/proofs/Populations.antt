@@ -82,19 +82,23 @@ one_apart m (i ∷ is) order = (
   one_apart m is order.1,
 )
 
-module _ (schema : Checked) where
-  pub population_apart : (ms : List Counted) → IsAscending key_cmp counted_key ms → AllByRecursion (IsSound schema) ms → AreApart (population ms)
-  population_apart [] order sound = tt
-  population_apart (m ∷ ms) order sound =
-      apart_parts (placed_all m) (population ms) (one_apart m m.content.instances sound.0.instances) (population_apart ms order.1 sound.1)
-      (all_mapped (λ (x : Placed). AllByRecursion (λ (y : Placed). same_place y.place x.place ≡ false) (population ms)) (placed m) m.content.instances
-      (all_ever (λ (i : Instance). AllByRecursion (λ (y : Placed). same_place y.place (placed m i).place ≡ false) (population ms))
-      (λ i. all_flat (λ (y : Placed). same_place y.place (placed m i).place ≡ false) placed_all ms
-      (each_by (λ (n : Counted). is_after key_cmp counted_key m.model n ≡ true) (λ (n : Counted). AllByRecursion (λ (y : Placed). same_place y.place (placed m i).place ≡ false) (placed_all n))
-      (λ n after. all_mapped (λ (y : Placed). same_place y.place (placed m i).place ≡ false) (placed n) n.content.instances
-      (all_ever (λ (j : Instance). same_place (placed n j).place (placed m i).place ≡ false)
-      (λ j. and_left (same_key n.model m.model) (j.name == i.name) (apart_keys m.model n.model after).1) n.content.instances)) ms order.0)) m.content.instances))
+-- instances in the order of their names
+abbrev pub InstancesAscend : Counted → Type 0
+InstancesAscend m = IsAscending nat_cmp instance_name m.content.instances
 
+pub population_apart : (ms : List Counted) → IsAscending key_cmp counted_key ms → AllByRecursion InstancesAscend ms → AreApart (population ms)
+population_apart [] order ascend = tt
+population_apart (m ∷ ms) order ascend =
+    apart_parts (placed_all m) (population ms) (one_apart m m.content.instances ascend.0) (population_apart ms order.1 ascend.1)
+    (all_mapped (λ (x : Placed). AllByRecursion (λ (y : Placed). same_place y.place x.place ≡ false) (population ms)) (placed m) m.content.instances
+    (all_ever (λ (i : Instance). AllByRecursion (λ (y : Placed). same_place y.place (placed m i).place ≡ false) (population ms))
+    (λ i. all_flat (λ (y : Placed). same_place y.place (placed m i).place ≡ false) placed_all ms
+    (each_by (λ (n : Counted). is_after key_cmp counted_key m.model n ≡ true) (λ (n : Counted). AllByRecursion (λ (y : Placed). same_place y.place (placed m i).place ≡ false) (placed_all n))
+    (λ n after. all_mapped (λ (y : Placed). same_place y.place (placed m i).place ≡ false) (placed n) n.content.instances
+    (all_ever (λ (j : Instance). same_place (placed n j).place (placed m i).place ≡ false)
+    (λ j. and_left (same_key n.model m.model) (j.name == i.name) (apart_keys m.model n.model after).1) n.content.instances)) ms order.0)) m.content.instances))
+
+module _ (schema : Checked) where
   -- ---- names of links are free
 
   abbrev FreeOf : Counted → Placed → Type 0

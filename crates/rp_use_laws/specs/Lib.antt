@@ -1,3 +1,4 @@
 pub mod Schemas
 pub mod Uses
 pub mod ValidUses
+pub mod Extents

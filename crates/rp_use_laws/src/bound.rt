@@ -1,9 +1,11 @@
 //! What is proved of a schema whose names are bound.
 
 ghost use Rattle.std.specs.Prelude.{◌≡◌, true};
-ghost use Rattle.std.specs.List.{list_all};
+ghost use Rattle.std.specs.List.{AllByRecursion, list_all};
+ghost use Rattle.ex_schemas.specs.Schemas.{Checked};
 ghost use Rattle.rp_use_laws.specs.Schemas.{IsBound, is_attribute_identified, is_entity_identified, is_explicit_identified};
 
+use ex_loaded::LoadedSchema;
 use ex_named::{NamedAttribute, NamedEntity, NamedExplicit};
 use ex_types::CheckedSchema;
 
@@ -47,4 +49,13 @@ pub(crate) fn bound(schema: &CheckedSchema)
     let named = schema.resolved();
     named.proved();
     entities(named.named().entities.as_slice());
+}
+
+/// The same of each of some schemas.
+pub(crate) fn all_bound(schemas: &[LoadedSchema<'_>])
+    ensures { AllByRecursion (λ (schema : Checked). IsBound schema.named) schemas.now }
+{
+    for schema in schemas {
+        bound(schema.checked());
+    }
 }

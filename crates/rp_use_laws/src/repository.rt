@@ -1,21 +1,10 @@
 //! The law of each valid repository of schemas that were loaded.
 
-ghost use Rattle.std.specs.List.{AllByRecursion};
-ghost use Rattle.ex_schemas.specs.Schemas.{Checked};
-ghost use Rattle.rp_use_laws.specs.Schemas.{IsBound};
 ghost use Rattle.rp_use_laws.specs.ValidUses.{ValidUsersAgree};
 
-use crate::bound::bound;
+use crate::bound::all_bound;
 use ex_loaded::LoadedSchema;
 use p21_laws::{accepted_schemas, instance_again};
-
-fn all_bound(schemas: &[LoadedSchema<'_>])
-    ensures { AllByRecursion (λ (schema : Checked). IsBound schema.named) schemas.now }
-{
-    for schema in schemas {
-        bound(schema.checked());
-    }
-}
 
 /// In a valid repository of these schemas, where a request for the users of an instance of a group's population is told of some,
 /// USEDIN of this instance has them, by the group's schema.
