@@ -1,3 +1,7 @@
 mod OperationsCounts
 mod OperationsAlike
 mod OperationsAggregates
+mod ReportsEntries
+mod ReportsOrders
+mod ReportsCulprits
+mod ReportsAttributes
