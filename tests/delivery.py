@@ -16,7 +16,7 @@ import threading
 import time
 
 from lib.harness import TOP, Folder, Wrong, run_tests, shortened
-from lib.messages import FILE_LIMIT, T, file_of, line
+from lib.messages import ATTRIBUTES_HOLD, FILE_LIMIT, L, T, check_is, file_of, line, report_is
 
 ASSEMBLY = os.path.join(TOP, "example/assembly")
 WORKSHOP = """SCHEMA workshop;
@@ -55,6 +55,8 @@ RETURN (k = n);
 END_FUNCTION;
 ENTITY e; n : INTEGER; WHERE w : f(n); END_ENTITY;
 END_SCHEMA;
+"""
+ENDLESS = """SCHEMA n; ENTITY e; DERIVE a : INTEGER := b; b : INTEGER := a; WHERE w : a = 1; END_ENTITY; END_SCHEMA;
 """
 
 
@@ -370,6 +372,23 @@ NOT_RUN  where E W
 
 Not decided: 1 NOT_RUN, 3 TRUE of 4 checks.
 """)
+
+
+def test_limits():
+    """Derived attributes that ask for each other come to the limit, and so does a rule that takes a step more than there may be."""
+    files = {"n.exp": ENDLESS, "n.step": file_of("#1=E();", "N")}
+    report = report_is(200_000, *ATTRIBUTES_HOLD, check_is("where", "E", "W", limit=[["me", "01", 1]]))
+    told(files, "--schema", "n.exp", "--json", "n.step", status=1, out=report.decode() + "\n")
+    told(files, "--schema", "n.exp", "--quiet", "n.step", status=1, out="Not decided: 1 LIMIT, 3 TRUE of 4 checks.\n")
+    # (R1 takes 5 steps and 3 for each instance, and R2 one more)
+    for count, steps, limited, words in ((66_665, 400_000, True, "Not decided: 1 LIMIT, 4 TRUE of 5 checks.\n"),
+                                         (66_664, 2 * (5 + 3 * 66_664) + 1, False, "Kept: all 5 checks are TRUE.\n")):
+        files = {"l.exp": L, "l.step": file_of("".join(f"#{k}=E();" for k in range(1, count + 1)), "L")}
+        rules = [check_is("rule", "R1", "#1"), check_is("rule", "R2", "#1")]
+        if limited:
+            rules[1] = rules[1].replace(b'"verdict":"TRUE"', b'"verdict":"LIMIT"')
+        told(files, "--schema", "l.exp", "--json", "l.step", status=int(limited), out=report_is(steps, *ATTRIBUTES_HOLD, *rules).decode() + "\n")
+        told(files, "--schema", "l.exp", "--quiet", "l.step", status=int(limited), out=words)
 
 
 # ---- the line of JSON

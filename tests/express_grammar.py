@@ -289,8 +289,8 @@ def nesting(it):
 
     front = b"SCHEMA A; ENTITY e; a : e; b : INTEGER; WHERE "
     begin = len(front)
-    it.accepts("64 parentheses", where(nested(64)))
-    it.refuses("65 parentheses", where(nested(65)), "TooDeep", begin + 64)
+    it.accepts("64 parentheses", where(nested(64) + b" = 1"))
+    it.refuses("65 parentheses", where(nested(65) + b" = 1"), "TooDeep", begin + 64)
     it.accepts("64 brackets", where(b"[" * 64 + b"]" * 64))
     it.refuses("65 brackets", where(b"[" * 65 + b"]" * 65), "TooDeep", begin + 64)
     aggregates = b"SCHEMA A; TYPE t = " + b"SET OF " * 64 + b"INTEGER; END_TYPE; END_SCHEMA;"
@@ -309,6 +309,7 @@ def nesting(it):
     it.refuses("a parenthesis within 64 statements", head + deep + b"a := 1;" + b" END_IF;" * 64 + tail,
                "TooDeep", len(head) + 63 * 12 + 3)
     it.refuses("a token that can't be taken opens nothing", where(b"(" * 64 + b"1 ("), "Syntax", begin + 64 + 2)
+    it.accepts("a sum of 100,000 terms", where(b" + ".join([b"1"] * 100000) + b" = b"))
     spells(it, "operators and qualifiers of one level", where(b"a" + b".b" * 10000 + b" + 1" * 100000))
 
 

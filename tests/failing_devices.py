@@ -11,15 +11,15 @@ import sys
 from concurrent.futures import ThreadPoolExecutor
 
 from lib.harness import TOP, Wrong, run_tests
-from lib.messages import BAD_REQUEST, OK, Repository, create, file_of, instances, named, names, put
+from lib.messages import BAD_REQUEST, FIRST_EXPORT, FIRST_LINES, FIRST_NAMES, FIRST_REPLIES, Repository, export, names
 
 sys.path.insert(0, os.path.join(TOP, "tools"))
 
 from each_refusal import shim_in  # noqa: E402
 
 # The last line has no line feed.
-INPUT = b"\n".join([create("ann", "m"), put("ann", "ann", "m", file_of("#2=Q(#1);#1=P(0.10,'a');")), b"", names("ann", "ann", "m")])
-REPLIES = [it + b"\n" for it in (OK, instances(2), BAD_REQUEST, named((1, "P"), (2, "Q")))]
+INPUT = b"\n".join([*FIRST_LINES, b"", names("ann", "ann", "m"), export("ann", "ann", "m")])
+REPLIES = [it + b"\n" for it in (*FIRST_REPLIES, BAD_REQUEST, FIRST_NAMES, FIRST_EXPORT)]
 OUTPUT = b"".join(REPLIES)
 UNREAD = b"rp_server: standard input can't be read\n"
 UNWRITTEN = b"rp_server: standard output can't be written\n"

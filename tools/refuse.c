@@ -6,6 +6,18 @@
                    allocations, how many of them came before standard input was first read
                    (-1: it was never read), how many were refused, and how many bytes all asked for
 
+   REFUSE_CASES=D  makes many cases of one run, by the socket D. The process waits at its start, and again each time it has read all of
+                   standard input, which has to be a file: it writes three zeros to the socket and reads commands of three numbers.
+                     0 0 0       goes on, with the main part or with the present content of the file; nothing is refused
+                     1 N WINDOW  forks: the fork reads the file from its beginning, and the Nth allocation of the window is refused
+                                 (none if N is 0)
+                     2 N WINDOW  the same, but all later allocations of the window are refused too
+                   The reply to a fork is its status, and how many allocations of the window occurred and were refused. If the
+                   socket is closed, the process goes on and reads the end of its input.
+                   Window 0 ends at the first read of standard input. Window K, from 1, begins with the read of line K and ends with
+                   the read of the next; each read returns one line at most. The last window begins with the read of the end of
+                   input and ends with the run.
+
    malloc, calloc, realloc, reallocarray, aligned_alloc, memalign and posix_memalign count. */
 #define _GNU_SOURCE
 #include <dlfcn.h>
@@ -13,6 +25,9 @@
 #include <stdio.h>
 #include <stdlib.h>
 #include <string.h>
+#include <sys/mman.h>
+#include <sys/socket.h>
+#include <sys/wait.h>
 #include <unistd.h>
 
 static void *(*real_malloc)(size_t);
@@ -24,6 +39,12 @@ static void (*real_free)(void *);
 
 static long nth = -1, from = -1, allocations, before_input = -1, refusals, asked;
 static int counting;
+
+/* The socket of REFUSE_CASES or -1; whether this process is a fork, its window, the window of its refusals, and whether the next read
+   begins a line; the counts of that window, which all forks share. */
+static int cases = -1, is_copy, is_at_line;
+static long window, refused_window;
+static struct counts { long allocations, refusals; } *counts;
 
 /* what dlsym asks for while the real functions are being looked up */
 static char early[4096];
@@ -58,8 +79,56 @@ static long number(const char *name) {
   return text ? atol(text) : -1;
 }
 
+static void enter(long next) {
+  window = next;
+  counting = window == refused_window;
+}
+
+/* Forks and waits for the fork. Returns 1 in the fork. */
+static int is_fork(const long *what) {
+  memset(counts, 0, sizeof *counts);
+  pid_t copy = fork();
+  if (copy == 0) {
+    long place = what[1] > 0 ? what[1] : -1;
+    nth = what[0] == 1 ? place : -1;
+    from = what[0] == 2 ? place : -1;
+    is_copy = is_at_line = 1;
+    refused_window = what[2];
+    lseek(0, 0, SEEK_SET);
+    enter(0);
+    return 1;
+  }
+  int status = 0;
+  if (copy < 0 || waitpid(copy, &status, 0) != copy) _exit(99);
+  long reply[] = {WIFEXITED(status) ? WEXITSTATUS(status) : -WTERMSIG(status), counts->allocations, counts->refusals};
+  if (send(cases, reply, sizeof reply, MSG_NOSIGNAL) != sizeof reply) _exit(99);
+  return 0;
+}
+
+/* Waits for commands. Returns 0 if the socket is closed. */
+static int goes_on(void) {
+  static const long zeros[3];
+  long what[3];
+  if (send(cases, zeros, sizeof zeros, MSG_NOSIGNAL) != sizeof zeros) return 0;
+  for (;;) {
+    if (real_read(cases, what, sizeof what) != sizeof what) return 0;
+    if (what[0] == 0) {
+      lseek(0, 0, SEEK_SET);
+      return 1;
+    }
+    if (is_fork(what)) return 1;
+  }
+}
+
 __attribute__((constructor)) static void begin(void) {
   find_real();
+  cases = (int)number("REFUSE_CASES");
+  if (cases >= 0) {
+    counts = mmap(0, sizeof *counts, PROT_READ | PROT_WRITE, MAP_SHARED | MAP_ANONYMOUS, -1, 0);
+    if (counts == MAP_FAILED) _exit(99);
+    goes_on();
+    return;
+  }
   nth = number("REFUSE_NTH");
   from = number("REFUSE_FROM");
   counting = 1;
@@ -77,10 +146,11 @@ static int is_refused(size_t size) {
   if (!counting) return 0;
   allocations++;
   asked += (long)size;
-  if (allocations != nth && (from <= 0 || allocations < from)) return 0;
-  refusals++;
-  errno = ENOMEM;
-  return 1;
+  int refused = allocations == nth || (from > 0 && allocations >= from);
+  refusals += refused;
+  if (counts) *counts = (struct counts){allocations, refusals};
+  if (refused) errno = ENOMEM;
+  return refused;
 }
 
 void *malloc(size_t size) {
@@ -138,8 +208,25 @@ void free(void *place) {
   }
 }
 
+/* A read of a fork: one line or a part of it. */
+static ssize_t read_of_fork(void *bytes, size_t size) {
+  if (is_at_line) enter(window + 1);
+  ssize_t got = real_read(0, bytes, size);
+  char *end = got > 0 ? memchr(bytes, '\n', (size_t)got) : 0;
+  is_at_line = end != 0;
+  if (!end) return got;
+  ssize_t kept = end + 1 - (char *)bytes;
+  lseek(0, kept - got, SEEK_CUR);
+  return kept;
+}
+
 ssize_t read(int descriptor, void *bytes, size_t size) {
   find_real();
-  if (descriptor == 0 && before_input < 0) before_input = allocations;
-  return real_read(descriptor, bytes, size);
+  if (descriptor != 0) return real_read(descriptor, bytes, size);
+  if (before_input < 0) before_input = allocations;
+  while (!is_copy) {
+    ssize_t got = real_read(0, bytes, size);
+    if (got != 0 || cases < 0 || !goes_on()) return got;
+  }
+  return read_of_fork(bytes, size);
 }

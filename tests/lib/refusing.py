@@ -1,0 +1,134 @@
+"""Runs of the program in which tools/refuse.c refuses allocations, many cases for each run.
+
+A run waits at its start, and again each time it has answered all lines of its input. A case is a fork of the waiting run: it reads lines
+of its own, one of its windows has allocations refused, and it exits. The run itself is unchanged, so all cases start from the same state.
+"""
+import os
+import socket
+import struct
+import subprocess
+import sys
+import tempfile
+from typing import NamedTuple
+
+from lib.harness import TOP, Folder, LeftOut, Wrong
+
+sys.path.insert(0, os.path.join(TOP, "tools"))
+
+from each_refusal import shim_in  # noqa: E402
+
+# what is refused: one allocation, or it and all later ones; with the description, and of how many allocations one has such a case
+ALONE, ONWARDS = 1, 2
+REFUSALS = {ALONE: ("allocation %d", 1), ONWARDS: ("all from allocation %d on", 3)}
+# the windows of a case: before its first read, and its first line; the last window, from the end of input on, has the number of lines plus 1
+START, FIRST_LINE = 0, 1
+SECONDS = 120
+NUMBERS = struct.Struct("@lll")
+
+
+class Ended(NamedTuple):
+    """The result of a case: its status, its output and errors, and how many allocations of the window occurred and were refused."""
+
+    status: int
+    output: bytes
+    errors: bytes
+    allocations: int
+    refusals: int
+
+
+class Run:
+    """A run of the program in a folder that `refusing` has prepared."""
+
+    def __init__(self, folder, words=("batch", "--config", "config.json")):
+        if Folder.stand_in:
+            raise LeftOut
+        self.files = [tempfile.TemporaryFile(buffering=0) for _ in range(3)]
+        self.socket, theirs = socket.socketpair()
+        self.socket.settimeout(SECONDS)
+        with theirs:
+            env = {"LD_PRELOAD": folder.path("refuse.so"), "REFUSE_CASES": str(theirs.fileno())}
+            given, output, errors = self.files
+            self.process = subprocess.Popen([Folder.program, *words], cwd=folder.folder.name, stdin=given, stdout=output, stderr=errors, env=env,
+                                            pass_fds=[theirs.fileno()])
+        self.expect_waiting()
+
+    def __enter__(self):
+        return self
+
+    def __exit__(self, kind, *_):
+        """The run reads the end of its input and exits."""
+        self.files[0].truncate(0)
+        self.socket.close()
+        try:
+            self.process.wait(SECONDS if kind is None else 1)
+        except subprocess.TimeoutExpired:
+            self.process.kill()
+            self.process.wait()
+        for it in self.files:
+            it.close()
+        if kind is None and self.process.returncode:
+            raise Wrong(f"the run ended with status {self.process.returncode}")
+
+    def answer(self):
+        """Three numbers from the run."""
+        found = b""
+        while len(found) < NUMBERS.size:
+            try:
+                more = self.socket.recv(NUMBERS.size - len(found))
+            except TimeoutError:
+                raise Wrong(f"no answer in {SECONDS} seconds") from None
+            if not more:
+                raise Wrong(f"the run has ended: {self.written()!r}")
+            found += more
+        return NUMBERS.unpack(found)
+
+    def expect_waiting(self):
+        if self.answer() != (0, 0, 0):
+            raise Wrong("the run doesn't wait")
+
+    def ask(self, lines, *what):
+        """Replaces the input by these lines, empties the outputs, and sends a command."""
+        for it, text in zip(self.files, (b"".join(line + b"\n" for line in lines), b"", b"")):
+            it.seek(0)
+            it.truncate()
+            it.write(text)
+        self.socket.sendall(NUMBERS.pack(*what))
+
+    def written(self):
+        return tuple(os.pread(it.fileno(), os.fstat(it.fileno()).st_size, 0) for it in self.files[1:])
+
+    def go(self, lines=()):
+        """The run itself reads these lines without refusals. Returns its output."""
+        self.ask(lines, 0, 0, 0)
+        self.expect_waiting()
+        output, errors = self.written()
+        if errors:
+            raise Wrong(f"{errors!r} on standard error")
+        return output
+
+    def case(self, lines, window=FIRST_LINE, refusal=ALONE, place=0):
+        """A case that reads these lines, with one allocation of a window refused, or with it and all later ones. Place 0 refuses none."""
+        self.ask(lines, refusal, place, window)
+        status, allocations, refusals = self.answer()
+        return Ended(status, *self.written(), allocations, refusals)
+
+    def each(self, lines, window=FIRST_LINE, first=1, prepare=lambda: None):
+        """Cases of these lines: for each allocation of the window one that refuses it, and for each third one that refuses it and all later
+        ones. Yields each with a description. Each has refusals, and there is no allocation after the last. `prepare` is called before each."""
+        count = self.case(lines, window).allocations
+        for refusal, (words, step) in REFUSALS.items():
+            for place in range(first, count + 1, step):
+                prepare()
+                seen = self.case(lines, window, refusal, place)
+                if seen.refusals < 1 or refusal == ALONE and seen.refusals > 1:
+                    raise Wrong(f"{words % place} of {count}: {seen.refusals} are refused")
+                yield f"{words % place} of {count}", seen
+        seen = self.case(lines, window, ONWARDS, count + 1)
+        if seen.refusals or seen != self.case(lines, window):
+            raise Wrong(f"an allocation follows the last of {count}, or a case without refusals has another result")
+
+
+def refusing(folder):
+    """The folder, with the compiled refuse.c in it."""
+    shim_in(folder.folder.name)
+    return folder
