@@ -114,8 +114,11 @@ class Run:
 
     def each(self, lines, window=FIRST_LINE, first=1, prepare=lambda: None):
         """Cases of these lines: for each allocation of the window one that refuses it, and for each third one that refuses it and all later
-        ones. Yields each with a description. Each has refusals, and there is no allocation after the last. `prepare` is called before each."""
-        count = self.case(lines, window).allocations
+        ones; and one without refusals, before and after these. Yields each with a description. `prepare` is called before each."""
+        prepare()
+        whole = self.case(lines, window)
+        yield "without refusals", whole
+        count = whole.allocations
         for refusal, (words, step) in REFUSALS.items():
             for place in range(first, count + 1, step):
                 prepare()
@@ -123,9 +126,11 @@ class Run:
                 if seen.refusals < 1 or refusal == ALONE and seen.refusals > 1:
                     raise Wrong(f"{words % place} of {count}: {seen.refusals} are refused")
                 yield f"{words % place} of {count}", seen
-        seen = self.case(lines, window, ONWARDS, count + 1)
-        if seen.refusals or seen != self.case(lines, window):
-            raise Wrong(f"an allocation follows the last of {count}, or a case without refusals has another result")
+        prepare()
+        last = self.case(lines, window, ONWARDS, count + 1)
+        if last.refusals:
+            raise Wrong(f"an allocation follows the last of {count}")
+        yield "all after the last allocation", last
 
 
 def refusing(folder):
