@@ -5,3 +5,7 @@ mod ReportsEntries
 mod ReportsOrders
 mod ReportsCulprits
 mod ReportsAttributes
+mod KindsEnds
+mod KindsReached
+mod KindsWritten
+mod KindsAgree

@@ -3,9 +3,11 @@
 //! Each function has a law as its contract, over the definitions that the repository's own calls cite.
 #![tactic(auto)]
 
+mod kinds;
 mod operations;
 mod reports;
 
+pub use kinds::fits_by_kinds;
 pub use operations::{
     all_within_counts, class_is_what_is_the_same, common_counts, difference_counts,
     elements_have_classes, intersection_counts, is_within_counts, joined_counts, less_counts,
