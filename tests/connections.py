@@ -3,23 +3,19 @@
 
     tests/connections.py [PROGRAM]
 
-PROGRAM is as for evaluation.py. Each connection comes whole and byte by byte, one of more reads than there are, and one has each of its
-allocations refused by tools/refuse.c. What is answered over sockets is in http.py.
+PROGRAM is as for evaluation.py. Each connection comes whole and byte by byte. Some take all reads of a connection, or more, and one has
+each of its allocations refused. What is answered over sockets is in http.py.
 """
 import collections
 import itertools
-import os
 import sys
 
 from evaluation import program_of
-from lib.harness import TOP, Folder, run_parts
+from lib.harness import run_parts
 from lib.messages import OK, canonical, create, file_of, instances, linked, loaded, put, refused
 from lib.plain_http import answer
+from lib.refusing import WHOLE, Run, refusing
 from lib.serving import as_post, get
-
-sys.path.insert(0, os.path.join(TOP, "tools"))
-
-from each_refusal import Failure, run, shim_in  # noqa: E402
 
 SCHEMA = (b"SCHEMA T; ENTITY p; x : REAL; n : OPTIONAL STRING; INVERSE u : SET [0:?] OF q FOR a; "
           b"WHERE w1 : SIZEOF(u) <= 2; END_ENTITY; ENTITY q; a : p; END_ENTITY; END_SCHEMA;")
@@ -107,14 +103,14 @@ def cut_off(it):
             it.expect(f"{name}, {pieces}", served(it, asked, size, room, "cut"), (2, told, fault))
 
 
-# as many reads as a connection has
+# the reads of a connection
 READS = 1_000_000
 BAD_REQUEST = (b'HTTP/1.1 400 Bad Request\r\nContent-Type: application/json\r\nContent-Length: 42\r\n\r\n'
                b'{"refused":{"code":1,"name":"BadRequest"}}')
 
 
 def post_of(size):
-    """A request of so many bytes, whose body is no request."""
+    """A POST of this many bytes whose body is no request."""
     head = b"POST /v1/requests HTTP/1.1\r\nAuthorization: Bearer ta\r\nContent-Length: %d\r\n\r\n"
     length = size - len(head % (size - 100))
     text = head % length + b" " * length
@@ -124,7 +120,7 @@ def post_of(size):
 
 
 def as_many_reads_as_there_are(it):
-    """A read behind the millionth is none: it fails. So does a connection that gives a million single bytes of a longer body."""
+    """A read after the millionth fails, so a connection that gives a million single bytes of a longer body ends by a read fault."""
     for name, asked, told in (("one byte more than that", post_of(READS + 1), (2, b"", READ)),
                               ("a longer body", post_of(READS + 100_000)[:READS], (2, b"", READ)),
                               ("as many bytes, and then the end", post_of(READS), (2, BAD_REQUEST, READ)),
@@ -143,19 +139,19 @@ CONNECTION = [as_post(create("ann", "m")), as_post(put("ann", "ann", "m", file_o
 
 
 def answers(made, put_there, shown, told):
-    """The answers to that connection, where these of its requests find memory."""
+    """The replies to this connection, where these of its requests find memory."""
     text = answer(linked(canonical(*(["#1=P(1.,$);"] if put_there else []))))
     exact = [MADE, FILLED if made else GONE, text if made else GONE, THERE]
     return [it if there else NO_MEMORY for it, there in zip(exact, (made, put_there, shown, told))]
 
 
 def what_may_be():
-    """How that connection may end where allocations are refused: the status, what is written, and what is told of a fault; with a word for
-    it, and how many answers are NoMemory."""
+    """Each end that this connection may have where allocations are refused (its status, output and errors), with a word for it and the
+    number of replies that are NoMemory."""
     found = {}
     for there in itertools.product((True, False), repeat=len(CONNECTION)):
         its = answers(*there)
-        # (a write into memory fails too where it finds no room)
+        # (a write into memory fails where it finds no room)
         found.update({(2, b"".join(its[:count]), told): ("cut off", its[:count].count(NO_MEMORY))
                       for count in range(len(its) + 1) for told in (OUT_OF_MEMORY, WRITE)})
         found[0, b"".join(its), b""] = ("answered" if all(there) else "NoMemory", there.count(False))
@@ -163,40 +159,22 @@ def what_may_be():
 
 
 def each_refusal(it):
-    """Each allocation is refused in turn, alone and with all behind it, from the first read on: each request is answered as it is to be, or
-    NoMemory and then it is as if it weren't asked; or the connection ends for want of memory behind some of these answers."""
-    folder = it.folder.folder.name
+    """Where an allocation is refused, alone or with all later ones, each request gets its reply, or NoMemory and has no effect; or the
+    connection ends for want of memory after some of these replies."""
     it.folder.write("schema.exp", SCHEMA)
     it.folder.write("nothing", b"")
     it.folder.write("input", b"".join(CONNECTION))
-    shim_in(folder)
-    words = ("connection", "schema.exp", "input", "16384", "10000", "closed")
-    before = run(Folder.program, folder, [], (*words[:2], "nothing", *words[3:])).allocations
-    whole = run(Folder.program, folder, [], words)
-    exact = (0, b"".join(answers(True, True, True, True)), b"")
-    it.expect("with no refusal", (whole[:3], whole.refusals), (exact, 0))
-    may_be = what_may_be()
-
-    def one(turn):
-        key, place = turn
-        try:
-            result = run(Folder.program, folder, [], words, **{key: str(place)})
-        except Failure as fault:
-            return key, place, str(fault), -1
-        return key, place, result[:3], result.refusals
-
-    counts = collections.Counter()
-    # (behind the last one there is one that isn't refused)
-    turns = [(key, place) for key in ("REFUSE_NTH", "REFUSE_FROM") for place in range(before, whole.allocations + 2)]
-    for key, place, told, refusals in it.pool.map(one, turns):
-        outcome, no_memory = may_be.get(told, ("neither", 0))
-        is_right = told == exact if refusals == 0 else outcome != "neither" and no_memory <= refusals
-        it.expect(f"{key}={place} of {whole.allocations}", None if is_right else told, None)
-        it.expect(f"{key}={place}: whether anything was refused", refusals > 0, place <= whole.allocations)
-        counts[key, outcome] += 1
-    for (key, outcome), count in sorted(counts.items(), key=str):
-        print(f"    {key}: {outcome}: {count} runs")
-    it.expect("a refusal that led to NoMemory", counts["REFUSE_NTH", "NoMemory"] > 0, True)
+    place, words = refusing(it.folder), ("connection", "schema.exp", "input", "16384", "10000", "closed")
+    with Run(place, (*words[:2], "nothing", *words[3:])) as run:
+        before = run.case([], WHOLE).allocations
+    exact, may_be, counts = (0, b"".join(answers(True, True, True, True)), b""), what_may_be(), collections.Counter()
+    with Run(place, words) as run:
+        for name, ended in run.each([], WHOLE, before):
+            outcome, no_memory = may_be.get(ended[:3], ("neither", 0))
+            is_right = outcome != "neither" and no_memory <= ended.refusals if ended.refusals else ended[:3] == exact
+            it.expect(name, None if is_right else ended[:3], None)
+            counts[outcome] += 1
+    it.expect("replies of each sort", all(counts[outcome] > 2 for outcome in ("answered", "NoMemory", "cut off")), True)
 
 
 def faulty_words(it):

@@ -14,11 +14,11 @@ import sys
 
 from evaluation import program_of
 from expression_rows import HEAD, TAIL
-from lib.harness import TOP, Folder, run_parts
+from lib.harness import TOP, Folder, Wrong, run_parts
 
 sys.path.insert(0, os.path.join(TOP, "tools"))
 
-from each_refusal import Failure, run, shim_in  # noqa: E402
+from each_refusal import run, shim_in  # noqa: E402
 
 SCHEMA = """SCHEMA r;
 CONSTANT most : INTEGER := 2; names : LIST OF label := ['a', 'b']; END_CONSTANT;
@@ -117,7 +117,7 @@ def each_refusal(it):
         key, place = turn
         try:
             result = run(Folder.program, folder, [], COMMAND, **{key: str(place)})
-        except Failure as fault:
+        except Wrong as fault:
             return key, place, str(fault), -1
         return key, place, (result.status, result.output, result.errors), result.refusals
 

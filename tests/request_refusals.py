@@ -258,10 +258,10 @@ def look_at_load(folder, held):
     asked = questions(held)
     done = replies_of(replies_to(copy.deepcopy(held), asked))
     # (a run without a snapshot makes the allocations that come before the snapshot is opened)
-    with Run(folder) as run:
+    with Run(folder.folder.name) as run:
         before = run.case([], START).allocations
     seen = collections.Counter()
-    with Run(folder, ("batch", "--config", "config.json", "--load", "snap")) as run:
+    with Run(folder.folder.name, ("batch", "--config", "config.json", "--load", "snap")) as run:
         for words, ended in run.each(asked, START, max(1, before - 20)):
             is_done = ended[:3] == (0, done, b"")
             may_end = ended.refusals > 0 and ended[:2] == (2, b"") and LINE.fullmatch(ended.errors)
@@ -281,7 +281,7 @@ def look_at_save(folder, texts, lines, held):
         with open(folder.path("place/kept"), "wb") as it:
             it.write(OLD)
 
-    with Run(folder, ("batch", "--config", "config.json", "--save", "place/kept")) as run:
+    with Run(folder.folder.name, ("batch", "--config", "config.json", "--save", "place/kept")) as run:
         for words, ended in run.each(lines, len(lines) + 1, prepare=prepare):
             files = files_in(folder.path("place"))
             is_done = ended[:3] == (0, done, b"") and files == {"kept": kept}

@@ -3,8 +3,9 @@
 
     tools/each_refusal.py [PROGRAM [LINES ..]]
 
-For each file of request lines (else those of tools/lines) the program is run once for each of its
-allocations with that one refused, and once with that one and all later ones refused, by refuse.c. A reply
+For each file of request lines (else those of tools/lines) the program runs once for each of its
+allocations with that one refused, and once with that one and all later ones refused, by refuse.c: these runs
+are forks of runs that wait at their start. A reply
 has to be NoMemory or the exact one for the content so far, which tests/lib/plain_model.py gives. A request that
 was answered NoMemory has changed nothing, so what follows is answered accordingly. The program may end with
 status 2 and no output only where the allocation was one of those that it makes before it first reads its
@@ -19,7 +20,6 @@ import collections
 import concurrent.futures
 import json
 import os
-import shutil
 import subprocess
 import sys
 import tempfile
@@ -28,9 +28,13 @@ TOOLS = os.path.dirname(os.path.abspath(__file__))
 TOP = os.path.dirname(TOOLS)
 sys.dont_write_bytecode = True
 sys.path.insert(0, os.path.join(TOP, "tests"))
+from lib.harness import Folder, Wrong  # noqa: E402
 from lib.plain_binding import Aggregate, Entity, Enumeration, Schema, Select, express  # noqa: E402
 from lib.plain_files import read, read_mapping  # noqa: E402
 from lib.plain_model import FileFault, Repository  # noqa: E402
+from lib.refusing import ALONE, ONWARDS, WHOLE  # noqa: E402
+from lib.refusing import Run as Forked  # noqa: E402
+from lib.shims import shim_in  # noqa: E402
 
 PROGRAM = os.path.join(TOP, "crates/rp_server/out/rp_server")
 LINES = os.path.join(TOOLS, "lines")
@@ -128,10 +132,6 @@ TEXTS = {
 }
 
 
-class Failure(Exception):
-    """The program did what it must not."""
-
-
 # ---- what the lines' files say
 
 # Files that aren't Part 21, with the kind and the place of their fault.
@@ -158,7 +158,7 @@ def mapping_of(text):
 def check_replies(lines, replies):
     """Each reply is NoMemory or the exact one. Answers how many are NoMemory."""
     if len(replies) != len(lines):
-        raise Failure(f"{len(lines)} lines got {len(replies)} replies")
+        raise Wrong(f"{len(lines)} lines got {len(replies)} replies")
     repository = Repository(PARTNERS, SCHEMAS.values(), file_of, mapping_of, TEXTS.__getitem__)
     count = 0
     for place, (line, reply) in enumerate(zip(lines, replies), 1):
@@ -167,7 +167,7 @@ def check_replies(lines, replies):
             continue
         wanted, change = repository.step(line)
         if reply != wanted:
-            raise Failure(f"line {place} got {reply!r} in place of {wanted!r} or NoMemory")
+            raise Wrong(f"line {place} got {reply!r} in place of {wanted!r} or NoMemory")
         if change:
             change()
     return count
@@ -176,17 +176,6 @@ def check_replies(lines, replies):
 # ---- the runs
 
 Run = collections.namedtuple("Run", "status output errors allocations before_input refusals asked")
-
-
-def shim_in(folder, name="refuse"):
-    """The C file of this name, compiled."""
-    compiler = shutil.which("gcc") or shutil.which("clang")
-    if not compiler:
-        raise Failure(f"neither gcc nor clang is there to compile {name}.c")
-    shim = os.path.join(folder, f"{name}.so")
-    source = os.path.join(TOOLS, f"{name}.c")
-    subprocess.run([compiler, "-O2", "-shared", "-fPIC", "-o", shim, source, "-ldl"], check=True)
-    return shim
 
 
 BATCH = ("batch", "--config", "config.json")
@@ -208,23 +197,38 @@ def run(program, folder, lines, command=BATCH, **refusal):
     with os.fdopen(begin, "rb") as it:
         report = it.read().split()
     if len(report) != 4:
-        raise Failure(f"status {done.returncode}: the program did not end by itself, or refuse.c was not loaded")
+        raise Wrong(f"status {done.returncode}: the program did not end by itself, or refuse.c was not loaded")
     return Run(done.returncode, done.stdout, done.stderr, *map(int, report))
 
 
+def forks(folder, lines, command, count):
+    """The results of all runs with a refusal: each of so many allocations is refused, alone and with all later ones. Yields each with the
+    name of the refusal and the number of the allocation."""
+    turns = [(key, refusal, place) for key, refusal in (("REFUSE_NTH", ALONE), ("REFUSE_FROM", ONWARDS)) for place in range(1, count + 1)]
+    workers = min(os.cpu_count() or 1, len(turns))
+
+    def some(first):
+        with Forked(folder, command) as waiting:
+            return [(key, place, waiting.case(lines, WHOLE, refusal, place)) for key, refusal, place in turns[first::workers]]
+
+    with concurrent.futures.ThreadPoolExecutor(workers) as pool:
+        for found in pool.map(some, range(workers)):
+            yield from found
+
+
 def outcome_of(result, lines, is_early):
-    """What a run with a refusal came to, in words. A Failure if it is nothing that may be."""
+    """What a run with a refusal came to, in words. Wrong if it is nothing that may be."""
     if result.refusals == 0:
-        raise Failure("nothing was refused")
+        raise Wrong("nothing was refused")
     if result.status == 2 and not result.output and is_early:
         if result.errors.count(b"\n") != 1:
-            raise Failure(f"status 2 with {result.errors!r} on standard error, which isn't one line")
+            raise Wrong(f"status 2 with {result.errors!r} on standard error, which isn't one line")
         return "status 2 before the first line"
     if result.status != 0 or result.errors:
-        raise Failure(f"status {result.status}, {result.errors!r} on standard error")
+        raise Wrong(f"status {result.status}, {result.errors!r} on standard error")
     count = check_replies(lines, result.output.split(b"\n")[:-1])
     if count > result.refusals:
-        raise Failure(f"{count} NoMemory replies and {result.refusals} refusals")
+        raise Wrong(f"{count} NoMemory replies and {result.refusals} refusals")
     return f"{count} of {len(lines)} replies NoMemory"
 
 
@@ -232,25 +236,22 @@ def refuse_each(program, folder, lines):
     """Refuses each allocation of a run in turn. Answers how often each outcome was seen."""
     whole = run(program, folder, lines)
     if whole.status != 0 or whole.errors:
-        raise Failure(f"with no refusal: status {whole.status}, {whole.errors!r} on standard error")
+        raise Wrong(f"with no refusal: status {whole.status}, {whole.errors!r} on standard error")
     if check_replies(lines, whole.output.split(b"\n")[:-1]) != 0:
-        raise Failure("a NoMemory where nothing was refused")
+        raise Wrong("a NoMemory where nothing was refused")
     if whole.before_input < 0 or whole.allocations <= whole.before_input:
-        raise Failure("no allocation was seen after the input was first read")
-
-    def one(key, place):
+        raise Wrong("no allocation was seen after the input was first read")
+    seen, known = collections.Counter(), {}
+    for key, place, result in forks(folder, lines, BATCH, whole.allocations):
+        # (most runs end as another one)
+        mark = (*result[:3], result.refusals, place <= whole.before_input)
         try:
-            result = run(program, folder, lines, **{key: str(place)})
-            return outcome_of(result, lines, place <= whole.before_input)
-        except Failure as fault:
-            raise Failure(f"{key}={place} of {whole.allocations}: {fault}") from fault
-
-    turns = [(key, place) for key in ("REFUSE_NTH", "REFUSE_FROM") for place in range(1, whole.allocations + 1)]
-    with concurrent.futures.ThreadPoolExecutor(os.cpu_count()) as pool:
-        outcomes = list(pool.map(lambda turn: one(*turn), turns))
-    seen = collections.Counter(zip((key for key, _ in turns), outcomes))
+            known[mark] = known.get(mark) or outcome_of(result, lines, mark[-1])
+        except Wrong as fault:
+            raise Wrong(f"{key}={place} of {whole.allocations}: {fault}") from fault
+        seen[key, known[mark]] += 1
     if not any(not outcome.startswith(("0 ", "status")) for _, outcome in seen):
-        raise Failure("no refusal led to a NoMemory")
+        raise Wrong("no refusal led to a NoMemory")
     return whole, seen
 
 
@@ -258,23 +259,18 @@ def refuse_check(program, folder, command, *wanted):
     """Refuses each allocation of a run that reads no line in turn. Answers how often each outcome was seen."""
     whole = run(program, folder, [], command)
     if (whole.status, whole.output, whole.errors) != wanted:
-        raise Failure(f"with no refusal: status {whole.status}, {whole.output!r} and {whole.errors!r}")
+        raise Wrong(f"with no refusal: status {whole.status}, {whole.output!r} and {whole.errors!r}")
     told = [b"", *([NO_MEMORY + b"\n"] if "--json" in command else []), *([whole.output] if "--html" in command else [])]
 
-    def one(key, place):
-        result = run(program, folder, [], command, **{key: str(place)})
+    seen = collections.Counter()
+    for key, place, result in forks(folder, [], command, whole.allocations):
         if result.refusals == 0:
-            raise Failure(f"{key}={place} of {whole.allocations}: nothing was refused")
-        if (result.status, result.output, result.errors) == wanted:
-            return "the same line"
-        if result.status == 2 and result.output in told and result.errors.count(b"\n") == 1:
-            return "status 2"
-        raise Failure(f"{key}={place} of {whole.allocations}: status {result.status}, {result.output!r}, {result.errors!r}")
-
-    turns = [(key, place) for key in ("REFUSE_NTH", "REFUSE_FROM") for place in range(1, whole.allocations + 1)]
-    with concurrent.futures.ThreadPoolExecutor(os.cpu_count()) as pool:
-        outcomes = list(pool.map(lambda turn: one(*turn), turns))
-    return whole, collections.Counter(zip((key for key, _ in turns), outcomes))
+            raise Wrong(f"{key}={place} of {whole.allocations}: nothing was refused")
+        is_same = result[:3] == wanted
+        if not is_same and (result.status != 2 or result.output not in told or result.errors.count(b"\n") != 1):
+            raise Wrong(f"{key}={place} of {whole.allocations}: status {result.status}, {result.output!r}, {result.errors!r}")
+        seen[key, "the same line" if is_same else "status 2"] += 1
+    return whole, seen
 
 
 def tell(name, whole, seen):
@@ -292,6 +288,7 @@ def main(words):
     if not files:
         sys.exit("each_refusal: there are no lines to run")
     failed = 0
+    Folder.program = program
     with tempfile.TemporaryDirectory() as folder:
         with open(os.path.join(folder, "config.json"), "w", encoding="ascii") as it:
             json.dump({"partners": [{"name": name, "token": name} for name in PARTNERS], "schemas": list(SCHEMAS)}, it)
@@ -304,7 +301,7 @@ def main(words):
                 lines = it.read().splitlines()
             try:
                 whole, seen = refuse_each(program, folder, lines)
-            except Failure as fault:
+            except Wrong as fault:
                 print(f"each_refusal: {os.path.basename(file)}: FAILED: {fault}")
                 failed += 1
                 continue
@@ -315,7 +312,7 @@ def main(words):
                 it.write(text)
             try:
                 tell(name, *refuse_check(program, folder, command, *wanted))
-            except Failure as fault:
+            except Wrong as fault:
                 print(f"each_refusal: {name}: FAILED: {fault}")
                 failed += 1
     sys.exit(1 if failed else 0)

@@ -14,9 +14,9 @@
                      2 N WINDOW  the same, but all later allocations of the window are refused too
                    The reply to a fork is its status, and how many allocations of the window occurred and were refused. If the
                    socket is closed, the process goes on and reads the end of its input.
-                   Window 0 ends at the first read of standard input. Window K, from 1, begins with the read of line K and ends with
-                   the read of the next; each read returns one line at most. The last window begins with the read of the end of
-                   input and ends with the run.
+                   Window -1 is the whole run. Window 0 ends at the first read of standard input. Window K, from 1, begins with the
+                   read of line K and ends with the read of the next; each read returns one line at most. The last window begins with
+                   the read of the end of input and ends with the run.
 
    malloc, calloc, realloc, reallocarray, aligned_alloc, memalign and posix_memalign count. */
 #define _GNU_SOURCE
@@ -81,7 +81,7 @@ static long number(const char *name) {
 
 static void enter(long next) {
   window = next;
-  counting = window == refused_window;
+  counting = refused_window < 0 || window == refused_window;
 }
 
 /* Forks and waits for the fork. Returns 1 in the fork. */
@@ -208,8 +208,9 @@ void free(void *place) {
   }
 }
 
-/* A read of a fork: one line or a part of it. */
+/* A read of a fork: one line or a part of it, where windows are told apart. */
 static ssize_t read_of_fork(void *bytes, size_t size) {
+  if (refused_window < 0) return real_read(0, bytes, size);
   if (is_at_line) enter(window + 1);
   ssize_t got = real_read(0, bytes, size);
   char *end = got > 0 ? memchr(bytes, '\n', (size_t)got) : 0;

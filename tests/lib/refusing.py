@@ -7,21 +7,18 @@ import os
 import socket
 import struct
 import subprocess
-import sys
 import tempfile
 from typing import NamedTuple
 
-from lib.harness import TOP, Folder, LeftOut, Wrong
-
-sys.path.insert(0, os.path.join(TOP, "tools"))
-
-from each_refusal import shim_in  # noqa: E402
+from lib.harness import Folder, LeftOut, Wrong
+from lib.shims import shim_in
 
 # what is refused: one allocation, or it and all later ones; with the description, and of how many allocations one has such a case
 ALONE, ONWARDS = 1, 2
 REFUSALS = {ALONE: ("allocation %d", 1), ONWARDS: ("all from allocation %d on", 3)}
-# the windows of a case: before its first read, and its first line; the last window, from the end of input on, has the number of lines plus 1
-START, FIRST_LINE = 0, 1
+# the windows of a case: the whole of it, that before its first read, and its first line; the last one, from the end of input on, has the
+# number of lines plus 1
+WHOLE, START, FIRST_LINE = -1, 0, 1
 SECONDS = 120
 NUMBERS = struct.Struct("@lll")
 
@@ -42,13 +39,14 @@ class Run:
     def __init__(self, folder, words=("batch", "--config", "config.json")):
         if Folder.stand_in:
             raise LeftOut
+        self.has_begun = False
         self.files = [tempfile.TemporaryFile(buffering=0) for _ in range(3)]
         self.socket, theirs = socket.socketpair()
         self.socket.settimeout(SECONDS)
         with theirs:
-            env = {"LD_PRELOAD": folder.path("refuse.so"), "REFUSE_CASES": str(theirs.fileno())}
+            env = {"LD_PRELOAD": os.path.join(folder, "refuse.so"), "REFUSE_CASES": str(theirs.fileno())}
             given, output, errors = self.files
-            self.process = subprocess.Popen([Folder.program, *words], cwd=folder.folder.name, stdin=given, stdout=output, stderr=errors, env=env,
+            self.process = subprocess.Popen([Folder.program, *words], cwd=folder, stdin=given, stdout=output, stderr=errors, env=env,
                                             pass_fds=[theirs.fileno()])
         self.expect_waiting()
 
@@ -56,17 +54,14 @@ class Run:
         return self
 
     def __exit__(self, kind, *_):
-        """The run reads the end of its input and exits."""
-        self.files[0].truncate(0)
-        self.socket.close()
-        try:
-            self.process.wait(SECONDS if kind is None else 1)
-        except subprocess.TimeoutExpired:
+        """A run that has read lines reads the end of its input and exits."""
+        if not self.has_begun or kind:
             self.process.kill()
-            self.process.wait()
+        self.socket.close()
+        self.process.wait(SECONDS)
         for it in self.files:
             it.close()
-        if kind is None and self.process.returncode:
+        if self.has_begun and not kind and self.process.returncode:
             raise Wrong(f"the run ended with status {self.process.returncode}")
 
     def answer(self):
@@ -99,6 +94,7 @@ class Run:
 
     def go(self, lines=()):
         """The run itself reads these lines without refusals. Returns its output."""
+        self.has_begun = True
         self.ask(lines, 0, 0, 0)
         self.expect_waiting()
         output, errors = self.written()
@@ -134,6 +130,6 @@ class Run:
 
 
 def refusing(folder):
-    """The folder, with the compiled refuse.c in it."""
+    """The path of the folder, with the compiled refuse.c in it."""
     shim_in(folder.folder.name)
-    return folder
+    return folder.folder.name
