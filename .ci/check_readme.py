@@ -13,7 +13,7 @@ Fenced blocks of a page whose first line has one of these forms make up its exam
     ```json request              each line is a request; all those of a page are asked in one run, by its config.json
     ```json reply                the replies to the requests of the block before it, a line each
 
-`crates/rp_server/out/rp_server` is the program in that folder too, and `example/` and `tools/ask.py` are those of the
+`crates/rp_server/out/rp_server` is the program in that folder too, and `example/` and the scripts of `tools/` are those of the
 repository. The examples of a page that lies in `example/` run in a copy of its folder. A command prints nothing on
 standard error and ends with status 0. There has to be at least one example.
 
@@ -105,8 +105,7 @@ def fill(folder, program, page, files):
     os.makedirs(bin_folder)
     os.symlink(program, os.path.join(bin_folder, "rp_server"))
     shutil.copytree(os.path.join(TOP, "example"), os.path.join(folder, "example"))
-    os.mkdir(os.path.join(folder, "tools"))
-    shutil.copy(os.path.join(TOP, "tools/ask.py"), os.path.join(folder, "tools"))
+    shutil.copytree(os.path.join(TOP, "tools"), os.path.join(folder, "tools"), ignore=lambda _, names: [it for it in names if not it.endswith(".py")])
     where = os.path.join(folder, os.path.dirname(page) if page.startswith("example/") else "")
     for name, body in files.items():
         with open(os.path.join(where, name), "w", encoding="utf-8") as it:

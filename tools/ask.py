@@ -4,7 +4,7 @@
     tools/ask.py FOLDER                       FOLDER/requests.txt, by the configuration FOLDER/config.json
     tools/ask.py SCHEMA.exp FILE.step         a schema and a file of your own: it is put, validated and exported; where
                                               it is refused, its fault is shown with its place
-    tools/ask.py --trial ..                   by a trial run of the program's code, which isn't proved
+    tools/ask.py --trial ..                   by a trial run of the program's code, which isn't proved: one build serves all requests
     tools/ask.py --program PROGRAM ..         by this program, where it isn't the one that was built here
     tools/ask.py --columns ..                 a column for each partner, and a row for each request
     tools/ask.py --lines ..                   asks nothing, and prints the lines of the requests alone
@@ -19,18 +19,24 @@ blanks stand in quotes, as a shell has them. A line that begins with a blank goe
 with `#` is a remark. Paths of the configuration start at FOLDER.
 """
 import argparse
+import hashlib
 import json
 import os
 import re
 import shlex
+import signal
 import subprocess
 import sys
 import tempfile
 import textwrap
 from typing import NamedTuple
 
+from try_cases import Case, Fault, Seen, try_cases
+
 TOP = os.path.dirname(os.path.dirname(os.path.abspath(__file__)))
 PROGRAM = os.path.join(TOP, "crates/rp_server/out/rp_server")
+# the longest run of a trial; the checks make it slower than the built program
+SECONDS = 600
 ANN = {"name": "ann", "token": "ta"}
 COLUMN = 46
 
@@ -51,7 +57,22 @@ class Request(NamedTuple):
         return self.words.split(None, 1)[1]
 
 
+class Run(NamedTuple):
+    """A run of the program: the words of its command line and its standard input. Where it reads a file that isn't in the folder,
+    `name` is the word for this file and `text` has its bytes."""
+
+    words: tuple
+    given: bytes = b""
+    name: str = ""
+    text: bytes = b""
+
+
 # ---- requests
+
+def of_bytes(path):
+    with open(path, "rb") as it:
+        return it.read()
+
 
 def of_file(path):
     with open(path, encoding="utf-8") as it:
@@ -98,8 +119,8 @@ def schema_name(text):
 def fill(folder, schema, file):
     """Writes a configuration and requests that put a file by a schema, validate a group of it alone, and export it."""
     for name, path in (("schema.exp", schema), ("file.step", file)):
-        with open(path, "rb") as it, open(os.path.join(folder, name), "wb") as copy:
-            copy.write(it.read())
+        with open(os.path.join(folder, name), "wb") as copy:
+            copy.write(of_bytes(path))
     try:
         name = schema_name(of_file(os.path.join(folder, "schema.exp")))
         of_file(os.path.join(folder, "file.step"))
@@ -115,37 +136,81 @@ def fill(folder, schema, file):
 
 # ---- replies
 
-def schemas_in(folder):
-    """The paths of the configuration's schemas, and where they lie."""
-    names = json.loads(of_file(os.path.join(folder, "config.json")))["schemas"]
-    return {it: os.path.abspath(os.path.join(folder, it)) for it in names}
+def config_of(folder):
+    return json.loads(of_file(os.path.join(folder, "config.json")))
 
 
-def command_of(folder, asked, words, files):
-    """The command that runs the program with these words, and the folder in which it runs. These are the files that it reads, and
-    where they lie."""
+def schemas_of(folder):
+    """The names of the configuration's schemas. The program reports what is wrong with a configuration."""
+    config = config_of(folder)
+    names = config.get("schemas") if isinstance(config, dict) else None
+    return [it for it in names if isinstance(it, str)] if isinstance(names, list) else []
+
+
+def batch_of(requests):
+    """The run that answers these requests."""
+    return Run(("batch", "--config", "config.json"), "".join(json.dumps(it.keys, ensure_ascii=False) + "\n" for it in requests).encode())
+
+
+def validation_of(folder, request):
+    """The run in which `validate` reads the file of a put, with the schemas of the configuration; None for another request."""
+    text = request.keys.get("file")
+    if request.keys["do"] != "put" or not isinstance(text, str):
+        return None
+    name = f"{hashlib.sha256(text.encode()).hexdigest()[:16]}.step"
+    words = [word for it in schemas_of(folder) for word in ("--schema", it)]
+    return Run(("validate", *words, name), name=name, text=text.encode())
+
+
+class Built:
+    """A program that is built. Each run is made when its result is needed."""
+
+    def __init__(self, folder, path):
+        self.folder, self.path = folder, os.path.abspath(path)
+        if not os.access(self.path, os.X_OK):
+            sys.exit(f"ask: there is no program {self.path}: build it, or take --trial")
+
+    def seen(self, run):
+        with tempfile.TemporaryDirectory() as place:
+            words = list(run.words)
+            if run.name:
+                words[words.index(run.name)] = path = os.path.join(place, run.name)
+                with open(path, "wb") as it:
+                    it.write(run.text)
+            done = subprocess.run([self.path, *words], cwd=self.folder, input=run.given, capture_output=True, check=False)
+        return Seen(done.returncode, done.stdout, done.stderr)
+
+
+class Trial:
+    """The program before its proof. One build serves all runs, so all that may be needed are made at once: the replies to the
+    requests, and a validation for each put, since it isn't known yet which one is refused."""
+
+    def __init__(self, folder, runs):
+        files = {it: of_bytes(os.path.join(folder, it)) for it in ["config.json", *schemas_of(folder)]}
+        files.update((it.name, it.text) for it in runs if it.name)
+        self.runs = dict(zip(runs, try_cases([Case(it.words, it.given) for it in runs], files, "ask", SECONDS)))
+
+    def seen(self, run):
+        return self.runs[run]
+
+
+def program_of(folder, requests, asked):
+    """What gives the results of runs."""
     if not asked.trial:
-        program = os.path.abspath(asked.program or PROGRAM)
-        if not os.access(program, os.X_OK):
-            sys.exit(f"ask: there is no program {program}: build it, or take --trial")
-        return [program, *words], folder
-    given = [word for name, path in files.items() for word in ("--data", f"{name}={path}")]
-    print("A trial run of the program's code before its proof. It takes some two minutes on four cores.", file=sys.stderr, flush=True)
-    return ["rt", "try", *given, "--", *words], os.path.join(TOP, "crates/rp_server")
+        return Built(folder, asked.program or PROGRAM)
+    # (columns show no place of a fault)
+    validations = [] if asked.columns else [validation_of(folder, it) for it in requests]
+    return Trial(folder, list(dict.fromkeys([batch_of(requests), *filter(None, validations)])))
 
 
-def replies_to(folder, requests, asked):
+def replies_to(requests, program):
     """A reply for each request."""
-    command, where = command_of(folder, asked, ["batch", "--config", "config.json"],
-                                {"config.json": os.path.abspath(os.path.join(folder, "config.json")), **schemas_in(folder)})
-    lines = "".join(json.dumps(it.keys, ensure_ascii=False) + "\n" for it in requests).encode()
-    try:
-        done = subprocess.run(command, cwd=where, input=lines, capture_output=True, check=False)
-    except FileNotFoundError:
-        sys.exit(f"ask: {command[0]} isn't there")
-    replies = done.stdout.decode().splitlines()
-    if done.returncode != 0 or len(replies) != len(requests):
-        sys.exit(f"ask: status {done.returncode}, {len(replies)} replies\n{done.stderr.decode(errors='replace')}")
+    seen = program.seen(batch_of(requests))
+    replies = seen.output.decode().splitlines()
+    if seen.is_cut:
+        sys.exit("ask: the answer is longer than 1 MiB, the limit of a trial: build the program, and ask without --trial")
+    if seen.status != 0 or len(replies) != len(requests):
+        sys.exit(f"ask: status {seen.status}, {len(replies)} replies to {len(requests)} requests\n{seen.errors.decode(errors='replace').rstrip()}")
     return replies
 
 
@@ -157,22 +222,16 @@ def is_text(reply):
     return "file" in json.loads(reply).get("ok", {})
 
 
-def told_of_file(folder, request, reply, asked):
+def told_of_file(folder, request, reply, program):
     """The lines in which `validate` tells of a file whose put is refused, where it finds the same fault: the model's links, which it
     doesn't know, and its schema may make another."""
     refused = json.loads(reply).get("refused", {})
-    if request.keys["do"] != "put" or refused.get("code") not in (11, 12):
+    run = validation_of(folder, request)
+    if not run or refused.get("code") not in (11, 12):
         return []
-    with tempfile.TemporaryDirectory() as place:
-        path = os.path.join(place, "refused.step")
-        with open(path, "w", encoding="utf-8", newline="") as it:
-            it.write(request.keys["file"])
-        name = "refused.step" if asked.trial else path
-        words = [word for it in schemas_in(folder) for word in ("--schema", it)]
-        command, where = command_of(folder, asked, ["validate", *words, name], {**schemas_in(folder), name: path})
-        done = subprocess.run(command, cwd=where, capture_output=True, check=False)
-    first, *others = done.stdout.decode(errors="replace").partition("\n\nNot taken: ")[0].split("\n")
-    found = re.fullmatch(rf"{re.escape(name)}: code (\d+) \w+, kind (\w+)(?:, instance #(\d+))?(, line \d+ column \d+)", first)
+    output = program.seen(run).output.decode(errors="replace")
+    first, *others = output.partition("\n\nNot taken: ")[0].split("\n")
+    found = re.fullmatch(rf".*{re.escape(run.name)}: code (\d+) \w+, kind (\w+)(?:, instance #(\d+))?(, line \d+ column \d+)", first)
     same = found and (int(found[1]), found[2], found[3]) == (
         refused["code"], refused["kind"], str(refused["instance"]) if "instance" in refused else None)
     return [found[4].removeprefix(", "), *others] if same else []
@@ -188,10 +247,10 @@ def show_place(request, reply):
         print(f"    line {before.count(chr(10)) + 1} of it:\n    | {line}{behind.partition(chr(10))[0]}\n    | {' ' * len(line)}^")
 
 
-def show_refusal(folder, request, reply, asked):
+def show_refusal(folder, request, reply, program):
     """A reply that is neither a text nor a report; below a refusal the place of the fault."""
     print("    " + reply)
-    lines = told_of_file(folder, request, reply, asked)
+    lines = told_of_file(folder, request, reply, program)
     for it in lines:
         print(f"    | {it}".rstrip())
     if not lines:
@@ -207,7 +266,7 @@ def show_report(report):
         print(f"    | {compact(it)}")
 
 
-def show(folder, requests, replies, asked):
+def show(folder, requests, replies, program):
     """Each request with its reply below it. The file of an export is shown as its lines, and of a report what isn't TRUE."""
     for request, reply in zip(requests, replies):
         print(request.words)
@@ -219,7 +278,7 @@ def show(folder, requests, replies, asked):
         elif "checks" in json.loads(reply).get("ok", {}):
             show_report(json.loads(reply)["ok"])
         else:
-            show_refusal(folder, request, reply, asked)
+            show_refusal(folder, request, reply, program)
 
 
 # ---- columns
@@ -274,14 +333,14 @@ def run(folder, asked):
         for it in requests:
             print(json.dumps(it.keys, ensure_ascii=False))
         return
-    replies = replies_to(folder, requests, asked)
+    program = program_of(folder, requests, asked)
+    replies = replies_to(requests, program)
     if len(asked.paths) == 2:
         requests, replies = up_to_refusal(requests, replies)
     if asked.columns:
-        config = json.loads(of_file(os.path.join(folder, "config.json")))
-        show_columns([it["name"] for it in config["partners"]], requests, replies)
+        show_columns([it["name"] for it in config_of(folder)["partners"]], requests, replies)
     else:
-        show(folder, requests, replies, asked)
+        show(folder, requests, replies, program)
 
 
 def main():
@@ -294,6 +353,8 @@ def main():
     asked = parser.parse_args()
     if len(asked.paths) > 2:
         parser.error("a folder, or a schema and a file")
+    if len(asked.paths) == 1 and not os.path.isdir(asked.paths[0]):
+        parser.error(f"{asked.paths[0]} isn't a folder: name one with requests.txt and config.json, or a schema and a file")
     try:
         if len(asked.paths) == 1:
             run(asked.paths[0], asked)
@@ -301,8 +362,12 @@ def main():
             with tempfile.TemporaryDirectory() as folder:
                 fill(folder, *asked.paths)
                 run(folder, asked)
-    except (OSError, ValueError) as fault:
+    except OSError as fault:
+        sys.exit(f"ask: {fault.filename}: {fault.strerror}" if fault.filename else f"ask: {fault}")
+    except (Fault, ValueError) as fault:
         sys.exit(f"ask: {fault}")
+    except KeyboardInterrupt:
+        sys.exit(128 + signal.SIGINT)
 
 
 if __name__ == "__main__":

@@ -10,14 +10,14 @@ for more lines, and where more is written than `rt try` hands on. So is each scr
 import collections
 import importlib.util
 import os
-import re
-import subprocess
 import sys
-import tempfile
 import time
 
 from lib.harness import TESTS, TOP, Folder, LeftOut, Wrong
 from lib.messages import Repository
+
+sys.path.append(os.path.join(TOP, "tools"))
+from try_cases import Case, Fault, try_cases  # noqa: E402
 
 BATCH = ("batch", "--config", "config.json")
 
@@ -46,49 +46,10 @@ class Runs:
         return self.seen[text]
 
     def make(self):
-        """Makes those that are kept, and tells how many there were."""
+        """Makes those that are kept."""
         inputs = list(dict.fromkeys(self.kept))
-        with tempfile.TemporaryDirectory() as place:
-            for name, text in self.files.items():
-                with open(os.path.join(place, name), "wb") as it:
-                    it.write(text)
-            cases = os.path.join(place, "cases")
-            os.mkdir(cases)
-            for number, text in enumerate(inputs):
-                with open(os.path.join(cases, f"run{number}"), "wb") as it:
-                    it.write(text)
-            data = [word for name in self.files for word in ("--data", f"{name}={os.path.join(place, name)}")]
-            output, told = try_cases([*data, "--seconds", str(SECONDS), "--cases", cases, "--", *BATCH])
-        self.seen = {inputs[number]: it for number, it in seen_in(output, told).items()}
-        return len(inputs)
-
-
-def try_cases(words):
-    """What `rt try` prints, and what it tells beside."""
-    try:
-        done = subprocess.run(["rt", "try", *words], cwd=os.path.join(TOP, "crates/rp_server"), stdin=subprocess.DEVNULL,
-                              capture_output=True, check=False)
-    except OSError as fault:
-        sys.exit(f"trial: rt isn't there: {fault}")
-    told = done.stderr.decode(errors="replace")
-    if not re.search(r"^cases=\d+ ", told, re.MULTILINE):
-        sys.exit(f"trial: rt try ended with status {done.returncode}:\n{told[-4000:]}")
-    return done.stdout, told
-
-
-def seen_in(output, told):
-    """Of each run that ended, by its number, the status and what was written. Of one that a check stopped, what was told of it
-    stands for what was written on standard error."""
-    written = dict(re.findall(rb"^== run(\d+)\n(.*?)(?=^== run\d+\n|\Z)", output, re.MULTILINE | re.DOTALL))
-    seen, begin = {}, 0
-    for found in re.finditer(r"^case=run(\d+) run=(\S+)(?: status=(\d+))?.*\n", told, re.MULTILINE):
-        number, how, status = found.groups()
-        before, begin = told[begin:found.start()].encode(), found.end()
-        if how == "ended":
-            seen[int(number)] = int(status), written.get(number.encode(), b""), before
-        elif b"the program wrote more than" not in before:
-            seen[int(number)] = how, b"", before
-    return seen
+        seen = try_cases([Case(BATCH, text) for text in inputs], self.files, "trial", SECONDS)
+        self.seen = {text: it for text, it in zip(inputs, seen) if not it.is_cut}
 
 
 # ---- rows
@@ -138,8 +99,10 @@ def run(names):
     Folder.stand_in = runs = Runs()
     for its in rows.values():
         keep(its)
-    print(f"trial: rt try builds the program without its proof and runs it on {len(set(runs.kept))} inputs. It takes some minutes.", flush=True)
-    runs.make()
+    try:
+        runs.make()
+    except Fault as fault:
+        sys.exit(f"trial: {fault}")
     counts = sum((look(name, its) for name, its in rows.items() if its), collections.Counter())
     whole = [name for name, its in rows.items() if not its]
     print(f"left out: {counts['left out']} rows that want another configuration, `check`, a pipe, a device or more than 1 MiB"
