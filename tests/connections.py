@@ -11,7 +11,7 @@ import itertools
 import sys
 
 from evaluation import program_of
-from lib.harness import run_parts
+from lib.harness import Wrong, run_parts
 from lib.messages import OK, canonical, create, file_of, instances, linked, loaded, put, refused
 from lib.plain_http import answer
 from lib.refusing import WHOLE, Run, refusing
@@ -168,12 +168,15 @@ def each_refusal(it):
     with Run(place, (*words[:2], "nothing", *words[3:])) as run:
         before = run.case([], WHOLE).allocations
     exact, may_be, counts = (0, b"".join(answers(True, True, True, True)), b""), what_may_be(), collections.Counter()
-    with Run(place, words) as run:
-        for name, ended in run.each([], WHOLE, before):
-            outcome, no_memory = may_be.get(ended[:3], ("neither", 0))
-            is_right = outcome != "neither" and no_memory <= ended.refusals if ended.refusals else ended[:3] == exact
-            it.expect(name, None if is_right else ended[:3], None)
-            counts[outcome] += 1
+    try:
+        with Run(place, words) as run:
+            for name, ended in run.each([], WHOLE, before):
+                outcome, no_memory = may_be.get(ended[:3], ("neither", 0))
+                is_right = outcome != "neither" and no_memory <= ended.refusals if ended.refusals else ended[:3] == exact
+                it.expect(name, None if is_right else ended[:3], None)
+                counts[outcome] += 1
+    except Wrong as fault:
+        it.expect("each refusal", str(fault), None)
     it.expect("replies of each sort", all(counts[outcome] > 2 for outcome in ("answered", "NoMemory", "cut off")), True)
 
 

@@ -270,6 +270,8 @@ def refuse_check(program, folder, command, *wanted):
         if not is_same and (result.status != 2 or result.output not in told or result.errors.count(b"\n") != 1):
             raise Wrong(f"{key}={place} of {whole.allocations}: status {result.status}, {result.output!r}, {result.errors!r}")
         seen[key, "the same line" if is_same else "status 2"] += 1
+    if not any(outcome == "status 2" for _, outcome in seen):
+        raise Wrong("no refusal had an effect")
     return whole, seen
 
 
