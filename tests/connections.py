@@ -103,6 +103,16 @@ def cut_off(it):
             it.expect(f"{name}, {pieces}", served(it, asked, size, room, "cut"), (2, told, fault))
 
 
+def each_read_and_write_fails(it):
+    """Reads and writes of one byte, each of which fails in turn: nothing is written before the request is whole, and then a front of the
+    reply."""
+    for count in range(len(ASKED) + 1):
+        it.expect(f"read {count + 1} fails", served(it, ASKED[:count], 1, ROOM, "cut"), (2, TOLD if count == len(ASKED) else b"", READ))
+    for count in range(len(TOLD)):
+        it.expect(f"write {count + 1} fails", served(it, ASKED, 1, count, "closed"), (2, TOLD[:count], WRITE))
+    it.expect("no write fails", served(it, ASKED, 1, len(TOLD), "closed"), (0, TOLD, b""))
+
+
 # the reads of a connection
 READS = 1_000_000
 BAD_REQUEST = (b'HTTP/1.1 400 Bad Request\r\nContent-Type: application/json\r\nContent-Length: 42\r\n\r\n'
@@ -200,4 +210,4 @@ def faulty_words(it):
 
 
 if __name__ == "__main__":
-    run_parts("connections", (answered, cut_off, as_many_reads_as_there_are, each_refusal, faulty_words), program_of(sys.argv[1:]))
+    run_parts("connections", (answered, cut_off, each_read_and_write_fails, as_many_reads_as_there_are, each_refusal, faulty_words), program_of(sys.argv[1:]))
