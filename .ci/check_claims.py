@@ -1,5 +1,6 @@
 #!/usr/bin/env python3
-"""Fails where docs/CLAIMS.md and its pages on rules, schemas, HTTP and snapshots name what isn't there, or leave out a public call or a must-fail edit.
+"""Fails where docs/CLAIMS.md and its pages on rules, schemas, HTTP and snapshots name what isn't there, or leave out a public call, a must-fail edit or
+a public function without `ensures`. Prints these functions.
 
     .ci/check_claims.py [FILE ..]
 
@@ -13,13 +14,23 @@ those crates in backticks; all others are inner ones. A promise is a block:
     - tests: `tests/script.py`, `crate test_name`
 
 Its three lists are `none`, or items in backticks with commas between, and may go on over further lines that begin
-with two spaces; a block names at least one call. Other text is free. Refused are:
+with two spaces; a block names at least one call. Other text is free.
+
+A public function is a `pub fn` that other crates can name, a method of a public trait, or a method of an impl for a public type. Its
+contract is its own `ensures`, or that of its trait. The traits of the kit leave to a ghost member of the impl what a method returns, so a
+method of an impl without one has no contract. `drop`, and `clone` of a Copy type, aren't counted. The public functions without `ensures`,
+of all crates, are named below the heading '## Only tested', in blocks of the same form that promise nothing. The heading of such a block is
+one of 'Words for people', 'Speed', 'Memory alone', 'A device', 'The command line' and 'The trial programs'; it names tests and no edits.
+
+Refused are:
 
     a call that is no `pub fn` which other crates can name, nor a method of one of a crate's traits
     an edit or a test that isn't there; a test is a function with #[test], or a script that can be run
     a public call of a public crate that no block names
     an edit in a must-fail/ that no block names, and any edit that is named twice
-    an inner crate whose calls stand in more than one block
+    an inner crate whose calls stand in more than one promise
+    a public function without `ensures` that no block below '## Only tested' names, or that two name, or that a promise names
+    a function with an `ensures` that a block below '## Only tested' names
 """
 import collections
 import os
@@ -30,6 +41,9 @@ TOP = os.path.dirname(os.path.dirname(os.path.abspath(__file__)))
 FILES = ("docs/CLAIMS.md", "docs/CLAIMS-OF-RULES.md", "docs/CLAIMS-OF-SCHEMAS.md", "docs/CLAIMS-OF-HTTP.md",
          "docs/CLAIMS-OF-SNAPSHOTS.md", "docs/CLAIMS-OF-THE-STORE.md")
 LISTS = ("calls", "edits", "tests")
+# The heading below which blocks name the public functions without `ensures`, and the kinds of these.
+ONLY_TESTED = "## Only tested"
+KINDS = ("Words for people", "Speed", "Memory alone", "A device", "The command line", "The trial programs")
 WIDEST = 200
 
 COMMENT_OR_TEXT = re.compile(
@@ -39,12 +53,13 @@ WORDS = re.compile(r"[{}]|[^{};]+|;")
 FUNCTION = re.compile(r"(?P<public>\bpub\s+)?(?:const\s+|unsafe\s+)*\bfn\s+(?P<name>\w+)")
 IMPL = re.compile(r"\bimpl\b(?P<head>.*)\Z", re.DOTALL)
 TRAIT = re.compile(r"\btrait\s+(?P<name>\w+)")
+ENSURES = re.compile(r"\bensures\b")
+GHOST_MEMBER = re.compile(r"\A\s*ghost\s+(?!use\b)\w+")
 PUBLIC_MODULE = re.compile(r"^pub mod (\w+);", re.MULTILINE)
 PUBLIC_USE = re.compile(r"^pub use ([^;]+);", re.MULTILINE)
 
-# A function of a source: the type or trait of its block or None, its name, whether it says `pub`, whether its block is
-# a trait's, and whether it is a test. In a function's own body the type is 'body'.
-Function = collections.namedtuple("Function", "owner name is_pub in_trait is_test")
+# A function of a source: its block, its name, whether it says `pub`, whether it is a test, and whether it has an `ensures`.
+Function = collections.namedtuple("Function", "block name is_pub is_test has_ensures")
 
 
 def without_angles(text):
@@ -61,47 +76,72 @@ def without_angles(text):
     return "".join(kept)
 
 
-def block_of(head):
-    """The type or trait that a block belongs to, and whether it is a trait's. None for another block."""
+class Scope:
+    """A block of a source: the type or trait that it belongs to, 'body' for that of a function, or None; the trait that it declares or
+    that its impl is of; and whether it has a ghost member."""
+
+    def __init__(self, owner=None, trait=None, declares=False):
+        self.owner, self.trait, self.declares = owner, trait, declares
+        self.has_ghost = False
+
+
+def scope_of(head):
+    """The block that begins after this text."""
+    if FUNCTION.search(head):
+        return Scope("body")
     found = TRAIT.search(head)
-    if found and not FUNCTION.search(head):
-        return found["name"], True
+    if found:
+        return Scope(found["name"], found["name"], True)
     found = IMPL.search(head)
-    if found and not FUNCTION.search(head):
-        plain = without_angles(found["head"]).split(" where ")[0]
-        subject = plain.split(" for ")[-1].strip().lstrip("&").strip()
-        name = re.search(r"(\w+)\s*\Z", subject)
-        return (name[1], " for " in plain) if name else None
-    return None
+    if found:
+        trait, _, subject = re.split(r"\bwhere\b", without_angles(found["head"]))[0].rpartition(" for ")
+        name = re.search(r"(\w+)\s*\Z", subject.strip().lstrip("&"))
+        of = re.search(r"(\w+)\s*\Z", trait)
+        return Scope(name[1], of and of[1]) if name else Scope()
+    return Scope()
 
 
-def functions_of(text):
-    """The functions of a source."""
-    blocks, head, found = [], "", []
-    for piece in WORDS.findall(text):
-        if piece == "{":
-            # A clause of a contract has braces of its own, so a function is noted at its first one.
-            for it in FUNCTION.finditer(head):
-                if not any(block == "body" for block, _ in blocks):
-                    owner = next((block for block, _ in reversed(blocks) if block), None)
-                    in_trait = any(is_trait for _, is_trait in blocks)
-                    found.append(Function(owner, it["name"], bool(it["public"]), in_trait, "#[test]" in head))
-            block = block_of(head)
-            blocks.append(block or (("body" if FUNCTION.search(head) else None), False))
-            head = ""
-        elif piece == "}":
-            if blocks:
-                blocks.pop()
-            head = ""
-        elif piece == ";":
-            for it in FUNCTION.finditer(head):
-                owner = next((block for block, is_trait in reversed(blocks) if is_trait), None)
-                if owner:
-                    found.append(Function(owner, it["name"], False, True, False))
-            head = ""
-        else:
-            head += piece
-    return found
+class Functions:
+    """The functions of a source, as they are found."""
+
+    def __init__(self, text):
+        self.blocks, self.found, self.depth, self.copied = [], [], None, set()
+        head = ""
+        for piece in WORDS.findall(text):
+            if piece in "{};":
+                self.take(head, piece)
+                head = ""
+            else:
+                head += piece
+
+    def take(self, head, mark):
+        """Takes the text up to a mark."""
+        if mark == "{":
+            self.open(head)
+        elif mark == "}":
+            del self.blocks[-1:]
+        elif self.blocks and self.blocks[-1].declares:
+            # (a method of a trait that has no contract)
+            self.note(head)
+
+    def open(self, head):
+        """Takes the text before a block. A clause of a contract is one too, so a function is noted at its first one."""
+        if self.blocks and GHOST_MEMBER.search(head):
+            self.blocks[-1].has_ghost = True
+        elif len(self.blocks) == self.depth and head.split()[:1] == ["ensures"]:
+            self.found[-1] = self.found[-1]._replace(has_ensures=True)
+        elif not any(it.owner == "body" for it in self.blocks):
+            self.note(head)
+        is_body = len(self.blocks) == self.depth and not head.strip()
+        self.blocks.append(Scope("body") if is_body else scope_of(head))
+        if self.blocks[-1].trait == "Copy":
+            self.copied.add(self.blocks[-1].owner)
+
+    def note(self, head):
+        for it in FUNCTION.finditer(head):
+            block = next((block for block in reversed(self.blocks) if block.owner), Scope())
+            self.found.append(Function(block, it["name"], bool(it["public"]), "#[test]" in head, bool(ENSURES.search(head))))
+            self.depth = len(self.blocks)
 
 
 def exports_of(root):
@@ -114,23 +154,37 @@ def exports_of(root):
 
 
 class Crate:
-    """What a crate's sources have: its public calls, the methods of its traits, and its tests."""
+    """What a crate's sources have: its public calls, the methods of its traits, its tests, the traits that it declares, and its public
+    functions without an `ensures` of their own, each with the trait of its impl, or None."""
 
     def __init__(self, folder):
-        self.calls, self.trait_methods, self.tests = set(), set(), set()
+        self.calls, self.trait_methods, self.tests, self.traits, self.silent = set(), set(), set(), set(), set()
         texts = {os.path.relpath(path, folder)[: -len(".rt")]: self.plain(path) for path in self.files(folder)}
         root = "lib" if "lib" in texts else "main"
         used, modules = exports_of(texts[root])
         for module, text in texts.items():
-            is_open = module == root or module in modules
-            for it in functions_of(text):
-                is_seen = is_open or (it.owner or it.name) in used
+            functions = Functions(text)
+            for it in functions.found:
+                is_seen = module == root or module in modules or (it.block.owner or it.name) in used
                 if it.is_test:
                     self.tests.add(it.name)
-                elif it.owner != "body" and it.in_trait:
-                    self.trait_methods.add((it.owner, it.name))
-                elif it.owner != "body" and it.is_pub and is_seen:
-                    self.calls.add((it.owner, it.name))
+                else:
+                    self.take(it, is_seen, functions.copied)
+
+    def take(self, function, is_seen, copied):
+        """Takes a function that isn't a test. Other crates can name it, or its type, where `is_seen`. The types of `copied` are Copy."""
+        block, call = function.block, (function.block.owner, function.name)
+        if block.declares:
+            self.traits.add(block.trait)
+        if block.trait:
+            self.trait_methods.add(call)
+        elif function.is_pub and is_seen:
+            self.calls.add(call)
+        given_by = None if block.declares else block.trait
+        is_said = function.has_ensures or given_by and block.has_ghost
+        gives = given_by != "Drop" and not (given_by == "Clone" and block.owner in copied)
+        if is_seen and (function.is_pub or block.trait) and gives and not is_said:
+            self.silent.add((*call, given_by))
 
     @staticmethod
     def files(folder):
@@ -155,6 +209,10 @@ class Repository:
             folder = os.path.join(TOP, "crates", name, "src")
             if os.path.isdir(folder):
                 self.crates[name] = Crate(folder)
+        traits = set().union(*(it.traits for it in self.crates.values()))
+        # (a method of an impl has the contract of its trait, and where that has none, the trait's method is listed)
+        self.silent = {"::".join(filter(None, (name, owner, function)))
+                       for name, crate in self.crates.items() for owner, function, trait in crate.silent if trait not in traits}
 
     def edits(self):
         """The edits that each gate tries."""
@@ -195,10 +253,11 @@ class Repository:
 
 
 class Block:
-    """A promise: where it stands, whether it has text, and its lists as they are written."""
+    """A promise, or a kind of functions that are only tested: its place, its heading, which of both it is, whether it has text, and
+    its lists as they are written."""
 
-    def __init__(self, place):
-        self.place = place
+    def __init__(self, place, heading, is_promise):
+        self.place, self.heading, self.is_promise = place, heading, is_promise
         self.has_text = False
         self.lists = {}
 
@@ -216,6 +275,10 @@ class Block:
                 yield f"{self.place}: {word}: neither 'none' nor items in backticks with commas between: {text}"
         if not self.items("calls"):
             yield f"{self.place}: it names no call"
+        if not self.is_promise and self.heading not in KINDS:
+            yield f"{self.place}: the kinds below '{ONLY_TESTED}' are {', '.join(KINDS)}"
+        if not self.is_promise and (self.items("edits") or not self.items("tests")):
+            yield f"{self.place}: a block below '{ONLY_TESTED}' names tests and no edits"
 
 
 class Claims:
@@ -224,7 +287,7 @@ class Claims:
     def __init__(self, texts):
         self.blocks, self.public, self.faults = [], [], []
         for name, text in texts.items():
-            self.block, self.word = None, None
+            self.block, self.word, self.is_promise = None, None, True
             for number, line in enumerate(text.split("\n"), 1):
                 if len(line) > WIDEST:
                     self.faults.append(f"{name}:{number}: {len(line)} characters, over {WIDEST}")
@@ -238,7 +301,9 @@ class Claims:
     def read(self, place, line):
         """Takes a line into the block that is open, or opens or closes one."""
         if line.startswith("#"):
-            self.block, self.word = (Block(place) if line.startswith("### ") else None), None
+            if not line.startswith("### "):
+                self.is_promise = line != ONLY_TESTED
+            self.block, self.word = (Block(place, line[4:], self.is_promise) if line.startswith("### ") else None), None
             self.blocks += [self.block] if self.block else []
         elif self.block and line.startswith("- "):
             self.word, _, text = line.removeprefix("- ").partition(": ")
@@ -266,6 +331,19 @@ def named_faults(blocks, repository):
                     yield f"{block.place}: {word}: `{item}` {fault}"
 
 
+def silent_faults(claims, repository):
+    """Public functions without `ensures` that aren't named as such, and others that are."""
+    tested = collections.Counter(it for block in claims.blocks if not block.is_promise for it in block.items("calls"))
+    yield from (f"{it}: a public function without `ensures`, and no block below '{ONLY_TESTED}' names it" for it in sorted(repository.silent - set(tested)))
+    yield from (f"{it}: {count} times named below '{ONLY_TESTED}'" for it, count in tested.items() if count > 1)
+    for block in claims.blocks:
+        for item in block.items("calls"):
+            if block.is_promise and item in repository.silent:
+                yield f"{block.place}: `{item}` has no `ensures`, so it carries no promise"
+            elif not block.is_promise and item not in repository.silent and not repository.call_fault(item):
+                yield f"{block.place}: `{item}` has an `ensures`, so a promise names it"
+
+
 def missing_faults(claims, repository):
     """What the blocks leave out, and what they name too often."""
     named = {it for block in claims.blocks for it in block.items("calls")}
@@ -281,7 +359,7 @@ def missing_faults(claims, repository):
     yield from (f"crates/{it}: no block names it" for it in repository.edits() if it not in edits)
     yield from (f"{it}: {count} times named" for it, count in edits.items() if count > 1)
     inner = collections.Counter()
-    for block in claims.blocks:
+    for block in filter(lambda it: it.is_promise, claims.blocks):
         inner.update({it.split("::")[0] for it in block.items("calls")} - set(claims.public))
     for crate, count in sorted(inner.items()):
         if count > 1:
@@ -298,10 +376,13 @@ def main(words):
     except OSError as fault:
         sys.exit(f"check_claims: {fault}")
     claims = Claims(texts)
-    faults = [*claims.faults, *named_faults(claims.blocks, repository), *missing_faults(claims, repository)]
+    faults = [*claims.faults, *named_faults(claims.blocks, repository), *missing_faults(claims, repository), *silent_faults(claims, repository)]
+    print(f"{len(repository.silent)} public functions have no `ensures`:")
+    for name in sorted(repository.silent):
+        print(f"    {name}")
     for fault in faults:
         print(fault)
-    print(f"check_claims: {len(claims.blocks)} promises, {len(faults)} faults")
+    print(f"check_claims: {sum(it.is_promise for it in claims.blocks)} promises, {len(faults)} faults")
     sys.exit(1 if faults else 0)
 
 
