@@ -128,24 +128,28 @@ SCHEMA_ROWS = {"T": T, "L": L, "D": D, "E": E, "O": O}
 REMARKED = "(* it's (* a *) remark *)" + FORMS.replace(";\n", "; -- it's (* one\n", 1) + "END_SCHEMA;\n"
 
 
-def reply_of(name, text, *warnings):
-    """The reply to `check_schema` of a text."""
-    found = SCHEMAS.fault(text)
-    return fault(found.kind, found.at) if found else good(name, *warnings)
+def expect_faults(faults, whole):
+    """`check_schema` reports these faults of texts, and the whole text has this reply."""
+    expect_turns([(cut_at(piece), check("ann", piece), fault(found.kind, found.at) if found else whole) for piece, found in faults.items()])
+
+
+def faults_of(text):
+    """By each cut of a schema its fault, or None."""
+    return {piece: SCHEMAS.fault(piece) for piece in cuts(text)}
 
 
 def test_schemas():
     """A cut schema has the fault Syntax, at its last token or at its end."""
     for name, text in SCHEMA_ROWS.items():
-        for piece in cuts(text):
-            found = SCHEMAS.fault(piece)
+        faults = faults_of(text)
+        for piece, found in faults.items():
             if found and (found.kind != "Syntax" or found.at not in (len(piece), *[it.begin for it in SCHEMAS.tokens(piece)[0][-1:]])):
                 raise AssertionError(f"{found} of {piece!r}")
-        expect_turns([(cut_at(piece), check("ann", piece), reply_of(name, piece)) for piece in cuts(text)])
+        expect_faults(faults, good(name))
 
 
 def test_schemas_by_the_command():
-    """`check` reports the same fault by its line and column."""
+    """`check` reports the same fault by its line and column: at each third cut."""
     def look(row):
         name, piece = row
         path = f"{name}-{len(piece)}.exp"
@@ -158,14 +162,15 @@ def test_schemas_by_the_command():
             raise Wrong(f"{cut_at(piece)}: {seen!r} in place of {wanted!r}")
 
     with Saving() as folder:
-        each(look, [(name, piece) for name, text in SCHEMA_ROWS.items() for piece in cuts(text)])
+        each(look, [(name, piece) for name, text in SCHEMA_ROWS.items() for piece in cuts(text)[::3]])
 
 
 def test_a_schema_of_most_forms():
     """A cut remark, string or binary literal is a fault of its token; any other cut is a Syntax fault."""
-    if {it.kind for it in map(SCHEMAS.fault, cuts(REMARKED)) if it} != {"Syntax", "OpenRemark", "OpenString", "Token"}:
+    faults = faults_of(REMARKED)
+    if {it.kind for it in faults.values() if it} != {"Syntax", "OpenRemark", "OpenString", "Token"}:
         raise AssertionError("a kind of fault doesn't occur")
-    expect_turns([(cut_at(piece), check("ann", piece), reply_of("C", piece, REMARKED.index("'C.S'"))) for piece in cuts(REMARKED)])
+    expect_faults(faults, good("C", REMARKED.index("'C.S'")))
 
 
 # ---- other tokens

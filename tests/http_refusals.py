@@ -9,6 +9,7 @@ what was answered NoMemory isn't; and other connections are served. The last lin
 0 only if none failed.
 """
 import os
+import subprocess
 import sys
 import tempfile
 from concurrent.futures import ThreadPoolExecutor
@@ -155,8 +156,19 @@ def look(shim, refusal, may_end):
                 raise Wrong("it ended") from None
             server.expect_ended(2, FAULT)
             return
-        if not is_right:
+        if may_end and has_ended(server):
+            server.expect_ended(2, FAULT)
+        elif not is_right:
             raise Wrong(f"{there} has to be there, or {then}, and isn't")
+
+
+def has_ended(server):
+    """Whether the program exits soon: it may have accepted a connection before."""
+    try:
+        server.process.wait(0.2)
+    except subprocess.TimeoutExpired:
+        return False
+    return True
 
 
 def expect_each(name, step):
