@@ -104,8 +104,7 @@ def cut_off(it):
 
 
 def each_read_and_write_fails(it):
-    """Reads and writes of one byte, each of which fails in turn: nothing is written before the request is whole, and then a front of the
-    reply."""
+    """Each read and each write of one byte fails in turn: before the request is complete nothing is written, and then a front of the reply."""
     for count in range(len(ASKED) + 1):
         it.expect(f"read {count + 1} fails", served(it, ASKED[:count], 1, ROOM, "cut"), (2, TOLD if count == len(ASKED) else b"", READ))
     for count in range(len(TOLD)):
@@ -131,13 +130,13 @@ def post_of(size):
 
 def as_many_reads_as_there_are(it):
     """A read after the millionth fails, so a connection that gives a million single bytes of a longer body ends by a read fault."""
-    for name, asked, told in (("one byte more than that", post_of(READS + 1), (2, b"", READ)),
-                              ("a longer body", post_of(READS + 100_000)[:READS], (2, b"", READ)),
-                              ("as many bytes, and then the end", post_of(READS), (2, BAD_REQUEST, READ)),
-                              ("one byte less, and then the end", post_of(READS - 1), (0, BAD_REQUEST, b""))):
-        it.expect(name, served(it, asked, 1, ROOM, "closed"), told)
-        it.expect(f"{name}, of more bytes for each read", served(it, asked, 2, ROOM, "closed"),
-                  (0, b"" if len(asked) == READS and told[1] == b"" else BAD_REQUEST, b""))
+    for name, asked, wanted in (("one byte more than reads", post_of(READS + 1), (2, b"", READ)),
+                                ("a longer body", post_of(READS + 100_000)[:READS], (2, b"", READ)),
+                                ("as many bytes as reads, and then the end", post_of(READS), (2, BAD_REQUEST, READ)),
+                                ("one byte less, and then the end", post_of(READS - 1), (0, BAD_REQUEST, b""))):
+        it.expect(name, served(it, asked, 1, ROOM, "closed"), wanted)
+        # (two bytes for each read: all that is there is read)
+        it.expect(f"{name}, two at a time", served(it, asked, 2, ROOM, "closed"), (0, b"" if name == "a longer body" else BAD_REQUEST, b""))
 
 
 # ---- want of memory
@@ -148,11 +147,11 @@ MADE, FILLED, THERE = answer(OK), answer(instances(1)), answer(loaded("T"))
 CONNECTION = [as_post(create("ann", "m")), as_post(put("ann", "ann", "m", file_of("#1=P(1.,$);"))), get("/v1/models/ann/m/file"), get("/v1/schemas")]
 
 
-def answers(made, put_there, shown, told):
+def answers(made, put_there, shown, listed):
     """The replies to this connection, where these of its requests find memory."""
     text = answer(linked(canonical(*(["#1=P(1.,$);"] if put_there else []))))
     exact = [MADE, FILLED if made else GONE, text if made else GONE, THERE]
-    return [it if there else NO_MEMORY for it, there in zip(exact, (made, put_there, shown, told))]
+    return [it if there else NO_MEMORY for it, there in zip(exact, (made, put_there, shown, listed))]
 
 
 def what_may_be():
@@ -162,8 +161,8 @@ def what_may_be():
     for there in itertools.product((True, False), repeat=len(CONNECTION)):
         its = answers(*there)
         # (a write into memory fails where it finds no room)
-        found.update({(2, b"".join(its[:count]), told): ("cut off", its[:count].count(NO_MEMORY))
-                      for count in range(len(its) + 1) for told in (OUT_OF_MEMORY, WRITE)})
+        found.update({(2, b"".join(its[:count]), line): ("cut off", its[:count].count(NO_MEMORY))
+                      for count in range(len(its) + 1) for line in (OUT_OF_MEMORY, WRITE)})
         found[0, b"".join(its), b""] = ("answered" if all(there) else "NoMemory", there.count(False))
     return found
 

@@ -5,8 +5,8 @@
 
 The requests are sessions with their replies, and those that ask for the small reports of data/reports/. Before each line of a session the
 run is forked for each allocation that the line makes (lib/refusing.py): a fork refuses that allocation, or for each third that and all
-later ones. The reply has to be NoMemory or the exact one, the content has to be unchanged or as after the request, and the next requests,
-the same one among them, have to be answered accordingly. The plain repository gives these replies. The last line is
+later ones. The reply must be NoMemory or the exact one, the content must be unchanged or as after the request, and the next requests, the
+same one among them, must be answered accordingly. The plain repository gives these replies. The last line is
 'request refusals: N passed, M failed', and the status is 0 only if none failed.
 """
 import collections

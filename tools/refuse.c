@@ -7,7 +7,7 @@
                    (-1: it was never read), how many were refused, and how many bytes all asked for
 
    REFUSE_CASES=D  makes many cases of one run, by the socket D. The process waits at its start, and again each time it has read all of
-                   standard input, which has to be a file: it writes three zeros to the socket and reads commands of three numbers.
+                   standard input, which must be a file: it writes three zeros to the socket and reads commands of three numbers.
                      0 0 0       goes on, with the main part or with the present content of the file; nothing is refused
                      1 N WINDOW  forks: the fork reads the file from its beginning, and the Nth allocation of the window is refused
                                  (none if N is 0)
@@ -208,7 +208,7 @@ void free(void *place) {
   }
 }
 
-/* A read of a fork: one line or a part of it, where windows are told apart. */
+/* A read of a fork: one line or a part of it, unless the window is the whole run. */
 static ssize_t read_of_fork(void *bytes, size_t size) {
   if (refused_window < 0) return real_read(0, bytes, size);
   if (is_at_line) enter(window + 1);

@@ -316,10 +316,10 @@ SCHEMAS = Texts(OF_SCHEMAS, schema_tokens, True, LEFT_OUT)
 # ---- files
 
 FILE = """
-file = 'ISO-10303-21' ';' HEADER ';' FILE_DESCRIPTION '(' told ',' told ')' ';'
-       FILE_NAME '(' told ',' told ',' told ',' told ',' told ',' told ',' told ')' ';' FILE_SCHEMA '(' '(' STRING ')' ')' ';' { other }
+file = 'ISO-10303-21' ';' HEADER ';' FILE_DESCRIPTION '(' header_value ',' header_value ')' ';'
+       FILE_NAME '(' header_value ',' header_value ',' header_value ',' header_value ',' header_value ',' header_value ',' header_value ')' ';' FILE_SCHEMA '(' '(' STRING ')' ')' ';' { other }
        ENDSEC ';' DATA [ '(' STRING ',' '(' STRING ')' ')' ] ';' { instance } ENDSEC ';' 'END-ISO-10303-21' ';' .
-told = STRING | '$' | '(' [ told { ',' told } ] ')' .
+header_value = STRING | '$' | '(' [ header_value { ',' header_value } ] ')' .
 other = ( FILE_POPULATION | SECTION_LANGUAGE | SECTION_CONTEXT ) values ';' .
 instance = NAME '=' mapping ';' .
 mapping = WORD values | '(' WORD values { WORD values } ')' .

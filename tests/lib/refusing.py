@@ -4,6 +4,7 @@ A run waits at its start, and again each time it has answered all lines of its i
 of its own, one of its windows has allocations refused, and it exits. The run itself is unchanged, so all cases start from the same state.
 """
 import os
+import signal
 import socket
 import struct
 import subprocess
@@ -47,7 +48,7 @@ class Run:
             env = {"LD_PRELOAD": os.path.join(folder, "refuse.so"), "REFUSE_CASES": str(theirs.fileno())}
             given, output, errors = self.files
             self.process = subprocess.Popen([Folder.program, *words], cwd=folder, stdin=given, stdout=output, stderr=errors, env=env,
-                                            pass_fds=[theirs.fileno()])
+                                            pass_fds=[theirs.fileno()], start_new_session=True)
         self.expect_waiting()
 
     def __enter__(self):
@@ -56,7 +57,8 @@ class Run:
     def __exit__(self, kind, *_):
         """A run that has read lines reads the end of its input and exits."""
         if not self.has_begun or kind:
-            self.process.kill()
+            # (a fork that hangs ends too)
+            os.killpg(self.process.pid, signal.SIGKILL)
         self.socket.close()
         self.process.wait(SECONDS)
         for it in self.files:
