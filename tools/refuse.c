@@ -15,8 +15,8 @@
                    The reply to a fork is its status, and how many allocations of the window occurred and were refused. If the
                    socket is closed, the process goes on and reads the end of its input.
                    Window -1 is the whole run. Window 0 ends at the first read of standard input. Window K, from 1, begins with the
-                   read of line K and ends with the read of the next; each read returns one line at most. The last window begins with
-                   the read of the end of input and ends with the run.
+                   read of line K and ends with the read of the next; up to there each read returns one line at most. The last window
+                   begins with the read of the end of input and ends with the run.
 
    malloc, calloc, realloc, reallocarray, aligned_alloc, memalign and posix_memalign count. */
 #define _GNU_SOURCE
@@ -208,10 +208,10 @@ void free(void *place) {
   }
 }
 
-/* A read of a fork: one line or a part of it, unless the window is the whole run. */
+/* A read of a fork: up to the refused window one line or a part of it. */
 static ssize_t read_of_fork(void *bytes, size_t size) {
-  if (refused_window < 0) return real_read(0, bytes, size);
-  if (is_at_line) enter(window + 1);
+  if (refused_window >= 0 && is_at_line) enter(window + 1);
+  if (refused_window < window) return real_read(0, bytes, size);
   ssize_t got = real_read(0, bytes, size);
   char *end = got > 0 ? memchr(bytes, '\n', (size_t)got) : 0;
   is_at_line = end != 0;

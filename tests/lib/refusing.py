@@ -3,6 +3,7 @@
 A run waits at its start, and again each time it has answered all lines of its input. A case is a fork of the waiting run: it reads lines
 of its own, one of its windows has allocations refused, and it exits. The run itself is unchanged, so all cases start from the same state.
 """
+import contextlib
 import os
 import signal
 import socket
@@ -58,7 +59,8 @@ class Run:
         """A run that has read lines reads the end of its input and exits."""
         if not self.has_begun or kind:
             # (a fork that hangs ends too)
-            os.killpg(self.process.pid, signal.SIGKILL)
+            with contextlib.suppress(ProcessLookupError):
+                os.killpg(self.process.pid, signal.SIGKILL)
         self.socket.close()
         self.process.wait(SECONDS)
         for it in self.files:
