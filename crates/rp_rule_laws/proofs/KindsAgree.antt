@@ -33,7 +33,7 @@ use Rattle.rp_meaning.specs.Types as fitting
 use Rattle.rp_rule_laws.proofs.KindsEnds.{at_or, end_again, held_out, holds, length-map, own_end, renamed_is}
 use Rattle.rp_rule_laws.proofs.KindsReached.{each, unfolded}
 use Rattle.rp_rule_laws.proofs.KindsWritten.{any_kept, any_map, any_once, has, instance_is, item_is, named_in, of_type_out, or_again, or_none, written_named, written_own}
-use Rattle.rp_rule_laws.specs.Kinds.{FitsByKinds, is_of_kind}
+use Rattle.rp_rule_laws.specs.Kinds.{is_of_kind, is_of_type}
 use Rattle.rp_value.specs.declared.value.Value.{Value, out-Value}
 use Rattle.rp_value.specs.declared.value.Value.TheOpen.{Value-F}
 
@@ -453,7 +453,7 @@ types_are : (schema : Checked) → (compiled schema).types ≡ numbered (defined
 unfolding compiled
 types_are schema = refl
 
-pub by_kinds : (schema : Checked) → IsAcyclic (held_types schema.named.schema.types) → FitsByKinds schema
+pub by_kinds : (schema : Checked) → IsAcyclic (held_types schema.named.schema.types) → (data_type : NamedDataType) (x : Value) → fitting.fits (compiled schema).types data_type x ≡ is_of_type schema data_type x
 unfolding fitting.fits
 by_kinds schema acyclic data_type x =
     fits_is schema.named.schema acyclic (compiled schema).types (types_are schema) (out-Value (bare x)) data_type

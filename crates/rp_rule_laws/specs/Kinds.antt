@@ -1,5 +1,5 @@
--- That values fit a declared type by the kinds with which the type is checked.
-use Rattle.std.specs.Prelude.{◌≡◌, ℕ, zero, suc, Bool, true, false, ◌==◌}
+-- The kinds of values, by which declared types are checked.
+use Rattle.std.specs.Prelude.{ℕ, zero, suc, Bool, true, false, ◌==◌}
 use Rattle.ex_kinds.specs.Kinds.{of_type}
 use Rattle.ex_kinds.specs.Types.{of_types, some_plain}
 use Rattle.ex_kinds.specs.declared.kind.Sort.{Sort}
@@ -8,8 +8,6 @@ use Rattle.ex_kinds.specs.declared.kind.ValueKind.{ValueKind}
 use Rattle.ex_named.specs.declared.expression.NamedDataType.{NamedDataType}
 use Rattle.ex_schemas.specs.Schemas.{Checked}
 use Rattle.rp_meaning.specs.Bare.{bare}
-use Rattle.rp_meaning.specs.Compiled.{compiled}
-use Rattle.rp_meaning.specs.Types.{fits}
 use Rattle.rp_value.specs.declared.value.Value.{Value, out-Value}
 use Rattle.rp_value.specs.declared.value.Value.TheOpen.{Value-F}
 
@@ -37,7 +35,6 @@ is_of_kind_at (suc depth) sort x = false
 abbrev pub is_of_kind : Value → ValueKind → Bool
 is_of_kind x kind = is_of_kind_at kind.depth kind.sort (out-Value (bare x))
 
--- A value fits a type exactly if it is of one of the type's kinds, where each defined type stands for what it is.
-abbrev pub FitsByKinds : Checked → Type 0
-FitsByKinds schema = (data_type : NamedDataType) (x : Value)
-    → fits (compiled schema).types data_type x ≡ some_plain (of_types schema.named.schema.types) (is_of_kind x) (of_type data_type)
+-- whether it is of one of the kinds of a type, where each defined type stands for what it is
+abbrev pub is_of_type : Checked → NamedDataType → Value → Bool
+is_of_type schema data_type x = some_plain (of_types schema.named.schema.types) (is_of_kind x) (of_type data_type)

@@ -31,7 +31,7 @@ use Rattle.rp_use_laws.proofs.Lists.{each_by}
 use Rattle.rp_use_laws.proofs.Naming.{StandFrom, all_stand}
 use Rattle.rp_use_laws.proofs.Populations.{InstancesAscend, population_apart}
 use Rattle.rp_use_laws.proofs.Roles.{entities_once}
-use Rattle.rp_use_laws.specs.Extents.{AllExtentsAgree, HasExtent, HasName, ValidExtentsAgree, set_of}
+use Rattle.rp_use_laws.specs.Extents.{HasExtent, HasName, ValidExtentsAgree, set_of}
 use Rattle.rp_use_laws.specs.Schemas.{IsBound}
 use Rattle.rp_use_laws.specs.Uses.{entities_in}
 
@@ -100,6 +100,11 @@ module _ (schema : Checked) (xs : List Placed) (entity : ℕ) where
 
   pub spelled : IsBound schema.named → (name : List ℕ) → HasName schema entity name → entity_spelled schema name ≡ Some entity
   spelled bound name is = placed_once (str_to_ascii_uppercase name) (entity_names (entities_in schema)) entity (entities_once schema.named.schema bound.once (str_to_ascii_uppercase name)) is
+
+-- rules have the instances that a request by the entity's name returns
+abbrev AllExtentsAgree : Checked → Type 0
+AllExtentsAgree schema = (ms : List Counted) → AreInOrder ms → (entity : ℕ) (name : List ℕ) → HasName schema entity name
+    → HasExtent schema (population ms) entity (places (asked.extent schema name (population ms)))
 
 pub extents_agree : (schema : Checked) → IsBound schema.named → AllExtentsAgree schema
 extents_agree schema bound ms order entity name is =

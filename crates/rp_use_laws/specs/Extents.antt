@@ -6,8 +6,7 @@ use Rattle.rp_value.specs.declared.value.AggregateKind.TheVariants as k
 use Rattle.rp_value.specs.declared.value.Value.{Value}
 use Rattle.rp_rows.specs.declared.rows.Key.{Key}
 use Rattle.rp_population.specs.declared.place.Place.{Place}
-use Rattle.rp_population.specs.Entities as asked
-use Rattle.rp_population.specs.Populations.{Counted, Placed, places, population}
+use Rattle.rp_population.specs.Populations.{Placed, population}
 use Rattle.rp_meaning.specs.declared.body.Body.{Body}
 use Rattle.rp_meaning.specs.declared.rule.Rule.{Rule}
 use Rattle.rp_meaning.specs.Attributes.{aggregate}
@@ -15,7 +14,7 @@ use Rattle.rp_meaning.specs.Computations.{Computation}
 use Rattle.rp_meaning.specs.Expressions.{costing, extent_value}
 use Rattle.rp_meaning.specs.Populations.{extent}
 use Rattle.rp_meaning.specs.Report.{candidates_of, of_instance}
-use Rattle.rp_positions.specs.Positions.{AreInOrder, place_position}
+use Rattle.rp_positions.specs.Positions.{place_position}
 use Rattle.rp_plain.specs.declared.messages.Reply.TheVariants as reply
 use Rattle.rp_plain.specs.declared.messages.Request.TheVariants as request
 use Rattle.rp_plain.specs.Plain.{Plain}
@@ -40,11 +39,6 @@ module _ (schema : Checked) (xs : List Placed) where
     pub given : extent (seen schema xs).population entity ≡ standing schema xs found
     pub value : (below : Body → Computation Value) → extent_value (seen schema xs) below entity ≡ set_of (standing schema xs found)
     pub tried : (rules : List Rule) → let w = seen schema xs in candidates_of w.schema w.population entity rules ≡ map (of_instance w.schema w.population rules) (map (place_position xs) found)
-
--- They are the instances that a request by the entity's name returns, in each population of models in their order.
-abbrev pub AllExtentsAgree : Checked → Type 0
-AllExtentsAgree schema = (ms : List Counted) → AreInOrder ms → (entity : ℕ) (name : List ℕ) → HasName schema entity name
-    → HasExtent schema (population ms) entity (places (asked.extent schema name (population ms)))
 
 -- In a valid repository of these schemas, if a partner's request returns these instances of a group's population, rules of the group's
 -- schema have them.
