@@ -9,3 +9,5 @@ mod KindsEnds
 mod KindsReached
 mod KindsWritten
 mod KindsAgree
+mod AttributesOnce
+mod AttributesEntities

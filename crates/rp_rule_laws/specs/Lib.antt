@@ -1,3 +1,4 @@
 pub mod Operations
 pub mod Reports
 pub mod Kinds
+pub mod Attributes

@@ -3,10 +3,12 @@
 //! Each function has a law as its contract, over the definitions that the repository's own calls cite.
 #![tactic(auto)]
 
+mod attributes;
 mod kinds;
 mod operations;
 mod reports;
 
+pub use attributes::attributes_mean_one;
 pub use kinds::fits_by_kinds;
 pub use operations::{
     all_within_counts, class_is_what_is_the_same, common_counts, difference_counts,
