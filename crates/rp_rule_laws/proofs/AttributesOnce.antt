@@ -37,6 +37,28 @@ first_none a b none = (neither a b none).0
 abbrev Layer : Type 0
 Layer = NamedExpression-F NamedExpression NamedQualifier NamedInterval NamedOperation NamedQuery
 
+-- ---- whose attributes mean one
+
+pub one-roll : (x : Layer) → law.expression (roll-NamedExpression x) ≡ law.expression_layer (map-NamedExpression NamedExpression NamedQualifier NamedInterval NamedOperation NamedQuery Bool Bool Bool Bool Bool law.expression law.qualifier law.interval law.operation law.query x)
+unfolding law.expression law.qualifier law.interval law.operation law.query
+one-roll x = fold-roll-NamedExpression Bool Bool Bool Bool Bool law.expression_layer law.qualifier_layer law.interval_layer law.operation_layer law.query_layer x
+
+pub one_qualifier-roll : (x : NamedQualifier-F NamedExpression NamedQualifier NamedInterval NamedOperation NamedQuery) → law.qualifier (roll-NamedQualifier x) ≡ law.qualifier_layer (map-NamedQualifier NamedExpression NamedQualifier NamedInterval NamedOperation NamedQuery Bool Bool Bool Bool Bool law.expression law.qualifier law.interval law.operation law.query x)
+unfolding law.expression law.qualifier law.interval law.operation law.query
+one_qualifier-roll x = fold-roll-NamedQualifier Bool Bool Bool Bool Bool law.expression_layer law.qualifier_layer law.interval_layer law.operation_layer law.query_layer x
+
+pub one_interval-roll : (x : NamedInterval-F NamedExpression NamedQualifier NamedInterval NamedOperation NamedQuery) → law.interval (roll-NamedInterval x) ≡ law.interval_layer (map-NamedInterval NamedExpression NamedQualifier NamedInterval NamedOperation NamedQuery Bool Bool Bool Bool Bool law.expression law.qualifier law.interval law.operation law.query x)
+unfolding law.expression law.qualifier law.interval law.operation law.query
+one_interval-roll x = fold-roll-NamedInterval Bool Bool Bool Bool Bool law.expression_layer law.qualifier_layer law.interval_layer law.operation_layer law.query_layer x
+
+pub one_operation-roll : (x : NamedOperation-F NamedExpression NamedQualifier NamedInterval NamedOperation NamedQuery) → law.operation (roll-NamedOperation x) ≡ law.operation_layer (map-NamedOperation NamedExpression NamedQualifier NamedInterval NamedOperation NamedQuery Bool Bool Bool Bool Bool law.expression law.qualifier law.interval law.operation law.query x)
+unfolding law.expression law.qualifier law.interval law.operation law.query
+one_operation-roll x = fold-roll-NamedOperation Bool Bool Bool Bool Bool law.expression_layer law.qualifier_layer law.interval_layer law.operation_layer law.query_layer x
+
+pub one_query-roll : (x : NamedQuery-F NamedExpression NamedQualifier NamedInterval NamedOperation NamedQuery) → law.query (roll-NamedQuery x) ≡ law.query_layer (map-NamedQuery NamedExpression NamedQualifier NamedInterval NamedOperation NamedQuery Bool Bool Bool Bool Bool law.expression law.qualifier law.interval law.operation law.query x)
+unfolding law.expression law.qualifier law.interval law.operation law.query
+one_query-roll x = fold-roll-NamedQuery Bool Bool Bool Bool Bool law.expression_layer law.qualifier_layer law.interval_layer law.operation_layer law.query_layer x
+
 -- ---- what is said of trees
 
 module _ (known : Known) where
@@ -67,28 +89,6 @@ module _ (known : Known) where
       typed (typed_qualifier known) (typed_interval known) (typed_operation known) (typed_query known) x)
   unfolding typed_expression typed_qualifier typed_interval typed_operation typed_query
   query-roll x = fold-roll-NamedQuery TypedExpression TypedQualifier (TypingScope → Typed) TypedOperation (TypingScope → Typed) (typing.expression_layer known) (typing.qualifier_layer known) (typing.interval_layer known) (typing.operation_layer known) (typing.query_layer known) x
-
-  -- ---- whose attributes mean one
-
-  one-roll : (x : Layer) → law.expression (roll-NamedExpression x) ≡ law.expression_layer (map-NamedExpression NamedExpression NamedQualifier NamedInterval NamedOperation NamedQuery Bool Bool Bool Bool Bool law.expression law.qualifier law.interval law.operation law.query x)
-  unfolding law.expression law.qualifier law.interval law.operation law.query
-  one-roll x = fold-roll-NamedExpression Bool Bool Bool Bool Bool law.expression_layer law.qualifier_layer law.interval_layer law.operation_layer law.query_layer x
-
-  one_qualifier-roll : (x : NamedQualifier-F NamedExpression NamedQualifier NamedInterval NamedOperation NamedQuery) → law.qualifier (roll-NamedQualifier x) ≡ law.qualifier_layer (map-NamedQualifier NamedExpression NamedQualifier NamedInterval NamedOperation NamedQuery Bool Bool Bool Bool Bool law.expression law.qualifier law.interval law.operation law.query x)
-  unfolding law.expression law.qualifier law.interval law.operation law.query
-  one_qualifier-roll x = fold-roll-NamedQualifier Bool Bool Bool Bool Bool law.expression_layer law.qualifier_layer law.interval_layer law.operation_layer law.query_layer x
-
-  one_interval-roll : (x : NamedInterval-F NamedExpression NamedQualifier NamedInterval NamedOperation NamedQuery) → law.interval (roll-NamedInterval x) ≡ law.interval_layer (map-NamedInterval NamedExpression NamedQualifier NamedInterval NamedOperation NamedQuery Bool Bool Bool Bool Bool law.expression law.qualifier law.interval law.operation law.query x)
-  unfolding law.expression law.qualifier law.interval law.operation law.query
-  one_interval-roll x = fold-roll-NamedInterval Bool Bool Bool Bool Bool law.expression_layer law.qualifier_layer law.interval_layer law.operation_layer law.query_layer x
-
-  one_operation-roll : (x : NamedOperation-F NamedExpression NamedQualifier NamedInterval NamedOperation NamedQuery) → law.operation (roll-NamedOperation x) ≡ law.operation_layer (map-NamedOperation NamedExpression NamedQualifier NamedInterval NamedOperation NamedQuery Bool Bool Bool Bool Bool law.expression law.qualifier law.interval law.operation law.query x)
-  unfolding law.expression law.qualifier law.interval law.operation law.query
-  one_operation-roll x = fold-roll-NamedOperation Bool Bool Bool Bool Bool law.expression_layer law.qualifier_layer law.interval_layer law.operation_layer law.query_layer x
-
-  one_query-roll : (x : NamedQuery-F NamedExpression NamedQualifier NamedInterval NamedOperation NamedQuery) → law.query (roll-NamedQuery x) ≡ law.query_layer (map-NamedQuery NamedExpression NamedQualifier NamedInterval NamedOperation NamedQuery Bool Bool Bool Bool Bool law.expression law.qualifier law.interval law.operation law.query x)
-  unfolding law.expression law.qualifier law.interval law.operation law.query
-  one_query-roll x = fold-roll-NamedQuery Bool Bool Bool Bool Bool law.expression_layer law.qualifier_layer law.interval_layer law.operation_layer law.query_layer x
 
   -- ---- what is proved of each tree, in the scope of an entity
 

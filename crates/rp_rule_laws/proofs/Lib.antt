@@ -11,3 +11,6 @@ mod KindsWritten
 mod KindsAgree
 mod AttributesOnce
 mod AttributesEntities
+mod AttributesBound
+mod AttributesStatements
+mod AttributesElsewhere

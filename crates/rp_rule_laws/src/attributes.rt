@@ -1,15 +1,14 @@
-//! The attributes that the entities of a checked schema use by their names alone.
+//! The attributes that a checked schema uses by their names alone.
 
-ghost use Rattle.std.specs.Prelude.{◌≡◌, true};
-ghost use Rattle.std.specs.List.{list_all};
-ghost use Rattle.rp_rule_laws.specs.Attributes.{entity};
+ghost use Rattle.rp_rule_laws.specs.Attributes.{AttributesMeanOne};
 
 use ex_types::CheckedSchema;
 
-/// Each attribute that an entity of a checked schema redeclares, derives, inverts, lists in UNIQUE, or uses by its name alone in an
-/// expression of DERIVE or WHERE means one declaration.
+/// Each attribute that a checked schema uses by its name alone means one declaration: where it is redeclared, in INVERSE and UNIQUE,
+/// and in each expression and statement.
 pub fn attributes_mean_one(schema: &CheckedSchema)
-    ensures { list_all entity schema.now.named.schema.entities ≡ true }
+    ensures { AttributesMeanOne schema.now.named.schema }
 {
     schema.proved();
+    schema.resolved().proved();
 }
