@@ -4,4 +4,5 @@ pub mod Answering
 pub mod Looking
 pub mod Leaving
 pub mod Serving
+pub mod Stepping
 pub mod Feeding

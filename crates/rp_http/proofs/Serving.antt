@@ -382,22 +382,29 @@ refused_run tokens start now input before after owed is none = inr (inr (record 
 -- ---- a write that failed
 
 pub cut_answer : (tokens : List (List ℕ)) (start now : Plain) (input known before after : Option (List ℕ)) (inbox : State) (owed : List ℕ) (stays : Bool)
-    → IsSending tokens start now input known before after inbox owed stays → IsCutRun tokens start now input before after
-cut_answer tokens start now input known before after inbox owed stays is = inl (record {
-  calls = is.calls ++ is.last ∷ [];
+    → 0 < length owed → IsSending tokens start now input known before after inbox owed stays → IsCutRun tokens start now input before after
+cut_answer tokens start now input known before after inbox owed stays some is = inl (record {
+  calls = is.calls;
+  last = is.last;
   left = prepend_known is.came known;
   takes = is.takes;
+  stay = is.stay;
   answered = is.part;
+  some = subst (λ l. 0 < length l) (sym is.owes) some;
 })
 
 pub cut_fault : (tokens : List (List ℕ)) (start now : Plain) (input before after : Option (List ℕ)) (owed : List ℕ)
-    → IsRefusing tokens start now input before after owed → IsCutRun tokens start now input before after
-cut_fault tokens start now input before after owed is = inr (record {
+    → 0 < length owed → IsRefusing tokens start now input before after owed → IsCutRun tokens start now input before after
+cut_fault tokens start now input before after owed some is = inr (record {
   mid = is.mid;
   first = is.first;
   fault = is.fault;
   fails = is.fails;
-  front = (is.front, owed, is.cut, is.written);
+  front = is.front;
+  back = owed;
+  cut = is.cut;
+  written = is.written;
+  some = some;
 })
 
 -- the last answer is out
@@ -417,13 +424,16 @@ settled tokens start now input known before after inbox owed phase sends none is
 pub some_owed : (first rest : List ℕ) → 0 < length first → first ++ rest ≡ [] → ⊥
 some_owed first rest some none = omega (arith, some, length-append first rest, ap length none)
 
+more_owed : (first rest : List ℕ) → 0 < length first → 0 < length (first ++ rest)
+more_owed first rest some = omega (arith, some, length-append first rest)
+
 -- a write failed
 pub cut_run : (tokens : List (List ℕ)) (start now : Plain) (input known before after : Option (List ℕ)) (inbox : State) (first rest : List ℕ) (phase : Phase)
     → 0 < length first → IsAt tokens start now input known before after inbox (first ++ rest) phase → IsCutRun tokens start now input before after
 cut_run tokens start now input known before after inbox first rest Turns some is = absurd (some_owed first rest some is.none)
 cut_run tokens start now input known before after inbox first rest Wants some is = absurd (some_owed first rest some is.idle.none)
-cut_run tokens start now input known before after inbox first rest (Sends stays) some is = cut_answer tokens start now input known before after inbox (first ++ rest) stays is
-cut_run tokens start now input known before after inbox first rest Refuses some is = cut_fault tokens start now input before after (first ++ rest) is
+cut_run tokens start now input known before after inbox first rest (Sends stays) some is = cut_answer tokens start now input known before after inbox (first ++ rest) stays (more_owed first rest some) is
+cut_run tokens start now input known before after inbox first rest Refuses some is = cut_fault tokens start now input before after (first ++ rest) (more_owed first rest some) is
 
 is_sending : Phase → Bool
 is_sending Turns = false

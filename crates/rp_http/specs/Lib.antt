@@ -3,3 +3,4 @@ pub mod Runs
 pub mod Inboxes
 pub mod Turns
 pub mod Serving
+pub mod Stepping

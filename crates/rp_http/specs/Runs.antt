@@ -1,7 +1,6 @@
 -- The messages of a connection, and what is written for them.
-use Rattle.std.specs.Prelude.{◌≡◌, ℕ, ◌+◌, ◌%◌, ◌^◌, ◌⊎◌, true, false, List, [], ◌∷◌, ◌++◌, drop, Option, Some, None, flat_map, ⊤}
+use Rattle.std.specs.Prelude.{◌≡◌, ℕ, ◌+◌, ◌<◌, ◌%◌, ◌^◌, ◌⊎◌, true, false, List, [], ◌∷◌, ◌++◌, length, drop, Option, Some, None, flat_map, ⊤}
 use Rattle.std.specs.Io.KnownBytes.{Appends}
-use Rattle.rp_io.specs.Front.{AppendsFront}
 use Rattle.rp_io.specs.Held.{HasAtLeast}
 use Rattle.rp_io.specs.Reads.{Reads}
 use Rattle.rp_plain.specs.Plain.{Plain}
@@ -99,12 +98,15 @@ abbrev pub IsWholeRun : List (List ℕ) → Plain → Plain → Option (List ℕ
 IsWholeRun tokens old new input before after =
     IsEndedRun tokens old new input before after ⊎ (IsClosedRun tokens old new input before after ⊎ IsRefusedRun tokens old new input before after)
 
--- a write failed within the answer to the last of these messages
+-- a write failed within the answer to the last of these messages; all before it keep the connection
 pub record IsCutAnswer (tokens : List (List ℕ)) (old new : Plain) (input before after : Option (List ℕ)) : Type 0 where
   pub calls : List Call
+  pub last : Call
   pub left : Option (List ℕ)
-  pub takes : TakesCalls input left calls
-  pub answered : AnsweredInPart tokens old new before after calls
+  pub takes : TakesCalls input left (calls ++ last ∷ [])
+  pub stay : AllStay calls
+  pub answered : AnsweredInPart tokens old new before after (calls ++ last ∷ [])
+  pub some : 0 < length answered.back
 
 -- a write failed within the answer to what no message begins with
 pub record IsCutFault (tokens : List (List ℕ)) (old new : Plain) (input before after : Option (List ℕ)) : Type 0 where
@@ -112,7 +114,11 @@ pub record IsCutFault (tokens : List (List ℕ)) (old new : Plain) (input before
   pub first : IsFirstRun tokens old new input before mid
   pub fault : Fault
   pub fails : OnKnown first.left (λ rest. FailsBy rest fault)
-  pub front : AppendsFront mid after (fault_text fault)
+  pub front : List ℕ
+  pub back : List ℕ
+  pub cut : fault_text fault ≡ front ++ back
+  pub written : Appends mid after front
+  pub some : 0 < length back
 
 abbrev pub IsCutRun : List (List ℕ) → Plain → Plain → Option (List ℕ) → Option (List ℕ) → Option (List ℕ) → Type 0
 IsCutRun tokens old new input before after = IsCutAnswer tokens old new input before after ⊎ IsCutFault tokens old new input before after

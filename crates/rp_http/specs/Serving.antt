@@ -1,7 +1,6 @@
 -- How far a connection is served.
-use Rattle.std.specs.Prelude.{◌≡◌, ◌≢◌, ℕ, ◌+◌, ◌<◌, ◌==◌, ◌⊎◌, Bool, true, false, List, [], ◌∷◌, ◌++◌, length, if◌then◌else◌, Option}
-use Rattle.std.specs.Io.KnownBytes.{prepend_known, Appends, Consumes}
-use Rattle.rp_io.specs.Reads.{Reads}
+use Rattle.std.specs.Prelude.{◌≡◌, ℕ, ◌<◌, ◌==◌, ◌⊎◌, Bool, false, List, [], ◌∷◌, ◌++◌, length, if◌then◌else◌, Option}
+use Rattle.std.specs.Io.KnownBytes.{prepend_known, Appends}
 use Rattle.rp_plain.specs.Plain.{Plain}
 use Rattle.http_messages.specs.declared.message.Fault.{Fault}
 use Rattle.http_messages.specs.Next.{Call, FailsBy}
@@ -10,11 +9,9 @@ use Rattle.rp_http.specs.declared.connection.Phase.TheVariants.{Turns, Wants, Se
 use Rattle.rp_http.specs.declared.connection.Connection.{Connection}
 use Rattle.rp_http.specs.declared.connection.Stage.{Stage}
 use Rattle.rp_http.specs.declared.connection.Stage.TheVariants.{Nothing, Head, Body, Reply}
-use Rattle.rp_http.specs.declared.connection.Stepped.{Stepped}
-use Rattle.rp_http.specs.declared.connection.Stepped.TheVariants.{Turned, Read, Sent, Ended, Over}
 use Rattle.rp_http.specs.Bytes.{owed_in}
 use Rattle.rp_http.specs.Inboxes.{State, Open, Gathers, Skips, Holds, room_of}
-use Rattle.rp_http.specs.Runs.{TakesCalls, AllStay, OnKnown, IsUnfinished, AnsweredInPart, IsFirstRun, fault_text, MakesSome}
+use Rattle.rp_http.specs.Runs.{TakesCalls, AllStay, OnKnown, IsUnfinished, AnsweredInPart, IsFirstRun, fault_text}
 
 -- All that was answered is sent. These bytes came behind it, and the rest is known or not.
 pub record IsIdle (tokens : List (List ℕ)) (start now : Plain) (input known before after : Option (List ℕ)) (inbox : State) (owed : List ℕ) : Type 0 where
@@ -67,7 +64,7 @@ IsServed tokens start now input known before after c = IsAt tokens start now inp
 abbrev pub IsLast : Phase → Type 0
 IsLast phase = (phase ≡ Sends false) ⊎ (phase ≡ Refuses)
 
--- ---- what it waits for, and how it goes on
+-- ---- what it waits for
 
 -- by what came, of what more bytes would be
 abbrev pub stage_in : State → Stage
@@ -80,22 +77,3 @@ stage_at inbox Turns = stage_in inbox
 stage_at inbox Wants = stage_in inbox
 stage_at inbox (Sends stays) = Reply
 stage_at inbox Refuses = Reply
-
--- A step does what it says. Where it sent, less is still to be sent; or all was out, and the next message is looked for.
-abbrev pub Moves : Connection → Connection → Stepped → Type 0
-Moves old new Turned = (old.phase ≡ Turns) × (new.phase ≢ Turns)
-Moves old new (Read n) = (old.phase ≡ Wants) × (0 < n) × (new.phase ≡ Turns)
-Moves old new Sent =
-    (length (owed_in new.outbox) < length (owed_in old.outbox)) ⊎ ((owed_in old.outbox ≡ []) × (old.phase ≡ Sends true) × (new.phase ≡ Turns))
-Moves old new Ended = old.phase ≡ Wants
-Moves old new Over = IsLast old.phase × (owed_in old.outbox ≡ []) × (new ≡ old)
-
--- a read gave so many bytes
-abbrev pub Gives : Option (List ℕ) → Option (List ℕ) → ℕ → Type 0
-Gives before after n = (piece : List ℕ) × (length piece ≡ n) × Consumes before after piece
-
--- what a step takes of the reads that are left, and of the reader: one read, with what it gave, or nothing
-abbrev pub Spends : Stepped → ℕ → ℕ → Reads → Reads → Option (List ℕ) → Option (List ℕ) → Type 0
-Spends (Read n) old new made now before after = (new + 1 ≡ old) × MakesSome made now 1 × Gives before after n
-Spends Ended old new made now before after = (new + 1 ≡ old) × MakesSome made now 1 × Gives before after 0
-Spends _ old new made now before after = (new ≡ old) × (now ≡ made) × (after ≡ before)

@@ -1,12 +1,13 @@
 //! One connection: what came by it, and what is still to be sent.
-ghost use Rattle.std.specs.Prelude.{◌≡◌, ◌≢◌, ◌≤◌, ◌<◌, ◌+◌, ◌⊎◌, ℕ, List, [], Option, true, false, length, take, IfOk, OnOk, OnErr, IsErrOf};
+ghost use Rattle.std.specs.Prelude.{◌≡◌, ◌≢◌, ◌≤◌, ◌<◌, ◌+◌, ◌++◌, ◌⊎◌, ℕ, List, [], Option, true, false, length, take, IfOk, OnOk, OnErr, IsErrOf};
 ghost use Rattle.std.specs.Io.KnownBytes.{Consumes, IsAtEnd, Keeps};
 ghost use Rattle.rp_io.specs.Reads.{Reads, MakesReads};
 ghost use Rattle.rp_plain.specs.Plain.{Plain};
 ghost use Rattle.rp_http.specs.Bytes.{owed_in};
-ghost use Rattle.rp_http.specs.Inboxes.{Open, weight};
+ghost use Rattle.rp_http.specs.Inboxes.{Open, Holds, weight};
 ghost use Rattle.rp_http.specs.Runs.{max_reads, MakesSome, IsEndedRun, IsWholeRun, IsCutRun};
-ghost use Rattle.rp_http.specs.Serving.{IsServed, IsLast, Moves, Gives, Spends, stage_at};
+ghost use Rattle.rp_http.specs.Serving.{IsServed, IsLast, stage_at};
+ghost use Rattle.rp_http.specs.Stepping.{HasCome, IsTaken, Takes, Moves, Gives, Spends, SendsOf, Writes, settled};
 ghost use Rattle.rp_http.specs.Turns.{Leaves};
 
 use crate::answers::AnswerBytes;
@@ -97,6 +98,7 @@ fn read_once<R: Source>(reader: &mut R, piece: &mut [u8]) -> Result<usize, Devic
     ensures bound { IfOk result (λ n. n ≤ length piece.new) }
     ensures room { length piece.new ≡ length piece.old }
     ensures bytes { IfOk result (λ n. Consumes (R.remaining reader.old) (R.remaining reader.new) (take n piece.new)) }
+    ensures gives { IfOk result (λ n. R.read_gives reader.old (take n piece.new) reader.new) }
     ensures end { IfOk result (λ n. n ≡ 0 → 0 < length piece.old → IsAtEnd (R.remaining reader.new)) }
     ensures keeps { OnErr result (Keeps (R.remaining reader.old) (R.remaining reader.new)) }
     ensures counted { MakesReads (R.reads_made reader.old) (R.reads_made reader.new) 1 (length piece.old) }
@@ -146,6 +148,8 @@ impl Connection {
         ensures served { (start : Plain) (input known before after : Option (List ℕ)) →
             IsServed tokens.now start repository.old.content input known before after self.old →
             IsServed tokens.now start repository.new.content input known before after self.new }
+        ensures takes { (came : List ℕ) → HasCome tokens.now came self.old →
+            IsTaken tokens.now came repository.old.content repository.new.content self.new.inbox (owed_in self.new.outbox) self.new.phase }
         ensures run { Leaves tokens.now repository.old.content repository.new.content }
         ensures partners { repository.new.content.partners ≡ repository.old.content.partners }
         ensures phase { self.new.phase ≢ Phase.Turns }
@@ -185,6 +189,10 @@ impl Connection {
         ensures ended { IfOk result (λ n. n ≡ 0 → (tokens : List (List ℕ)) (start now : Plain) (input before after : Option (List ℕ)) →
             IsServed tokens start now input (R.remaining reader.old) before after self.old →
             IsEndedRun tokens start now input before after) }
+        ensures came { IfOk result (λ n. (tokens : List (List ℕ)) (came : List ℕ) → Holds tokens came self.old.inbox → (piece : List ℕ) × (length piece ≡ n)
+            × (R.read_gives reader.old piece reader.new × Consumes (R.remaining reader.old) (R.remaining reader.new) piece) × Holds tokens (came ++ piece) self.new.inbox) }
+        ensures outbox { self.new.outbox ≡ self.old.outbox }
+        ensures none { IfOk result (λ n. n ≡ 0 → (self.new.inbox ≡ self.old.inbox) × (self.new.phase ≡ self.old.phase)) }
         ensures phase { IfOk result (λ n. 0 < n → self.new.phase ≡ Phase.Turns) }
         ensures reads { IfOk result (λ n. self.new.reads + 1 ≡ self.old.reads) }
         ensures counted { OnOk result (MakesSome (R.reads_made reader.old) (R.reads_made reader.new) 1) }
@@ -217,8 +225,10 @@ impl Connection {
             IsServed tokens start now input known before (W.contents writer.old) self.old →
             IsCutRun tokens start now input before (W.contents writer.new)) }
         ensures fewer { OnOk result (0 < length self.old.outbox.first → length (owed_in self.new.outbox) < length (owed_in self.old.outbox)) }
+        ensures sent { OnOk result (SendsOf (owed_in self.old.outbox) (owed_in self.new.outbox) (W.contents writer.old) (W.contents writer.new)) }
         ensures inbox { self.new.inbox ≡ self.old.inbox }
         ensures reads { self.new.reads ≡ self.old.reads }
+        ensures settles { OnOk result (self.new.phase ≡ settled self.old.phase (owed_in self.new.outbox)) }
         ensures stays { self.old.phase ≢ Phase.Sends true → self.new.phase ≡ self.old.phase }
         ensures wants { self.new.phase ≡ Phase.Wants → self.old.phase ≡ Phase.Wants }
         ensures kept { OnErr result ((self.new ≡ self.old) × Keeps (W.contents writer.old) (W.contents writer.new)) }
@@ -271,8 +281,8 @@ impl Connection {
         ensures inbox { self.new.inbox ≡ self.old.inbox }
         ensures outbox { self.new.outbox ≡ self.old.outbox }
         ensures reads { self.new.reads ≡ self.old.reads }
+        ensures settles { self.new.phase ≡ settled self.old.phase (owed_in self.old.outbox) }
         ensures phase { owed_in self.old.outbox ≡ [] → self.new.phase ≢ Phase.Sends true }
-        ensures turns { owed_in self.old.outbox ≡ [] → self.old.phase ≡ Phase.Sends true → self.new.phase ≡ Phase.Turns }
         ensures stays { self.old.phase ≢ Phase.Sends true → self.new.phase ≡ self.old.phase }
         ensures wants { self.new.phase ≡ Phase.Wants → self.old.phase ≡ Phase.Wants }
     {
@@ -299,17 +309,25 @@ impl Connection {
         ensures served { (start : Plain) (input before : Option (List ℕ)) →
             IsServed tokens.now start repository.old.content input (R.remaining reader.old) before (W.contents writer.old) self.old →
             IsServed tokens.now start repository.new.content input (R.remaining reader.new) before (W.contents writer.new) self.new }
+        ensures others { self.old.phase ≢ Phase.Turns → (start now : Plain) (input before : Option (List ℕ)) →
+            IsServed tokens.now start now input (R.remaining reader.old) before (W.contents writer.old) self.old →
+            IsServed tokens.now start now input (R.remaining reader.new) before (W.contents writer.new) self.new }
+        ensures still { self.old.phase ≢ Phase.Turns → repository.new ≡ repository.old }
+        ensures takes { (came : List ℕ) → HasCome tokens.now came self.old →
+            IfOk result (λ stepped. Takes tokens.now came repository.old.content repository.new.content self.new
+            (λ piece. R.read_gives reader.old piece reader.new × Consumes (R.remaining reader.old) (R.remaining reader.new) piece) stepped) }
         ensures run { Leaves tokens.now repository.old.content repository.new.content }
         ensures partners { repository.new.content.partners ≡ repository.old.content.partners }
         ensures moves { IfOk result (λ stepped. Moves self.old self.new stepped) }
-        ensures spends { IfOk result (λ stepped. Spends stepped self.old.reads self.new.reads (R.reads_made reader.old) (R.reads_made reader.new) (R.remaining reader.old) (R.remaining reader.new)) }
+        ensures spends { IfOk result (λ stepped. Spends R.reads_made R.remaining stepped self.old.reads self.new.reads reader.old reader.new) }
+        ensures writes { IfOk result (λ stepped. Writes W.contents stepped (owed_in self.old.outbox) (owed_in self.new.outbox) writer.old writer.new) }
         ensures kept { OnErr result ((self.new ≡ self.old) × (repository.new ≡ repository.old) × Keeps (R.remaining reader.old) (R.remaining reader.new) × Keeps (W.contents writer.old) (W.contents writer.new)) }
-        ensures read_failed { IsErrOf result StreamFault.Read →
-            (R.read_failures reader.new ≢ R.read_failures reader.old) ⊎ ((self.old.reads ≡ 0) × (reader.new ≡ reader.old)) }
-        ensures write_failed { IsErrOf result StreamFault.Write → W.write_failures writer.new ≢ W.write_failures writer.old }
-        ensures whole { IfOk result (λ stepped. (stepped ≡ Stepped.Over) ⊎ (stepped ≡ Stepped.Ended) → (start : Plain) (input before : Option (List ℕ)) →
-            IsServed tokens.now start repository.old.content input (R.remaining reader.old) before (W.contents writer.old) self.old →
-            IsWholeRun tokens.now start repository.new.content input before (W.contents writer.new)) }
+        ensures read_failed { IsErrOf result StreamFault.Read → (writer.new ≡ writer.old) ×
+            ((R.read_failures reader.new ≢ R.read_failures reader.old) ⊎ ((self.old.reads ≡ 0) × (reader.new ≡ reader.old))) }
+        ensures write_failed { IsErrOf result StreamFault.Write → (reader.new ≡ reader.old) × (W.write_failures writer.new ≢ W.write_failures writer.old) }
+        ensures whole { IfOk result (λ stepped. (stepped ≡ Stepped.Over) ⊎ (stepped ≡ Stepped.Ended) → (start now : Plain) (input before : Option (List ℕ)) →
+            IsServed tokens.now start now input (R.remaining reader.old) before (W.contents writer.old) self.old →
+            IsWholeRun tokens.now start now input before (W.contents writer.new)) }
     {
         match self.phase {
             Phase::Turns => {
@@ -336,7 +354,9 @@ impl Connection {
         ensures over { IfOk result (λ stepped. stepped ≡ Stepped.Over → IsLast self.new.phase × (owed_in self.new.outbox ≡ [])) }
         ensures ended { IfOk result (λ stepped. stepped ≢ Stepped.Ended) }
         ensures moves { self.old.phase ≢ Phase.Turns → self.old.phase ≢ Phase.Wants → IfOk result (λ stepped. Moves self.old self.new stepped) }
-        ensures spends { (made : Reads) (known : Option (List ℕ)) → IfOk result (λ stepped. Spends stepped self.old.reads self.new.reads made made known known) }
+        ensures reads { self.new.reads ≡ self.old.reads }
+        ensures inbox { self.new.inbox ≡ self.old.inbox }
+        ensures writes { IfOk result (λ stepped. Writes W.contents stepped (owed_in self.old.outbox) (owed_in self.new.outbox) writer.old writer.new) }
         ensures kept { OnErr result ((self.new ≡ self.old) × Keeps (W.contents writer.old) (W.contents writer.new)) }
         ensures write_failed { IsErrOf result StreamFault.Write → W.write_failures writer.new ≢ W.write_failures writer.old }
         ensures other { ¬ (IsErrOf result StreamFault.Read) }

@@ -1,6 +1,8 @@
 use Rattle.std.proofs.Common.{arith}
+use Rattle.std.proofs.lemmas.List.{length-take-le}
 use Rattle.rp_http.specs.Bytes.{owed_in}
 use Rattle.rp_http.proofs.Serving.{read_nothing, read_on, as_short, ended_run, Keeps-none, consumes_none, kept_on_err}
+use Rattle.rp_http.proofs.Stepping.{came_none}
 use Rattle.rp_http.proofs.connection.Connection.read.Goals as goal
 
 pub returns-in_err-count-clause-served : goal.returns-in_err-count-clause-served
@@ -34,3 +36,16 @@ returns-else-count-gt0-clause-counted g c = record { count = c.read_once.ensures
 
 pub returns-in_err-count-clause-kept : goal.returns-in_err-count-clause-kept
 returns-in_err-count-clause-kept g c = kept_on_err c.from_residual.result c.args.self.now _ _ c.in_err-count.ensures.keeps
+
+pub returns-then-count-gt0-clause-came : goal.returns-then-count-gt0-clause-came
+returns-then-count-gt0-clause-came g c = λ tokens came holds.
+    (_, length-take-le c.in_ok-count.count _ c.in_ok-count.ensures.bound, (c.in_ok-count.ensures.gives, c.in_ok-count.ensures.bytes), c.receive.ensures.holds tokens came holds)
+
+pub returns-else-count-gt0-clause-came : goal.returns-else-count-gt0-clause-came
+returns-else-count-gt0-clause-came g c = λ tokens came holds.
+    let n = c.in_ok-count.count in (
+      _,
+      length-take-le n _ c.in_ok-count.ensures.bound,
+      (c.in_ok-count.ensures.gives, c.in_ok-count.ensures.bytes),
+      came_none tokens came _ n c.args.self.now.inbox (omega (arith, c.if-count-gt0.false)) holds,
+    )

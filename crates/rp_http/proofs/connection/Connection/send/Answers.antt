@@ -1,9 +1,11 @@
-use Rattle.std.proofs.Common.{◌<◌, ℕ, List, Option, length}
+use Rattle.std.proofs.Common.{◌<◌, ℕ, List, Option, length, sym, ap, ◌∙◌}
 use Rattle.rp_plain.specs.Plain.{Plain}
 use Rattle.rp_http.specs.Runs.{IsCutRun}
 use Rattle.rp_http.specs.Serving.{IsServed}
 use Rattle.rp_http.specs.Bytes.{owed_in}
 use Rattle.rp_http.proofs.Serving.{write_failed, wrote_first, cut_run, on_err, kept_on_err}
+use Rattle.rp_http.proofs.Stepping.{sent_of}
+use Rattle.rp_http.specs.Stepping.{settled}
 use Rattle.rp_http.proofs.connection.Connection.send.Goals as goal
 
 pub returns-in_err-count-clause-served : goal.returns-in_err-count-clause-served
@@ -28,3 +30,12 @@ returns-in_err-count-clause-cut g c =
 
 pub returns-in_err-count-clause-kept : goal.returns-in_err-count-clause-kept
 returns-in_err-count-clause-kept g c = kept_on_err c.from_residual.result c.args.self.now _ _ c.in_err-count.ensures.bytes
+
+pub returns-clause-sent : goal.returns-clause-sent
+returns-clause-sent g c =
+    let s = c.args.self.now in
+    sent_of s.outbox.first s.outbox.rest _ _ _ c.in_ok-count.count (rw c.next.ensures.first at c.in_ok-count.ensures.bound) (rw c.next.ensures.first at c.in_ok-count.ensures.bytes)
+    (ap owed_in c.settle.ensures.outbox ∙ c.advance.ensures)
+
+pub returns-clause-settles : goal.returns-clause-settles
+returns-clause-settles g c = c.settle.ensures.settles ∙ ap (λ o. settled c.args.self.now.phase (owed_in o)) (sym c.settle.ensures.outbox)

@@ -1,5 +1,8 @@
-use Rattle.std.proofs.Common.{refl, inl, inr}
+use Rattle.std.proofs.Common.{refl, inl, inr, sym, ap, ◌∙◌}
+use Rattle.rp_http.specs.Bytes.{owed_in}
+use Rattle.rp_http.specs.Stepping.{settled}
 use Rattle.rp_http.proofs.Serving.{sends_left}
+use Rattle.rp_http.proofs.Stepping.{sent_none}
 use Rattle.rp_http.proofs.connection.Connection.send_on.Goals as goal
 
 pub returns-clause-served : goal.returns-clause-served
@@ -15,10 +18,10 @@ pub returns-clause-moves : goal.returns-clause-moves
 returns-clause-moves g c = λ turns wants.
     let none = c.owes.ensures.none c.if-owes.false in
     let sends = sends_left c.args.self.now.phase (c.is_last.ensures.more c.if-is_last.false) turns wants in
-    inr (none, sends, c.settle.ensures.turns none sends)
+    (turns, wants, c.settle.ensures.inbox, c.settle.ensures.settles ∙ ap (λ o. settled c.args.self.now.phase (owed_in o)) (sym c.settle.ensures.outbox), inr (none, sends))
 
 pub returns-in-Ok-clause-moves : goal.returns-in-Ok-clause-moves
-returns-in-Ok-clause-moves g c = λ turns wants. inl (c.in-Ok.ensures.fewer (c.owes.ensures.owes c.if-owes.true))
+returns-in-Ok-clause-moves g c = λ turns wants. (turns, wants, c.send.ensures.inbox, c.in-Ok.ensures.settles, inl (c.in-Ok.ensures.fewer (c.owes.ensures.owes c.if-owes.true)))
 
 pub returns-then-is_last-clause-moves : goal.returns-then-is_last-clause-moves
 returns-then-is_last-clause-moves g c = λ turns wants. (c.is_last.ensures.last c.if-is_last.true, c.owes.ensures.none c.if-owes.false, refl)
@@ -26,11 +29,8 @@ returns-then-is_last-clause-moves g c = λ turns wants. (c.is_last.ensures.last 
 pub returns-in-Err-clause-kept : goal.returns-in-Err-clause-kept
 returns-in-Err-clause-kept g c = c.in-Err.ensures.kept
 
-pub returns-clause-spends : goal.returns-clause-spends
-returns-clause-spends g c = λ made known. (c.settle.ensures.reads, refl, refl)
+pub returns-clause-writes : goal.returns-clause-writes
+returns-clause-writes g c = sent_none _ _ _ (ap owed_in c.settle.ensures.outbox)
 
-pub returns-in-Ok-clause-spends : goal.returns-in-Ok-clause-spends
-returns-in-Ok-clause-spends g c = λ made known. (c.send.ensures.reads, refl, refl)
-
-pub returns-then-is_last-clause-spends : goal.returns-then-is_last-clause-spends
-returns-then-is_last-clause-spends g c = λ made known. (refl, refl, refl)
+pub returns-in-Ok-clause-writes : goal.returns-in-Ok-clause-writes
+returns-in-Ok-clause-writes g c = c.in-Ok.ensures.sent

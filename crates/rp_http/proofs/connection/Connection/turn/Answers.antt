@@ -1,7 +1,9 @@
 use Rattle.std.proofs.Common.{◌∙◌}
 use Rattle.rp_http.specs.Bytes.{owed_in}
 use Rattle.rp_http.proofs.Leaving.{leaves_partners}
+use Rattle.rp_http.specs.declared.connection.Phase.TheVariants.{Turns}
 use Rattle.rp_http.proofs.Serving.{as_idle, answered, refuses, short}
+use Rattle.rp_http.proofs.Stepping.{come_at, taken_answer}
 use Rattle.rp_http.proofs.connection.Connection.turn.Goals as goal
 
 pub returns-in-Answered-clause-served : goal.returns-in-Answered-clause-served
@@ -37,3 +39,24 @@ returns-in-Refused-clause-partners c = leaves_partners c.args.tokens.now _ _ c.t
 
 pub returns-in-Wants-clause-partners : goal.returns-in-Wants-clause-partners
 returns-in-Wants-clause-partners c = leaves_partners c.args.tokens.now _ _ c.take_turn.ensures.run
+
+pub returns-in-Answered-clause-takes : goal.returns-in-Answered-clause-takes
+returns-in-Answered-clause-takes c = λ came is.
+    let s = c.args.self.now in
+    let come = come_at c.args.tokens.now came s.inbox (owed_in s.outbox) s.phase Turns c.requires.turns is in
+    taken_answer c.args.tokens.now came c.args.repository.now.content c.take_turn.new.repository.content c.take_turn.new.inbox (owed_in c.put.new.self) _ c.in-Answered.stays
+    (c.in-Answered.ensures.turn came come.0) c.put.ensures
+
+pub returns-in-Refused-clause-takes : goal.returns-in-Refused-clause-takes
+returns-in-Refused-clause-takes c = λ came is.
+    let s = c.args.self.now in
+    let come = come_at c.args.tokens.now came s.inbox (owed_in s.outbox) s.phase Turns c.requires.turns is in
+    let turn = c.in-Refused.ensures.turn came come.0 in
+    (turn.1, turn.2, (c.in-Refused.fault, turn.0, c.put-in-Refused.ensures ∙ c.fault_answer.ensures))
+
+pub returns-in-Wants-clause-takes : goal.returns-in-Wants-clause-takes
+returns-in-Wants-clause-takes c = λ came is.
+    let s = c.args.self.now in
+    let come = come_at c.args.tokens.now came s.inbox (owed_in s.outbox) s.phase Turns c.requires.turns is in
+    let turn = c.in-Wants.ensures.turn came come.0 in
+    ((turn.1, come.1, turn.0, turn.2), turn.3)
