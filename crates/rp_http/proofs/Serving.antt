@@ -424,7 +424,7 @@ settled tokens start now input known before after inbox owed phase sends none is
 pub some_owed : (first rest : List ℕ) → 0 < length first → first ++ rest ≡ [] → ⊥
 some_owed first rest some none = omega (arith, some, length-append first rest, ap length none)
 
-more_owed : (first rest : List ℕ) → 0 < length first → 0 < length (first ++ rest)
+pub more_owed : (first rest : List ℕ) → 0 < length first → 0 < length (first ++ rest)
 more_owed first rest some = omega (arith, some, length-append first rest)
 
 -- a write failed

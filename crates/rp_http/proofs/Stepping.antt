@@ -1,9 +1,9 @@
 -- What a step sends, and what came.
 use Rattle.std.proofs.Common.{◌≡◌, ◌≢◌, ℕ, ◌<◌, ◌≤◌, List, [], ◌∷◌, ◌++◌, length, take, drop, append-nil, Bool, true, false, Option, Result, Ok, Err, IfOk, refl, sym, ap, subst, ◌∙◌, arith}
 use Rattle.std.proofs.lemmas.List.{take-append-le, take-append-drop}
-use Rattle.std.specs.Io.KnownBytes.{Appends}
+use Rattle.std.specs.Io.KnownBytes.{Appends, Consumes, IsAtEnd}
 use Rattle.rp_io.proofs.KnownLemmas.{Appends-nil}
-use Rattle.rp_io.specs.Reads.{Reads}
+use Rattle.rp_io.specs.Reads.{Reads, MakesReads}
 use Rattle.rp_plain.specs.Plain.{Plain}
 use Rattle.rp_http.specs.declared.connection.Connection.{Connection}
 use Rattle.rp_http.specs.declared.connection.Phase.{Phase}
@@ -12,7 +12,7 @@ use Rattle.rp_http.specs.declared.connection.Stepped.{Stepped}
 use Rattle.rp_http.specs.declared.connection.Stepped.TheVariants.{Turned, Read, Sent, Ended, Over}
 use Rattle.rp_http.specs.Inboxes.{State, Holds}
 use Rattle.rp_http.specs.Turns.{IsAnswered}
-use Rattle.rp_http.specs.Stepping.{settled, Moves, Spends, SendsOf, IsCome, HasCome, IsTaken, Takes}
+use Rattle.rp_http.specs.Stepping.{settled, Moves, Spends, SendsOf, IsOneRead, IsCome, HasCome, IsTaken, Takes}
 
 -- ---- what comes after a reply
 
@@ -25,6 +25,9 @@ settled_other Refuses owed other = refl
 
 pub settled_out : (phase : Phase) (owed : List ℕ) → phase ≡ Sends true → owed ≡ [] → Turns ≡ settled phase owed
 settled_out phase owed sends none = subst (λ l. Turns ≡ settled phase l) (sym none) (subst (λ p. Turns ≡ settled p []) (sym sends) refl)
+
+some_more : (x : ℕ) (xs : List ℕ) → length (x ∷ xs) ≡ 0 → ⊥
+some_more x xs none = omega (arith, none)
 
 none_less : 0 < 0 → ⊥
 none_less less = omega (arith, less)
@@ -73,6 +76,24 @@ come_settled tokens came inbox owed left Refuses turns wants come = come
 
 pub came_none : (tokens : List (List ℕ)) (came xs : List ℕ) (n : ℕ) (inbox : State) → n ≡ 0 → Holds tokens came inbox → Holds tokens (came ++ take n xs) inbox
 came_none tokens came xs n inbox none holds = subst (λ k. Holds tokens (came ++ take k xs) inbox) (sym none) (subst (λ l. Holds tokens l inbox) (sym (append-nil came)) holds)
+
+pub one_read : {R : Type 0} (made : R → Reads) (remaining : R → Option (List ℕ)) (gives : R → List ℕ → R → Type 0) (old new : R) (xs : List ℕ) (n room : ℕ) → 0 < room → length (take n xs) ≡ n
+    → MakesReads (made old) (made new) 1 room → gives old (take n xs) new → Consumes (remaining old) (remaining new) (take n xs) → (n ≡ 0 → IsAtEnd (remaining new))
+    → IsOneRead made remaining gives old new (take n xs)
+one_read made remaining gives old new xs n room some fits counted gave used end = record {
+  room = room;
+  some = some;
+  counted = counted;
+  gave = gave;
+  used = used;
+  end = λ none. end (sym fits ∙ ap length none);
+}
+
+-- a read that gave nothing
+pub read_none : {R : Type 0} (made : R → Reads) (remaining : R → Option (List ℕ)) (gives : R → List ℕ → R → Type 0) (old new : R) (piece : List ℕ) → length piece ≡ 0
+    → IsOneRead made remaining gives old new piece → IsOneRead made remaining gives old new []
+read_none made remaining gives old new [] none is = is
+read_none made remaining gives old new (x ∷ xs) none is = absurd (some_more x xs none)
 
 -- ---- a turn
 

@@ -1,7 +1,7 @@
 -- What a step of a connection does, whatever happens to the repository between its steps.
 use Rattle.std.specs.Prelude.{◌≡◌, ◌≢◌, ℕ, ◌+◌, ◌<◌, ◌⊎◌, true, List, [], ◌++◌, length, Option}
-use Rattle.std.specs.Io.KnownBytes.{Appends, Consumes}
-use Rattle.rp_io.specs.Reads.{Reads}
+use Rattle.std.specs.Io.KnownBytes.{Appends, Consumes, IsAtEnd}
+use Rattle.rp_io.specs.Reads.{Reads, MakesReads}
 use Rattle.rp_plain.specs.Plain.{Plain}
 use Rattle.http_messages.specs.declared.message.Fault.{Fault}
 use Rattle.http_messages.specs.Next.{FailsBy}
@@ -57,6 +57,15 @@ Writes contents _ owed left old new = new ≡ old
 
 -- ---- what came, and what is made of it
 
+-- one read into some room gave these bytes, and none only where no more come
+pub record IsOneRead {R : Type 0} (made : R → Reads) (remaining : R → Option (List ℕ)) (gives : R → List ℕ → R → Type 0) (old new : R) (piece : List ℕ) : Type 0 where
+  pub room : ℕ
+  pub some : 0 < room
+  pub counted : MakesReads (made old) (made new) 1 room
+  pub gave : gives old piece new
+  pub used : Consumes (remaining old) (remaining new) piece
+  pub end : piece ≡ [] → IsAtEnd (remaining new)
+
 -- These bytes came and aren't used up. Where a message is looked for, or more of it has to come, nothing is to be sent.
 abbrev pub IsCome : List (List ℕ) → List ℕ → State → List ℕ → Phase → Type 0
 IsCome tokens came inbox owed Turns = Holds tokens came inbox × (owed ≡ [])
@@ -75,8 +84,9 @@ IsTaken tokens came old new inbox owed Wants = IsCome tokens came inbox owed Wan
 IsTaken tokens came old new inbox owed (Sends stays) = IsAnswered tokens came inbox old new owed stays
 IsTaken tokens came old new inbox owed Refuses = IsCome tokens came inbox owed Refuses × (new ≡ old) × ((fault : Fault) × FailsBy came fault × (owed ≡ fault_text fault))
 
--- what a step makes of what came: a turn takes a message of it, a read puts a piece behind it, and the input ends where no message is whole
+-- what a step makes of what came: a turn takes a message of it, and a read, of these bytes, puts them behind it
 abbrev pub Takes : List (List ℕ) → List ℕ → Plain → Plain → Connection → (List ℕ → Type 0) → Stepped → Type 0
-Takes tokens came old new c gives Turned = IsTaken tokens came old new c.inbox (owed_in c.outbox) c.phase
-Takes tokens came old new c gives (Read n) = (piece : List ℕ) × (length piece ≡ n) × gives piece × HasCome tokens (came ++ piece) c
-Takes tokens came old new c gives _ = HasCome tokens came c
+Takes tokens came old new c reads Turned = IsTaken tokens came old new c.inbox (owed_in c.outbox) c.phase
+Takes tokens came old new c reads (Read n) = (piece : List ℕ) × (length piece ≡ n) × reads piece × HasCome tokens (came ++ piece) c
+Takes tokens came old new c reads Ended = reads [] × HasCome tokens came c
+Takes tokens came old new c reads _ = HasCome tokens came c

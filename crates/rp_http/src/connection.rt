@@ -4,10 +4,10 @@ ghost use Rattle.std.specs.Io.KnownBytes.{Consumes, IsAtEnd, Keeps};
 ghost use Rattle.rp_io.specs.Reads.{Reads, MakesReads};
 ghost use Rattle.rp_plain.specs.Plain.{Plain};
 ghost use Rattle.rp_http.specs.Bytes.{owed_in};
-ghost use Rattle.rp_http.specs.Inboxes.{Open, Holds, weight};
+ghost use Rattle.rp_http.specs.Inboxes.{Open, Holds, room_of, weight};
 ghost use Rattle.rp_http.specs.Runs.{max_reads, MakesSome, IsEndedRun, IsWholeRun, IsCutRun};
 ghost use Rattle.rp_http.specs.Serving.{IsServed, IsLast, stage_at};
-ghost use Rattle.rp_http.specs.Stepping.{HasCome, IsTaken, Takes, Moves, Gives, Spends, SendsOf, Writes, settled};
+ghost use Rattle.rp_http.specs.Stepping.{HasCome, IsTaken, IsOneRead, Takes, Moves, Gives, Spends, SendsOf, Writes, settled};
 ghost use Rattle.rp_http.specs.Turns.{Leaves};
 
 use crate::answers::AnswerBytes;
@@ -189,8 +189,9 @@ impl Connection {
         ensures ended { IfOk result (λ n. n ≡ 0 → (tokens : List (List ℕ)) (start now : Plain) (input before after : Option (List ℕ)) →
             IsServed tokens start now input (R.remaining reader.old) before after self.old →
             IsEndedRun tokens start now input before after) }
-        ensures came { IfOk result (λ n. (tokens : List (List ℕ)) (came : List ℕ) → Holds tokens came self.old.inbox → (piece : List ℕ) × (length piece ≡ n)
-            × (R.read_gives reader.old piece reader.new × Consumes (R.remaining reader.old) (R.remaining reader.new) piece) × Holds tokens (came ++ piece) self.new.inbox) }
+        ensures gives { IfOk result (λ n. 0 < room_of self.old.inbox → (piece : List ℕ) × (length piece ≡ n)
+            × IsOneRead R.reads_made R.remaining R.read_gives reader.old reader.new piece
+            × ((tokens : List (List ℕ)) (came : List ℕ) → Holds tokens came self.old.inbox → Holds tokens (came ++ piece) self.new.inbox)) }
         ensures outbox { self.new.outbox ≡ self.old.outbox }
         ensures none { IfOk result (λ n. n ≡ 0 → (self.new.inbox ≡ self.old.inbox) × (self.new.phase ≡ self.old.phase)) }
         ensures phase { IfOk result (λ n. 0 < n → self.new.phase ≡ Phase.Turns) }
@@ -295,7 +296,7 @@ impl Connection {
     }
 
     /// One step: looks for a message and answers it, or reads once, or writes once. A reply is out before the next message is
-    /// looked for.
+    /// looked for. Only a step that looks for one changes the repository, which others may change between two steps.
     pub fn step<R: Source, W: Sink>(
         &mut self,
         alloc: Global,
@@ -309,22 +310,23 @@ impl Connection {
         ensures served { (start : Plain) (input before : Option (List ℕ)) →
             IsServed tokens.now start repository.old.content input (R.remaining reader.old) before (W.contents writer.old) self.old →
             IsServed tokens.now start repository.new.content input (R.remaining reader.new) before (W.contents writer.new) self.new }
-        ensures others { self.old.phase ≢ Phase.Turns → (start now : Plain) (input before : Option (List ℕ)) →
+        ensures between { self.old.phase ≢ Phase.Turns → (start now : Plain) (input before : Option (List ℕ)) →
             IsServed tokens.now start now input (R.remaining reader.old) before (W.contents writer.old) self.old →
             IsServed tokens.now start now input (R.remaining reader.new) before (W.contents writer.new) self.new }
         ensures still { self.old.phase ≢ Phase.Turns → repository.new ≡ repository.old }
         ensures takes { (came : List ℕ) → HasCome tokens.now came self.old →
             IfOk result (λ stepped. Takes tokens.now came repository.old.content repository.new.content self.new
-            (λ piece. R.read_gives reader.old piece reader.new × Consumes (R.remaining reader.old) (R.remaining reader.new) piece) stepped) }
+            (IsOneRead R.reads_made R.remaining R.read_gives reader.old reader.new) stepped) }
         ensures run { Leaves tokens.now repository.old.content repository.new.content }
         ensures partners { repository.new.content.partners ≡ repository.old.content.partners }
         ensures moves { IfOk result (λ stepped. Moves self.old self.new stepped) }
         ensures spends { IfOk result (λ stepped. Spends R.reads_made R.remaining stepped self.old.reads self.new.reads reader.old reader.new) }
         ensures writes { IfOk result (λ stepped. Writes W.contents stepped (owed_in self.old.outbox) (owed_in self.new.outbox) writer.old writer.new) }
         ensures kept { OnErr result ((self.new ≡ self.old) × (repository.new ≡ repository.old) × Keeps (R.remaining reader.old) (R.remaining reader.new) × Keeps (W.contents writer.old) (W.contents writer.new)) }
-        ensures read_failed { IsErrOf result StreamFault.Read → (writer.new ≡ writer.old) ×
+        ensures read_failed { IsErrOf result StreamFault.Read → (self.old.phase ≡ Phase.Wants) × (writer.new ≡ writer.old) ×
             ((R.read_failures reader.new ≢ R.read_failures reader.old) ⊎ ((self.old.reads ≡ 0) × (reader.new ≡ reader.old))) }
-        ensures write_failed { IsErrOf result StreamFault.Write → (reader.new ≡ reader.old) × (W.write_failures writer.new ≢ W.write_failures writer.old) }
+        ensures write_failed { IsErrOf result StreamFault.Write → (0 < length (owed_in self.old.outbox)) × (reader.new ≡ reader.old) ×
+            (W.write_failures writer.new ≢ W.write_failures writer.old) }
         ensures whole { IfOk result (λ stepped. (stepped ≡ Stepped.Over) ⊎ (stepped ≡ Stepped.Ended) → (start now : Plain) (input before : Option (List ℕ)) →
             IsServed tokens.now start now input (R.remaining reader.old) before (W.contents writer.old) self.old →
             IsWholeRun tokens.now start now input before (W.contents writer.new)) }
@@ -358,7 +360,7 @@ impl Connection {
         ensures inbox { self.new.inbox ≡ self.old.inbox }
         ensures writes { IfOk result (λ stepped. Writes W.contents stepped (owed_in self.old.outbox) (owed_in self.new.outbox) writer.old writer.new) }
         ensures kept { OnErr result ((self.new ≡ self.old) × Keeps (W.contents writer.old) (W.contents writer.new)) }
-        ensures write_failed { IsErrOf result StreamFault.Write → W.write_failures writer.new ≢ W.write_failures writer.old }
+        ensures write_failed { IsErrOf result StreamFault.Write → (0 < length (owed_in self.old.outbox)) × (W.write_failures writer.new ≢ W.write_failures writer.old) }
         ensures other { ¬ (IsErrOf result StreamFault.Read) }
     {
         if self.owes() {

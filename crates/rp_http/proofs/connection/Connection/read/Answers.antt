@@ -2,7 +2,7 @@ use Rattle.std.proofs.Common.{arith}
 use Rattle.std.proofs.lemmas.List.{length-take-le}
 use Rattle.rp_http.specs.Bytes.{owed_in}
 use Rattle.rp_http.proofs.Serving.{read_nothing, read_on, as_short, ended_run, Keeps-none, consumes_none, kept_on_err}
-use Rattle.rp_http.proofs.Stepping.{came_none}
+use Rattle.rp_http.proofs.Stepping.{came_none, one_read}
 use Rattle.rp_http.proofs.connection.Connection.read.Goals as goal
 
 pub returns-in_err-count-clause-served : goal.returns-in_err-count-clause-served
@@ -37,15 +37,24 @@ returns-else-count-gt0-clause-counted g c = record { count = c.read_once.ensures
 pub returns-in_err-count-clause-kept : goal.returns-in_err-count-clause-kept
 returns-in_err-count-clause-kept g c = kept_on_err c.from_residual.result c.args.self.now _ _ c.in_err-count.ensures.keeps
 
-pub returns-then-count-gt0-clause-came : goal.returns-then-count-gt0-clause-came
-returns-then-count-gt0-clause-came g c = λ tokens came holds.
-    (_, length-take-le c.in_ok-count.count _ c.in_ok-count.ensures.bound, (c.in_ok-count.ensures.gives, c.in_ok-count.ensures.bytes), c.receive.ensures.holds tokens came holds)
-
-pub returns-else-count-gt0-clause-came : goal.returns-else-count-gt0-clause-came
-returns-else-count-gt0-clause-came g c = λ tokens came holds.
-    let n = c.in_ok-count.count in (
+pub returns-then-count-gt0-clause-gives : goal.returns-then-count-gt0-clause-gives
+returns-then-count-gt0-clause-gives g c = λ room.
+    let n = c.in_ok-count.count in
+    let fits = length-take-le n _ c.in_ok-count.ensures.bound in (
       _,
-      length-take-le n _ c.in_ok-count.ensures.bound,
-      (c.in_ok-count.ensures.gives, c.in_ok-count.ensures.bytes),
-      came_none tokens came _ n c.args.self.now.inbox (omega (arith, c.if-count-gt0.false)) holds,
+      fits,
+      one_read g.R.Source.reads_made g.R.Source.remaining g.R.Source.read_gives c.args.reader.now c.read_once.new.reader _ n _ (omega (arith, room, c.room.ensures, c.min-room.ensures)) fits
+          c.read_once.ensures.counted c.in_ok-count.ensures.gives c.in_ok-count.ensures.bytes (λ none. c.in_ok-count.ensures.end none (omega (arith, room, c.room.ensures, c.min-room.ensures))),
+      c.receive.ensures.holds,
+    )
+
+pub returns-else-count-gt0-clause-gives : goal.returns-else-count-gt0-clause-gives
+returns-else-count-gt0-clause-gives g c = λ room.
+    let n = c.in_ok-count.count in
+    let fits = length-take-le n _ c.in_ok-count.ensures.bound in (
+      _,
+      fits,
+      one_read g.R.Source.reads_made g.R.Source.remaining g.R.Source.read_gives c.args.reader.now c.read_once.new.reader _ n _ (omega (arith, room, c.room.ensures, c.min-room.ensures)) fits
+          c.read_once.ensures.counted c.in_ok-count.ensures.gives c.in_ok-count.ensures.bytes (λ none. c.in_ok-count.ensures.end none (omega (arith, room, c.room.ensures, c.min-room.ensures))),
+      λ tokens came. came_none tokens came _ n c.args.self.now.inbox (omega (arith, c.if-count-gt0.false)),
     )

@@ -1,7 +1,7 @@
 use Rattle.std.proofs.Common.{refl, inl, inr, sym, ap, ◌∙◌}
 use Rattle.rp_http.specs.Bytes.{owed_in}
 use Rattle.rp_http.specs.Stepping.{settled}
-use Rattle.rp_http.proofs.Serving.{sends_left}
+use Rattle.rp_http.proofs.Serving.{sends_left, more_owed}
 use Rattle.rp_http.proofs.Stepping.{sent_none}
 use Rattle.rp_http.proofs.connection.Connection.send_on.Goals as goal
 
@@ -34,3 +34,6 @@ returns-clause-writes g c = sent_none _ _ _ (ap owed_in c.settle.ensures.outbox)
 
 pub returns-in-Ok-clause-writes : goal.returns-in-Ok-clause-writes
 returns-in-Ok-clause-writes g c = c.in-Ok.ensures.sent
+
+pub returns-in-Err-clause-write_failed : goal.returns-in-Err-clause-write_failed
+returns-in-Err-clause-write_failed g c = λ _. (more_owed c.args.self.now.outbox.first c.args.self.now.outbox.rest (c.owes.ensures.owes c.if-owes.true), c.in-Err.ensures.err)

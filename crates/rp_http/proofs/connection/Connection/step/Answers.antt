@@ -3,7 +3,7 @@ use Rattle.rp_http.specs.declared.connection.Phase.TheVariants.{Wants}
 use Rattle.rp_http.specs.Bytes.{owed_in}
 use Rattle.rp_http.proofs.Leaving.{leaves_none}
 use Rattle.rp_http.proofs.Serving.{over_run, whole_if, keeps_same, on_err_then, sends_not}
-use Rattle.rp_http.proofs.Stepping.{come_at, come_still, come_more, takes_on, spends_on}
+use Rattle.rp_http.proofs.Stepping.{come_at, come_still, come_more, read_none, takes_on, spends_on}
 use Rattle.rp_http.proofs.connection.Connection.step.Goals as goal
 
 pub returns-in-Turns-clause-served : goal.returns-in-Turns-clause-served
@@ -70,7 +70,7 @@ pub returns-in-Err-clause-kept : goal.returns-in-Err-clause-kept
 returns-in-Err-clause-kept g c = (c.in-Err.ensures.kept.0, refl, c.in-Err.ensures.kept.1, keeps_same _)
 
 pub returns-in-Err-clause-read_failed : goal.returns-in-Err-clause-read_failed
-returns-in-Err-clause-read_failed g c = λ _. (refl, c.in-Err.ensures.err)
+returns-in-Err-clause-read_failed g c = λ _. (c.in-Wants.is, refl, c.in-Err.ensures.err)
 
 pub returns-in-Sends-clause-moves : goal.returns-in-Sends-clause-moves
 returns-in-Sends-clause-moves g c =
@@ -89,10 +89,12 @@ pub returns-in-Sends-clause-read_failed : goal.returns-in-Sends-clause-read_fail
 returns-in-Sends-clause-read_failed g c = λ is. absurd (c.send_on.ensures.other is)
 
 pub returns-in-Sends-clause-write_failed : goal.returns-in-Sends-clause-write_failed
-returns-in-Sends-clause-write_failed g c = λ is. (refl, c.send_on.ensures.write_failed is)
+returns-in-Sends-clause-write_failed g c = λ is.
+    let failed = c.send_on.ensures.write_failed is in
+    (failed.0, refl, failed.1)
 
-pub returns-in-Turns-clause-others : goal.returns-in-Turns-clause-others
-returns-in-Turns-clause-others g c = λ later. absurd (later c.in-Turns.is)
+pub returns-in-Turns-clause-between : goal.returns-in-Turns-clause-between
+returns-in-Turns-clause-between g c = λ later. absurd (later c.in-Turns.is)
 
 pub returns-in-Turns-clause-still : goal.returns-in-Turns-clause-still
 returns-in-Turns-clause-still g c = λ later. absurd (later c.in-Turns.is)
@@ -100,31 +102,39 @@ returns-in-Turns-clause-still g c = λ later. absurd (later c.in-Turns.is)
 pub returns-in-Turns-clause-takes : goal.returns-in-Turns-clause-takes
 returns-in-Turns-clause-takes g c = c.turn.ensures.takes
 
-pub returns-then-count-eq0-clause-others : goal.returns-then-count-eq0-clause-others
-returns-then-count-eq0-clause-others g c = λ later start now input before is. c.read.ensures.served c.args.tokens.now start now input before _ is
+pub returns-then-count-eq0-clause-between : goal.returns-then-count-eq0-clause-between
+returns-then-count-eq0-clause-between g c = λ later start now input before is. c.read.ensures.served c.args.tokens.now start now input before _ is
 
 pub returns-then-count-eq0-clause-takes : goal.returns-then-count-eq0-clause-takes
 returns-then-count-eq0-clause-takes g c = λ came is.
     let s = c.args.self.now in
     let none = c.in-Ok.ensures.none c.if-count-eq0.true in
-    come_still c.args.tokens.now came s.inbox c.read.new.self.inbox (owed_in s.outbox) (owed_in c.read.new.self.outbox) s.phase c.read.new.self.phase none.0 (ap owed_in c.read.ensures.outbox) none.1 is
+    let come = come_at c.args.tokens.now came s.inbox (owed_in s.outbox) s.phase Wants c.in-Wants.is is in
+    let gave = c.in-Ok.ensures.gives come.3 in (
+      read_none g.R.Source.reads_made g.R.Source.remaining g.R.Source.read_gives c.args.reader.now c.read.new.reader gave.0 (gave.1 ∙ c.if-count-eq0.true) gave.2,
+      come_still c.args.tokens.now came s.inbox c.read.new.self.inbox (owed_in s.outbox) (owed_in c.read.new.self.outbox) s.phase c.read.new.self.phase none.0 (ap owed_in c.read.ensures.outbox) none.1 is,
+    )
 
-pub returns-else-count-eq0-clause-others : goal.returns-else-count-eq0-clause-others
-returns-else-count-eq0-clause-others g c = λ later start now input before is. c.read.ensures.served c.args.tokens.now start now input before _ is
+pub returns-else-count-eq0-clause-between : goal.returns-else-count-eq0-clause-between
+returns-else-count-eq0-clause-between g c = λ later start now input before is. c.read.ensures.served c.args.tokens.now start now input before _ is
 
 pub returns-else-count-eq0-clause-takes : goal.returns-else-count-eq0-clause-takes
 returns-else-count-eq0-clause-takes g c = λ came is.
     let s = c.args.self.now in
     let some : 0 < c.in-Ok.count = omega (arith, c.if-count-eq0.false) in
     let come = come_at c.args.tokens.now came s.inbox (owed_in s.outbox) s.phase Wants c.in-Wants.is is in
-    let gave = c.in-Ok.ensures.came c.args.tokens.now came come.0 in
-    (gave.0, gave.1, gave.2, come_more c.args.tokens.now _ c.read.new.self.inbox (owed_in s.outbox) (owed_in c.read.new.self.outbox) c.read.new.self.phase gave.3 (ap owed_in c.read.ensures.outbox) come.1 (c.in-Ok.ensures.phase some))
+    let gave = c.in-Ok.ensures.gives come.3 in (
+      gave.0,
+      gave.1,
+      gave.2,
+      come_more c.args.tokens.now _ c.read.new.self.inbox (owed_in s.outbox) (owed_in c.read.new.self.outbox) c.read.new.self.phase (gave.3 c.args.tokens.now came come.0) (ap owed_in c.read.ensures.outbox) come.1 (c.in-Ok.ensures.phase some),
+    )
 
-pub returns-in-Err-clause-others : goal.returns-in-Err-clause-others
-returns-in-Err-clause-others g c = λ later start now input before is. c.read.ensures.served c.args.tokens.now start now input before _ is
+pub returns-in-Err-clause-between : goal.returns-in-Err-clause-between
+returns-in-Err-clause-between g c = λ later start now input before is. c.read.ensures.served c.args.tokens.now start now input before _ is
 
-pub returns-in-Sends-clause-others : goal.returns-in-Sends-clause-others
-returns-in-Sends-clause-others g c = λ later start now input before is. c.send_on.ensures.served c.args.tokens.now start now input _ before is
+pub returns-in-Sends-clause-between : goal.returns-in-Sends-clause-between
+returns-in-Sends-clause-between g c = λ later start now input before is. c.send_on.ensures.served c.args.tokens.now start now input _ before is
 
 pub returns-in-Sends-clause-takes : goal.returns-in-Sends-clause-takes
 returns-in-Sends-clause-takes g c = λ came is.
