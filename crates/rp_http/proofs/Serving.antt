@@ -14,7 +14,7 @@ use Rattle.rp_messages.specs.Answers.{Answer, answer_bytes}
 use Rattle.rp_messages.specs.Meaning.{MayAnswer, left_by, meant, MessageRun}
 use Rattle.rp_http.specs.Inboxes.{State, Open, Holds, room_of}
 use Rattle.rp_http.specs.Turns.{IsAnswered}
-use Rattle.rp_http.specs.Runs.{Cuts, TakesCalls, AllStay, OnKnown, IsUnfinished, text_of, fault_text, Answered, AnsweredInPart, IsFirstRun, IsEndedRun, IsWholeRun, IsCutRun}
+use Rattle.rp_http.specs.Runs.{Cuts, TakesCalls, AllStay, OnKnown, IsUnfinished, text_of, fault_text, Answered, AnsweredInPart, IsFirstRun, IsReadRun, IsEndedRun, IsWholeRun, IsCutRun}
 use Rattle.rp_http.specs.declared.connection.Stepped.{Stepped}
 use Rattle.rp_http.specs.declared.connection.Stepped.TheVariants.{Over, Ended}
 use Rattle.rp_http.specs.declared.connection.Phase.{Phase}
@@ -200,6 +200,13 @@ Keeps-none (Some xs) (Some ys) keeps = sym keeps
 
 pub consumes_none : (known left : Option (List ℕ)) (xs : List ℕ) (n : ℕ) → n ≡ 0 → Consumes known left (take n xs) → Consumes known left []
 consumes_none known left xs n none used = subst (λ k. Consumes known left (take k xs)) none used
+
+-- a read failed
+pub read_run : (tokens : List (List ℕ)) (start now : Plain) (input known left before after : Option (List ℕ)) (inbox : State) (owed : List ℕ)
+    → IsShort tokens start now input known before after inbox owed → Keeps known left → IsReadRun tokens start now input left before after
+read_run tokens start now input known left before after inbox owed is keeps =
+    let short = still_short tokens start now input known left before after inbox owed is (Keeps-none known left keeps) in
+    record { first = short.idle.first; came = short.idle.came; unfinished = short.unfinished; rest = short.idle.rest }
 
 at_end : (known left : Option (List ℕ)) → Consumes known left [] → IsAtEnd left → IsAtEnd known
 at_end None left used end = tt

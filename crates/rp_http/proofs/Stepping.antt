@@ -77,12 +77,10 @@ come_settled tokens came inbox owed left Refuses turns wants come = come
 pub came_none : (tokens : List (List ℕ)) (came xs : List ℕ) (n : ℕ) (inbox : State) → n ≡ 0 → Holds tokens came inbox → Holds tokens (came ++ take n xs) inbox
 came_none tokens came xs n inbox none holds = subst (λ k. Holds tokens (came ++ take k xs) inbox) (sym none) (subst (λ l. Holds tokens l inbox) (sym (append-nil came)) holds)
 
-pub one_read : {R : Type 0} (made : R → Reads) (remaining : R → Option (List ℕ)) (gives : R → List ℕ → R → Type 0) (old new : R) (xs : List ℕ) (n room : ℕ) → 0 < room → length (take n xs) ≡ n
+pub one_read : {R : Type 0} (made : R → Reads) (remaining : R → Option (List ℕ)) (gives : R → List ℕ → R → Type 0) (old new : R) (xs : List ℕ) (n room : ℕ) → length (take n xs) ≡ n
     → MakesReads (made old) (made new) 1 room → gives old (take n xs) new → Consumes (remaining old) (remaining new) (take n xs) → (n ≡ 0 → IsAtEnd (remaining new))
-    → IsOneRead made remaining gives old new (take n xs)
-one_read made remaining gives old new xs n room some fits counted gave used end = record {
-  room = room;
-  some = some;
+    → IsOneRead made remaining gives old new room (take n xs)
+one_read made remaining gives old new xs n room fits counted gave used end = record {
   counted = counted;
   gave = gave;
   used = used;
@@ -90,10 +88,10 @@ one_read made remaining gives old new xs n room some fits counted gave used end 
 }
 
 -- a read that gave nothing
-pub read_none : {R : Type 0} (made : R → Reads) (remaining : R → Option (List ℕ)) (gives : R → List ℕ → R → Type 0) (old new : R) (piece : List ℕ) → length piece ≡ 0
-    → IsOneRead made remaining gives old new piece → IsOneRead made remaining gives old new []
-read_none made remaining gives old new [] none is = is
-read_none made remaining gives old new (x ∷ xs) none is = absurd (some_more x xs none)
+pub read_none : {R : Type 0} (made : R → Reads) (remaining : R → Option (List ℕ)) (gives : R → List ℕ → R → Type 0) (old new : R) (room : ℕ) (piece : List ℕ) → length piece ≡ 0
+    → IsOneRead made remaining gives old new room piece → IsOneRead made remaining gives old new room []
+read_none made remaining gives old new room [] none is = is
+read_none made remaining gives old new room (x ∷ xs) none is = absurd (some_more x xs none)
 
 -- ---- a turn
 

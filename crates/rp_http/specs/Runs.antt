@@ -1,6 +1,6 @@
 -- The messages of a connection, and what is written for them.
 use Rattle.std.specs.Prelude.{◌≡◌, ℕ, ◌+◌, ◌<◌, ◌%◌, ◌^◌, ◌⊎◌, true, false, List, [], ◌∷◌, ◌++◌, length, drop, Option, Some, None, flat_map, ⊤}
-use Rattle.std.specs.Io.KnownBytes.{Appends}
+use Rattle.std.specs.Io.KnownBytes.{prepend_known, Appends}
 use Rattle.rp_io.specs.Held.{HasAtLeast}
 use Rattle.rp_io.specs.Reads.{Reads}
 use Rattle.rp_plain.specs.Plain.{Plain}
@@ -70,6 +70,13 @@ pub record IsFirstRun (tokens : List (List ℕ)) (old new : Plain) (input before
   pub takes : TakesCalls input left calls
   pub stay : AllStay calls
   pub answered : Answered tokens old new before after calls
+
+-- A read failed, of an input of which this is left: the messages that came whole were answered, and what came after them is none.
+pub record IsReadRun (tokens : List (List ℕ)) (old new : Plain) (input left before after : Option (List ℕ)) : Type 0 where
+  pub first : IsFirstRun tokens old new input before after
+  pub came : List ℕ
+  pub unfinished : IsUnfinished came
+  pub rest : first.left ≡ prepend_known came left
 
 -- the input ended there: no more whole message, and no byte that can't be of one
 abbrev pub IsEndedRun : List (List ℕ) → Plain → Plain → Option (List ℕ) → Option (List ℕ) → Option (List ℕ) → Type 0

@@ -57,10 +57,12 @@ Writes contents _ owed left old new = new ≡ old
 
 -- ---- what came, and what is made of it
 
--- one read into some room gave these bytes, and none only where no more come
-pub record IsOneRead {R : Type 0} (made : R → Reads) (remaining : R → Option (List ℕ)) (gives : R → List ℕ → R → Type 0) (old new : R) (piece : List ℕ) : Type 0 where
-  pub room : ℕ
-  pub some : 0 < room
+-- the most bytes of one read
+abbrev pub piece_room : ℕ
+piece_room = 16384
+
+-- one read into so much room gave these bytes, and none only where no more come
+pub record IsOneRead {R : Type 0} (made : R → Reads) (remaining : R → Option (List ℕ)) (gives : R → List ℕ → R → Type 0) (old new : R) (room : ℕ) (piece : List ℕ) : Type 0 where
   pub counted : MakesReads (made old) (made new) 1 room
   pub gave : gives old piece new
   pub used : Consumes (remaining old) (remaining new) piece

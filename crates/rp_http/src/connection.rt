@@ -1,5 +1,5 @@
 //! One connection: what came by it, and what is still to be sent.
-ghost use Rattle.std.specs.Prelude.{◌≡◌, ◌≢◌, ◌≤◌, ◌<◌, ◌+◌, ◌++◌, ◌⊎◌, ℕ, List, [], Option, true, false, length, take, IfOk, OnOk, OnErr, IsErrOf};
+ghost use Rattle.std.specs.Prelude.{◌≡◌, ◌≢◌, ◌≤◌, ◌<◌, ◌+◌, ◌++◌, ◌⊎◌, ℕ, List, [], Option, true, false, length, min, take, IfOk, OnOk, OnErr, IsErrOf};
 ghost use Rattle.std.specs.Io.KnownBytes.{Consumes, IsAtEnd, Keeps};
 ghost use Rattle.rp_io.specs.Reads.{Reads, MakesReads};
 ghost use Rattle.rp_plain.specs.Plain.{Plain};
@@ -7,7 +7,7 @@ ghost use Rattle.rp_http.specs.Bytes.{owed_in};
 ghost use Rattle.rp_http.specs.Inboxes.{Open, Holds, room_of, weight};
 ghost use Rattle.rp_http.specs.Runs.{max_reads, MakesSome, IsEndedRun, IsWholeRun, IsCutRun};
 ghost use Rattle.rp_http.specs.Serving.{IsServed, IsLast, stage_at};
-ghost use Rattle.rp_http.specs.Stepping.{HasCome, IsTaken, IsOneRead, Takes, Moves, Gives, Spends, SendsOf, Writes, settled};
+ghost use Rattle.rp_http.specs.Stepping.{HasCome, IsTaken, IsOneRead, piece_room, Takes, Moves, Gives, Spends, SendsOf, Writes, settled};
 ghost use Rattle.rp_http.specs.Turns.{Leaves};
 
 use crate::answers::AnswerBytes;
@@ -115,6 +115,7 @@ impl Connection {
         ensures outbox { IfOk result (λ c. owed_in c.outbox ≡ []) }
         ensures phase { IfOk result (λ c. c.phase ≡ Phase.Turns) }
         ensures reads { IfOk result (λ c. c.reads ≡ max_reads) }
+        ensures come { IfOk result (λ c. (tokens : List (List ℕ)) → HasCome tokens [] c) }
     {
         let inbox = Inbox::new(alloc)?;
         Ok(Connection {
@@ -190,7 +191,7 @@ impl Connection {
             IsServed tokens start now input (R.remaining reader.old) before after self.old →
             IsEndedRun tokens start now input before after) }
         ensures gives { IfOk result (λ n. 0 < room_of self.old.inbox → (piece : List ℕ) × (length piece ≡ n)
-            × IsOneRead R.reads_made R.remaining R.read_gives reader.old reader.new piece
+            × IsOneRead R.reads_made R.remaining R.read_gives reader.old reader.new (min piece_room (room_of self.old.inbox)) piece
             × ((tokens : List (List ℕ)) (came : List ℕ) → Holds tokens came self.old.inbox → Holds tokens (came ++ piece) self.new.inbox)) }
         ensures outbox { self.new.outbox ≡ self.old.outbox }
         ensures none { IfOk result (λ n. n ≡ 0 → (self.new.inbox ≡ self.old.inbox) × (self.new.phase ≡ self.old.phase)) }
@@ -316,7 +317,7 @@ impl Connection {
         ensures still { self.old.phase ≢ Phase.Turns → repository.new ≡ repository.old }
         ensures takes { (came : List ℕ) → HasCome tokens.now came self.old →
             IfOk result (λ stepped. Takes tokens.now came repository.old.content repository.new.content self.new
-            (IsOneRead R.reads_made R.remaining R.read_gives reader.old reader.new) stepped) }
+            (IsOneRead R.reads_made R.remaining R.read_gives reader.old reader.new (min piece_room (room_of self.old.inbox))) stepped) }
         ensures run { Leaves tokens.now repository.old.content repository.new.content }
         ensures partners { repository.new.content.partners ≡ repository.old.content.partners }
         ensures moves { IfOk result (λ stepped. Moves self.old self.new stepped) }

@@ -2,7 +2,7 @@
 ghost use Rattle.std.specs.Prelude.{◌≡◌, ◌≢◌, ◌≤◌, ◌⊎◌, ℕ, List, [], Option, true, length, OnOk, OnErr, IsErrOf};
 ghost use Rattle.rp_plain.specs.Plain.{Plain};
 ghost use Rattle.rp_http.specs.Bytes.{owed_in};
-ghost use Rattle.rp_http.specs.Runs.{RunsOut, IsWholeRun, IsFirstRun, IsCutRun};
+ghost use Rattle.rp_http.specs.Runs.{RunsOut, IsWholeRun, IsReadRun, IsCutRun};
 ghost use Rattle.rp_http.specs.Serving.{IsServed};
 ghost use Rattle.rp_http.specs.declared.connection.Phase.TheVariants.{Sends, Wants};
 
@@ -59,7 +59,7 @@ pub fn serve_connection<R: Source, W: Sink>(
     requires { length tokens.now ≤ length repository.old.content.partners }
     ensures whole { OnOk result (IsWholeRun tokens.now repository.old.content repository.new.content (R.remaining reader.old) (W.contents writer.old) (W.contents writer.new)) }
     ensures first { IsErrOf result ServeFault.ReadFault →
-        IsFirstRun tokens.now repository.old.content repository.new.content (R.remaining reader.old) (W.contents writer.old) (W.contents writer.new) }
+        IsReadRun tokens.now repository.old.content repository.new.content (R.remaining reader.old) (R.remaining reader.new) (W.contents writer.old) (W.contents writer.new) }
     ensures read_failed { IsErrOf result ServeFault.ReadFault →
         (R.read_failures reader.new ≢ R.read_failures reader.old) ⊎ RunsOut (R.reads_made reader.old) (R.reads_made reader.new) (R.remaining reader.old) }
     ensures cut { IsErrOf result ServeFault.WriteFault →

@@ -3,7 +3,7 @@ use Rattle.rp_http.specs.declared.connection.Phase.TheVariants.{Wants, Refuses}
 use Rattle.rp_http.specs.Bytes.{owed_in}
 use Rattle.rp_http.specs.Inboxes.{weight}
 use Rattle.rp_http.proofs.Feeding.{IsFed, fed_first, fed_more, fault_of}
-use Rattle.rp_http.proofs.Serving.{begins, over_run, as_short, turns_left, wants_not, refuses_not}
+use Rattle.rp_http.proofs.Serving.{begins, over_run, as_short, read_run, turns_left, wants_not, refuses_not}
 use Rattle.rp_http.proofs.serve.serve_connection.Goals as goal
 
 pub turns-init : goal.turns-init
@@ -49,8 +49,9 @@ turns-preserved-else-count-eq0 g c =
 pub returns-in-Err-clause-first : goal.returns-in-Err-clause-first
 returns-in-Err-clause-first g c = λ _.
     let s = c.send_all.new.connection in
-    (as_short c.args.tokens.now c.args.repository.now.content c.turn.new.repository.content _ _ _ _ s.inbox (owed_in s.outbox) s.phase (c.wants.ensures.wants c.if-wants.true)
-    (c.send_all.ensures.served _ _ _ _ _ _ (c.turn.ensures.served _ _ _ _ _ c.turns.invariant.served))).idle.first
+    let short = as_short c.args.tokens.now c.args.repository.now.content c.turn.new.repository.content _ _ _ _ s.inbox (owed_in s.outbox) s.phase (c.wants.ensures.wants c.if-wants.true)
+    (c.send_all.ensures.served _ _ _ _ _ _ (c.turn.ensures.served _ _ _ _ _ c.turns.invariant.served)) in
+    read_run c.args.tokens.now c.args.repository.now.content c.turn.new.repository.content _ _ _ _ _ s.inbox (owed_in s.outbox) short c.in-Err.ensures.kept.1
 
 pub returns-in-Err-clause-read_failed : goal.returns-in-Err-clause-read_failed
 returns-in-Err-clause-read_failed g c = λ _.

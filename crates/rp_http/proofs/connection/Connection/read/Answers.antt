@@ -1,5 +1,9 @@
-use Rattle.std.proofs.Common.{arith}
-use Rattle.std.proofs.lemmas.List.{length-take-le}
+use Rattle.std.proofs.Common.{◌≡◌, length, take, subst, arith}
+use Rattle.std.specs.Prelude.{min}
+use Rattle.rp_io.specs.Reads.{MakesReads}
+use Rattle.rp_http.specs.Inboxes.{room_of}
+use Rattle.rp_http.specs.Stepping.{piece_room}
+use Rattle.std.proofs.lemmas.List.{length-take, length-take-le}
 use Rattle.rp_http.specs.Bytes.{owed_in}
 use Rattle.rp_http.proofs.Serving.{read_nothing, read_on, as_short, ended_run, Keeps-none, consumes_none, kept_on_err}
 use Rattle.rp_http.proofs.Stepping.{came_none, one_read}
@@ -40,21 +44,25 @@ returns-in_err-count-clause-kept g c = kept_on_err c.from_residual.result c.args
 pub returns-then-count-gt0-clause-gives : goal.returns-then-count-gt0-clause-gives
 returns-then-count-gt0-clause-gives g c = λ room.
     let n = c.in_ok-count.count in
+    let piece = c.args.workspace.now.piece in
+    let all : length (take c.min-room.result piece) ≡ min piece_room (room_of c.args.self.now.inbox) = omega (arith, length-take c.min-room.result piece, c.room.ensures, c.min-room.ensures) in
     let fits = length-take-le n _ c.in_ok-count.ensures.bound in (
       _,
       fits,
-      one_read g.R.Source.reads_made g.R.Source.remaining g.R.Source.read_gives c.args.reader.now c.read_once.new.reader _ n _ (omega (arith, room, c.room.ensures, c.min-room.ensures)) fits
-          c.read_once.ensures.counted c.in_ok-count.ensures.gives c.in_ok-count.ensures.bytes (λ none. c.in_ok-count.ensures.end none (omega (arith, room, c.room.ensures, c.min-room.ensures))),
+      one_read g.R.Source.reads_made g.R.Source.remaining g.R.Source.read_gives c.args.reader.now c.read_once.new.reader _ n _ fits
+          (subst (λ k. MakesReads (g.R.Source.reads_made c.args.reader.now) (g.R.Source.reads_made c.read_once.new.reader) 1 k) all c.read_once.ensures.counted) c.in_ok-count.ensures.gives c.in_ok-count.ensures.bytes (λ none. c.in_ok-count.ensures.end none (omega (arith, room, c.room.ensures, c.min-room.ensures))),
       c.receive.ensures.holds,
     )
 
 pub returns-else-count-gt0-clause-gives : goal.returns-else-count-gt0-clause-gives
 returns-else-count-gt0-clause-gives g c = λ room.
     let n = c.in_ok-count.count in
+    let piece = c.args.workspace.now.piece in
+    let all : length (take c.min-room.result piece) ≡ min piece_room (room_of c.args.self.now.inbox) = omega (arith, length-take c.min-room.result piece, c.room.ensures, c.min-room.ensures) in
     let fits = length-take-le n _ c.in_ok-count.ensures.bound in (
       _,
       fits,
-      one_read g.R.Source.reads_made g.R.Source.remaining g.R.Source.read_gives c.args.reader.now c.read_once.new.reader _ n _ (omega (arith, room, c.room.ensures, c.min-room.ensures)) fits
-          c.read_once.ensures.counted c.in_ok-count.ensures.gives c.in_ok-count.ensures.bytes (λ none. c.in_ok-count.ensures.end none (omega (arith, room, c.room.ensures, c.min-room.ensures))),
+      one_read g.R.Source.reads_made g.R.Source.remaining g.R.Source.read_gives c.args.reader.now c.read_once.new.reader _ n _ fits
+          (subst (λ k. MakesReads (g.R.Source.reads_made c.args.reader.now) (g.R.Source.reads_made c.read_once.new.reader) 1 k) all c.read_once.ensures.counted) c.in_ok-count.ensures.gives c.in_ok-count.ensures.bytes (λ none. c.in_ok-count.ensures.end none (omega (arith, room, c.room.ensures, c.min-room.ensures))),
       λ tokens came. came_none tokens came _ n c.args.self.now.inbox (omega (arith, c.if-count-gt0.false)),
     )

@@ -111,7 +111,7 @@ returns-then-count-eq0-clause-takes g c = λ came is.
     let none = c.in-Ok.ensures.none c.if-count-eq0.true in
     let come = come_at c.args.tokens.now came s.inbox (owed_in s.outbox) s.phase Wants c.in-Wants.is is in
     let gave = c.in-Ok.ensures.gives come.3 in (
-      read_none g.R.Source.reads_made g.R.Source.remaining g.R.Source.read_gives c.args.reader.now c.read.new.reader gave.0 (gave.1 ∙ c.if-count-eq0.true) gave.2,
+      read_none g.R.Source.reads_made g.R.Source.remaining g.R.Source.read_gives c.args.reader.now c.read.new.reader _ gave.0 (gave.1 ∙ c.if-count-eq0.true) gave.2,
       come_still c.args.tokens.now came s.inbox c.read.new.self.inbox (owed_in s.outbox) (owed_in c.read.new.self.outbox) s.phase c.read.new.self.phase none.0 (ap owed_in c.read.ensures.outbox) none.1 is,
     )
 
