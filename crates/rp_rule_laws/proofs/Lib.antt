@@ -14,3 +14,4 @@ mod AttributesEntities
 mod AttributesBound
 mod AttributesStatements
 mod AttributesElsewhere
+mod KindsGiven

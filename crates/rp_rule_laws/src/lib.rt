@@ -9,7 +9,7 @@ mod operations;
 mod reports;
 
 pub use attributes::attributes_mean_one;
-pub use kinds::fits_by_kinds;
+pub use kinds::{fits_by_kinds, given_by_kinds};
 pub use operations::{
     all_within_counts, class_is_what_is_the_same, common_counts, difference_counts,
     elements_have_classes, intersection_counts, is_within_counts, joined_counts, less_counts,
