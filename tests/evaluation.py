@@ -20,6 +20,8 @@ from lib.harness import TOP, run_parts
 
 PROGRAM = os.path.join(TOP, "crates/trials/out/trials")
 ASSEMBLY = os.path.join(TOP, "example/assembly")
+USAGE = (b"trials rules SCHEMA FILE LIMIT.., trials connection SCHEMA INPUT FAULT NUMBER SIZE ROOM, "
+         b"or trials requests SCHEMA OTHER LINE..")
 LINE = re.compile(r"(\d+) (\S+)\.(\S+) (\?|#\d+) (.*)")
 
 
@@ -115,10 +117,9 @@ def faulty_input(it):
     """One line, and status 2."""
     good = FILE.format("S", "#1=E(1);")
     words = ["rules", "schema.exp", "file.step", "1"]
-    usage = b"trials rules SCHEMA FILE LIMIT.., or trials connection SCHEMA INPUT SIZE ROOM END"
     no_limit = b"a limit is no number up to 18446744073709551615"
     for name, schema, file, given, told in (
-            ("no words", SCHEMA, good, [], usage), ("a schema alone", SCHEMA, good, words[:2], usage),
+            ("no words", SCHEMA, good, [], USAGE), ("a schema alone", SCHEMA, good, words[:2], USAGE),
             ("no number", SCHEMA, good, [*words, "-1"], no_limit),
             ("a number with a blank", SCHEMA, good, [*words, "1 "], no_limit), ("an empty word", SCHEMA, good, [*words, ""], no_limit),
             ("a limit of 65 bits", SCHEMA, good, [*words, str(2**64)], no_limit),

@@ -1,16 +1,19 @@
 //! Trials, for tests: of evaluation, which tells each condition of a schema's WHERE clauses with its value and its steps for the
-//! instances of a file; and of one connection, which is served over streams in memory.
+//! instances of a file; of one connection, which is served over streams in memory, of which one call may fail; and of requests,
+//! which are answered in one run and then each by itself.
 //!
 //!     trials rules SCHEMA FILE LIMIT..
-//!     trials connection SCHEMA INPUT SIZE ROOM END
+//!     trials connection SCHEMA INPUT FAULT NUMBER SIZE ROOM
+//!     trials requests SCHEMA OTHER LINE..
 #![tactic(auto)]
 
 mod connection;
+mod repositories;
+mod requests;
+mod streams;
 
-use connection::{Pieces, Served, serve};
 use plain_data::Failure;
 use rp_files::{FromFiles, file_bytes};
-use rp_http::ServeFault;
 use rp_io::{ToWriter, write_all};
 use rp_trial::{limits_of, trial};
 use std::alloc::{AllocError, Global};
@@ -19,7 +22,7 @@ use std::rt::{Env, Files};
 use std::{env, io};
 
 const WORDS: &str =
-    "trials rules SCHEMA FILE LIMIT.., or trials connection SCHEMA INPUT SIZE ROOM END";
+    "trials rules SCHEMA FILE LIMIT.., trials connection SCHEMA INPUT FAULT NUMBER SIZE ROOM, or trials requests SCHEMA OTHER LINE..";
 
 fn main(rt: HostRuntime) -> ExitCode {
     let Err(failure) = run(&rt) else {
@@ -73,51 +76,10 @@ fn lines_by<R: AllocGlobal + Files>(rt: &R, words: &[String]) -> Result<Vec<u8>,
     }
 }
 
-/// Whether a read fails behind the bytes of a connection whose end is called this.
-fn is_cut(alloc: Global, end: &str) -> Result<bool, Failure<String>> {
-    match end {
-        "closed" => Ok(false),
-        "cut" => Ok(true),
-        _ => Err(fault(alloc, "the end is neither closed nor cut")),
-    }
-}
-
-/// What comes of the connection that words ask for.
-fn served_by<R: AllocGlobal + Files>(rt: &R, words: &[String]) -> Result<Served, Failure<String>> {
-    let alloc = rt.alloc();
-    let [schema, input, numbers @ .., end] = words else {
-        return Err(fault(alloc, WORDS));
-    };
-    let Some(numbers) = limits_of(alloc, numbers)? else {
-        return Err(fault(
-            alloc,
-            "the size or the room is no number up to 18446744073709551615",
-        ));
-    };
-    let [size, room] = numbers.as_slice() else {
-        return Err(fault(alloc, WORDS));
-    };
-    let is_cut = is_cut(alloc, end.as_str())?;
-    let schema = bytes_of(rt, schema.as_str())?;
-    let input = bytes_of(rt, input.as_str())?;
-    serve(alloc, &schema, Pieces::new(&input, *size, is_cut), *room)
-}
-
 fn print_bytes<R: AllocGlobal + Print>(rt: &R, bytes: &[u8]) -> Result<(), Failure<String>> {
     match write_all(&mut ToWriter::new(io::writer(rt)), bytes) {
         Ok(()) => Ok(()),
         Err(_) => Err(fault(rt.alloc(), "standard output can't be written")),
-    }
-}
-
-/// Prints what was written to a connection, and tells how that ended.
-fn print_served<R: AllocGlobal + Print>(rt: &R, served: &Served) -> Result<(), Failure<String>> {
-    print_bytes(rt, &served.written)?;
-    match served.ended {
-        Ok(()) => Ok(()),
-        Err(ServeFault::ReadFault) => Err(fault(rt.alloc(), "a read failed")),
-        Err(ServeFault::WriteFault) => Err(fault(rt.alloc(), "a write failed")),
-        Err(ServeFault::NoMemory) => Err(Failure::NoMemory),
     }
 }
 
@@ -133,7 +95,8 @@ fn run<R: AllocGlobal + Files + Env + Print>(rt: &R) -> Result<(), Failure<Strin
     };
     match what.as_str() {
         "rules" => print_bytes(rt, &lines_by(rt, words)?),
-        "connection" => print_served(rt, &served_by(rt, words)?),
+        "connection" => connection::serve(rt, words),
+        "requests" => requests::answer(rt, words),
         _ => Err(fault(alloc, WORDS)),
     }
 }
