@@ -18,12 +18,23 @@ module _ {P : Type 0} (moment : P → ℕ) (left_since : P → ℕ → Place →
 
 module _ {P : Type 0} (moment : P → ℕ) (left_since : P → ℕ → Place → Type 0) (may_leave : P → Place → Type 0) (could_leave : Place → Type 0) (old new : P)
     (counts : (place : Place) → may_leave old place → left_since old 0 place) where
-  -- a step after which a crash leaves no more than before it
+  -- a step after which a crash leaves no more than before it, also of all moments till then
+  no_more : Elapses (moment old) (moment new) (left_since old) (left_since new) (may_leave new) → LeavesNoMore (may_leave old) (may_leave new) → LeavesNoMore (left_since old 0) (left_since new 0)
+  no_more time crash place left = ⊎_elim (λ past. past) (λ now. counts place (crash place now)) (time.nothing_else 0 place (omega arith) left)
+
   pub still_kept : Elapses (moment old) (moment new) (left_since old) (left_since new) (may_leave new) → LeavesNoMore (may_leave old) (may_leave new)
       → LeavesNoMore could_leave (left_since old 0) → LeavesNoMore could_leave (left_since new 0)
-  still_kept time crash kept place left = ⊎_elim (kept place) (λ now. kept place (counts place (crash place now))) (time.nothing_else 0 place (omega arith) left)
+  still_kept time crash kept place left = kept place (no_more time crash place left)
+
+  pub still_or : (known : Option Place) → Elapses (moment old) (moment new) (left_since old) (left_since new) (may_leave new) → LeavesNoMore (may_leave old) (may_leave new)
+      → LeavesOldOr known could_leave (left_since old 0) → LeavesOldOr known could_leave (left_since new 0)
+  still_or known time crash were place left = were place (no_more time crash place left)
 
   -- steps after which it leaves that, or what is known
   pub kept_or : (known : Option Place) → Meanwhile moment left_since may_leave old new known
       → LeavesNoMore could_leave (left_since old 0) → LeavesOldOr known could_leave (left_since new 0)
   kept_or known meanwhile kept place left = ⊎_elim (λ past. inl (kept place past)) (⊎_elim (λ here. inl (kept place (counts place here))) inr) (meanwhile.before 0 place (omega arith) left)
+
+-- what leaves no more leaves that, or what is known
+pub or_known : (known : Option Place) (old new : Place → Type 0) → LeavesNoMore old new → LeavesOldOr known old new
+or_known known old new kept place left = inl (kept place left)

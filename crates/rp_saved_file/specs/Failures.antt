@@ -7,6 +7,6 @@ abbrev pub failures_of : Option Failed → ℕ
 failures_of None = 0
 failures_of (Some failed) = failed.more + 1
 
--- nothing was written yet, where this is known, and no write failed
-abbrev pub IsNew : Option (List ℕ) → Option Failed → Type 0
-IsNew contents failed = IfSome contents (λ bytes. bytes ≡ []) × (failures_of failed ≡ 0)
+-- Nothing was written yet, where this is known, and no write failed, nor any other call.
+abbrev pub IsNew : Option (List ℕ) → Option Failed → ℕ → Type 0
+IsNew contents failed failures = IfSome contents (λ bytes. bytes ≡ []) × (failures_of failed ≡ 0) × (failures ≡ 0)

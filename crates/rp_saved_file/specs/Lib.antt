@@ -1,3 +1,4 @@
+pub mod Counts
 pub mod Crashes
 pub mod Failures
 pub mod Names

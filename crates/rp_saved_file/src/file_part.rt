@@ -1,6 +1,7 @@
 //! The file of `std` beside that of a path.
-ghost use Rattle.std.specs.Prelude.{◌≡◌, ◌≢◌, None, ⊤, IfOk};
+ghost use Rattle.std.specs.Prelude.{◌≡◌, None, ⊤, IfOk};
 ghost use Rattle.std.specs.String.{string_bytes};
+ghost use Rattle.rp_saved_file.specs.Counts.{Fails};
 ghost use Rattle.rp_saved_file.specs.Names.{IsBeside};
 
 use crate::fault::ReplaceFault;
@@ -22,6 +23,7 @@ pub struct FilePart<R: Files> {
     path: String,
     /// The path with `.part` behind it.
     beside: String,
+    /// It is 0 only where no call failed.
     failures: u64,
 }
 
@@ -32,7 +34,8 @@ impl<R: Files + Drop> FilePart<R> {
         files: R,
         path: &str,
     ) -> Result<FilePart<R>, Failure<ReplaceFault>>
-        ensures { IfOk result (λ part. IsBeside path.now (string_bytes part.path) (string_bytes part.beside)) }
+        ensures names { IfOk result (λ part. IsBeside path.now (string_bytes part.path) (string_bytes part.beside)) }
+        ensures none { IfOk result (λ part. part.failures ≡ 0) }
     {
         let beside = format!(in alloc; "{path}.part")?;
         let place = String::from_str(alloc, path)?;
@@ -147,15 +150,21 @@ impl<R: Files> FilePart<R> {
     /// Counts a failure.
     fn count<E>(&mut self, error: E) -> E
         ensures same { result ≡ error }
-        ensures counted { self.new.failures ≢ self.old.failures }
+        ensures path { self.new.path ≡ self.old.path }
+        ensures counted { Fails self.old.failures self.new.failures }
     {
-        self.failures = self.failures.wrapping_add(1);
+        self.failures = match self.failures {
+            u64::MAX => 1,
+            failures => failures + 1,
+        };
         error
     }
 }
 
 impl<R: Files> Part for FilePart<R> {
-    ghost could_leave = { λ _. ⊤ };
+    ghost could_leave = { λ _ _. ⊤ };
+
+    ghost path = { λ part. string_bytes part.path };
 
     ghost contents = { λ _. None };
 
@@ -178,8 +187,8 @@ impl<R: Files> Part for FilePart<R> {
     fn write(&mut self, bytes: &[u8]) -> io::Result<usize> {
         match self.file.write(bytes) {
             Ok(count) if count > 0 || bytes.is_empty() => Ok(count),
-            Ok(_) => Err(io::Error::from(ErrorKind::WriteZero)),
-            Err(error) => Err(error),
+            Ok(_) => Err(self.count(io::Error::from(ErrorKind::WriteZero))),
+            Err(error) => Err(self.count(error)),
         }
     }
 

@@ -10,5 +10,5 @@ mod replacing;
 pub use fault::ReplaceFault;
 pub use file_part::FilePart;
 pub use part::Part;
-pub use places::Places;
-pub use replacing::{Replaced, Replacement, take_place};
+pub use places::{FilePlaces, Places};
+pub use replacing::{Left, NotReplaced, Replacement, take_place};
