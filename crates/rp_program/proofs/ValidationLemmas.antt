@@ -1,6 +1,7 @@
 -- What was told of a delivery is told of the reply to it.
 use Rattle.std.proofs.Common.{◌≡◌, ℕ, List, [], ◌∷◌, true, Option, None, IfSome, Result, Ok, Err}
-use Rattle.std.specs.Prelude.{IfOk, OnOk}
+use Rattle.std.specs.Prelude.{IfOk, IfErr, OnOk}
+use Rattle.std.specs.declared.io.Error.{Error}
 use Rattle.std.specs.Io.KnownBytes.{Appends}
 use Rattle.ex_types.specs.Checked.{Checked}
 use Rattle.rp_files.specs.Files.{Held}
@@ -15,6 +16,9 @@ use Rattle.rp_delivery.specs.Judged.{judgement_of}
 use Rattle.rp_delivery.specs.Deliveries.{IsDelivered}
 use Rattle.rp_program.specs.declared.ending.Done.{Done}
 use Rattle.rp_program.specs.declared.ending.Done.TheVariants.{Validated}
+use Rattle.rp_program.specs.declared.fault.Fault.{Fault}
+use Rattle.rp_program.specs.declared.fault.Fault.TheVariants.{Start, Read, Write, Refused, Page, Listen, Serve, Unsaved}
+use Rattle.rp_program.specs.Faults.{EndsBy}
 use Rattle.rp_program.specs.Validations.{IsValidated}
 
 module _ (files : Option Held) (schema_paths paths : List (List ℕ)) (schemas lent slice : List Checked) (partners : List (List ℕ)) (r : Plain) (reply : Reply)
@@ -33,6 +37,18 @@ module _ (files : Option Held) (schema_paths paths : List (List ℕ)) (schemas l
   pub verdict_told : {E : Type 0} (o : Result Done E) → IfOk o (λ done. done ≡ Validated (judgement_of reply)) → IfOk o (λ done. IsValidated files schema_paths paths (λ answer. done ≡ Validated (judgement_of answer)))
   verdict_told (Err e) told = tt
   verdict_told (Ok done) told = validated (λ answer. done ≡ Validated (judgement_of answer)) told
+
+  pub faults_told : (Unwritten : Type 0) (Unpaged : List ℕ → Error → Type 0) (o : Result Done Fault) → IfErr o (λ fault. EndsBy Unwritten (is_refused reply ≡ true) Unpaged fault)
+      → IfErr o (λ fault. EndsBy Unwritten (IsValidated files schema_paths paths (λ answer. is_refused answer ≡ true)) Unpaged fault)
+  faults_told Unwritten Unpaged (Ok done) told = tt
+  faults_told Unwritten Unpaged (Err (Start why)) told = told
+  faults_told Unwritten Unpaged (Err Read) told = told
+  faults_told Unwritten Unpaged (Err Write) told = told
+  faults_told Unwritten Unpaged (Err (Refused path words)) told = validated (λ answer. is_refused answer ≡ true) told
+  faults_told Unwritten Unpaged (Err (Page path error)) told = told
+  faults_told Unwritten Unpaged (Err (Listen at error)) told = told
+  faults_told Unwritten Unpaged (Err (Serve fault)) told = told
+  faults_told Unwritten Unpaged (Err (Unsaved why)) told = told
 
   module _ (before after : Option (List ℕ)) where
     pub line_told : {E : Type 0} (o : Result Done E) → IfOk o (λ done. done ≡ Validated (judgement_of reply)) → OnOk o (Appends before after (line_of_reply reply))

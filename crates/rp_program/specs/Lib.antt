@@ -1,6 +1,7 @@
 pub mod Starts
-pub mod Runs
+pub mod Faults
 pub mod Saved
+pub mod Runs
 pub mod Checks
 pub mod Statuses
 pub mod Validations

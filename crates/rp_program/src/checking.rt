@@ -9,6 +9,7 @@ ghost use Rattle.ex_check.specs.Explained.{explanation};
 ghost use Rattle.rp_program.specs.declared.fault.StartFault.{StartFault};
 ghost use Rattle.rp_program.specs.Starts.{text_at};
 ghost use Rattle.rp_program.specs.Checks.{OfFile};
+ghost use Rattle.rp_program.specs.Faults.{EndsBy};
 
 use crate::ending::Done;
 use crate::fault::Fault;
@@ -49,7 +50,7 @@ pub fn check<D: Folder, W: Sink>(
     // Else nothing was written, and the file gives nothing.
     ensures start { (why : Failure StartFault) → IsErrOf result (Fault.Start why) →
         (writer.new ≡ writer.old) × IfSome (D.files folder.now) (λ held. Fails why (text_at held path.now)) }
-    ensures no_input { IfErr result (λ fault. fault ≢ Fault.Read) }
+    ensures faults { IfErr result (λ fault. EndsBy (W.write_failures writer.new ≢ W.write_failures writer.old) ⊥ (λ _ _. ⊥) fault) }
 {
     keep_large_blocks(alloc);
     let text = file_bytes(alloc, folder, path)?;
@@ -78,7 +79,7 @@ pub fn explain<D: Folder, W: Sink>(
     // Else nothing was written, and the file gives nothing.
     ensures start { (why : Failure StartFault) → IsErrOf result (Fault.Start why) →
         (writer.new ≡ writer.old) × IfSome (D.files folder.now) (λ held. Fails why (text_at held path.now)) }
-    ensures no_input { IfErr result (λ fault. fault ≢ Fault.Read) }
+    ensures faults { IfErr result (λ fault. EndsBy (W.write_failures writer.new ≢ W.write_failures writer.old) ⊥ (λ _ _. ⊥) fault) }
 {
     let text = file_bytes(alloc, folder, path)?;
     Ok(Done::Checked(explain_text(alloc, &text, writer)?))

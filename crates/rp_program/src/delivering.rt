@@ -1,9 +1,10 @@
 //! Files that are validated as one delivers them.
-ghost use Rattle.std.specs.Prelude.{◌≡◌, ℕ, List, true, map, IfOk, IfErr, OnOk, IsErrOf};
+ghost use Rattle.std.specs.Prelude.{◌≡◌, ◌≢◌, ℕ, List, true, map, Some, IfOk, IfErr, OnOk, IsErrOf, option_copied, ⊤};
 ghost use Rattle.std.specs.Io.KnownBytes.{Appends};
 ghost use Rattle.rp_replies.specs.Replies.{line_of_reply};
 ghost use Rattle.rp_delivery.specs.Judged.{judgement_of as spec_judgement_of};
 ghost use Rattle.rp_delivery.specs.Requests.{is_refused};
+ghost use Rattle.rp_program.specs.Faults.{EndsBy};
 ghost use Rattle.rp_program.specs.Validations.{IsValidated};
 
 use crate::ending::Done;
@@ -51,6 +52,12 @@ pub fn validate<D: Folder, W: Sink, N: Notes, P: Pages>(
     ensures refused { asked.now.form ≡ Form.Json → (path words : List ℕ) → IsErrOf result (Fault.Refused path words) →
         IsValidated (D.files folder.now) (map (λ path. path.now) asked.now.schemas.now) (map (λ path. path.now) asked.now.files.now)
         (λ reply. (is_refused reply ≡ true) × Appends (W.contents writer.old) (W.contents writer.new) (line_of_reply reply)) }
+
+    // It fails only where there is nothing to work on, a write failed, the reply is a refusal, or the page that is asked for couldn't be
+    // written.
+    ensures faults { IfErr result (λ fault. EndsBy (W.write_failures writer.new ≢ W.write_failures writer.old)
+        (IsValidated (D.files folder.now) (map (λ path. path.now) asked.now.schemas.now) (map (λ path. path.now) asked.now.files.now) (λ reply. is_refused reply ≡ true))
+        (λ path error. (option_copied asked.now.page ≡ Some path) × P.may_fail pages.old path error pages.new) fault) }
 {
     let SchemaSources { texts, schemas } = sources_at(alloc, folder, asked.schemas)?;
     let schemas_lent = lent(alloc, schemas.as_slice())?;
@@ -92,6 +99,8 @@ fn tell<W: Sink, P: Pages>(
     ensures json { asked.now.form ≡ Form.Json → OnOk result (Appends (W.contents writer.old) (W.contents writer.new) (line_of_reply delivered.now.reply)) }
     ensures refused { asked.now.form ≡ Form.Json → (path words : List ℕ) → IsErrOf result (Fault.Refused path words) →
         (is_refused delivered.now.reply ≡ true) × Appends (W.contents writer.old) (W.contents writer.new) (line_of_reply delivered.now.reply) }
+    ensures faults { IfErr result (λ fault. EndsBy (W.write_failures writer.new ≢ W.write_failures writer.old) (is_refused delivered.now.reply ≡ true)
+        (λ path error. (option_copied asked.now.page ≡ Some path) × P.may_fail pages.old path error pages.new) fault) }
 {
     let schema = source_of(schemas, texts, delivered.schema);
     match &delivered.reply {
@@ -136,7 +145,7 @@ fn source_of<'t>(schemas: &'t [Compiled], texts: &'t [Vec<u8>], place: usize) ->
 
 fn write<W: Sink>(writer: &mut W, bytes: &[u8]) -> Result<(), Fault>
     ensures ok { OnOk result (Appends (W.contents writer.old) (W.contents writer.new) bytes.now) }
-    ensures err { IfErr result (λ fault. fault ≡ Fault.Write) }
+    ensures err { IfErr result (λ fault. (fault ≡ Fault.Write) × (W.write_failures writer.new ≢ W.write_failures writer.old)) }
 {
     match write_all(writer, bytes) {
         Ok(()) => Ok(()),
@@ -173,7 +182,8 @@ fn write_report<P: Pages>(
     delivered: &Delivered<'_>,
     pages: &mut P,
 ) -> Result<(), Fault>
-    ensures { (path words : List ℕ) → IsErrOf result (Fault.Refused path words) → ⊥ }
+    ensures refused { (path words : List ℕ) → IsErrOf result (Fault.Refused path words) → ⊥ }
+    ensures faults { IfErr result (λ fault. EndsBy ⊥ ⊥ (λ path error. (option_copied asked.now.page ≡ Some path) × P.may_fail pages.old path error pages.new) fault) }
 {
     let (Some(path), Reply::Validated(report)) = (asked.page, &delivered.reply) else {
         return Ok(());
@@ -277,6 +287,7 @@ fn tell_refused<W: Sink>(
     ensures refused { OnOk result ⊥ }
     ensures json { asked.now.form ≡ Form.Json → (path words : List ℕ) → IsErrOf result (Fault.Refused path words) →
         Appends (W.contents writer.old) (W.contents writer.new) (line_of_reply delivered.now.reply) }
+    ensures faults { IfErr result (λ fault. EndsBy (W.write_failures writer.new ≢ W.write_failures writer.old) ⊤ (λ _ _. ⊥) fault) }
 {
     let told = told_of_refusal(alloc, schema, asked, delivered, &file)?;
     let RefusedFile {

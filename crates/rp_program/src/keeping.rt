@@ -66,7 +66,7 @@ impl<'a, R: Files + Clock + Eprint> SnapshotKeeper<'a, R> {
     /// Tries to save, and tells where that fails.
     fn try_save(&mut self, alloc: Global, path: &str, repository: &Repository<'_>) {
         let begun = Instant::now(self.rt).ok();
-        match save_at(alloc, &self.rt, path, repository) {
+        match save_at(alloc, self.rt, path, repository) {
             Ok(()) => {
                 self.saved = repository.changes();
                 self.waits = false;

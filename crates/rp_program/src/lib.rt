@@ -1,6 +1,7 @@
 //! What the program does, over any folder, reader and writer, and the exit status of each way to end.
 #![tactic(auto)]
 
+mod aimed;
 mod checking;
 mod delivering;
 mod ending;
@@ -20,8 +21,8 @@ pub use fault::{Fault, StartFault, Unsaved};
 pub use http_routes::TokenFault;
 pub use opening::bad_token_in;
 pub use pages::Pages;
-pub use rp_saved_file::ReplaceFault;
+pub use rp_saved_file::{FilePlaces, Left, ReplaceFault};
 pub use rp_sockets::{Ends, ServeFault};
-pub use running::batch;
+pub use running::{Batched, batch};
 pub use saving::Snapshots;
 pub use serving::serve;

@@ -16,6 +16,7 @@ use plain_data::Failure;
 use rp_config::Loaded;
 use rp_files::Folder;
 use rp_repo::Repository;
+use rp_saved_file::FilePlaces;
 use rp_sockets::{Ends, Listening, ServeFault};
 use std::alloc::Global;
 use std::fs::Files;
@@ -115,7 +116,7 @@ fn try_place<R: Files>(alloc: Global, rt: &R, save: Option<&str>) -> Result<(), 
     ensures { OnErr result (IsSome (option_copied save.entry)) }
 {
     if let Some(path) = save {
-        begin(alloc, &rt, path)?;
+        begin(alloc, &mut FilePlaces::new(rt), path)?.give_up();
     }
     Ok(())
 }
@@ -138,7 +139,7 @@ fn at_end<R: Files>(
     let Some(path) = save else {
         return Ok(Done::Served);
     };
-    match save_at(alloc, &rt, path, repository) {
+    match save_at(alloc, rt, path, repository) {
         Ok(()) => Ok(Done::Served),
         Err(unsaved) => Err(Fault::Unsaved(unsaved)),
     }

@@ -18,8 +18,8 @@ use rp_config::{
 use rp_delivery::{Asked, Form};
 use rp_files::{FromFiles, LoadFault, file_bytes};
 use rp_program::{
-    Done, Ends, Fault as CommandFault, Snapshots, StartFault, TokenFault, Verdict, bad_token_in,
-    batch, check, explain, serve, status_of, validate,
+    Batched, Done, Ends, Fault as CommandFault, FilePlaces, Snapshots, StartFault, TokenFault,
+    Verdict, bad_token_in, batch, check, explain, serve, status_of, validate,
 };
 use rp_repo::{FromReader, NewFault, ToWriter};
 use snapshot::kind_of;
@@ -125,15 +125,17 @@ fn batch_of<R: AllocGlobal + Files + Print + Input>(
     };
     let mut reader = FromReader::new(rt.reader());
     let mut writer = ToWriter::new(io::writer(rt));
-    batch(
+    let Batched { ended, left } = batch(
         rt.alloc(),
         &FromFiles::new(rt),
         run.config,
         snapshots,
-        rt,
+        &mut FilePlaces::new(rt),
         &mut reader,
         &mut writer,
-    )
+    );
+    drop(left);
+    ended
 }
 
 /// Serves connections, by the repository that the configuration tells.
