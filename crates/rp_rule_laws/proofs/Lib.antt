@@ -15,3 +15,4 @@ mod AttributesBound
 mod AttributesStatements
 mod AttributesElsewhere
 mod KindsGiven
+mod ReportsRead

@@ -17,5 +17,5 @@ pub use operations::{
 };
 pub use reports::{
     compiled_schemas_have_all_rules, culprits_are_in_order, each_rule_has_an_entry,
-    instances_have_attributes_once,
+    instances_have_attributes_once, read_instances_have_attributes_once,
 };

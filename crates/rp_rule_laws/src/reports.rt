@@ -2,6 +2,7 @@
 
 ghost use Rattle.std.specs.Prelude.{◌≡◌, ◌≢◌, ◌<◌, ◌+◌, ℕ, List, All, AllPairs, count_by, length, is_some, false, if◌then◌else◌};
 ghost use Rattle.ex_types.specs.Checked.{Checked};
+ghost use Rattle.p21_bind.specs.Origins.{IsSpelled};
 ghost use Rattle.rp_meaning.specs.Compiled.{compiled};
 ghost use Rattle.rp_meaning.specs.Populations.{Instance};
 ghost use Rattle.rp_meaning.specs.Reading.{instance_of};
@@ -9,6 +10,8 @@ ghost use Rattle.rp_meaning.specs.Report.{report};
 ghost use Rattle.rp_meaning.specs.declared.report.Check.{Check};
 ghost use Rattle.rp_meaning.specs.declared.report.Constraint.{Constraint};
 ghost use Rattle.rp_meaning.specs.declared.schema.Schema.{Schema};
+ghost use Rattle.rp_population.specs.Populations.{Placed};
+ghost use Rattle.rp_positions.specs.Seen.{all_seen_by};
 ghost use Rattle.rp_rule_laws.specs.Reports.{HasOrders, HaveAttributesOnce, InEachList, Precedes};
 ghost use Rattle.rp_rule_laws.specs.Reports.{constraints, count_of_rules, declared_rules, is_entry, is_of_values, same_constraint};
 ghost use Rattle.rp_value.specs.declared.value.Value.{Value};
@@ -42,4 +45,11 @@ pub fn culprits_are_in_order()
 /// An instance of a population that is made of instances of different entities has each attribute once.
 pub fn instances_have_attributes_once()
     ensures { (schema : Schema) (count : ℕ) (entities : List ℕ) (values : List Value) → AllPairs (λ e f. e ≢ f) entities → AllPairs (λ x y. x.attribute ≢ y.attribute) (instance_of schema count entities values).values }
+{}
+
+/// If each instance of a population came with a file or a text, as all instances of a valid repository did, each has each attribute
+/// once where rules see it, and no culprit stands twice in a list of the report.
+pub fn read_instances_have_attributes_once()
+    ensures attributes { (checked : Checked) (schema : Schema) (xs : List Placed) → All (λ x. IsSpelled checked x.instance) xs → HaveAttributesOnce (all_seen_by schema checked xs) }
+    ensures culprits { (checked : Checked) (schema : Schema) (xs : List Placed) → All (λ x. IsSpelled checked x.instance) xs → All (InEachList (AllPairs (λ x y. x ≢ y))) (report schema (all_seen_by schema checked xs)).checks }
 {}
