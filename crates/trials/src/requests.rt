@@ -1,4 +1,4 @@
-//! Requests by calls of the library that `rp_server` does not make: all of them by `run`, and then each by `handle`.
+//! Requests by calls of the library that `rp_server batch` and `serve` do not make: all of them by `run`, and then each by `handle`.
 ghost use Rattle.std.specs.Prelude.{◌<◌, length, IfOk};
 ghost use Rattle.std.specs.List.{AllByRecursion};
 
