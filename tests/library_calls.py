@@ -1,5 +1,5 @@
 #!/usr/bin/env python3
-"""Calls `Repository::run`, `handle` and `snapshot`, which `rp_server` does not call, by the program of the trials, and compares all that is
+"""Calls `Repository::run`, `handle` and `snapshot`, which `batch` and `serve` do not call, by the program of the trials, and compares all that is
 printed.
 
     tests/library_calls.py [PROGRAM]
