@@ -21,7 +21,7 @@ pub trait Places {
     /// How many replacements were begun.
     ghost begun: { Self → ℕ };
 
-    /// A count that a failed `begin` changes where memory isn't wanting, and nothing else.
+    /// A count that `begin` changes if it fails for another reason than want of memory, and leaves if it succeeds.
     ghost failures: { Self → ℕ };
 
     /// Begins to replace the file of this path, or to make it where there is none.
