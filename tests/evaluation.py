@@ -20,18 +20,23 @@ from lib.harness import TOP, run_parts
 
 PROGRAM = os.path.join(TOP, "crates/trials/out/trials")
 ASSEMBLY = os.path.join(TOP, "example/assembly")
-USAGE = (b"trials rules SCHEMA FILE LIMIT.., trials connection SCHEMA INPUT FAULT NUMBER SIZE ROOM, "
-         b"or trials requests SCHEMA OTHER LINE..")
+USAGE = (b"trials rules SCHEMA FILE LIMIT.., trials kept SCHEMA FILE LIMIT.., "
+         b"trials connection SCHEMA INPUT FAULT NUMBER SIZE ROOM, or trials requests SCHEMA OTHER LINE..")
 LINE = re.compile(r"(\d+) (\S+)\.(\S+) (\?|#\d+) (.*)")
+KEPT = re.compile(rb"KEPT \d+\n")
 
 
 def evaluated(folder, schema, file, limits):
-    """What the program tells: by limit, owner, label and SELF the outcome. Errors are told as they are."""
+    """What the program tells: by limit, owner, label and SELF the outcome. Errors are told as they are, and so is a line that is
+    another one where derived values are remembered."""
     folder.write("schema.exp", schema)
     folder.write("file.step", file)
     status, out, err = folder.run("rules", "schema.exp", "file.step", *map(str, limits))
     if status or err:
         return f"status {status}, {err.decode()}"
+    status, kept, err = folder.run("kept", "schema.exp", "file.step", *map(str, limits))
+    if status or err or not kept.startswith(out) or not KEPT.fullmatch(kept[len(out):]):
+        return f"with derived values remembered: status {status}, {err.decode()}{kept.decode()}"
     lines = [LINE.fullmatch(line).groups() for line in out.decode().split("\n")[:-1]]
     return {(int(limit), owner, label, itself): outcome for limit, owner, label, itself, outcome in lines}
 

@@ -1,12 +1,14 @@
 #!/usr/bin/env python3
-"""Refuses each allocation of a run of `trials rules` in turn, and compares all that it writes.
+"""Refuses each allocation of a run of `trials rules` and of `trials kept` in turn, and compares all that it writes.
 
     tests/evaluation_refusals.py [PROGRAM]
 
 PROGRAM is as for evaluation.py. The run compiles a small schema that has each sort of declaration and of expression, makes the
 domain of a small file, and evaluates each clause at two limits. It is run once for each of its allocations with that one refused
 by tools/refuse.c, and once with that one and all later ones refused. Then it writes the exact lines, or none, and says that it is
-out of memory with status 2; where the words of its command line find no room, that these can't be read. The last line is 'evaluation_refusals: N passed, M failed', and the status is 0 only if none failed.
+out of memory with status 2; where the words of its command line find no room, that these can't be read. Where derived values are
+remembered, no refusal makes these more. The last line is 'evaluation_refusals: N passed, M failed', and the status is 0 only if
+none failed.
 """
 import collections
 import os
@@ -88,7 +90,9 @@ WANTED = {
     "G.PRODUCT": [("?", "4", (1 + 1) + (1 + 1 + (1 + 2) + 2 * (1 + 1 + 1 + (1 + 1) + 1) + 2) + 1 + (1 + 1 + 2) + (1 + 1 + 2))],
 }
 LIMITS = (200_000, 9)
-COMMAND = ("rules", "schema.exp", "file.step", *map(str, LIMITS))
+WORDS = ("schema.exp", "file.step", *map(str, LIMITS))
+# (D and E of #1 and #2: D of #2 is that of T)
+KEPT = 4
 OUT_OF_MEMORY = (2, b"", b"trials: out of memory\n")
 # (what the system gives of words tells want of memory by no name of its own)
 NO_WORDS = (2, b"", b"trials: the command line isn't UTF-8\n")
@@ -100,23 +104,33 @@ def lines():
                    for limit in LIMITS for clause, outcomes in WANTED.items() for itself, value, steps in outcomes).encode()
 
 
-def each_refusal(it):
+def rules(it):
     """Each allocation in turn, alone and with all later ones."""
+    each_refusal(it, ("rules", *WORDS), [lines()])
+
+
+def kept(it):
+    """The same where derived values are remembered."""
+    each_refusal(it, ("kept", *WORDS), [lines() + b"KEPT %d\n" % count for count in range(KEPT, -1, -1)])
+
+
+def each_refusal(it, command, texts):
+    """Runs of a command, which may write the first of some texts, and any of them where an allocation is refused."""
     folder = it.folder.folder.name
     it.folder.write("schema.exp", SCHEMA)
     it.folder.write("file.step", HEAD.format("R") + DATA + TAIL)
     shim_in(folder)
-    whole = run(Folder.program, folder, [], COMMAND)
-    exact = (0, lines(), b"")
+    whole = run(Folder.program, folder, [], command)
+    exact, *fewer = [(0, text, b"") for text in texts]
     it.expect("with no refusal", (whole.status, whole.output, whole.errors, whole.refusals), (*exact, 0))
 
     # (a run that reads no file takes only what comes before that, and the words of its fault)
-    words = run(Folder.program, folder, [], ("rules", "nothing.ex", *COMMAND[2:])).allocations
+    words = run(Folder.program, folder, [], (command[0], "nothing.ex", *command[2:])).allocations
 
     def one(turn):
         key, place = turn
         try:
-            result = run(Folder.program, folder, [], COMMAND, **{key: str(place)})
+            result = run(Folder.program, folder, [], command, **{key: str(place)})
         except Wrong as fault:
             return key, place, str(fault), -1
         return key, place, (result.status, result.output, result.errors), result.refusals
@@ -126,14 +140,15 @@ def each_refusal(it):
     counts = collections.Counter()
     for key, place, told, refusals in it.pool.map(one, turns):
         is_last = place > whole.allocations
-        may_be = [exact] if is_last else [OUT_OF_MEMORY, exact, *([NO_WORDS] if place < words else [])]
+        may_be = [exact] if is_last else [OUT_OF_MEMORY, exact, *fewer, *([NO_WORDS] if place < words else [])]
         it.expect(f"{key}={place} of {whole.allocations}", told if told not in may_be else None, None)
         it.expect(f"{key}={place}: whether anything was refused", refusals > 0, not is_last)
-        counts[key, {OUT_OF_MEMORY: "out of memory", NO_WORDS: "no words"}.get(told, "the exact lines")] += 1
+        outcomes = {OUT_OF_MEMORY: "out of memory", NO_WORDS: "no words"} | dict.fromkeys(fewer, "the exact lines, and fewer values")
+        counts[key, outcomes.get(told, "the exact lines")] += 1
     for (key, outcome), count in sorted(counts.items()):
         print(f"    {key}: {outcome}: {count} runs")
     it.expect("a refusal that led to want of memory", all(counts[key, "out of memory"] > 0 for key in ("REFUSE_NTH", "REFUSE_FROM")), True)
 
 
 if __name__ == "__main__":
-    run_parts("evaluation_refusals", (each_refusal,), program_of(sys.argv[1:]))
+    run_parts("evaluation_refusals", (rules, kept), program_of(sys.argv[1:]))

@@ -35,6 +35,9 @@ K = """SCHEMA K; FUNCTION f(n : INTEGER) : INTEGER; IF n <= 0 THEN RETURN (0); E
 FUNCTION g(x : e) : INTEGER; RETURN (x.d); END_FUNCTION;
 ENTITY e; k : INTEGER; DERIVE d : INTEGER := f(k); WHERE w : d = 0; END_ENTITY; ENTITY p; asked : e; WHERE v : g(asked) = 0; END_ENTITY; END_SCHEMA;
 """
+# a derived attribute that asks the one of another instance, and one that a rule of each instance asks
+H = "SCHEMA H; ENTITY e; nx : OPTIONAL e; DERIVE d : INTEGER := NVL(nx.d, 0); WHERE w : d = 0; END_ENTITY; END_SCHEMA;"
+X = "SCHEMA X; ENTITY e; a : INTEGER; DERIVE d : INTEGER := a + 1; WHERE w : d = a + 1; END_ENTITY; END_SCHEMA;"
 B = "SCHEMA B; ENTITY p; INVERSE us : BAG [0:2] OF u FOR l; END_ENTITY; ENTITY u; l : BAG OF p; END_ENTITY; END_SCHEMA;"
 # rules without labels, of a type and of each clause of an entity, names in another order than they are declared, and a supertype's attribute
 R = """SCHEMA R;
@@ -125,6 +128,44 @@ def test_evaluations_that_are_not_begun():
     expect_report(N, filled("N", "".join(f"#{name}=E();" for name in range(1, 103))), report_is(
         20_000_000, *ATTRIBUTES_HOLD, check_is("where", "E", "W", limit=[["ann", "m", it] for it in range(1, 101)],
                                                not_run=[["ann", "m", 101], ["ann", "m", 102]])))
+
+
+def chain(count, backwards=False):
+    """Instances of H, each of which leads to the one before it, or to the one after it."""
+    if backwards:
+        return "".join(f"#{k}=E({'$' if k == count else f'#{k + 1}'});" for k in range(1, count + 1))
+    return "".join(f"#{k}=E({'$' if k == 1 else f'#{k - 1}'});" for k in range(1, count + 1))
+
+
+def steps_of_chain(count):
+    """W of an instance takes 3 steps and its D, which takes 4 more than that of the next one."""
+    return sum(3 + 4 * k for k in range(1, count + 1))
+
+
+def test_derived_attributes_that_ask_one_another():
+    """At each use all bodies beneath count: 200 nest, and 201 don't, in whatever order the values are found."""
+    for backwards, last in ((False, 201), (True, 1)):
+        expect_report(H, filled("H", chain(200, backwards)), report_is(steps_of_chain(200), *ATTRIBUTES_HOLD, check_is("where", "E", "W")))
+        expect_report(H, filled("H", chain(201, backwards)), report_is(
+            281_000, *ATTRIBUTES_HOLD, check_is("where", "E", "W", limit=[["ann", "m", last]])))
+
+
+def test_validations_by_turns():
+    """What one validation found has no part in another, of another group or schema, or of the same group after a put."""
+    def group(name, schema, held):
+        return [(create_group("ann", name, schema), OK), (create("ann", f"m{name}", schema), OK), (include("ann", name, "ann", f"m{name}"), OK),
+                (put("ann", "ann", f"m{name}", file_of(held, schema)), instances(held.count("=")))]
+
+    def is_told(name, steps):
+        return validate("ann", "ann", name), report_is(steps, *ATTRIBUTES_HOLD, check_is("where", "E", "W"))
+
+    # (W of X: D with its body of three, and four more)
+    turns = [*group("g", "H", chain(3)), *group("h", "H", chain(5, True)), *group("k", "X", "#1=E(4);#2=E(7);")]
+    for turn in range(10):
+        count = 3 + turn
+        turns += [is_told("g", steps_of_chain(count)), is_told("h", steps_of_chain(5)), is_told("k", 2 * 8), is_told("g", steps_of_chain(count)),
+                  (put("ann", "ann", "mg", file_of(chain(count + 1, turn % 2 == 0), "H")), instances(count + 1))]
+    expect(turns, {**CONFIG, "schemas": ["h.exp", "x.exp"]}, h=H, x=X)
 
 
 def test_derived_attributes_of_few_and_of_many():

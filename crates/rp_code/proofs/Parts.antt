@@ -1,8 +1,8 @@
 -- What governs a REPEAT, of what is written of it.
 use Rattle.std.proofs.Common.{◌≡◌, ◌∷◌, Option, Some, None, refl}
 use Rattle.std.specs.Option.{option_to_list}
-use Rattle.rp_meaning.specs.declared.tree.Expression.{Expression}
-use Rattle.rp_meaning.specs.declared.tree.Increment.{Increment}
+use Rattle.rp_code.specs.declared.tree.Expression.{Expression}
+use Rattle.rp_code.specs.declared.tree.Increment.{Increment}
 use Rattle.rp_code.specs.Denoted.{condition, increment}
 
 pub condition_of : (x : Option Expression) → condition (option_to_list x) ≡ x

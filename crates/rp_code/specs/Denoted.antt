@@ -1,17 +1,17 @@
 -- What lists of instructions denote. Each does: past the end there are `?`, the empty statement, and lists without elements.
 use Rattle.std.specs.Prelude.{ℕ, zero, suc, List, [], ◌∷◌, Option, Some, None}
 use Rattle.rp_value.specs.declared.value.Value.TheVariants as v
-use Rattle.rp_meaning.specs.declared.tree.CaseAction.{CaseAction, roll-CaseAction}
-use Rattle.rp_meaning.specs.declared.tree.Expression.{Expression}
-use Rattle.rp_meaning.specs.declared.tree.Expression.TheVariants as e
-use Rattle.rp_meaning.specs.declared.tree.Increment.{Increment}
-use Rattle.rp_meaning.specs.declared.tree.Interval.{roll-Interval}
-use Rattle.rp_meaning.specs.declared.tree.Operation.{Operation, roll-Operation}
-use Rattle.rp_meaning.specs.declared.tree.Qualifier.{Qualifier}
-use Rattle.rp_meaning.specs.declared.tree.Qualifier.TheVariants as q
-use Rattle.rp_meaning.specs.declared.tree.Query.{roll-Query}
-use Rattle.rp_meaning.specs.declared.tree.Statement.{Statement}
-use Rattle.rp_meaning.specs.declared.tree.Statement.TheVariants as st
+use Rattle.rp_code.specs.declared.tree.CaseAction.{CaseAction, roll-CaseAction}
+use Rattle.rp_code.specs.declared.tree.Expression.{Expression}
+use Rattle.rp_code.specs.declared.tree.Expression.TheVariants as e
+use Rattle.rp_code.specs.declared.tree.Increment.{Increment}
+use Rattle.rp_code.specs.declared.tree.Interval.{roll-Interval}
+use Rattle.rp_code.specs.declared.tree.Operation.{Operation, roll-Operation}
+use Rattle.rp_code.specs.declared.tree.Qualifier.{Qualifier}
+use Rattle.rp_code.specs.declared.tree.Qualifier.TheVariants as q
+use Rattle.rp_code.specs.declared.tree.Query.{roll-Query}
+use Rattle.rp_code.specs.declared.tree.Statement.{Statement}
+use Rattle.rp_code.specs.declared.tree.Statement.TheVariants as st
 use Rattle.rp_code.specs.declared.instruction.Instruction.{Instruction}
 use Rattle.rp_code.specs.declared.instruction.Instruction.TheVariants as i
 
@@ -56,6 +56,9 @@ module _ (part : ℕ → Tree) where
   as_expression (i.UsedIn role) = e.UsedIn (part 0).expression role
   as_expression (i.Unary operator) = e.Unary operator (part 0).expression
   as_expression (i.Qualified qualifiers) = e.Qualified (part 0).expression (part qualifiers).qualifiers
+  as_expression (i.QualifiedVariable slot) = e.Qualified (e.Variable slot) (part 0).qualifiers
+  as_expression i.QualifiedItself = e.Qualified e.Itself (part 0).qualifiers
+  as_expression (i.QualifiedAttribute a) = e.Qualified (e.Attribute a) (part 0).qualifiers
   as_expression (i.Chain operations) = e.Chain (part 0).expression (part operations).operations
   as_expression (i.Interval low_operator item high_operator high) = e.Interval (roll-Interval (record {
     low = (part 0).expression;
@@ -74,6 +77,8 @@ module _ (part : ℕ → Tree) where
 
   abbrev pub as_operations : Instruction → List Operation
   as_operations (i.Operation operator next) = roll-Operation (record { operator = operator; right = (part 0).expression }) ∷ (part next).operations
+  as_operations (i.OperationBy operator x) = roll-Operation (record { operator = operator; right = e.Literal x }) ∷ (part 0).operations
+  as_operations (i.OperationByVariable operator slot) = roll-Operation (record { operator = operator; right = e.Variable slot }) ∷ (part 0).operations
   as_operations _ = []
 
   abbrev pub as_qualifiers : Instruction → List Qualifier
@@ -85,6 +90,7 @@ module _ (part : ℕ → Tree) where
 
   abbrev pub as_statement : Instruction → Statement
   as_statement (i.Assignment slot data_type) = st.Assignment slot data_type (part 0).expression
+  as_statement (i.Growth slot operator data_type) = st.Assignment slot data_type (e.Chain (e.Variable slot) (roll-Operation (record { operator = operator; right = (part 0).expression }) ∷ []))
   as_statement (i.Case actions) = st.Case (part 0).expression (part actions).actions
   as_statement i.Compound = st.Compound (part 0).statements
   as_statement (i.If then_part else_part) = st.If (part 0).expression (part then_part).statements (part else_part).statements

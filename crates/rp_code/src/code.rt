@@ -6,9 +6,9 @@ ghost use Rattle.rp_code.specs.Denoted.{at, expression_of, statements_of};
 use crate::expressions::push_expression;
 use crate::instruction::Instruction;
 use crate::statements::push_statements;
+use crate::tree::{Expression, Statement};
 use crate::written::Written;
 use plain_data::Items;
-use rp_meaning::{Expression, Statement};
 use std::alloc::{AllocError, Global};
 use std::marker::Model;
 
@@ -20,8 +20,8 @@ pub struct Code {
 
 impl Model for Code {
     ghost use Rattle.rp_code.specs.Denoted.{expression_of};
-    ghost use Rattle.rp_meaning.specs.declared.tree.Expression.{Expression};
-    ghost use Rattle.rp_meaning.specs.contracts.tree.Expression as tree;
+    ghost use Rattle.rp_code.specs.declared.tree.Expression.{Expression};
+    ghost use Rattle.rp_code.specs.contracts.tree.Expression as tree;
     ghost use Rattle.std.specs.Coded.{codes};
 
     ghost Value = { Expression };
@@ -59,8 +59,8 @@ pub struct Routine {
 impl Model for Routine {
     ghost use Rattle.std.specs.Prelude.{List};
     ghost use Rattle.rp_code.specs.Denoted.{statements_of};
-    ghost use Rattle.rp_meaning.specs.declared.tree.Statement.{Statement};
-    ghost use Rattle.rp_meaning.specs.contracts.tree.Statement as tree;
+    ghost use Rattle.rp_code.specs.declared.tree.Statement.{Statement};
+    ghost use Rattle.rp_code.specs.contracts.tree.Statement as tree;
     ghost use Rattle.std.specs.Coded.{codes};
 
     ghost Value = { List Statement };

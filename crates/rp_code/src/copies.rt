@@ -3,12 +3,13 @@
 ghost use Rattle.std.specs.Prelude.{◌≡◌, IfOk};
 ghost use Rattle.std.specs.Option.{option_copied};
 
+use crate::role::Role;
 use ex_named::NamedDataType;
 use plain_data::{Boxed, Items};
-use rp_meaning::Role;
 use std::alloc::{AllocError, Global};
 
-fn copied_role(alloc: Global, role: &Role) -> Result<Role, AllocError>
+/// The same role once more.
+pub fn copied_role(alloc: Global, role: &Role) -> Result<Role, AllocError>
     ensures { IfOk result (λ copy. copy ≡ role.now) }
 {
     match role {
@@ -48,8 +49,9 @@ pub(crate) fn boxed_type(
     Boxed::new(alloc, data_type)
 }
 
+/// The same type once more.
 #[cycle(copied)]
-fn copied_type(alloc: Global, data_type: &NamedDataType) -> Result<NamedDataType, AllocError>
+pub fn copied_type(alloc: Global, data_type: &NamedDataType) -> Result<NamedDataType, AllocError>
     ensures { IfOk result (λ copy. copy ≡ data_type.now) }
 {
     Ok(match data_type {

@@ -2,17 +2,19 @@
 #![tactic(auto, using(crate::proofs::Places::keeps_then, crate::proofs::Places::keeps_all))]
 
 ghost use Rattle.std.specs.Prelude.{◌≡◌, ◌∷◌, OnOk};
-ghost use Rattle.rp_meaning.specs.declared.tree.Expression.TheVariants as e;
-ghost use Rattle.rp_meaning.specs.declared.tree.Qualifier.TheVariants as q;
+ghost use Rattle.rp_code.specs.declared.tree.Expression.TheVariants as e;
+ghost use Rattle.rp_code.specs.declared.tree.Operation.{roll-Operation};
+ghost use Rattle.rp_code.specs.declared.tree.Qualifier.TheVariants as q;
 ghost use Rattle.rp_code.specs.Denoted.{expression_of, expressions_of, operations_of, qualifiers_of};
 ghost use Rattle.rp_code.specs.Written.{Keeps};
 
 use crate::copies::boxed_role;
 use crate::instruction::Instruction;
+use crate::role::Role;
+use crate::tree::{Expression, Interval, Operation, Qualifier, Query};
 use crate::written::Written;
-use ex_tree::{BuiltInFunction, UnaryOperator};
+use ex_tree::{BinaryOperator, BuiltInFunction, UnaryOperator};
 use plain_data::Items;
-use rp_meaning::{Expression, Interval, Operation, Qualifier, Query, Role};
 use std::alloc::{AllocError, Global};
 
 /// Writes an expression.
@@ -137,6 +139,22 @@ fn push_qualified(
     ensures keeps { OnOk result (Keeps found.old found.new) }
 {
     push_qualifiers(alloc, qualifiers, found)?;
+    match base {
+        Expression::Variable(slot) => found.push(Instruction::QualifiedVariable(*slot)),
+        Expression::Itself => found.push(Instruction::QualifiedItself),
+        Expression::Attribute(attribute) => {
+            found.push(Instruction::QualifiedAttribute(*attribute))
+        }
+        _ => push_base(alloc, base, found),
+    }
+}
+
+/// Writes a value whose qualifiers are there.
+#[cycle(expressions)]
+fn push_base(alloc: Global, base: &Expression, found: &mut Written) -> Result<(), AllocError>
+    ensures tree { OnOk result (expression_of found.new ≡ e.Qualified base.now (qualifiers_of found.old)) }
+    ensures keeps { OnOk result (Keeps found.old found.new) }
+{
     let begun = found.len();
     push_expression(alloc, base, found)?;
     let distance = found.since(begun);
@@ -241,10 +259,33 @@ fn push_operation(
     ensures tree { OnOk result (operations_of found.new ≡ operation.now ∷ operations_of found.old) }
     ensures keeps { OnOk result (Keeps found.old found.new) }
 {
+    let operator = operation.operator;
+    match &operation.right {
+        Expression::Literal(value) => {
+            found.push(Instruction::OperationBy(operator, value.copy()?))
+        }
+        Expression::Variable(slot) => {
+            found.push(Instruction::OperationByVariable(operator, *slot))
+        }
+        right => push_right(alloc, right, operator, found),
+    }
+}
+
+/// Writes an operation whose right operand has parts.
+#[cycle(expressions)]
+fn push_right(
+    alloc: Global,
+    right: &Expression,
+    operator: BinaryOperator,
+    found: &mut Written,
+) -> Result<(), AllocError>
+    ensures tree { OnOk result (operations_of found.new ≡ roll-Operation (record { operator = operator; right = right.now }) ∷ operations_of found.old) }
+    ensures keeps { OnOk result (Keeps found.old found.new) }
+{
     let begun = found.len();
-    push_expression(alloc, &operation.right, found)?;
+    push_expression(alloc, right, found)?;
     let next = found.since(begun);
-    found.push(Instruction::Operation(operation.operator, next))?;
+    found.push(Instruction::Operation(operator, next))?;
     Ok(())
 }
 

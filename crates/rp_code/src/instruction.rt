@@ -1,9 +1,9 @@
 //! Instructions.
 
+use crate::role::Role;
 use ex_named::{AttributePlace, NamedDataType};
 use ex_tree::{BinaryOperator, BuiltInFunction, IntervalOperator, UnaryOperator};
 use plain_data::{Boxed, Items};
-use rp_meaning::Role;
 use rp_value::Value;
 
 /// A node of an expression, of a statement or of a list. Its first part is right behind it. For each further part it has a distance:
@@ -31,6 +31,12 @@ pub enum Instruction {
     Unary(UnaryOperator),
     /// Behind it is the value that is qualified, and at the distance the list of its qualifiers.
     Qualified(usize),
+    /// A variable that is qualified. Behind it is the list of its qualifiers.
+    QualifiedVariable(usize),
+    /// SELF that is qualified. Behind it is the list of its qualifiers.
+    QualifiedItself,
+    /// An attribute of SELF, by its name alone, that is qualified. Behind it is the list of its qualifiers.
+    QualifiedAttribute(AttributePlace),
     /// Behind it is the first operand, and at the distance the list of its operations.
     Chain(usize),
     /// Behind it is the lower bound, and at the distances the item and the upper bound.
@@ -49,6 +55,10 @@ pub enum Instruction {
     Item(usize),
     /// In a list of operations. Behind it is the right operand, and at the distance the list of the next operations.
     Operation(BinaryOperator, usize),
+    /// In a list of operations, with a literal as its right operand. Behind it is the list of the next operations.
+    OperationBy(BinaryOperator, Value),
+    /// In a list of operations, with the variable of a slot as its right operand. Behind it is the list of the next operations.
+    OperationByVariable(BinaryOperator, usize),
     /// In a list of qualifiers: the attributes that the name may mean. Behind it is the list of the next qualifiers.
     OfAttribute(Items<AttributePlace>),
     /// In a list of qualifiers, with its entity. Behind it is the list of the next qualifiers.
@@ -73,6 +83,8 @@ pub enum Instruction {
 
     /// The slot, and the type with which the variable is declared. Behind it is the value.
     Assignment(usize, Boxed<NamedDataType>),
+    /// The same where the value is an operation whose first operand is the variable itself. Behind it is the right operand.
+    Growth(usize, BinaryOperator, Boxed<NamedDataType>),
     /// Behind it is the selector, and at the distance the list of its actions.
     Case(usize),
     /// Behind it is the list of its statements.
@@ -104,11 +116,15 @@ impl Drop for Instruction {
             Instruction::Literal(value) => drop(value),
             Instruction::UsedIn(role) => drop(role),
             Instruction::OfAttribute(attributes) => drop(attributes),
+            Instruction::OperationBy(_, value) => drop(value),
             Instruction::Assignment(_, data_type) => drop(data_type),
+            Instruction::Growth(_, _, data_type) => drop(data_type),
             Instruction::Itself | Instruction::Variable(_) | Instruction::Attribute(_) => {}
             Instruction::Constant(_) | Instruction::Population(_) | Instruction::Call(_) => {}
             Instruction::BuiltIn(_) | Instruction::Unary(_) | Instruction::Qualified(_) => {}
-            Instruction::Chain(_) | Instruction::Query(_) | Instruction::Initializer => {}
+            Instruction::QualifiedVariable(_) | Instruction::QualifiedItself => {}
+            Instruction::QualifiedAttribute(_) | Instruction::Chain(_) => {}
+            Instruction::Query(_) | Instruction::Initializer => {}
             Instruction::Interval {
                 low_operator: _,
                 item: _,
@@ -116,6 +132,7 @@ impl Drop for Instruction {
                 high: _,
             } => {}
             Instruction::Item(_) | Instruction::Operation(_, _) | Instruction::Group(_) => {}
+            Instruction::OperationByVariable(_, _) => {}
             Instruction::Index(_) | Instruction::Otherwise(_) | Instruction::End => {}
             Instruction::Range { last: _, next: _ } => {}
             Instruction::Labels {

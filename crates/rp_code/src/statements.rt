@@ -1,19 +1,20 @@
 //! Statements, written before what is there.
 #![tactic(auto, using(crate::proofs::Places::keeps_then, crate::proofs::Places::keeps_all))]
 
-ghost use Rattle.std.specs.Prelude.{◌≡◌, ◌∷◌, Some, None, OnOk};
+ghost use Rattle.std.specs.Prelude.{◌≡◌, [], ◌∷◌, Some, None, IfSome, OnOk};
 ghost use Rattle.std.specs.Option.{option_to_list};
-ghost use Rattle.rp_meaning.specs.declared.tree.CaseAction.{roll-CaseAction};
-ghost use Rattle.rp_meaning.specs.declared.tree.Statement.TheVariants as st;
+ghost use Rattle.rp_code.specs.declared.tree.CaseAction.{roll-CaseAction};
+ghost use Rattle.rp_code.specs.declared.tree.Expression.TheVariants as e;
+ghost use Rattle.rp_code.specs.declared.tree.Statement.TheVariants as st;
 ghost use Rattle.rp_code.specs.Denoted.{actions_of, expressions_of, increment, statement_of, statements_of};
 ghost use Rattle.rp_code.specs.Written.{Keeps};
 
 use crate::copies::boxed_type;
 use crate::expressions::{push_expression, push_expressions, push_item};
 use crate::instruction::Instruction;
+use crate::tree::{CaseAction, Control, Expression, Increment, Operation, Statement};
 use crate::written::Written;
 use ex_named::NamedDataType;
-use rp_meaning::{CaseAction, Control, Expression, Increment, Statement};
 use std::alloc::{AllocError, Global};
 
 /// Writes a list of an expression, or of none.
@@ -110,6 +111,35 @@ fn push_statement(alloc: Global, tree: &Statement, found: &mut Written) -> Resul
     }
 }
 
+/// The operation, where an expression has the variable of a slot as its first operand, and one operation.
+fn growth(value: &Expression, slot: usize) -> Option<&Operation>
+    ensures { IfSome result (λ operation. value.now ≡ e.Chain (e.Variable slot) (operation.now ∷ [])) }
+{
+    let Expression::Chain(first, operations) = value else {
+        return None;
+    };
+    match (first.get(), operations.as_slice()) {
+        (Expression::Variable(variable), [operation]) if *variable == slot => Some(operation),
+        _ => None,
+    }
+}
+
+fn push_growth(
+    alloc: Global,
+    operation: &Operation,
+    slot: usize,
+    data_type: &NamedDataType,
+    found: &mut Written,
+) -> Result<(), AllocError>
+    ensures tree { OnOk result (statement_of found.new ≡ st.Assignment slot data_type.now (e.Chain (e.Variable slot) (operation.now ∷ []))) }
+    ensures keeps { OnOk result (Keeps found.old found.new) }
+{
+    push_expression(alloc, &operation.right, found)?;
+    let data_type = boxed_type(alloc, data_type)?;
+    found.push(Instruction::Growth(slot, operation.operator, data_type))?;
+    Ok(())
+}
+
 fn push_assignment(
     alloc: Global,
     value: &Expression,
@@ -120,6 +150,9 @@ fn push_assignment(
     ensures tree { OnOk result (statement_of found.new ≡ st.Assignment slot data_type.now value.now) }
     ensures keeps { OnOk result (Keeps found.old found.new) }
 {
+    if let Some(operation) = growth(value, slot) {
+        return push_growth(alloc, operation, slot, data_type, found);
+    }
     push_expression(alloc, value, found)?;
     found.push(Instruction::Assignment(slot, boxed_type(alloc, data_type)?))?;
     Ok(())

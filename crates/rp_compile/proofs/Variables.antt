@@ -15,7 +15,7 @@ use Rattle.ex_types.specs.Declarations.{parameters as parameters-of, locals as l
 use Rattle.ex_typing.specs.Expressions.{TypingScope}
 use Rattle.rp_meaning.specs.declared.schema.Algorithm.{Algorithm}
 use Rattle.rp_meaning.specs.declared.schema.GlobalRule.{GlobalRule}
-use Rattle.rp_meaning.specs.declared.tree.Expression.{Expression}
+use Rattle.rp_code.specs.declared.tree.Expression.{Expression}
 use Rattle.rp_meaning.specs.CompiledStatements.{statements}
 use Rattle.rp_meaning.specs.CompiledExpressions as expressions
 use Rattle.rp_meaning.specs.Compiled as compiled

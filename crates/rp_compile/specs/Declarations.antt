@@ -28,7 +28,7 @@ use Rattle.rp_meaning.specs.declared.schema.Function.{Function}
 use Rattle.rp_meaning.specs.declared.schema.Given.{Given}
 use Rattle.rp_meaning.specs.declared.schema.GlobalRule.{GlobalRule}
 use Rattle.rp_meaning.specs.declared.schema.Initial.{Initial}
-use Rattle.rp_meaning.specs.declared.tree.Expression.{Expression}
+use Rattle.rp_code.specs.declared.tree.Expression.{Expression}
 use Rattle.rp_meaning.specs.Compiled as compiled
 use Rattle.rp_meaning.specs.Compiled.{Rederived, explicit_declaration, of_parameters, of_locals, own_derivations, redeclarations_in}
 use Rattle.rp_meaning.specs.CompiledExpressions as expressions

@@ -3,6 +3,8 @@
 ghost use Rattle.std.specs.Prelude.{◌≡◌, ◌+◌, ◌++◌, map, length, IfOk, OnOk};
 ghost use Rattle.ex_kinds.specs.Kinds.{of_type};
 ghost use Rattle.rp_meaning.specs.Compiled as compiled;
+ghost use Rattle.rp_meaning.specs.CompiledExpressions as expressions;
+ghost use Rattle.rp_meaning.specs.CompiledStatements as statements_spec;
 ghost use Rattle.rp_compile.specs.Declarations as spec;
 
 use crate::expressions::{conditions, given};
@@ -13,7 +15,8 @@ use ex_named::{
 use ex_tree::Name;
 use ex_typing::TypingScope;
 use plain_data::{Items, Rows};
-use rp_compile_trees::{Declared, both, copied_type, push_made, statements};
+use rp_code::{Routine, copied_type};
+use rp_compile_trees::{Declared, both, push_made, statements};
 use rp_meaning::{Algorithm, Function, GlobalRule, Initial};
 use std::alloc::{AllocError, Global};
 
@@ -131,6 +134,20 @@ fn initials<'s>(
     Ok(found)
 }
 
+/// The instructions of statements, where variables are declared with these types. The trees are dropped once they are written.
+fn routine(
+    alloc: Global,
+    schema: &Declared<'_>,
+    scope: &TypingScope<'_>,
+    list: &[NamedStatement],
+    types: &[&NamedDataType],
+) -> Result<Routine, AllocError>
+    ensures { IfOk result (λ routine. routine ≡ statements_spec.statements (expressions.expression schema.now) (map (λ t. t.now) types.now) scope.now list.now) }
+{
+    let trees = statements(alloc, schema, scope, list, types)?;
+    Routine::of(alloc, trees.as_slice())
+}
+
 /// So many locals behind these parameters, and statements, where variables are declared with these types.
 fn algorithm(
     alloc: Global,
@@ -146,7 +163,7 @@ fn algorithm(
 {
     let (initial, statements) = both(
         initials(alloc, schema, scope, parameters, locals),
-        statements(alloc, schema, scope, list, types),
+        routine(alloc, schema, scope, list, types),
     )?;
     Ok(Algorithm {
         locals: count,

@@ -6,9 +6,9 @@ ghost use Rattle.rp_meaning.specs.Compiled as compiled;
 use ancestors::Descent;
 use ex_types::CheckedSchema;
 use plain_data::Rows;
+use rp_code::NamedRole;
 use rp_compile_names::{attributes, supertypes};
 use rp_compile_trees::Declared;
-use rp_meaning::NamedRole;
 use std::alloc::{AllocError, Global};
 
 /// Of each entity its direct supertypes.

@@ -12,9 +12,10 @@ use ex_named::{NamedDataType, NamedDomainRule, NamedType, NamedUnderlying, TypeN
 use ex_renamings::Renamings;
 use ex_typing::TypingScope;
 use plain_data::{Items, Rows};
+use rp_code::{Code, copied_type};
 use rp_compile_names::{choices, joined, selection, selects};
-use rp_compile_trees::{Declared, both, copied_type, push_made};
-use rp_meaning::{DefinedType, Expression, Underlying};
+use rp_compile_trees::{Declared, both, push_made};
+use rp_meaning::{DefinedType, Underlying};
 use std::alloc::{AllocError, Global};
 
 fn underlying_by(
@@ -84,7 +85,7 @@ fn type_rules(
     schema: &Declared<'_>,
     number: usize,
     rules: &[NamedDomainRule],
-) -> Result<Items<Expression>, AllocError>
+) -> Result<Items<Code>, AllocError>
     ensures { IfOk result (λ found. found ≡ spec.type_rules schema.now number rules.now) }
 {
     let itself = kinds_of_one(alloc, Sort::Defined(number))?;

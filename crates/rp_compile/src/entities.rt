@@ -17,12 +17,10 @@ use ex_named::{
 use ex_tree::Name;
 use ex_typing::TypingScope;
 use plain_data::Items;
+use rp_code::{Code, Role, copied_type};
 use rp_compile_names::{Rederived, derivations, explicit_of, joined, rederived_of};
-use rp_compile_trees::{Declared, both, copied_type, push_made};
-use rp_meaning::{
-    Derivation, Entity, Explicit, ExplicitAttribute, Expression, Given, Inverse, Redeclaration,
-    Role,
-};
+use rp_compile_trees::{Declared, both, push_made};
+use rp_meaning::{Derivation, Entity, Explicit, ExplicitAttribute, Given, Inverse, Redeclaration};
 use std::alloc::{AllocError, Global};
 
 /// The declaration that a name means; it means one in a schema that was checked.
@@ -213,7 +211,7 @@ fn entity_rules(
     number: usize,
     derived: &[NamedDerived],
     rules: &[NamedDomainRule],
-) -> Result<(Items<Given>, Items<Expression>), AllocError>
+) -> Result<(Items<Given>, Items<Code>), AllocError>
     ensures derivations { IfOk result (λ found. found.0 ≡ spec.derivations_of schema.now number derived.now) }
     ensures domain_rules { IfOk result (λ found. found.1 ≡ spec.entity_rules schema.now number rules.now) }
 {

@@ -7,9 +7,23 @@ ghost use Rattle.rp_compile.specs.Declarations as spec;
 use ex_named::{NamedConstant, NamedDataType, NamedDomainRule, NamedExpression};
 use ex_typing::TypingScope;
 use plain_data::Items;
-use rp_compile_trees::{Declared, both, copied_type, expression, push_made};
-use rp_meaning::{Expression, Given};
+use rp_code::{Code, copied_type};
+use rp_compile_trees::{Declared, both, expression, push_made};
+use rp_meaning::Given;
 use std::alloc::{AllocError, Global};
+
+/// The instructions of an expression, whose tree is dropped once they are written.
+fn code(
+    alloc: Global,
+    schema: &Declared<'_>,
+    scope: &TypingScope<'_>,
+    tree: &NamedExpression,
+) -> Result<Code, AllocError>
+    ensures { IfOk result (λ code. code ≡ expressions.expression schema.now scope.now tree.now) }
+{
+    let tree = expression(alloc, schema, scope, tree)?;
+    Code::of(alloc, &tree)
+}
 
 /// What gives a value to a constant, an attribute or variables of this type.
 pub(crate) fn given(
@@ -23,7 +37,7 @@ pub(crate) fn given(
 {
     let (data_type, value) = both(
         copied_type(alloc, data_type),
-        expression(alloc, schema, scope, value),
+        code(alloc, schema, scope, value),
     )?;
     Ok(Given { data_type, value })
 }
@@ -34,15 +48,12 @@ pub(crate) fn conditions(
     schema: &Declared<'_>,
     scope: &TypingScope<'_>,
     rules: &[NamedDomainRule],
-) -> Result<Items<Expression>, AllocError>
+) -> Result<Items<Code>, AllocError>
     ensures { IfOk result (λ found. found ≡ spec.conditions schema.now scope.now rules.now) }
 {
     let mut found = Items::new(alloc);
     for rule in rules {
-        push_made(
-            &mut found,
-            expression(alloc, schema, scope, &rule.condition),
-        )?;
+        push_made(&mut found, code(alloc, schema, scope, &rule.condition))?;
     }
     Ok(found)
 }

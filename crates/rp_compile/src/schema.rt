@@ -11,9 +11,10 @@ use crate::entities::entities;
 use crate::expressions::constants;
 use ex_types::CheckedSchema;
 use plain_data::Items;
+use rp_code::NamedRole;
 use rp_compile_names::{entity_order, rederived_rows, roles, rule_order, type_order};
 use rp_compile_trees::{Declared, both};
-use rp_meaning::{DefinedType, Entity, Function, Given, GlobalRule, NamedRole, Schema};
+use rp_meaning::{DefinedType, Entity, Function, Given, GlobalRule, Schema};
 use std::alloc::{AllocError, Global};
 
 /// What is compiled of declarations: of defined types, entities, constants, functions and rules.

@@ -11,8 +11,8 @@ use Rattle.graphs.specs.Graphs.{family, numbers_from}
 use Rattle.name_tables.specs.Names.{named}
 use Rattle.name_tables.specs.Order.{rank}
 use Rattle.plain_data.specs.Numbers.{numbered}
-use Rattle.rp_meaning.specs.declared.role.NamedRole.{NamedRole}
-use Rattle.rp_meaning.specs.declared.role.Role.TheVariants.{Of}
+use Rattle.rp_code.specs.declared.role.NamedRole.{NamedRole}
+use Rattle.rp_code.specs.declared.role.Role.TheVariants.{Of}
 use Rattle.rp_meaning.specs.declared.schema.Derivation.{Derivation}
 use Rattle.rp_meaning.specs.Compiled as compiled
 use Rattle.rp_meaning.specs.Compiled.{Rederived}

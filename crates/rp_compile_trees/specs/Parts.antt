@@ -16,16 +16,16 @@ use Rattle.ex_named.specs.declared.statement.NamedStatement.{NamedStatement}
 use Rattle.ex_operators.specs.Taken.{elements_of}
 use Rattle.ex_typing.specs.Expressions.{TypingScope}
 use Rattle.ex_typing_statements.specs.Statements.{in_turn}
-use Rattle.rp_meaning.specs.declared.tree.CaseAction.{CaseAction}
-use Rattle.rp_meaning.specs.declared.tree.Control.{Control}
-use Rattle.rp_meaning.specs.declared.tree.Expression.{Expression}
-use Rattle.rp_meaning.specs.declared.tree.Increment.{Increment}
-use Rattle.rp_meaning.specs.declared.tree.Interval.{Interval}
-use Rattle.rp_meaning.specs.declared.tree.Operation.{Operation}
-use Rattle.rp_meaning.specs.declared.tree.Qualifier.{Qualifier}
-use Rattle.rp_meaning.specs.declared.tree.Query.{Query}
-use Rattle.rp_meaning.specs.declared.tree.Statement.{Statement}
-use Rattle.rp_meaning.specs.declared.tree.Statement.TheVariants as st
+use Rattle.rp_code.specs.declared.tree.CaseAction.{CaseAction}
+use Rattle.rp_code.specs.declared.tree.Control.{Control}
+use Rattle.rp_code.specs.declared.tree.Expression.{Expression}
+use Rattle.rp_code.specs.declared.tree.Increment.{Increment}
+use Rattle.rp_code.specs.declared.tree.Interval.{Interval}
+use Rattle.rp_code.specs.declared.tree.Operation.{Operation}
+use Rattle.rp_code.specs.declared.tree.Qualifier.{Qualifier}
+use Rattle.rp_code.specs.declared.tree.Query.{Query}
+use Rattle.rp_code.specs.declared.tree.Statement.{Statement}
+use Rattle.rp_code.specs.declared.tree.Statement.TheVariants as st
 use Rattle.rp_meaning.specs.CompiledExpressions as expressions_of
 use Rattle.rp_meaning.specs.CompiledExpressions.{Declared, compiled_expression, each, qualifiers_behind}
 use Rattle.rp_meaning.specs.CompiledStatements as statements_of

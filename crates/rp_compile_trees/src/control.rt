@@ -12,7 +12,7 @@ use crate::trees::expression;
 use ex_named::{NamedExpression, NamedIncrement, NamedRepeatControl};
 use ex_typing::TypingScope;
 use plain_data::Boxed;
-use rp_meaning::{Control, Expression, Increment};
+use rp_code::{Control, Expression, Increment};
 use std::alloc::{AllocError, Global};
 
 /// An expression that may be left out.

@@ -10,7 +10,7 @@ use ancestors::{Descent, Family};
 use ex_named::AttributePlace;
 use ex_typing::Known;
 use name_tables::NameRows;
-use rp_meaning::NamedRole;
+use rp_code::NamedRole;
 use std::marker::Model;
 
 /// What a schema declares, as expressions are compiled by it.

@@ -6,7 +6,7 @@ ghost use Rattle.std.specs.List.{list_any};
 ghost use Rattle.plain_data.specs.Numbers.{is_among};
 ghost use Rattle.ex_tree.specs.declared.expression.Literal.TheVariants as literals;
 ghost use Rattle.rp_meaning.specs.CompiledExpressions as spec;
-ghost use Rattle.rp_meaning.specs.declared.tree.Expression.TheVariants as tree;
+ghost use Rattle.rp_code.specs.declared.tree.Expression.TheVariants as tree;
 ghost use Rattle.rp_value.specs.declared.value.Value.{out-Value};
 ghost use Rattle.rp_value.specs.declared.value.Value.TheVariants as value;
 
@@ -15,7 +15,7 @@ use ex_kinds::{Sort, ValueKind};
 use ex_named::{AttributeMeaning, AttributePlace, EnumerationItem};
 use ex_tree::{BuiltInFunction, Literal};
 use plain_data::{Boxed, Items};
-use rp_meaning::{Expression, NamedRole, Role};
+use rp_code::{Expression, NamedRole, Role, copied_role};
 use rp_value::Value;
 use std::alloc::{AllocError, Global};
 
@@ -175,18 +175,6 @@ pub(crate) fn meant(
         plain.as_slice(),
         schema.attributes_named(name),
     )
-}
-
-fn copied_role(alloc: Global, role: &Role) -> Result<Role, AllocError>
-    ensures { IfOk result (λ copy. copy ≡ role.now) }
-{
-    match role {
-        Role::Every => Ok(Role::Every),
-        Role::Of(entity, attributes) => {
-            let attributes = Items::from_slice(alloc, attributes.as_slice())?;
-            Ok(Role::Of(*entity, attributes))
-        }
-    }
 }
 
 /// The role of this name; no name stands for every role.

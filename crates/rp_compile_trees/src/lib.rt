@@ -7,10 +7,8 @@ mod leaves;
 mod made;
 mod statement;
 mod trees;
-mod types;
 
 pub use declared::Declared;
 pub use made::{both, push_made};
 pub use statement::statements;
 pub use trees::expression;
-pub use types::copied_type;

@@ -6,20 +6,19 @@ ghost use Rattle.ex_typing_statements.specs.Statements.{in_turn};
 ghost use Rattle.rp_meaning.specs.CompiledExpressions as expressions_spec;
 ghost use Rattle.rp_meaning.specs.CompiledStatements as spec;
 ghost use Rattle.rp_compile_trees.specs.Parts as parts;
-ghost use Rattle.rp_meaning.specs.declared.tree.Statement.TheVariants as statement_of;
+ghost use Rattle.rp_code.specs.declared.tree.Statement.TheVariants as statement_of;
 
 use crate::control::control;
 use crate::declared::Declared;
 use crate::made::{both, push_made};
 use crate::trees::{expression, expressions};
-use crate::types::copied_type;
 use ex_kinds::{Sort, ValueKind};
 use ex_named::{
     NamedCase, NamedCaseAction, NamedDataType, NamedExpression, NamedRepeatControl, NamedStatement,
 };
 use ex_typing::TypingScope;
 use plain_data::{Boxed, Items};
-use rp_meaning::{CaseAction, Expression, Statement};
+use rp_code::{CaseAction, Expression, Statement, copied_type};
 use std::alloc::{AllocError, Global};
 
 /// What the variable of a REPEAT may be.

@@ -2,7 +2,7 @@
 
 ghost use Rattle.std.specs.Prelude.{◌≡◌, [], ◌∷◌, ◌++◌, IfOk, OnOk};
 ghost use Rattle.ex_typing.specs.Expressions.{within};
-ghost use Rattle.rp_meaning.specs.declared.tree.Expression.TheVariants as tree_of;
+ghost use Rattle.rp_code.specs.declared.tree.Expression.TheVariants as tree_of;
 ghost use Rattle.rp_meaning.specs.CompiledExpressions as spec;
 ghost use Rattle.rp_compile_trees.specs.Parts as parts;
 
@@ -15,7 +15,8 @@ use ex_operators::elements_of;
 use ex_tree::BuiltInFunction;
 use ex_typing::TypingScope;
 use plain_data::{Boxed, Items};
-use rp_meaning::{Expression, Interval, Operation, Qualifier, Query, compiled_as_typed};
+use rp_code::{Expression, Interval, Operation, Qualifier, Query};
+use rp_meaning::compiled_as_typed;
 use std::alloc::{AllocError, Global};
 
 /// What is said of an expression's value.

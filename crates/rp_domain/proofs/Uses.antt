@@ -12,7 +12,7 @@ use Rattle.rp_value.specs.declared.value.Value.{Value}
 use Rattle.rp_value.specs.declared.value.Value.TheFolds.{fold-roll-Value}
 use Rattle.rp_value.specs.declared.value.Value.TheOpen.{Value-F}
 use Rattle.rp_value.specs.declared.value.Value.TheVariants as v
-use Rattle.rp_meaning.specs.declared.role.Role.{Role}
+use Rattle.rp_code.specs.declared.role.Role.{Role}
 use Rattle.rp_meaning.specs.Populations.{Instance, instances}
 use Rattle.rp_meaning.specs.Uses.{User, Use, references, referred, uses_of, uses_from, uses_at, users, places_among}
 use Rattle.rp_domain.specs.declared.combination.AttributeOf.{AttributeOf}

@@ -4,7 +4,7 @@ use Rattle.std.proofs.lemmas.List.{map-append, reverse-append}
 use Rattle.std.proofs.lemmas.List.Elements.{filter-append}
 use Rattle.rp_value.specs.declared.value.Value.{Value}
 use Rattle.rp_value.specs.declared.value.Value.TheVariants as v
-use Rattle.rp_meaning.specs.declared.role.Role.{Role}
+use Rattle.rp_code.specs.declared.role.Role.{Role}
 use Rattle.rp_meaning.specs.Populations.{instances}
 use Rattle.rp_meaning.specs.Uses.{User, is_in, places_among}
 

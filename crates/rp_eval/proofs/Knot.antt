@@ -8,6 +8,8 @@ use Rattle.rp_meaning.specs.Computations.{nested}
 use Rattle.rp_meaning.specs.Expressions.{World}
 use Rattle.rp_meaning.specs.Levels.{bodies, level, body_with, most_turns}
 use Rattle.rp_meaning.specs.Outcomes.{evaluation}
+use Rattle.rp_eval_parts.specs.Serving.{Serves}
+use Rattle.rp_eval.proofs.Serving.{kept_serves}
 use Rattle.rp_meaning.proofs.Steadiness.{steady-evaluation, steady-level}
 
 pub level-zero : (w : World) (turns levels : ℕ) (c : Counter) (body : Body) → levels ≡ 0 → level w turns levels body c ≡ None
@@ -25,6 +27,23 @@ nesting-within w levels left new a body h =
     let e : level w most_turns (suc levels) body (record { left = left; nesting = 0 }) ≡ Some (a, record { left = new.left; nesting = max 0 (new.nesting + 1) }) = rw h refl in
     let t = (steady-level w most_turns (suc levels) body).taken (record { left = left; nesting = 0 }) (record { left = new.left; nesting = max 0 (new.nesting + 1) }) a e in
     omega (arith, t.nesting, t.nests)
+
+-- no body gives steps back
+pub left-within : (w : World) (levels left : ℕ) (new : Counter) (a : Value) (body : Body) → body_with w most_turns (level w most_turns levels) body (record { left = left; nesting = 0 }) ≡ Some (a, new) → new.left ≤ left
+unfolding level
+left-within w levels left new a body h =
+    let e : level w most_turns (suc levels) body (record { left = left; nesting = 0 }) ≡ Some (a, record { left = new.left; nesting = max 0 (new.nesting + 1) }) = rw h refl in
+    let t = (steady-level w most_turns (suc levels) body).taken (record { left = left; nesting = 0 }) (record { left = new.left; nesting = max 0 (new.nesting + 1) }) a e in
+    omega (arith, t.left)
+
+-- what finished serves everywhere
+pub finished : (w : World) (levels left : ℕ) (new : Counter) (a : Value) (body : Body) → body_with w most_turns (level w most_turns levels) body (record { left = left; nesting = 0 }) ≡ Some (a, new)
+    → Serves w body (record { value = a; steps = left - new.left; bodies = new.nesting + 1 })
+unfolding level
+finished w levels left new a body h =
+    let n : max 0 (new.nesting + 1) ≡ new.nesting + 1 = omega arith in
+    let e : level w most_turns (suc levels) body (record { left = left; nesting = 0 }) ≡ Some (a, record { left = new.left; nesting = new.nesting + 1 }) = rw h (ap (λ m. Some (a, record { left = new.left; nesting = m })) n) in
+    kept_serves w body left (suc levels) (record { left = new.left; nesting = new.nesting + 1 }) a e
 
 -- no rule gives steps back
 pub left-falls : (w : World) (levels : ℕ) (old new : Counter) (a : Value) (rule : Rule) (itself : Value) → evaluation w (bodies w levels) rule itself old ≡ Some (a, new) → new.left ≤ old.left

@@ -1,11 +1,9 @@
 pub mod Loops
 pub mod Knot
-pub mod Told
-pub mod Found
-pub mod Assigned
-pub mod Runnings
+pub mod Growth
+pub mod Steps
 pub mod Parameters
 pub mod Trees
-pub mod Whole
-pub mod Operands
 pub mod Serving
+pub mod Nodes
+pub mod Others

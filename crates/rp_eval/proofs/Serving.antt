@@ -9,27 +9,27 @@ use Rattle.rp_meaning.specs.Laws.{kept}
 use Rattle.rp_meaning.specs.Levels.{bodies, most_turns}
 use Rattle.rp_meaning.proofs.Kept.{serves}
 use Rattle.rp_meaning.proofs.Steadiness.{steady-level}
-use Rattle.rp_eval.specs.Serving.{AllDerivedServe, AllServe, Serves, derived_body}
-use Rattle.rp_eval.specs.declared.kept.Derived.{Derived}
-use Rattle.rp_eval.specs.declared.kept.Kept.{Kept}
-use Rattle.rp_eval.specs.declared.kept.KeptDerived.{KeptDerived}
+use Rattle.rp_eval_parts.specs.Serving.{Serves, derived_body}
+use Rattle.rp_eval_parts.specs.declared.kept.Derived.{Derived}
+use Rattle.rp_eval_parts.specs.declared.kept.Kept.{Kept}
+use Rattle.rp_eval.specs.Serving.{AllServe}
 
-module _ (w : World) (body : Body) (left : ℕ) (new : Counter) (a : Value)
-    (h : bodies w 200 body (record { left = left; nesting = 0 }) ≡ Some (a, new)) where
+module _ (w : World) (body : Body) (left most : ℕ) (new : Counter) (a : Value)
+    (h : bodies w most body (record { left = left; nesting = 0 }) ≡ Some (a, new)) where
   -- no body gives steps back
   pub left_within : new.left ≤ left
   left_within =
-      let t = (steady-level w most_turns 200 body).taken (record { left = left; nesting = 0 }) new a h in
+      let t = (steady-level w most_turns most body).taken (record { left = left; nesting = 0 }) new a h in
       omega (arith, t.left)
 
   pub kept_serves : Serves w body (record { value = a; steps = left - new.left; bodies = new.nesting })
   kept_serves =
       let old : Counter = record { left = left; nesting = 0 } in
-      let t = (steady-level w most_turns 200 body).taken old new a h in
+      let t = (steady-level w most_turns most body).taken old new a h in
       let steps : left - new.left ≡ t.steps = omega (arith, t.left) in
       let nested : new.nesting ≡ t.bodies = omega (arith, t.nesting) in
       λ levels c.
-      serves (λ l. bodies w l body) (λ l. steady-level w most_turns l body) 200 levels old new c a t
+      serves (λ l. bodies w l body) (λ l. steady-level w most_turns l body) most levels old new c a t
       ∙ ap (λ n. kept n t.bodies a levels c) (sym steps)
       ∙ ap (λ n. kept (left - new.left) n a levels c) (sym nested)
 
@@ -50,14 +50,8 @@ one_more_serves w found k all here number x is =
     let P : ℕ → Kept → Type 0 = λ n. Serves w (b.Constant n) in
     subst (λ o. IfSome o (P number)) is (kept_more P found k (λ n. known (P n) (slice_get found n) (all n)) here number)
 
--- what is kept of a row
-abbrev IsKept : World → KeptDerived → Type 0
-IsKept w row = Serves w (derived_body row.of) row.kept
+-- ---- what is kept of the body of a derived attribute
 
-pub one_more_derived : (w : World) (found : List KeptDerived) (row : KeptDerived) → AllDerivedServe w found → Serves w (derived_body row.of) row.kept → AllDerivedServe w (found ++ row ∷ [])
-one_more_derived w found row all here number x is =
-    let P : ℕ → KeptDerived → Type 0 = λ n. IsKept w in
-    subst (λ o. IfSome o (P number)) is (kept_more P found row (λ n. known (P n) (slice_get found n) (all n)) here number)
-
-pub derived_serves : (w : World) (rows : List KeptDerived) (number : ℕ) (row : KeptDerived) (of : Derived) → AllDerivedServe w rows → slice_get rows number ≡ Some row → row.of ≡ of → Serves w (derived_body of) row.kept
-derived_serves w rows number row of all is same = subst (λ x. Serves w (derived_body x) row.kept) same (all number row is)
+pub kept_of : (w : World) (of : Option Derived) (body : Body) (k : Kept) → IfSome of (λ d. body ≡ derived_body d) → Serves w body k → IfSome of (λ d. Serves w (derived_body d) k)
+kept_of w None body k is serves = tt
+kept_of w (Some d) body k is serves = subst (λ b. Serves w b k) is serves

@@ -1,7 +1,7 @@
 -- How the turns of an increment begin.
 use Rattle.std.specs.Prelude.{Option}
-use Rattle.rp_meaning.specs.declared.tree.Expression.{Expression}
-use Rattle.rp_meaning.specs.declared.tree.Increment.{Increment}
+use Rattle.rp_code.specs.declared.tree.Expression.{Expression}
+use Rattle.rp_code.specs.declared.tree.Increment.{Increment}
 use Rattle.rp_meaning.specs.Computations.{Computation, pure, ◌>>=◌}
 use Rattle.rp_meaning.specs.Expressions.{Meaning, Scope}
 use Rattle.rp_meaning.specs.Statements.{Running, running, step_value}

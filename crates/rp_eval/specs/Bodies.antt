@@ -7,17 +7,19 @@ use Rattle.rp_meaning.specs.declared.body.Body.{Body}
 use Rattle.rp_meaning.specs.declared.counter.Counter.{Counter}
 use Rattle.rp_meaning.specs.declared.schema.Schema.{Schema}
 use Rattle.rp_meaning.specs.declared.stop.Stop.{Stop}
-use Rattle.rp_meaning.specs.declared.tree.CaseAction.{CaseAction}
-use Rattle.rp_meaning.specs.declared.tree.Expression.{Expression}
-use Rattle.rp_meaning.specs.declared.tree.Interval.{Interval}
-use Rattle.rp_meaning.specs.declared.tree.Operation.{Operation}
-use Rattle.rp_meaning.specs.declared.tree.Qualifier.{Qualifier}
-use Rattle.rp_meaning.specs.declared.tree.Query.{Query}
-use Rattle.rp_meaning.specs.declared.tree.Statement.{Statement}
+use Rattle.rp_code.specs.declared.tree.CaseAction.{CaseAction}
+use Rattle.rp_code.specs.declared.tree.Expression.{Expression}
+use Rattle.rp_code.specs.declared.tree.Interval.{Interval}
+use Rattle.rp_code.specs.declared.tree.Operation.{Operation}
+use Rattle.rp_code.specs.declared.tree.Qualifier.{Qualifier}
+use Rattle.rp_code.specs.declared.tree.Query.{Query}
+use Rattle.rp_code.specs.declared.tree.Statement.{Statement}
 use Rattle.rp_meaning.specs.Computations.{Computation, Runs}
 use Rattle.rp_meaning.specs.Expressions.{World, Meaning, Operating, expression, interval, operation, qualifier, query}
 use Rattle.rp_meaning.specs.Levels.{bodies, most_turns}
 use Rattle.rp_meaning.specs.Populations.{Instance}
+use Rattle.rp_eval.specs.declared.run.Run.{Run}
+use Rattle.rp_eval_parts.specs.Serving.{Ready}
 use Rattle.rp_meaning.specs.Statements.{Action, Labelled, statements, labelled}
 
 -- what is seen of a schema and a population
@@ -54,8 +56,10 @@ labelled_at w levels = labelled w most_turns (bodies w levels)
 
 -- of this world, and where so many bodies may nest, the function value runs what bodies mean
 pub record RunsBodies {W : Type 0} (seen : W → World) (alloc : Global) (world : Bor W) (levels : ℕ)
-    (pre : Global → Bor W → ℕ → MutBor Counter → Body → Type 0)
-    (post : Global → Bor W → ℕ → MutBor Counter → Body → Result Value Stop → MutBor Counter → Type 0) : Type 0 where
-  pub callable : (counter : MutBor Counter) (body : Body) → pre alloc world levels counter body
-  pub runs : (old new : MutBor Counter) (body : Body) (r : Result Value Stop) → post alloc world levels old body r new
-      → Runs (bodies (seen world.now) levels body old.now) r new.now
+    (pre : Global → Bor W → ℕ → MutBor Run → Body → Type 0)
+    (post : Global → Bor W → ℕ → MutBor Run → Body → Result Value Stop → MutBor Run → Type 0) : Type 0 where
+  pub callable : (run : MutBor Run) (body : Body) → Ready (seen world.now) run.now.memory → pre alloc world levels run body
+  pub runs : (old new : MutBor Run) (body : Body) (r : Result Value Stop) → post alloc world levels old body r new
+      → Runs (bodies (seen world.now) levels body old.now.counter) r new.now.counter
+  pub ready : (old new : MutBor Run) (body : Body) (r : Result Value Stop) → post alloc world levels old body r new
+      → Ready (seen world.now) new.now.memory

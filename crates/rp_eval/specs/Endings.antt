@@ -1,5 +1,5 @@
 -- How statements end.
-use Rattle.std.specs.Prelude.{◌≡◌, Bool, true, false, Option, Some, None, Result, Ok, Err}
+use Rattle.std.specs.Prelude.{◌≡◌, Option, Some, Result, Ok, Err}
 use Rattle.rp_value.specs.declared.value.Value.{Value}
 use Rattle.rp_meaning.specs.declared.counter.Counter.{Counter}
 use Rattle.rp_meaning.specs.declared.stop.Stop.{Stop}
@@ -36,8 +36,3 @@ Turns outcome (Err e) x s c = Stops outcome e
 abbrev pub Leaves : Option (Scope × Counter) → Result (Unit {0}) Stop → Scope → Counter → Type 0
 Leaves outcome (Ok u) s c = outcome ≡ Some (s, c)
 Leaves outcome (Err e) s c = Stops outcome e
-
--- Whether a turn follows, and what it starts with.
-abbrev pub Starts : Option Scope → Bool → Scope → Scope → Type 0
-Starts outcome true old new = outcome ≡ Some new
-Starts outcome false old new = (outcome ≡ None) × (new ≡ old)

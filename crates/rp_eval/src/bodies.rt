@@ -1,29 +1,29 @@
 //! Bodies.
 
-ghost use Rattle.std.specs.Prelude.{◌≡◌, Some, IfOk, OnOk};
+ghost use Rattle.std.specs.Prelude.{◌≡◌, Some, IfOk, IfSome, OnOk};
 ghost use Rattle.std.specs.Option.{option_copied};
 ghost use Rattle.rp_meaning.specs.Computations.{Runs, pure};
 ghost use Rattle.rp_meaning.specs.Levels as level;
 ghost use Rattle.rp_meaning.specs.Levels.{most_turns};
 ghost use Rattle.rp_meaning.specs.Statements as spec;
 ghost use Rattle.rp_value.specs.declared.value.Value.TheVariants as v;
-ghost use Rattle.rp_eval.specs.Charges.{followed};
+ghost use Rattle.rp_eval_parts.specs.Charges.{followed};
+ghost use Rattle.rp_eval_parts.specs.Serving.{Ready, derived_body};
 ghost use Rattle.rp_eval.specs.Bodies.{RunsBodies, bodies_at};
 ghost use Rattle.rp_eval.specs.Endings.{Ends, Leaves, after};
 
-use crate::attributes::derivation;
-use crate::frame::Frame;
-use crate::setting::Setting;
+use crate::run::Run;
 use crate::statements::Ending;
 use crate::walk::Walk;
 use ex_named::NamedDataType;
 use plain_data::Items;
-use rp_meaning::{Algorithm, Body, Counter, Function, Given, Initial, Stop};
+use rp_eval_parts::{Derived, Frame, Setting, derivation};
+use rp_meaning::{Algorithm, Body, Derivation, Function, Given, Initial, Stop};
 use rp_operators::given;
 use rp_value::Value;
 use std::alloc::{AllocError, Global};
 
-impl<'a, W: Setting, B: Fn(Global, &W, u8, &mut Counter, Body) -> Result<Value, Stop>> Walk<
+impl<'a, W: Setting, B: Fn(Global, &W, u8, &mut Run<'_>, Body) -> Result<Value, Stop>> Walk<
     'a,
     W,
     B,
@@ -33,13 +33,15 @@ impl<'a, W: Setting, B: Fn(Global, &W, u8, &mut Counter, Body) -> Result<Value, 
         &self,
         declared: &Given,
         frame: &mut Frame,
-        counter: &mut Counter,
+        run: &mut Run<'_>,
     ) -> Result<Value, Stop>
-        requires { RunsBodies W.world self.now.alloc self.now.world self.now.levels (B.pre self.now.below) (B.post self.now.below) }
-        ensures value { Runs (spec.given_value (W.world self.now.world.now) most_turns (bodies_at (W.world self.now.world.now) self.now.levels) declared.now frame.old counter.old) result counter.new }
+        requires below { RunsBodies W.world self.now.alloc self.now.world self.now.levels (B.pre self.now.below) (B.post self.now.below) }
+        requires ready { Ready (W.world self.now.world.now) run.old.memory }
+        ensures value { Runs (spec.given_value (W.world self.now.world.now) most_turns (bodies_at (W.world self.now.world.now) self.now.levels) declared.now frame.old run.old.counter) result run.new.counter }
         ensures frame { OnOk result (frame.new ≡ frame.old) }
+        ensures ready { Ready (W.world self.now.world.now) run.new.memory }
     {
-        let value = self.value(&declared.value, frame, counter)?;
+        let value = self.value(declared.value.instructions(), frame, run)?;
         Ok(given(
             self.alloc,
             self.world.schema().types.as_slice(),
@@ -49,16 +51,13 @@ impl<'a, W: Setting, B: Fn(Global, &W, u8, &mut Counter, Body) -> Result<Value, 
     }
 
     /// Gives locals their initial value.
-    fn initial(
-        &self,
-        initial: &Initial,
-        frame: &mut Frame,
-        counter: &mut Counter,
-    ) -> Result<(), Stop>
-        requires { RunsBodies W.world self.now.alloc self.now.world self.now.levels (B.pre self.now.below) (B.post self.now.below) }
-        ensures { Leaves ((followed (spec.given_value (W.world self.now.world.now) most_turns (bodies_at (W.world self.now.world.now) self.now.levels) initial.now.given frame.old) (λ a. pure (spec.all_assigned initial.now.slot initial.now.count a frame.old))) counter.old) result frame.new counter.new }
+    fn initial(&self, initial: &Initial, frame: &mut Frame, run: &mut Run<'_>) -> Result<(), Stop>
+        requires below { RunsBodies W.world self.now.alloc self.now.world self.now.levels (B.pre self.now.below) (B.post self.now.below) }
+        requires ready { Ready (W.world self.now.world.now) run.old.memory }
+        ensures value { Leaves ((followed (spec.given_value (W.world self.now.world.now) most_turns (bodies_at (W.world self.now.world.now) self.now.levels) initial.now.given frame.old) (λ a. pure (spec.all_assigned initial.now.slot initial.now.count a frame.old))) run.old.counter) result frame.new run.new.counter }
+        ensures ready { Ready (W.world self.now.world.now) run.new.memory }
     {
-        let value = self.given_value(&initial.given, frame, counter)?;
+        let value = self.given_value(&initial.given, frame, run)?;
         frame.assign_all(initial.slot, initial.count, &value)?;
         Ok(())
     }
@@ -68,13 +67,15 @@ impl<'a, W: Setting, B: Fn(Global, &W, u8, &mut Counter, Body) -> Result<Value, 
         &self,
         initials: &[Initial],
         frame: &mut Frame,
-        counter: &mut Counter,
+        run: &mut Run<'_>,
     ) -> Result<(), Stop>
-        requires { RunsBodies W.world self.now.alloc self.now.world self.now.levels (B.pre self.now.below) (B.post self.now.below) }
-        ensures { Leaves (spec.initialized (W.world self.now.world.now) most_turns (bodies_at (W.world self.now.world.now) self.now.levels) initials.now frame.old counter.old) result frame.new counter.new }
+        requires below { RunsBodies W.world self.now.alloc self.now.world self.now.levels (B.pre self.now.below) (B.post self.now.below) }
+        requires ready { Ready (W.world self.now.world.now) run.old.memory }
+        ensures value { Leaves (spec.initialized (W.world self.now.world.now) most_turns (bodies_at (W.world self.now.world.now) self.now.levels) initials.now frame.old run.old.counter) result frame.new run.new.counter }
+        ensures ready { Ready (W.world self.now.world.now) run.new.memory }
     {
         for initial in initials {
-            self.initial(initial, frame, counter)?;
+            self.initial(initial, frame, run)?;
         }
         Ok(())
     }
@@ -84,14 +85,16 @@ impl<'a, W: Setting, B: Fn(Global, &W, u8, &mut Counter, Body) -> Result<Value, 
         &self,
         algorithm: &Algorithm,
         frame: &mut Frame,
-        counter: &mut Counter,
+        run: &mut Run<'_>,
         into: &mut Value,
     ) -> Result<Ending, Stop>
-        requires { RunsBodies W.world self.now.alloc self.now.world self.now.levels (B.pre self.now.below) (B.post self.now.below) }
-        ensures { Ends (spec.algorithm (W.world self.now.world.now) most_turns (bodies_at (W.world self.now.world.now) self.now.levels) algorithm.now frame.old counter.old) result into.new frame.new counter.new }
+        requires below { RunsBodies W.world self.now.alloc self.now.world self.now.levels (B.pre self.now.below) (B.post self.now.below) }
+        requires ready { Ready (W.world self.now.world.now) run.old.memory }
+        ensures value { Ends (spec.algorithm (W.world self.now.world.now) most_turns (bodies_at (W.world self.now.world.now) self.now.levels) algorithm.now frame.old run.old.counter) result into.new frame.new run.new.counter }
+        ensures ready { Ready (W.world self.now.world.now) run.new.memory }
     {
-        self.initials(algorithm.initial.as_slice(), frame, counter)?;
-        self.statements(algorithm.statements.as_slice(), frame, counter, into)
+        self.initials(algorithm.initial.as_slice(), frame, run)?;
+        self.statements(algorithm.statements.instructions(), frame, run, into)
     }
 
     /// The arguments of a function, by the types of its parameters.
@@ -140,15 +143,17 @@ impl<'a, W: Setting, B: Fn(Global, &W, u8, &mut Counter, Body) -> Result<Value, 
         &self,
         function: &Function,
         arguments: &[Value],
-        counter: &mut Counter,
+        run: &mut Run<'_>,
     ) -> Result<Value, Stop>
-        requires { RunsBodies W.world self.now.alloc self.now.world self.now.levels (B.pre self.now.below) (B.post self.now.below) }
-        ensures { Runs (level.called (W.world self.now.world.now) most_turns (bodies_at (W.world self.now.world.now) self.now.levels) (Some function.now) arguments.now counter.old) result counter.new }
+        requires below { RunsBodies W.world self.now.alloc self.now.world self.now.levels (B.pre self.now.below) (B.post self.now.below) }
+        requires ready { Ready (W.world self.now.world.now) run.old.memory }
+        ensures value { Runs (level.called (W.world self.now.world.now) most_turns (bodies_at (W.world self.now.world.now) self.now.levels) (Some function.now) arguments.now run.old.counter) result run.new.counter }
+        ensures ready { Ready (W.world self.now.world.now) run.new.memory }
     {
         let parameters = self.parameters(function.parameters.as_slice(), arguments)?;
         let mut frame = Frame::of_locals(parameters, function.algorithm.locals)?;
         let mut value = Value::Indet;
-        let ending = self.algorithm(&function.algorithm, &mut frame, counter, &mut value)?;
+        let ending = self.algorithm(&function.algorithm, &mut frame, run, &mut value)?;
         Ok(self.result_by(&function.result, ending, &value)?)
     }
 
@@ -157,41 +162,61 @@ impl<'a, W: Setting, B: Fn(Global, &W, u8, &mut Counter, Body) -> Result<Value, 
         &self,
         declared: Option<&Given>,
         itself: Value,
-        counter: &mut Counter,
+        run: &mut Run<'_>,
     ) -> Result<Value, Stop>
-        requires { RunsBodies W.world self.now.alloc self.now.world self.now.levels (B.pre self.now.below) (B.post self.now.below) }
-        ensures { Runs (level.given_by (W.world self.now.world.now) most_turns (bodies_at (W.world self.now.world.now) self.now.levels) (option_copied declared.entry) itself counter.old) result counter.new }
+        requires below { RunsBodies W.world self.now.alloc self.now.world self.now.levels (B.pre self.now.below) (B.post self.now.below) }
+        requires ready { Ready (W.world self.now.world.now) run.old.memory }
+        ensures value { Runs (level.given_by (W.world self.now.world.now) most_turns (bodies_at (W.world self.now.world.now) self.now.levels) (option_copied declared.entry) itself run.old.counter) result run.new.counter }
+        ensures ready { Ready (W.world self.now.world.now) run.new.memory }
     {
         let Some(declared) = declared else {
             return Ok(Value::Indet);
         };
         let mut frame = Frame::alone(self.alloc, itself);
-        self.given_value(declared, &mut frame, counter)
+        self.given_value(declared, &mut frame, run)
     }
 
     /// What a body gives, beneath which so many more may nest.
-    fn body(&self, body: Body, counter: &mut Counter) -> Result<Value, Stop>
-        requires { RunsBodies W.world self.now.alloc self.now.world self.now.levels (B.pre self.now.below) (B.post self.now.below) }
-        ensures { Runs (level.body_with (W.world self.now.world.now) most_turns (bodies_at (W.world self.now.world.now) self.now.levels) body counter.old) result counter.new }
+    fn body(&self, body: Body, run: &mut Run<'_>) -> Result<Value, Stop>
+        requires below { RunsBodies W.world self.now.alloc self.now.world self.now.levels (B.pre self.now.below) (B.post self.now.below) }
+        requires ready { Ready (W.world self.now.world.now) run.old.memory }
+        ensures value { Runs (level.body_with (W.world self.now.world.now) most_turns (bodies_at (W.world self.now.world.now) self.now.levels) body run.old.counter) result run.new.counter }
+        ensures ready { Ready (W.world self.now.world.now) run.new.memory }
     {
         match &body {
             Body::Derived(entity, place, instance) => self.given_by(
                 derivation(self.world.schema(), *entity, *place),
                 Value::Inst(*instance),
-                counter,
+                run,
             ),
             Body::Constant(number) => {
                 self.given_by(
                     self.world.schema().constants.get(*number),
                     Value::Indet,
-                    counter,
+                    run,
                 )
             }
             Body::Function(number, arguments) => match self.world.schema().functions.get(*number) {
-                Some(function) => self.function(function, arguments.as_slice(), counter),
+                Some(function) => self.function(function, arguments.as_slice(), run),
                 None => Ok(Value::Indet),
             },
         }
+    }
+}
+
+/// Which derived attribute a body gives.
+fn derived_of(body: &Body) -> Option<Derived>
+    ensures { IfSome result (λ of. body.now ≡ derived_body of) }
+{
+    match body {
+        Body::Derived(entity, place, instance) => Some(Derived {
+            derivation: Derivation {
+                entity: *entity,
+                place: *place,
+            },
+            instance: *instance,
+        }),
+        _ => None,
     }
 }
 
@@ -200,10 +225,12 @@ pub(crate) fn run_body<W: Setting>(
     alloc: Global,
     world: &W,
     levels: u8,
-    counter: &mut Counter,
+    run: &mut Run<'_>,
     body: Body,
 ) -> Result<Value, Stop>
-    ensures { Runs (level.bodies (W.world world.now) levels body counter.old) result counter.new }
+    requires ready { Ready (W.world world.now) run.old.memory }
+    ensures value { Runs (level.bodies (W.world world.now) levels body run.old.counter) result run.new.counter }
+    ensures ready { Ready (W.world world.now) run.new.memory }
 {
     if levels == 0 {
         return Err(Stop::Limit);
@@ -214,9 +241,13 @@ pub(crate) fn run_body<W: Setting>(
         levels: levels - 1,
         below: run_body::<W>,
     };
-    let outer = counter.nesting;
-    counter.nesting = 0;
-    let value = walk.body(body, counter)?;
-    counter.nesting = outer.max(counter.nesting + 1);
+    let of = derived_of(&body);
+    let left = run.counter.left;
+    let outer = run.counter.nesting;
+    run.counter.nesting = 0;
+    let value = walk.body(body, run)?;
+    let bodies = run.counter.nesting + 1;
+    run.keep(of, &value, left - run.counter.left, bodies);
+    run.counter.nesting = outer.max(bodies);
     Ok(value)
 }

@@ -1,22 +1,17 @@
-//! The evaluation of rules over a population, by a walk over their trees: the value and the steps that it took, or the limit.
+//! The evaluation of rules over a population, by a walk over their instructions: the value and the steps that it took, or the limit.
 #![tactic(auto)]
 
-mod attributes;
 mod bodies;
-mod calls;
-mod copies;
 mod expressions;
-mod frame;
-mod kept;
+mod items;
 mod laws;
 mod rules;
+mod run;
 mod setting;
 mod statements;
-mod steps;
-mod turns;
-mod users;
 mod walk;
 
 pub use laws::population_decides;
-pub use rules::eval;
+pub use rp_eval_parts::Memory;
+pub use rules::{eval, eval_with};
 pub use setting::World;

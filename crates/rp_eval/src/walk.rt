@@ -1,33 +1,29 @@
 //! One level of bodies. What the bodies beneath do is a parameter, so that a level is proved by itself.
 
-ghost use Rattle.std.specs.Prelude.{◌≡◌, [], ◌∷◌, if◌then◌else◌, Some};
-ghost use Rattle.std.specs.Option.{option_copied};
+ghost use Rattle.std.specs.Prelude.{◌≡◌, [], ◌∷◌, Some};
 ghost use Rattle.ex_tree.specs.declared.expression.BuiltInFunction.{BuiltInFunction};
-ghost use Rattle.rp_meaning.specs.Attributes.{derivation_in, explicit_derivations, own_derivations, role_named};
+ghost use Rattle.rp_meaning.specs.Attributes.{derivation_in, explicit_derivations, own_derivations};
 ghost use Rattle.rp_meaning.specs.Computations.{Runs};
 ghost use Rattle.rp_meaning.specs.Computations as computations;
 ghost use Rattle.rp_meaning.specs.Expressions as spec;
 ghost use Rattle.rp_meaning.specs.declared.body.Body.TheVariants as b;
-ghost use Rattle.rp_value.specs.declared.value.Value.TheVariants as v;
-ghost use Rattle.rp_eval.specs.Charges.{charged};
-ghost use Rattle.rp_eval.specs.Written.{RunsInto};
+ghost use Rattle.rp_eval_parts.specs.Callings as callings;
+ghost use Rattle.rp_eval_parts.specs.Charges.{charged};
+ghost use Rattle.rp_eval_parts.specs.Serving.{Ready};
+ghost use Rattle.rp_eval_parts.specs.Written.{RunsInto};
 ghost use Rattle.rp_eval.specs.Bodies.{RunsBodies, bodies_at};
 
-use crate::attributes::{
-    chosen, derivation_in, explicit_derivations, inverse_at, named_role, own_derivations,
-    stored_value,
-};
-use crate::frame::Frame;
-use crate::kept::Derived;
-use crate::setting::Setting;
-use crate::steps::{charge, serve};
-use crate::users::{inverse_users, of_users};
+use crate::run::Run;
 use ex_named::{AttributePlace, AttributeSort};
 use plain_data::Items;
-use rp_meaning::{Body, Counter, Derivation, Inverse, Role, Seen, Stop};
-use rp_operators::{is_of, place_of};
-use rp_value::{AggregateKind, Value};
-use std::alloc::{AllocError, Global};
+use rp_eval_parts::{
+    Derived, Frame, Lookup, Setting, charge, chosen, derivation_in, explicit_derivations,
+    inverse_at, own_derivations, serve, stored_value,
+};
+use rp_meaning::{Body, Derivation, Seen, Stop};
+use rp_operators::place_of;
+use rp_value::Value;
+use std::alloc::Global;
 
 /// One level of bodies.
 #[derive(Drop)]
@@ -39,17 +35,49 @@ pub(crate) struct Walk<'a, W, B> {
     pub(crate) below: B,
 }
 
-impl<'a, W: Setting, B: Fn(Global, &W, u8, &mut Counter, Body) -> Result<Value, Stop>> Walk<
+impl<'a, W: Setting, B: Fn(Global, &W, u8, &mut Run<'_>, Body) -> Result<Value, Stop>> Walk<
     'a,
     W,
     B,
 > {
-    /// What a body beneath gives.
-    pub(crate) fn body_below(&self, body: Body, counter: &mut Counter) -> Result<Value, Stop>
-        requires { RunsBodies W.world self.now.alloc self.now.world self.now.levels (B.pre self.now.below) (B.post self.now.below) }
-        ensures { Runs ((bodies_at (W.world self.now.world.now) self.now.levels) body counter.old) result counter.new }
+    /// What needs no bodies.
+    #[inline(always)]
+    pub(crate) fn lookup(&self) -> Lookup<'a, W>
+        ensures alloc { result.alloc ≡ self.now.alloc }
+        ensures world { result.world ≡ self.now.world }
     {
-        (self.below)(self.alloc, self.world, self.levels, counter, body)
+        Lookup {
+            alloc: self.alloc,
+            world: self.world,
+        }
+    }
+
+    /// What a body beneath gives.
+    pub(crate) fn body_below(&self, body: Body, run: &mut Run<'_>) -> Result<Value, Stop>
+        requires below { RunsBodies W.world self.now.alloc self.now.world self.now.levels (B.pre self.now.below) (B.post self.now.below) }
+        requires ready { Ready (W.world self.now.world.now) run.old.memory }
+        ensures value { Runs ((bodies_at (W.world self.now.world.now) self.now.levels) body run.old.counter) result run.new.counter }
+        ensures ready { Ready (W.world self.now.world.now) run.new.memory }
+    {
+        (self.below)(self.alloc, self.world, self.levels, run, body)
+    }
+
+    /// A function by its number, with the values of its arguments.
+    #[inline(never)]
+    pub(crate) fn function_below(
+        &self,
+        number: usize,
+        values: Items<Value>,
+        run: &mut Run<'_>,
+        into: &mut Value,
+    ) -> Result<(), Stop>
+        requires below { RunsBodies W.world self.now.alloc self.now.world self.now.levels (B.pre self.now.below) (B.post self.now.below) }
+        requires ready { Ready (W.world self.now.world.now) run.old.memory }
+        ensures value { RunsInto (callings.function (bodies_at (W.world self.now.world.now) self.now.levels) number values run.old.counter) result into.new run.new.counter }
+        ensures ready { Ready (W.world self.now.world.now) run.new.memory }
+    {
+        *into = self.body_below(Body::Function(number, values), run)?;
+        Ok(())
     }
 
     /// What a derivation gives for the instance at a place.
@@ -58,45 +86,25 @@ impl<'a, W: Setting, B: Fn(Global, &W, u8, &mut Counter, Body) -> Result<Value, 
         &self,
         derivation: Derivation,
         place: u64,
-        counter: &mut Counter,
+        run: &mut Run<'_>,
         into: &mut Value,
     ) -> Result<(), Stop>
-        requires { RunsBodies W.world self.now.alloc self.now.world self.now.levels (B.pre self.now.below) (B.post self.now.below) }
-        ensures { RunsInto (bodies_at (W.world self.now.world.now) self.now.levels (b.Derived derivation.entity derivation.place place) counter.old) result into.new counter.new }
+        requires below { RunsBodies W.world self.now.alloc self.now.world self.now.levels (B.pre self.now.below) (B.post self.now.below) }
+        requires ready { Ready (W.world self.now.world.now) run.old.memory }
+        ensures value { RunsInto (bodies_at (W.world self.now.world.now) self.now.levels (b.Derived derivation.entity derivation.place place) run.old.counter) result into.new run.new.counter }
+        ensures ready { Ready (W.world self.now.world.now) run.new.memory }
     {
         let of = Derived {
             derivation,
             instance: place,
         };
-        match self.world.derived(of) {
-            Some(kept) => serve(kept, self.levels, counter, into),
+        match run.memory.get(of) {
+            Some(kept) => serve(kept, self.levels, &mut run.counter, into),
             None => {
-                *into = self.body_below(of.body(), counter)?;
+                *into = self.body_below(of.body(), run)?;
                 Ok(())
             }
         }
-    }
-
-    /// The users of what stands at a place.
-    #[inline(never)]
-    #[tactic(auto, using(crate::proofs::Found::instances_count, crate::proofs::Found::users_give))]
-    fn inverse_by(
-        &self,
-        inverse: Option<&Inverse>,
-        place: u64,
-        counter: &mut Counter,
-        into: &mut Value,
-    ) -> Result<(), Stop>
-        ensures { RunsInto (spec.inverse_by (W.world self.now.world.now) (bodies_at (W.world self.now.world.now) self.now.levels) (option_copied inverse.entry) place counter.old) result into.new counter.new }
-    {
-        let Some(inverse) = inverse else {
-            *into = Value::Indet;
-            return Ok(());
-        };
-        let users = inverse_users(self.alloc, self.world, inverse, place as usize)?;
-        charge(counter, users.len())?;
-        *into = of_users(self.alloc, inverse.aggregate, users)?;
-        Ok(())
     }
 
     /// The value of an attribute of the instance at a place.
@@ -105,18 +113,20 @@ impl<'a, W: Setting, B: Fn(Global, &W, u8, &mut Counter, Body) -> Result<Value, 
         attribute: &AttributePlace,
         instance: &Seen<'_>,
         place: u64,
-        counter: &mut Counter,
+        run: &mut Run<'_>,
         into: &mut Value,
     ) -> Result<(), Stop>
-        requires { RunsBodies W.world self.now.alloc self.now.world self.now.levels (B.pre self.now.below) (B.post self.now.below) }
-        ensures { RunsInto (spec.attribute_by (W.world self.now.world.now) (bodies_at (W.world self.now.world.now) self.now.levels) attribute.now.sort attribute.now instance.now place counter.old) result into.new counter.new }
+        requires below { RunsBodies W.world self.now.alloc self.now.world self.now.levels (B.pre self.now.below) (B.post self.now.below) }
+        requires ready { Ready (W.world self.now.world.now) run.old.memory }
+        ensures value { RunsInto (spec.attribute_by (W.world self.now.world.now) (bodies_at (W.world self.now.world.now) self.now.levels) attribute.now.sort attribute.now instance.now place run.old.counter) result into.new run.new.counter }
+        ensures ready { Ready (W.world self.now.world.now) run.new.memory }
     {
         let schema = self.world.schema();
         match attribute.sort {
             AttributeSort::Explicit => {
                 let derivations = explicit_derivations(schema, attribute);
                 match derivation_in(derivations, instance) {
-                    Some(derivation) => self.derived(derivation, place, counter, into),
+                    Some(derivation) => self.derived(derivation, place, run, into),
                     None => {
                         *into = stored_value(instance, attribute)?;
                         Ok(())
@@ -126,7 +136,7 @@ impl<'a, W: Setting, B: Fn(Global, &W, u8, &mut Counter, Body) -> Result<Value, 
             AttributeSort::Derived => {
                 let derivations = own_derivations(schema, attribute);
                 match derivation_in(derivations, instance) {
-                    Some(derivation) => self.derived(derivation, place, counter, into),
+                    Some(derivation) => self.derived(derivation, place, run, into),
                     None => {
                         *into = Value::Indet;
                         Ok(())
@@ -135,7 +145,8 @@ impl<'a, W: Setting, B: Fn(Global, &W, u8, &mut Counter, Body) -> Result<Value, 
             }
             AttributeSort::Inverse => {
                 let inverse = inverse_at(schema, attribute.entity, attribute.place);
-                self.inverse_by(inverse, place, counter, into)
+                self.lookup()
+                    .inverse_by(inverse, place, &mut run.counter, into)
             }
         }
     }
@@ -146,11 +157,13 @@ impl<'a, W: Setting, B: Fn(Global, &W, u8, &mut Counter, Body) -> Result<Value, 
         &self,
         attributes: &[AttributePlace],
         place: Option<u64>,
-        counter: &mut Counter,
+        run: &mut Run<'_>,
         into: &mut Value,
     ) -> Result<(), Stop>
-        requires { RunsBodies W.world self.now.alloc self.now.world self.now.levels (B.pre self.now.below) (B.post self.now.below) }
-        ensures { RunsInto (spec.attribute_in (W.world self.now.world.now) (bodies_at (W.world self.now.world.now) self.now.levels) attributes.now place counter.old) result into.new counter.new }
+        requires below { RunsBodies W.world self.now.alloc self.now.world self.now.levels (B.pre self.now.below) (B.post self.now.below) }
+        requires ready { Ready (W.world self.now.world.now) run.old.memory }
+        ensures value { RunsInto (spec.attribute_in (W.world self.now.world.now) (bodies_at (W.world self.now.world.now) self.now.levels) attributes.now place run.old.counter) result into.new run.new.counter }
+        ensures ready { Ready (W.world self.now.world.now) run.new.memory }
     {
         let Some(place) = place else {
             *into = Value::Indet;
@@ -161,7 +174,7 @@ impl<'a, W: Setting, B: Fn(Global, &W, u8, &mut Counter, Body) -> Result<Value, 
             return Ok(());
         };
         match chosen(attributes, &instance) {
-            Some(attribute) => self.attribute_by(attribute, &instance, place, counter, into),
+            Some(attribute) => self.attribute_by(attribute, &instance, place, run, into),
             None => {
                 *into = Value::Indet;
                 Ok(())
@@ -175,14 +188,16 @@ impl<'a, W: Setting, B: Fn(Global, &W, u8, &mut Counter, Body) -> Result<Value, 
         &self,
         attribute: &AttributePlace,
         frame: &Frame,
-        counter: &mut Counter,
+        run: &mut Run<'_>,
         into: &mut Value,
     ) -> Result<(), Stop>
-        requires { RunsBodies W.world self.now.alloc self.now.world self.now.levels (B.pre self.now.below) (B.post self.now.below) }
-        ensures { RunsInto (charged 1 (spec.attribute (W.world self.now.world.now) (bodies_at (W.world self.now.world.now) self.now.levels) (attribute.now ∷ []) frame.now.itself) counter.old) result into.new counter.new }
+        requires below { RunsBodies W.world self.now.alloc self.now.world self.now.levels (B.pre self.now.below) (B.post self.now.below) }
+        requires ready { Ready (W.world self.now.world.now) run.old.memory }
+        ensures value { RunsInto (charged 1 (spec.attribute (W.world self.now.world.now) (bodies_at (W.world self.now.world.now) self.now.levels) (attribute.now ∷ []) frame.now.itself) run.old.counter) result into.new run.new.counter }
+        ensures ready { Ready (W.world self.now.world.now) run.new.memory }
     {
-        charge(counter, 1)?;
-        self.attribute_in(&[*attribute], place_of(frame.itself()), counter, into)
+        charge(&mut run.counter, 1)?;
+        self.attribute_in(&[*attribute], place_of(frame.itself()), run, into)
     }
 
     /// A constant, for a step.
@@ -190,102 +205,21 @@ impl<'a, W: Setting, B: Fn(Global, &W, u8, &mut Counter, Body) -> Result<Value, 
     pub(crate) fn constant(
         &self,
         number: usize,
-        counter: &mut Counter,
+        run: &mut Run<'_>,
         into: &mut Value,
     ) -> Result<(), Stop>
-        requires { RunsBodies W.world self.now.alloc self.now.world self.now.levels (B.pre self.now.below) (B.post self.now.below) }
-        ensures { RunsInto (charged 1 (bodies_at (W.world self.now.world.now) self.now.levels (b.Constant number)) counter.old) result into.new counter.new }
+        requires below { RunsBodies W.world self.now.alloc self.now.world self.now.levels (B.pre self.now.below) (B.post self.now.below) }
+        requires ready { Ready (W.world self.now.world.now) run.old.memory }
+        ensures value { RunsInto (charged 1 (bodies_at (W.world self.now.world.now) self.now.levels (b.Constant number)) run.old.counter) result into.new run.new.counter }
+        ensures ready { Ready (W.world self.now.world.now) run.new.memory }
     {
-        charge(counter, 1)?;
+        charge(&mut run.counter, 1)?;
         match self.world.constant(number) {
-            Some(kept) => serve(kept, self.levels, counter, into),
+            Some(kept) => serve(kept, self.levels, &mut run.counter, into),
             None => {
-                *into = self.body_below(Body::Constant(number), counter)?;
+                *into = self.body_below(Body::Constant(number), run)?;
                 Ok(())
             }
-        }
-    }
-
-    /// Whether the instance that is there is of the entity.
-    fn is_of_entity(&self, entity: usize, value: &Value) -> bool
-        ensures { spec.group (W.world self.now.world.now) (bodies_at (W.world self.now.world.now) self.now.levels) entity value.now ≡ if result then value.now else v.Indet }
-    {
-        let Some(place) = place_of(value) else {
-            return false;
-        };
-        match self.world.instance(place as usize) {
-            Some(instance) => is_of(&instance, entity),
-            None => false,
-        }
-    }
-
-    /// The instance that is there stays, if it is of the entity.
-    #[inline(never)]
-    pub(crate) fn group(&self, entity: usize, into: &mut Value)
-        ensures { into.new ≡ spec.group (W.world self.now.world.now) (bodies_at (W.world self.now.world.now) self.now.levels) entity into.old }
-    {
-        if !self.is_of_entity(entity, into) {
-            *into = Value::Indet;
-        }
-    }
-
-    /// The instances of an entity, for a step and one for each.
-    #[inline(never)]
-    pub(crate) fn extent(
-        &self,
-        entity: usize,
-        counter: &mut Counter,
-        into: &mut Value,
-    ) -> Result<(), Stop>
-        ensures { RunsInto (charged 1 (spec.extent_value (W.world self.now.world.now) (bodies_at (W.world self.now.world.now) self.now.levels) entity) counter.old) result into.new counter.new }
-    {
-        charge(counter, 1)?;
-        let found = self.world.extent(self.alloc, entity)?;
-        charge(counter, found.len())?;
-        *into = Value::aggregate(self.alloc, AggregateKind::Set, 1, found)?;
-        Ok(())
-    }
-
-    /// The users of an instance in a role; in what is no role there are none.
-    #[inline(never)]
-    pub(crate) fn used_in_role(
-        &self,
-        role: Option<&Role>,
-        place: Option<u64>,
-        counter: &mut Counter,
-        into: &mut Value,
-    ) -> Result<(), Stop>
-        ensures { RunsInto (spec.used_in_role (W.world self.now.world.now) (bodies_at (W.world self.now.world.now) self.now.levels) (option_copied role.entry) place counter.old) result into.new counter.new }
-    {
-        let Some(place) = place else {
-            *into = Value::Indet;
-            return Ok(());
-        };
-        let found = match role {
-            Some(role) => self.world.users(self.alloc, place as usize, role)?,
-            None => Items::new(self.alloc),
-        };
-        charge(counter, found.len())?;
-        *into = Value::aggregate(self.alloc, AggregateKind::Bag, 1, found)?;
-        Ok(())
-    }
-
-    /// The users of an instance in the role of a name.
-    #[tactic(auto, using(crate::proofs::Found::role_of_name))]
-    pub(crate) fn used_in_named(
-        &self,
-        name: &str,
-        place: Option<u64>,
-        counter: &mut Counter,
-        into: &mut Value,
-    ) -> Result<(), Stop>
-        ensures { RunsInto (spec.used_in_role (W.world self.now.world.now) (bodies_at (W.world self.now.world.now) self.now.levels) (role_named (W.world self.now.world.now).schema.roles name.now) place counter.old) result into.new counter.new }
-    {
-        if name.is_empty() {
-            self.used_in_role(Some(&Role::Every), place, counter, into)
-        } else {
-            let role = named_role(self.world.schema().roles.as_slice(), name);
-            self.used_in_role(role, place, counter, into)
         }
     }
 }

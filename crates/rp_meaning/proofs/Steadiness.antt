@@ -13,7 +13,7 @@ use Rattle.rp_value.specs.declared.value.Value.TheVariants as v
 use Rattle.rp_meaning.specs.declared.counter.Counter.{Counter}
 use Rattle.rp_meaning.specs.declared.body.Body.{Body}
 use Rattle.rp_meaning.specs.declared.body.Body.TheVariants as b
-use Rattle.rp_meaning.specs.declared.role.Role.{Role}
+use Rattle.rp_code.specs.declared.role.Role.{Role}
 use Rattle.rp_meaning.specs.declared.rule.Rule.{Rule}
 use Rattle.rp_meaning.specs.declared.rule.Rule.TheVariants as r
 use Rattle.rp_meaning.specs.declared.schema.Algorithm.{Algorithm}
@@ -23,19 +23,19 @@ use Rattle.rp_meaning.specs.declared.schema.Given.{Given}
 use Rattle.rp_meaning.specs.declared.schema.GlobalRule.{GlobalRule}
 use Rattle.rp_meaning.specs.declared.schema.Initial.{Initial}
 use Rattle.rp_meaning.specs.declared.schema.Inverse.{Inverse}
-use Rattle.rp_meaning.specs.declared.tree.Expression.{Expression, map-Expression, roll-Expression}
-use Rattle.rp_meaning.specs.declared.tree.Expression.TheFolds.{fold-roll-Expression, fold-roll-Qualifier, fold-roll-Interval, fold-roll-Operation, fold-roll-Query, ind-Expression}
-use Rattle.rp_meaning.specs.declared.tree.Expression.TheOpen.{Expression-F, Qualifier-F, Interval-F, Operation-F, Query-F}
-use Rattle.rp_meaning.specs.declared.tree.Interval.{Interval, map-Interval, roll-Interval}
-use Rattle.rp_meaning.specs.declared.tree.Operation.{Operation, map-Operation, roll-Operation}
-use Rattle.rp_meaning.specs.declared.tree.Qualifier.{Qualifier, map-Qualifier, roll-Qualifier}
-use Rattle.rp_meaning.specs.declared.tree.Query.{Query, map-Query, roll-Query}
-use Rattle.rp_meaning.specs.declared.tree.CaseAction.{CaseAction, map-CaseAction, roll-CaseAction}
-use Rattle.rp_meaning.specs.declared.tree.Control.{Control}
-use Rattle.rp_meaning.specs.declared.tree.Increment.{Increment}
-use Rattle.rp_meaning.specs.declared.tree.Statement.{Statement, map-Statement, roll-Statement}
-use Rattle.rp_meaning.specs.declared.tree.Statement.TheFolds.{fold-roll-Statement, fold-roll-CaseAction, ind-Statement}
-use Rattle.rp_meaning.specs.declared.tree.Statement.TheOpen.{Statement-F, CaseAction-F}
+use Rattle.rp_code.specs.declared.tree.Expression.{Expression, map-Expression, roll-Expression}
+use Rattle.rp_code.specs.declared.tree.Expression.TheFolds.{fold-roll-Expression, fold-roll-Qualifier, fold-roll-Interval, fold-roll-Operation, fold-roll-Query, ind-Expression}
+use Rattle.rp_code.specs.declared.tree.Expression.TheOpen.{Expression-F, Qualifier-F, Interval-F, Operation-F, Query-F}
+use Rattle.rp_code.specs.declared.tree.Interval.{Interval, map-Interval, roll-Interval}
+use Rattle.rp_code.specs.declared.tree.Operation.{Operation, map-Operation, roll-Operation}
+use Rattle.rp_code.specs.declared.tree.Qualifier.{Qualifier, map-Qualifier, roll-Qualifier}
+use Rattle.rp_code.specs.declared.tree.Query.{Query, map-Query, roll-Query}
+use Rattle.rp_code.specs.declared.tree.CaseAction.{CaseAction, map-CaseAction, roll-CaseAction}
+use Rattle.rp_code.specs.declared.tree.Control.{Control}
+use Rattle.rp_code.specs.declared.tree.Increment.{Increment}
+use Rattle.rp_code.specs.declared.tree.Statement.{Statement, map-Statement, roll-Statement}
+use Rattle.rp_code.specs.declared.tree.Statement.TheFolds.{fold-roll-Statement, fold-roll-CaseAction, ind-Statement}
+use Rattle.rp_code.specs.declared.tree.Statement.TheOpen.{Statement-F, CaseAction-F}
 use Rattle.rp_meaning.specs.Attributes.{chosen, derivation, inverse_at, role_named}
 use Rattle.rp_meaning.specs.Bare.{is_true, place_of, text_of}
 use Rattle.rp_meaning.specs.Computations.{Computation, pure, no_more, steps, around, in_body, and_then, ◌>>=◌, ◌>>◌}

@@ -10,9 +10,9 @@ use Rattle.rp_value.specs.declared.value.AggregateKind.{AggregateKind}
 use Rattle.rp_value.specs.declared.value.AggregateKind.TheVariants as k
 use Rattle.rp_value.specs.declared.value.Value.{Value}
 use Rattle.rp_value.specs.declared.value.Value.TheVariants as v
-use Rattle.rp_meaning.specs.declared.role.NamedRole.{NamedRole}
-use Rattle.rp_meaning.specs.declared.role.Role.{Role}
-use Rattle.rp_meaning.specs.declared.role.Role.TheVariants as r
+use Rattle.rp_code.specs.declared.role.NamedRole.{NamedRole}
+use Rattle.rp_code.specs.declared.role.Role.{Role}
+use Rattle.rp_code.specs.declared.role.Role.TheVariants as r
 use Rattle.rp_meaning.specs.declared.schema.Derivation.{Derivation}
 use Rattle.rp_meaning.specs.declared.schema.Entity.{Entity}
 use Rattle.rp_meaning.specs.declared.schema.Given.{Given}

@@ -27,8 +27,8 @@ use Rattle.ex_types.specs.Declarations.{known, nowhere, of_type_number, of_entit
 use Rattle.ex_typing.specs.Expressions.{TypingScope}
 use Rattle.graphs.specs.Graphs.{family, numbers_from}
 use Rattle.plain_data.specs.Numbers.{numbered}
-use Rattle.rp_meaning.specs.declared.role.NamedRole.{NamedRole}
-use Rattle.rp_meaning.specs.declared.role.Role.TheVariants as role
+use Rattle.rp_code.specs.declared.role.NamedRole.{NamedRole}
+use Rattle.rp_code.specs.declared.role.Role.TheVariants as role
 use Rattle.rp_meaning.specs.declared.schema.Algorithm.{Algorithm}
 use Rattle.rp_meaning.specs.declared.schema.DefinedType.{DefinedType}
 use Rattle.rp_meaning.specs.declared.schema.Derivation.{Derivation}
@@ -42,7 +42,7 @@ use Rattle.rp_meaning.specs.declared.schema.Initial.{Initial}
 use Rattle.rp_meaning.specs.declared.schema.Inverse.{Inverse}
 use Rattle.rp_meaning.specs.declared.schema.Redeclaration.{Redeclaration}
 use Rattle.rp_meaning.specs.declared.schema.Schema.{Schema}
-use Rattle.rp_meaning.specs.declared.tree.Expression.{Expression}
+use Rattle.rp_code.specs.declared.tree.Expression.{Expression}
 use Rattle.rp_meaning.specs.CompiledExpressions as expressions
 use Rattle.rp_meaning.specs.CompiledExpressions.{Declared}
 use Rattle.rp_meaning.specs.CompiledNames.{in_order, joined, own_rows, roles_of}

@@ -30,15 +30,15 @@ use Rattle.plain_data.specs.Numbers.{is_among}
 use Rattle.rp_value.specs.declared.value.Value.{Value, out-Value}
 use Rattle.rp_value.specs.declared.value.Value.TheOpen.{Value-F}
 use Rattle.rp_value.specs.declared.value.Value.TheVariants as v
-use Rattle.rp_meaning.specs.declared.role.NamedRole.{NamedRole}
-use Rattle.rp_meaning.specs.declared.tree.Expression.{Expression, out-Expression}
-use Rattle.rp_meaning.specs.declared.tree.Expression.TheOpen.{Expression-F}
-use Rattle.rp_meaning.specs.declared.tree.Expression.TheVariants as e
-use Rattle.rp_meaning.specs.declared.tree.Interval.{Interval, roll-Interval}
-use Rattle.rp_meaning.specs.declared.tree.Operation.{Operation, roll-Operation}
-use Rattle.rp_meaning.specs.declared.tree.Qualifier.{Qualifier}
-use Rattle.rp_meaning.specs.declared.tree.Qualifier.TheVariants as q
-use Rattle.rp_meaning.specs.declared.tree.Query.{Query, roll-Query}
+use Rattle.rp_code.specs.declared.role.NamedRole.{NamedRole}
+use Rattle.rp_code.specs.declared.tree.Expression.{Expression, out-Expression}
+use Rattle.rp_code.specs.declared.tree.Expression.TheOpen.{Expression-F}
+use Rattle.rp_code.specs.declared.tree.Expression.TheVariants as e
+use Rattle.rp_code.specs.declared.tree.Interval.{Interval, roll-Interval}
+use Rattle.rp_code.specs.declared.tree.Operation.{Operation, roll-Operation}
+use Rattle.rp_code.specs.declared.tree.Qualifier.{Qualifier}
+use Rattle.rp_code.specs.declared.tree.Qualifier.TheVariants as q
+use Rattle.rp_code.specs.declared.tree.Query.{Query, roll-Query}
 pub use Rattle.rp_meaning.specs.Attributes.{role_named}
 use Rattle.rp_meaning.specs.CompiledNames.{Rows}
 

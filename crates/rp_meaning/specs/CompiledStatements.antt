@@ -11,12 +11,12 @@ use Rattle.ex_named.specs.declared.statement.NamedStatement.TheFolds.{fold-Named
 use Rattle.ex_named.specs.declared.statement.NamedStatement.TheOpen.{NamedStatement-F, NamedCaseAction-F, NamedCase-F}
 use Rattle.ex_typing.specs.Expressions.{TypingScope}
 use Rattle.ex_typing_statements.specs.Statements.{in_turn}
-use Rattle.rp_meaning.specs.declared.tree.CaseAction.{CaseAction, roll-CaseAction}
-use Rattle.rp_meaning.specs.declared.tree.Control.{Control}
-use Rattle.rp_meaning.specs.declared.tree.Expression.{Expression}
-use Rattle.rp_meaning.specs.declared.tree.Increment.{Increment}
-use Rattle.rp_meaning.specs.declared.tree.Statement.{Statement}
-use Rattle.rp_meaning.specs.declared.tree.Statement.TheVariants as st
+use Rattle.rp_code.specs.declared.tree.CaseAction.{CaseAction, roll-CaseAction}
+use Rattle.rp_code.specs.declared.tree.Control.{Control}
+use Rattle.rp_code.specs.declared.tree.Expression.{Expression}
+use Rattle.rp_code.specs.declared.tree.Increment.{Increment}
+use Rattle.rp_code.specs.declared.tree.Statement.{Statement}
+use Rattle.rp_code.specs.declared.tree.Statement.TheVariants as st
 
 abbrev pub CompiledStatement : Type 0
 CompiledStatement = TypingScope → Statement

@@ -11,7 +11,7 @@ use Rattle.ex_named.specs.declared.statement.NamedCase.{NamedCase}
 use Rattle.ex_named.specs.declared.statement.NamedCaseAction.{NamedCaseAction}
 use Rattle.ex_named.specs.declared.statement.NamedStatement.TheFolds.{fold-NamedCase, fold-NamedCaseAction}
 use Rattle.ex_typing.specs.Expressions.{TypingScope}
-use Rattle.rp_meaning.specs.declared.tree.Expression.{Expression}
+use Rattle.rp_code.specs.declared.tree.Expression.{Expression}
 use Rattle.rp_meaning.specs.CompiledExpressions.{Declared, CompiledExpression, CompiledQualifier, CompiledInterval, CompiledOperation, CompiledQuery, expression_layer, qualifier_layer, interval_layer, operation_layer, query_layer}
 use Rattle.rp_meaning.specs.CompiledStatements.{CompiledStatement, CompiledCaseAction, statement_layer, case_layer, case_action_layer}
 

@@ -13,17 +13,17 @@ use Rattle.rp_value.specs.declared.value.Value.{Value}
 use Rattle.rp_value.specs.declared.value.Value.TheVariants as v
 use Rattle.rp_meaning.specs.declared.body.Body.{Body}
 use Rattle.rp_meaning.specs.declared.body.Body.TheVariants as b
-use Rattle.rp_meaning.specs.declared.role.Role.{Role}
+use Rattle.rp_code.specs.declared.role.Role.{Role}
 use Rattle.rp_meaning.specs.declared.schema.Derivation.{Derivation}
 use Rattle.rp_meaning.specs.declared.schema.Inverse.{Inverse}
 use Rattle.rp_meaning.specs.declared.schema.Schema.{Schema}
-use Rattle.rp_meaning.specs.declared.tree.Expression.{Expression}
-use Rattle.rp_meaning.specs.declared.tree.Expression.TheFolds.{fold-Expression, fold-Interval, fold-Operation, fold-Qualifier, fold-Query}
-use Rattle.rp_meaning.specs.declared.tree.Expression.TheOpen.{Expression-F, Interval-F, Operation-F, Qualifier-F, Query-F}
-use Rattle.rp_meaning.specs.declared.tree.Interval.{Interval}
-use Rattle.rp_meaning.specs.declared.tree.Operation.{Operation}
-use Rattle.rp_meaning.specs.declared.tree.Qualifier.{Qualifier}
-use Rattle.rp_meaning.specs.declared.tree.Query.{Query}
+use Rattle.rp_code.specs.declared.tree.Expression.{Expression}
+use Rattle.rp_code.specs.declared.tree.Expression.TheFolds.{fold-Expression, fold-Interval, fold-Operation, fold-Qualifier, fold-Query}
+use Rattle.rp_code.specs.declared.tree.Expression.TheOpen.{Expression-F, Interval-F, Operation-F, Qualifier-F, Query-F}
+use Rattle.rp_code.specs.declared.tree.Interval.{Interval}
+use Rattle.rp_code.specs.declared.tree.Operation.{Operation}
+use Rattle.rp_code.specs.declared.tree.Qualifier.{Qualifier}
+use Rattle.rp_code.specs.declared.tree.Query.{Query}
 use Rattle.rp_meaning.specs.Attributes.{chosen, stored_value, derivation_in, explicit_derivations, own_derivations, inverse_at, inverse_places, of_users, aggregate, role_named}
 use Rattle.rp_meaning.specs.Bare.{is_true, aggregate_of, place_of, text_of}
 use Rattle.rp_meaning.specs.BuiltIns.{absolute, binary_length, exists, high_index, index, initializer, low_index, null_value, odd, range, size, size_of, text_length, value_in}

@@ -15,7 +15,7 @@ use Rattle.rp_meaning.specs.declared.rule.Rule.{Rule}
 use Rattle.rp_meaning.specs.declared.rule.Rule.TheVariants as r
 use Rattle.rp_meaning.specs.declared.schema.GlobalRule.{GlobalRule}
 use Rattle.rp_meaning.specs.declared.schema.Inverse.{Inverse}
-use Rattle.rp_meaning.specs.declared.tree.Expression.{Expression}
+use Rattle.rp_code.specs.declared.tree.Expression.{Expression}
 use Rattle.rp_meaning.specs.Attributes.{entity_at, inverse_at, inverse_places}
 use Rattle.rp_meaning.specs.Bare.{place_of}
 use Rattle.rp_meaning.specs.Computations.{Computation, pure, steps, ◌>>=◌, ◌>>◌}

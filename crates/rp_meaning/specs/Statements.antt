@@ -6,13 +6,13 @@ use Rattle.rp_meaning.specs.declared.body.Body.{Body}
 use Rattle.rp_meaning.specs.declared.schema.Given.{Given}
 use Rattle.rp_meaning.specs.declared.schema.Algorithm.{Algorithm}
 use Rattle.rp_meaning.specs.declared.schema.Initial.{Initial}
-use Rattle.rp_meaning.specs.declared.tree.Expression.{Expression}
-use Rattle.rp_meaning.specs.declared.tree.CaseAction.{CaseAction}
-use Rattle.rp_meaning.specs.declared.tree.Control.{Control}
-use Rattle.rp_meaning.specs.declared.tree.Increment.{Increment}
-use Rattle.rp_meaning.specs.declared.tree.Statement.{Statement}
-use Rattle.rp_meaning.specs.declared.tree.Statement.TheFolds.{fold-Statement, fold-CaseAction}
-use Rattle.rp_meaning.specs.declared.tree.Statement.TheOpen.{Statement-F, CaseAction-F}
+use Rattle.rp_code.specs.declared.tree.Expression.{Expression}
+use Rattle.rp_code.specs.declared.tree.CaseAction.{CaseAction}
+use Rattle.rp_code.specs.declared.tree.Control.{Control}
+use Rattle.rp_code.specs.declared.tree.Increment.{Increment}
+use Rattle.rp_code.specs.declared.tree.Statement.{Statement}
+use Rattle.rp_code.specs.declared.tree.Statement.TheFolds.{fold-Statement, fold-CaseAction}
+use Rattle.rp_code.specs.declared.tree.Statement.TheOpen.{Statement-F, CaseAction-F}
 use Rattle.rp_meaning.specs.Bare.{is_true, integer_of}
 use Rattle.rp_meaning.specs.Computations.{Computation, pure, steps, ◌>>=◌, ◌>>◌, no_more}
 use Rattle.rp_meaning.specs.Expressions.{Scope, World, Meaning, expression, with_variable}

@@ -8,8 +8,8 @@ use Rattle.ex_named.specs.declared.reference.AttributeSort.TheVariants as sort
 use Rattle.rp_value.specs.declared.value.Value.{Value}
 use Rattle.rp_value.specs.declared.value.Value.TheFolds.{fold-Value}
 use Rattle.rp_value.specs.declared.value.Value.TheOpen.{Value-F}
-use Rattle.rp_meaning.specs.declared.role.Role.{Role}
-use Rattle.rp_meaning.specs.declared.role.Role.TheVariants.{Every, Of}
+use Rattle.rp_code.specs.declared.role.Role.{Role}
+use Rattle.rp_code.specs.declared.role.Role.TheVariants.{Every, Of}
 use Rattle.rp_meaning.specs.Populations.{Stored, Instance, instances}
 
 abbrev pub same_sort : AttributeSort → AttributeSort → Bool

@@ -1,8 +1,8 @@
 //! The instances that an evaluation sees.
 
-use crate::role::Role;
 use ex_named::AttributePlace;
 use plain_data::Items;
+use rp_code::Role;
 use rp_value::Value;
 use std::alloc::{AllocError, Global};
 use std::marker::Model;

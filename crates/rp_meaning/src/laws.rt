@@ -12,7 +12,7 @@ ghost use Rattle.rp_meaning.specs.declared.counter.Counter.{Counter};
 ghost use Rattle.rp_meaning.specs.declared.outcome.Outcome.TheVariants as o;
 ghost use Rattle.rp_meaning.specs.declared.rule.Rule.{Rule};
 ghost use Rattle.rp_meaning.specs.declared.schema.Schema.{Schema};
-ghost use Rattle.rp_meaning.specs.declared.tree.Expression.{Expression};
+ghost use Rattle.rp_code.specs.declared.tree.Expression.{Expression};
 ghost use Rattle.rp_value.specs.declared.value.Value.{Value};
 
 /// What a body, an expression or a rule takes doesn't depend on what it may take: with other steps left, and where another

@@ -1,4 +1,4 @@
-//! What rules of EXPRESS mean over a population: trees, definitions, and their laws.
+//! What rules of EXPRESS mean over a population: definitions and their laws.
 #![tactic(auto)]
 
 mod body;
@@ -8,11 +8,9 @@ mod domain;
 mod laws;
 mod outcome;
 mod report;
-mod role;
 mod rule;
 mod schema;
 mod stop;
-mod tree;
 
 pub use body::Body;
 pub use compiled::compiled_as_typed;
@@ -24,13 +22,13 @@ pub use laws::{
 };
 pub use outcome::Outcome;
 pub use report::{Check, Constraint, Culprit, Report, Verdict};
-pub use role::{NamedRole, Role};
+pub use rp_code::{
+    CaseAction, Code, Control, Expression, Increment, Instruction, Interval, NamedRole, Operation,
+    Qualifier, Query, Role, Routine, Statement,
+};
 pub use rule::Rule;
 pub use schema::{
     Algorithm, DefinedType, Derivation, Entity, Explicit, ExplicitAttribute, Function, Given,
     GlobalRule, Initial, Inverse, Redeclaration, Schema, Underlying,
 };
 pub use stop::Stop;
-pub use tree::{
-    CaseAction, Control, Expression, Increment, Interval, Operation, Qualifier, Query, Statement,
-};

@@ -1,11 +1,10 @@
 //! What evaluation looks at of a schema. Entities, defined types, constants, functions and rules are numbered from 0, each
 //! sort by itself, in the order of their declarations.
 
-use crate::role::{NamedRole, Role};
-use crate::tree::{Expression, Statement};
 use ex_named::{AttributePlace, NamedDataType, TypeName};
 use ex_tree::InverseAggregate;
 use plain_data::{Items, Text};
+use rp_code::{Code, NamedRole, Role, Routine};
 
 /// What a defined type is behind all names of types that it renames.
 pub enum Underlying {
@@ -28,7 +27,7 @@ pub struct DefinedType {
     /// What a SELECT chooses from: its members at any depth that are no SELECTs.
     pub choices: Items<TypeName>,
     /// The conditions of its WHERE clause.
-    pub domain_rules: Items<Expression>,
+    pub domain_rules: Items<Code>,
 }
 
 /// What gives the value of an attribute: an entity, and a place in its DERIVE clause.
@@ -64,7 +63,7 @@ pub struct Redeclaration {
 #[derive(Drop)]
 pub struct Given {
     pub data_type: NamedDataType,
-    pub value: Expression,
+    pub value: Code,
 }
 
 /// An inverse attribute: the instances that use an instance in its role, which is one attribute in the instances of an entity.
@@ -91,7 +90,7 @@ pub struct Entity {
     /// The attributes that each rule of its UNIQUE clause lists.
     pub unique_rules: Items<Items<AttributePlace>>,
     /// The conditions of its WHERE clause.
-    pub domain_rules: Items<Expression>,
+    pub domain_rules: Items<Code>,
 }
 
 /// Locals that have an initial value: the slot of the first of them, how many have this value, and what gives it.
@@ -108,7 +107,7 @@ pub struct Algorithm {
     /// How many variables it has beside its parameters.
     pub locals: usize,
     pub initial: Items<Initial>,
-    pub statements: Items<Statement>,
+    pub statements: Routine,
 }
 
 /// A function (9.5.1).
@@ -125,7 +124,7 @@ pub struct Function {
 pub struct GlobalRule {
     pub algorithm: Algorithm,
     /// The conditions of its WHERE clause.
-    pub domain_rules: Items<Expression>,
+    pub domain_rules: Items<Code>,
 }
 
 pub struct Schema {

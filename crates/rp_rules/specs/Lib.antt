@@ -1,3 +1,4 @@
+pub mod Used
 pub mod Endings
 pub mod Places
 pub mod Tallies

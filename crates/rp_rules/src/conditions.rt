@@ -33,6 +33,7 @@ pub(crate) fn instance_culprit(instance: &Value) -> Culprit
 
 impl<'a, D: Domain> Validation<'a, D> {
     ghost use Rattle.std.specs.Prelude.{◌≡◌, [], ◌∷◌, map, IfOk, OnOk};
+    ghost use Rattle.rp_eval_parts.specs.Serving.{Remembers};
     ghost use Rattle.rp_meaning.specs.Report.{candidates_of, checking, world};
     ghost use Rattle.rp_meaning.specs.Sequence.{check_by};
     ghost use Rattle.rp_rules.specs.Tallies.{candidate_by, no_culprits, tallied};
@@ -44,8 +45,10 @@ impl<'a, D: Domain> Validation<'a, D> {
         instances: &[Value],
         used: &mut Used,
     ) -> Result<Culprits, AllocError>
-        ensures culprits { IfOk result (λ found. found ≡ (tallied (world self.now.schema.now (D.population self.now.domain.now)) no_culprits (map (candidate_by rule) instances.now) used.old).0) }
-        ensures used { OnOk result (used.new ≡ (tallied (world self.now.schema.now (D.population self.now.domain.now)) no_culprits (map (candidate_by rule) instances.now) used.old).1) }
+        requires memory { Remembers (world self.now.schema.now (D.population self.now.domain.now)) used.old.memory }
+        ensures culprits { IfOk result (λ found. found ≡ (tallied (world self.now.schema.now (D.population self.now.domain.now)) no_culprits (map (candidate_by rule) instances.now) used.old.steps).0) }
+        ensures used { OnOk result (used.new.steps ≡ (tallied (world self.now.schema.now (D.population self.now.domain.now)) no_culprits (map (candidate_by rule) instances.now) used.old.steps).1) }
+        ensures memory { OnOk result (Remembers (world self.now.schema.now (D.population self.now.domain.now)) used.new.memory) }
     {
         let mut found = Culprits::none(self.alloc);
         for instance in instances {
@@ -63,8 +66,10 @@ impl<'a, D: Domain> Validation<'a, D> {
         rule: Rule,
         used: &mut Used,
     ) -> Result<Check, AllocError>
-        ensures check { IfOk result (λ check. check ≡ (checking self.now.schema.now (D.population self.now.domain.now) (check_by constraint) (candidates_of self.now.schema.now (D.population self.now.domain.now) entity (rule ∷ [])) used.old).0) }
-        ensures used { OnOk result (used.new ≡ (checking self.now.schema.now (D.population self.now.domain.now) (check_by constraint) (candidates_of self.now.schema.now (D.population self.now.domain.now) entity (rule ∷ [])) used.old).1) }
+        requires memory { Remembers (world self.now.schema.now (D.population self.now.domain.now)) used.old.memory }
+        ensures check { IfOk result (λ check. check ≡ (checking self.now.schema.now (D.population self.now.domain.now) (check_by constraint) (candidates_of self.now.schema.now (D.population self.now.domain.now) entity (rule ∷ [])) used.old.steps).0) }
+        ensures used { OnOk result (used.new.steps ≡ (checking self.now.schema.now (D.population self.now.domain.now) (check_by constraint) (candidates_of self.now.schema.now (D.population self.now.domain.now) entity (rule ∷ [])) used.old.steps).1) }
+        ensures memory { OnOk result (Remembers (world self.now.schema.now (D.population self.now.domain.now)) used.new.memory) }
     {
         let instances = self.domain.extent(self.alloc, entity)?;
         let found = self.tallied(rule, instances.as_slice(), used)?;

@@ -68,6 +68,8 @@ fn listed_by(schema: &Schema, entity: usize, place: usize) -> &[AttributePlace]
 
 impl<'a, D: Domain> Validation<'a, D> {
     ghost use Rattle.std.specs.Prelude.{◌≡◌, IfOk, OnOk};
+    ghost use Rattle.rp_eval_parts.specs.Serving.{Remembers};
+    ghost use Rattle.rp_meaning.specs.Report.{world};
     ghost use Rattle.rp_meaning.specs.Sequence.{in_sequence_after};
     ghost use Rattle.rp_rules.specs.Order as spec;
     ghost use Rattle.rp_rules.specs.Walks.{Leads};
@@ -81,9 +83,11 @@ impl<'a, D: Domain> Validation<'a, D> {
         place: usize,
         used: &mut Used,
     ) -> Result<Check, AllocError>
-        requires { Leads self.now.schema.now (D.population self.now.domain.now) number self.now.layouts.now.numbers walk.now }
-        ensures check { IfOk result (λ check. check ≡ (spec.check_at self.now.schema.now (D.population self.now.domain.now) sort number place used.old).0) }
-        ensures used { OnOk result (used.new ≡ (spec.check_at self.now.schema.now (D.population self.now.domain.now) sort number place used.old).1) }
+        requires leads { Leads self.now.schema.now (D.population self.now.domain.now) number self.now.layouts.now.numbers walk.now }
+        requires memory { Remembers (world self.now.schema.now (D.population self.now.domain.now)) used.old.memory }
+        ensures check { IfOk result (λ check. check ≡ (spec.check_at self.now.schema.now (D.population self.now.domain.now) sort number place used.old.steps).0) }
+        ensures used { OnOk result (used.new.steps ≡ (spec.check_at self.now.schema.now (D.population self.now.domain.now) sort number place used.old.steps).1) }
+        ensures memory { OnOk result (Remembers (world self.now.schema.now (D.population self.now.domain.now)) used.new.memory) }
     {
         match sort {
             Sort::Type => self.of_type(walk, number, place, used),
@@ -111,8 +115,10 @@ impl<'a, D: Domain> Validation<'a, D> {
         checks: &mut Items<Check>,
         used: &mut Used,
     ) -> Result<(), AllocError>
-        ensures checks { OnOk result (checks.new ≡ (in_sequence_after checks.old (spec.checks_at self.now.schema.now (D.population self.now.domain.now) sort number) used.old).0) }
-        ensures used { OnOk result (used.new ≡ (in_sequence_after checks.old (spec.checks_at self.now.schema.now (D.population self.now.domain.now) sort number) used.old).1) }
+        requires memory { Remembers (world self.now.schema.now (D.population self.now.domain.now)) used.old.memory }
+        ensures checks { OnOk result (checks.new ≡ (in_sequence_after checks.old (spec.checks_at self.now.schema.now (D.population self.now.domain.now) sort number) used.old.steps).0) }
+        ensures used { OnOk result (used.new.steps ≡ (in_sequence_after checks.old (spec.checks_at self.now.schema.now (D.population self.now.domain.now) sort number) used.old.steps).1) }
+        ensures memory { OnOk result (Remembers (world self.now.schema.now (D.population self.now.domain.now)) used.new.memory) }
     {
         let count = count_of(self.schema, sort, number);
         let walk = self.walk(number, sort == Sort::Type && count > 0)?;
@@ -131,8 +137,10 @@ impl<'a, D: Domain> Validation<'a, D> {
         checks: &mut Items<Check>,
         used: &mut Used,
     ) -> Result<(), AllocError>
-        ensures checks { OnOk result (checks.new ≡ (in_sequence_after checks.old (spec.checks_of self.now.schema.now (D.population self.now.domain.now) sort numbers.now) used.old).0) }
-        ensures used { OnOk result (used.new ≡ (in_sequence_after checks.old (spec.checks_of self.now.schema.now (D.population self.now.domain.now) sort numbers.now) used.old).1) }
+        requires memory { Remembers (world self.now.schema.now (D.population self.now.domain.now)) used.old.memory }
+        ensures checks { OnOk result (checks.new ≡ (in_sequence_after checks.old (spec.checks_of self.now.schema.now (D.population self.now.domain.now) sort numbers.now) used.old.steps).0) }
+        ensures used { OnOk result (used.new.steps ≡ (in_sequence_after checks.old (spec.checks_of self.now.schema.now (D.population self.now.domain.now) sort numbers.now) used.old.steps).1) }
+        ensures memory { OnOk result (Remembers (world self.now.schema.now (D.population self.now.domain.now)) used.new.memory) }
     {
         for number in numbers {
             self.checks_at(sort, *number, checks, used)?;

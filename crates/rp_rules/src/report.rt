@@ -10,15 +10,16 @@ use crate::plan::count_of_planned;
 use crate::used::Used;
 use crate::validation::Validation;
 use plain_data::Items;
-use rp_eval::World;
+use rp_eval::{Memory, World};
 use rp_faults::{Fault, culprits};
 use rp_meaning::{Check, Constraint, Domain, Report, Schema};
 use std::alloc::{AllocError, Global};
 
 impl<'a, D: Domain> Validation<'a, D> {
     ghost use Rattle.std.specs.Prelude.{◌≡◌, [], IfOk, OnOk};
+    ghost use Rattle.rp_eval_parts.specs.Serving.{Remembers};
     ghost use Rattle.rp_faults.specs.Held as held;
-    ghost use Rattle.rp_meaning.specs.Report.{all_evaluated, attribute_checks};
+    ghost use Rattle.rp_meaning.specs.Report.{all_evaluated, attribute_checks, world};
     ghost use Rattle.rp_meaning.specs.Sequence.{check_of, in_sequence_after};
 
     /// The check of the values of attributes.
@@ -47,8 +48,10 @@ impl<'a, D: Domain> Validation<'a, D> {
 
     /// The checks by evaluations, behind others.
     fn evaluate(&self, checks: &mut Items<Check>, used: &mut Used) -> Result<(), AllocError>
-        ensures checks { OnOk result (checks.new ≡ (in_sequence_after checks.old (all_evaluated self.now.schema.now (D.population self.now.domain.now)) used.old).0) }
-        ensures used { OnOk result (used.new ≡ (in_sequence_after checks.old (all_evaluated self.now.schema.now (D.population self.now.domain.now)) used.old).1) }
+        requires memory { Remembers (world self.now.schema.now (D.population self.now.domain.now)) used.old.memory }
+        ensures checks { OnOk result (checks.new ≡ (in_sequence_after checks.old (all_evaluated self.now.schema.now (D.population self.now.domain.now)) used.old.steps).0) }
+        ensures used { OnOk result (used.new.steps ≡ (in_sequence_after checks.old (all_evaluated self.now.schema.now (D.population self.now.domain.now)) used.old.steps).1) }
+        ensures memory { OnOk result (Remembers (world self.now.schema.now (D.population self.now.domain.now)) used.new.memory) }
     {
         let schema = self.schema;
         self.checks_of(Sort::Type, schema.type_order.as_slice(), checks, used)?;
@@ -73,7 +76,8 @@ pub fn validate<D: Domain>(alloc: Global, schema: &Schema, domain: &D) -> Result
         layouts: &layouts,
     };
     let mut checks = validation.attribute_checks()?;
-    let mut used = Used::new();
+    let memory = Memory::new(alloc, schema, domain)?;
+    let mut used = Used::new(memory);
     validation.evaluate(&mut checks, &mut used)?;
     Ok(Report {
         checks,

@@ -10,7 +10,8 @@ use std::alloc::AllocError;
 
 impl<'a, D: Domain> Validation<'a, D> {
     ghost use Rattle.std.specs.Prelude.{◌≡◌, IfOk, OnOk};
-    ghost use Rattle.rp_meaning.specs.Report.{rule_check};
+    ghost use Rattle.rp_eval_parts.specs.Serving.{Remembers};
+    ghost use Rattle.rp_meaning.specs.Report.{rule_check, world};
 
     /// What is said of a condition of a global rule. It has no culprits.
     pub(crate) fn of_rule(
@@ -19,8 +20,10 @@ impl<'a, D: Domain> Validation<'a, D> {
         place: usize,
         used: &mut Used,
     ) -> Result<Check, AllocError>
-        ensures check { IfOk result (λ check. check ≡ (rule_check self.now.schema.now (D.population self.now.domain.now) number place used.old).0) }
-        ensures used { OnOk result (used.new ≡ (rule_check self.now.schema.now (D.population self.now.domain.now) number place used.old).1) }
+        requires memory { Remembers (world self.now.schema.now (D.population self.now.domain.now)) used.old.memory }
+        ensures check { IfOk result (λ check. check ≡ (rule_check self.now.schema.now (D.population self.now.domain.now) number place used.old.steps).0) }
+        ensures used { OnOk result (used.new.steps ≡ (rule_check self.now.schema.now (D.population self.now.domain.now) number place used.old.steps).1) }
+        ensures memory { OnOk result (Remembers (world self.now.schema.now (D.population self.now.domain.now)) used.new.memory) }
     {
         let ended = self.one(Rule::Global(number, place), Value::Indet, used)?;
         Ok(Check {

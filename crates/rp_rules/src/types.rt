@@ -27,6 +27,7 @@ pub(crate) struct Walk {
 
 impl<'a, D: Domain> Validation<'a, D> {
     ghost use Rattle.std.specs.Prelude.{◌≡◌, [], ◌∷◌, map, false, None, IsTrue, IfOk, OnOk};
+    ghost use Rattle.rp_eval_parts.specs.Serving.{Remembers};
     ghost use Rattle.rp_faults.specs.Declarations.{declared_types, last_read};
     ghost use Rattle.rp_meaning.specs.Bare.{aggregate_of};
     ghost use Rattle.rp_meaning.specs.Report.{type_candidates, type_check, world};
@@ -46,8 +47,10 @@ impl<'a, D: Domain> Validation<'a, D> {
         values: &[Value],
         used: &mut Used,
     ) -> Result<Verdicts, AllocError>
-        ensures verdicts { IfOk result (λ verdicts. verdicts ≡ verdicts_of (each_after (world self.now.schema.now (D.population self.now.domain.now)) [] (map (λ x. (rule, x)) values.now) used.old).0) }
-        ensures used { OnOk result (used.new ≡ (each_after (world self.now.schema.now (D.population self.now.domain.now)) [] (map (λ x. (rule, x)) values.now) used.old).1) }
+        requires memory { Remembers (world self.now.schema.now (D.population self.now.domain.now)) used.old.memory }
+        ensures verdicts { IfOk result (λ verdicts. verdicts ≡ verdicts_of (each_after (world self.now.schema.now (D.population self.now.domain.now)) [] (map (λ x. (rule, x)) values.now) used.old.steps).0) }
+        ensures used { OnOk result (used.new.steps ≡ (each_after (world self.now.schema.now (D.population self.now.domain.now)) [] (map (λ x. (rule, x)) values.now) used.old.steps).1) }
+        ensures memory { OnOk result (Remembers (world self.now.schema.now (D.population self.now.domain.now)) used.new.memory) }
     {
         let mut verdicts = Verdicts::none();
         for value in values {
@@ -94,9 +97,11 @@ impl<'a, D: Domain> Validation<'a, D> {
         read: &Value,
         used: &mut Used,
     ) -> Result<Verdicts, AllocError>
-        requires { aggregate_of read.now ≡ None }
-        ensures verdicts { IfOk result (λ verdicts. verdicts ≡ verdicts_of (each_after (world self.now.schema.now (D.population self.now.domain.now)) [] (spec.trials_in self.now.schema.now (D.population self.now.domain.now) number place entities.now attribute written.now read.now) used.old).0) }
-        ensures used { OnOk result (used.new ≡ (each_after (world self.now.schema.now (D.population self.now.domain.now)) [] (spec.trials_in self.now.schema.now (D.population self.now.domain.now) number place entities.now attribute written.now read.now) used.old).1) }
+        requires scalar { aggregate_of read.now ≡ None }
+        requires memory { Remembers (world self.now.schema.now (D.population self.now.domain.now)) used.old.memory }
+        ensures verdicts { IfOk result (λ verdicts. verdicts ≡ verdicts_of (each_after (world self.now.schema.now (D.population self.now.domain.now)) [] (spec.trials_in self.now.schema.now (D.population self.now.domain.now) number place entities.now attribute written.now read.now) used.old.steps).0) }
+        ensures used { OnOk result (used.new.steps ≡ (each_after (world self.now.schema.now (D.population self.now.domain.now)) [] (spec.trials_in self.now.schema.now (D.population self.now.domain.now) number place entities.now attribute written.now read.now) used.old.steps).1) }
+        ensures memory { OnOk result (Remembers (world self.now.schema.now (D.population self.now.domain.now)) used.new.memory) }
     {
         let choosing = Choosing {
             types: self.schema.types.as_slice(),
@@ -124,8 +129,10 @@ impl<'a, D: Domain> Validation<'a, D> {
         read: &Value,
         used: &mut Used,
     ) -> Result<Verdicts, AllocError>
-        ensures verdicts { IfOk result (λ verdicts. verdicts ≡ verdicts_of (each_after (world self.now.schema.now (D.population self.now.domain.now)) [] (spec.trials_in self.now.schema.now (D.population self.now.domain.now) number place entities.now attribute written.now read.now) used.old).0) }
-        ensures used { OnOk result (used.new ≡ (each_after (world self.now.schema.now (D.population self.now.domain.now)) [] (spec.trials_in self.now.schema.now (D.population self.now.domain.now) number place entities.now attribute written.now read.now) used.old).1) }
+        requires memory { Remembers (world self.now.schema.now (D.population self.now.domain.now)) used.old.memory }
+        ensures verdicts { IfOk result (λ verdicts. verdicts ≡ verdicts_of (each_after (world self.now.schema.now (D.population self.now.domain.now)) [] (spec.trials_in self.now.schema.now (D.population self.now.domain.now) number place entities.now attribute written.now read.now) used.old.steps).0) }
+        ensures used { OnOk result (used.new.steps ≡ (each_after (world self.now.schema.now (D.population self.now.domain.now)) [] (spec.trials_in self.now.schema.now (D.population self.now.domain.now) number place entities.now attribute written.now read.now) used.old.steps).1) }
+        ensures memory { OnOk result (Remembers (world self.now.schema.now (D.population self.now.domain.now)) used.new.memory) }
     {
         match aggregate_of(read) {
             None => {
@@ -155,9 +162,11 @@ impl<'a, D: Domain> Validation<'a, D> {
         found: &mut Culprits,
         used: &mut Used,
     ) -> Result<(), AllocError>
-        requires { Tells self.now.schema.now number plan.now }
-        ensures found { OnOk result (found.new ≡ (tallied (world self.now.schema.now (D.population self.now.domain.now)) found.old (spec.candidates_by self.now.schema.now (D.population self.now.domain.now) number place at instance.now attribute written.now (last_read written.now differing.now slot)) used.old).0) }
-        ensures used { OnOk result (used.new ≡ (tallied (world self.now.schema.now (D.population self.now.domain.now)) found.old (spec.candidates_by self.now.schema.now (D.population self.now.domain.now) number place at instance.now attribute written.now (last_read written.now differing.now slot)) used.old).1) }
+        requires tells { Tells self.now.schema.now number plan.now }
+        requires memory { Remembers (world self.now.schema.now (D.population self.now.domain.now)) used.old.memory }
+        ensures found { OnOk result (found.new ≡ (tallied (world self.now.schema.now (D.population self.now.domain.now)) found.old (spec.candidates_by self.now.schema.now (D.population self.now.domain.now) number place at instance.now attribute written.now (last_read written.now differing.now slot)) used.old.steps).0) }
+        ensures used { OnOk result (used.new.steps ≡ (tallied (world self.now.schema.now (D.population self.now.domain.now)) found.old (spec.candidates_by self.now.schema.now (D.population self.now.domain.now) number place at instance.now attribute written.now (last_read written.now differing.now slot)) used.old.steps).1) }
+        ensures memory { OnOk result (Remembers (world self.now.schema.now (D.population self.now.domain.now)) used.new.memory) }
     {
         if !plan.may_have(attribute, written) {
             return Ok(());
@@ -186,9 +195,11 @@ impl<'a, D: Domain> Validation<'a, D> {
         found: &mut Culprits,
         used: &mut Used,
     ) -> Result<(), AllocError>
-        requires { Tells self.now.schema.now number plan.now }
-        ensures found { OnOk result (found.new ≡ (tallied (world self.now.schema.now (D.population self.now.domain.now)) found.old (spec.candidates_in self.now.schema.now (D.population self.now.domain.now) number place at instance.now instance.now.values) used.old).0) }
-        ensures used { OnOk result (used.new ≡ (tallied (world self.now.schema.now (D.population self.now.domain.now)) found.old (spec.candidates_in self.now.schema.now (D.population self.now.domain.now) number place at instance.now instance.now.values) used.old).1) }
+        requires tells { Tells self.now.schema.now number plan.now }
+        requires memory { Remembers (world self.now.schema.now (D.population self.now.domain.now)) used.old.memory }
+        ensures found { OnOk result (found.new ≡ (tallied (world self.now.schema.now (D.population self.now.domain.now)) found.old (spec.candidates_in self.now.schema.now (D.population self.now.domain.now) number place at instance.now instance.now.values) used.old.steps).0) }
+        ensures used { OnOk result (used.new.steps ≡ (tallied (world self.now.schema.now (D.population self.now.domain.now)) found.old (spec.candidates_in self.now.schema.now (D.population self.now.domain.now) number place at instance.now instance.now.values) used.old.steps).1) }
+        ensures memory { OnOk result (Remembers (world self.now.schema.now (D.population self.now.domain.now)) used.new.memory) }
     {
         let differing = instance.differing;
         let written = instance.written;
@@ -262,9 +273,11 @@ impl<'a, D: Domain> Validation<'a, D> {
         found: &mut Culprits,
         used: &mut Used,
     ) -> Result<(), AllocError>
-        requires { Leads self.now.schema.now (D.population self.now.domain.now) number self.now.layouts.now.numbers walk.now }
-        ensures found { OnOk result (found.new ≡ (tallied (world self.now.schema.now (D.population self.now.domain.now)) found.old (spec.candidates_at self.now.schema.now (D.population self.now.domain.now) number place at) used.old).0) }
-        ensures used { OnOk result (used.new ≡ (tallied (world self.now.schema.now (D.population self.now.domain.now)) found.old (spec.candidates_at self.now.schema.now (D.population self.now.domain.now) number place at) used.old).1) }
+        requires leads { Leads self.now.schema.now (D.population self.now.domain.now) number self.now.layouts.now.numbers walk.now }
+        requires memory { Remembers (world self.now.schema.now (D.population self.now.domain.now)) used.old.memory }
+        ensures found { OnOk result (found.new ≡ (tallied (world self.now.schema.now (D.population self.now.domain.now)) found.old (spec.candidates_at self.now.schema.now (D.population self.now.domain.now) number place at) used.old.steps).0) }
+        ensures used { OnOk result (used.new.steps ≡ (tallied (world self.now.schema.now (D.population self.now.domain.now)) found.old (spec.candidates_at self.now.schema.now (D.population self.now.domain.now) number place at) used.old.steps).1) }
+        ensures memory { OnOk result (Remembers (world self.now.schema.now (D.population self.now.domain.now)) used.new.memory) }
     {
         if self.skips(walk, number, at) {
             return Ok(());
@@ -283,9 +296,11 @@ impl<'a, D: Domain> Validation<'a, D> {
         place: usize,
         used: &mut Used,
     ) -> Result<Culprits, AllocError>
-        requires { Leads self.now.schema.now (D.population self.now.domain.now) number self.now.layouts.now.numbers walk.now }
-        ensures culprits { IfOk result (λ found. found ≡ (tallied (world self.now.schema.now (D.population self.now.domain.now)) no_culprits (type_candidates self.now.schema.now (D.population self.now.domain.now) number place) used.old).0) }
-        ensures used { OnOk result (used.new ≡ (tallied (world self.now.schema.now (D.population self.now.domain.now)) no_culprits (type_candidates self.now.schema.now (D.population self.now.domain.now) number place) used.old).1) }
+        requires leads { Leads self.now.schema.now (D.population self.now.domain.now) number self.now.layouts.now.numbers walk.now }
+        requires memory { Remembers (world self.now.schema.now (D.population self.now.domain.now)) used.old.memory }
+        ensures culprits { IfOk result (λ found. found ≡ (tallied (world self.now.schema.now (D.population self.now.domain.now)) no_culprits (type_candidates self.now.schema.now (D.population self.now.domain.now) number place) used.old.steps).0) }
+        ensures used { OnOk result (used.new.steps ≡ (tallied (world self.now.schema.now (D.population self.now.domain.now)) no_culprits (type_candidates self.now.schema.now (D.population self.now.domain.now) number place) used.old.steps).1) }
+        ensures memory { OnOk result (Remembers (world self.now.schema.now (D.population self.now.domain.now)) used.new.memory) }
     {
         let mut found = Culprits::none(self.alloc);
         for at in 0..self.domain.count() {
@@ -302,9 +317,11 @@ impl<'a, D: Domain> Validation<'a, D> {
         place: usize,
         used: &mut Used,
     ) -> Result<Check, AllocError>
-        requires { Leads self.now.schema.now (D.population self.now.domain.now) number self.now.layouts.now.numbers walk.now }
-        ensures check { IfOk result (λ check. check ≡ (type_check self.now.schema.now (D.population self.now.domain.now) number place used.old).0) }
-        ensures used { OnOk result (used.new ≡ (type_check self.now.schema.now (D.population self.now.domain.now) number place used.old).1) }
+        requires leads { Leads self.now.schema.now (D.population self.now.domain.now) number self.now.layouts.now.numbers walk.now }
+        requires memory { Remembers (world self.now.schema.now (D.population self.now.domain.now)) used.old.memory }
+        ensures check { IfOk result (λ check. check ≡ (type_check self.now.schema.now (D.population self.now.domain.now) number place used.old.steps).0) }
+        ensures used { OnOk result (used.new.steps ≡ (type_check self.now.schema.now (D.population self.now.domain.now) number place used.old.steps).1) }
+        ensures memory { OnOk result (Remembers (world self.now.schema.now (D.population self.now.domain.now)) used.new.memory) }
     {
         let found = self.tallied_types(walk, number, place, used)?;
         Ok(found.into_check(Constraint::Type(number, place)))

@@ -107,6 +107,7 @@ impl Table {
 
 impl<'a, D: Domain> Validation<'a, D> {
     ghost use Rattle.std.specs.Prelude.{◌≡◌, [], IfOk, OnOk};
+    ghost use Rattle.rp_eval_parts.specs.Serving.{Remembers};
     ghost use Rattle.rp_meaning.specs.Report.{unique_check, world};
     ghost use Rattle.rp_meaning.specs.Sequence.{each_after};
     ghost use Rattle.rp_rules.specs.Gatherings as spec;
@@ -120,8 +121,10 @@ impl<'a, D: Domain> Validation<'a, D> {
         instance: &Value,
         used: &mut Used,
     ) -> Result<Gathered, AllocError>
-        ensures gathered { IfOk result (λ found. found ≡ spec.gathered_of (each_after (world self.now.schema.now (D.population self.now.domain.now)) [] (spec.trials_of (spec.unique_rules entity place count) instance.now) used.old).0) }
-        ensures used { OnOk result (used.new ≡ (each_after (world self.now.schema.now (D.population self.now.domain.now)) [] (spec.trials_of (spec.unique_rules entity place count) instance.now) used.old).1) }
+        requires memory { Remembers (world self.now.schema.now (D.population self.now.domain.now)) used.old.memory }
+        ensures gathered { IfOk result (λ found. found ≡ spec.gathered_of (each_after (world self.now.schema.now (D.population self.now.domain.now)) [] (spec.trials_of (spec.unique_rules entity place count) instance.now) used.old.steps).0) }
+        ensures used { OnOk result (used.new.steps ≡ (each_after (world self.now.schema.now (D.population self.now.domain.now)) [] (spec.trials_of (spec.unique_rules entity place count) instance.now) used.old.steps).1) }
+        ensures memory { OnOk result (Remembers (world self.now.schema.now (D.population self.now.domain.now)) used.new.memory) }
     {
         let mut found = Gathered::none(self.alloc);
         for at in 0..count {
@@ -141,8 +144,10 @@ impl<'a, D: Domain> Validation<'a, D> {
         instances: &[Value],
         used: &mut Used,
     ) -> Result<Table, AllocError>
-        ensures table { IfOk result (λ found. found ≡ (spec.table_after (world self.now.schema.now (D.population self.now.domain.now)) (spec.unique_rules entity place count) (spec.table_of []) instances.now used.old).0) }
-        ensures used { OnOk result (used.new ≡ (spec.table_after (world self.now.schema.now (D.population self.now.domain.now)) (spec.unique_rules entity place count) (spec.table_of []) instances.now used.old).1) }
+        requires memory { Remembers (world self.now.schema.now (D.population self.now.domain.now)) used.old.memory }
+        ensures table { IfOk result (λ found. found ≡ (spec.table_after (world self.now.schema.now (D.population self.now.domain.now)) (spec.unique_rules entity place count) (spec.table_of []) instances.now used.old.steps).0) }
+        ensures used { OnOk result (used.new.steps ≡ (spec.table_after (world self.now.schema.now (D.population self.now.domain.now)) (spec.unique_rules entity place count) (spec.table_of []) instances.now used.old.steps).1) }
+        ensures memory { OnOk result (Remembers (world self.now.schema.now (D.population self.now.domain.now)) used.new.memory) }
     {
         let mut found = Table::none(self.alloc);
         for instance in instances {
@@ -160,8 +165,10 @@ impl<'a, D: Domain> Validation<'a, D> {
         attributes: &[AttributePlace],
         used: &mut Used,
     ) -> Result<Check, AllocError>
-        ensures check { IfOk result (λ check. check ≡ (unique_check self.now.schema.now (D.population self.now.domain.now) entity place attributes.now used.old).0) }
-        ensures used { OnOk result (used.new ≡ (unique_check self.now.schema.now (D.population self.now.domain.now) entity place attributes.now used.old).1) }
+        requires memory { Remembers (world self.now.schema.now (D.population self.now.domain.now)) used.old.memory }
+        ensures check { IfOk result (λ check. check ≡ (unique_check self.now.schema.now (D.population self.now.domain.now) entity place attributes.now used.old.steps).0) }
+        ensures used { OnOk result (used.new.steps ≡ (unique_check self.now.schema.now (D.population self.now.domain.now) entity place attributes.now used.old.steps).1) }
+        ensures memory { OnOk result (Remembers (world self.now.schema.now (D.population self.now.domain.now)) used.new.memory) }
     {
         let instances = self.domain.extent(self.alloc, entity)?;
         let Table {

@@ -8,7 +8,7 @@ use crate::ended::{Ended, steps_of, verdict_of};
 use crate::layouts::Layouts;
 use crate::used::{MOST_STEPS, Used};
 use crate::verdicts::Verdicts;
-use rp_eval::{World, eval};
+use rp_eval::{World, eval_with};
 use rp_meaning::{Domain, Rule, Schema};
 use rp_value::Value;
 use std::alloc::{AllocError, Global};
@@ -29,6 +29,7 @@ pub(crate) struct Validation<'a, D: Domain> {
 
 impl<'a, D: Domain> Validation<'a, D> {
     ghost use Rattle.std.specs.Prelude.{◌≡◌, [], ◌∷◌, IfOk, OnOk};
+    ghost use Rattle.rp_eval_parts.specs.Serving.{Remembers};
     ghost use Rattle.rp_meaning.specs.Report.{world};
     ghost use Rattle.rp_meaning.specs.Sequence.{each_after, one};
     ghost use Rattle.rp_rules.specs.Endings.{ended_behind, verdicts_of};
@@ -41,13 +42,16 @@ impl<'a, D: Domain> Validation<'a, D> {
         itself: Value,
         used: &mut Used,
     ) -> Result<Ended, AllocError>
-        ensures ended { IfOk result (λ ended. ended_behind ended ≡ (one (world self.now.schema.now (D.population self.now.domain.now)) (rule, itself) used.old).0) }
-        ensures used { OnOk result (used.new ≡ (one (world self.now.schema.now (D.population self.now.domain.now)) (rule, itself) used.old).1) }
+        requires memory { Remembers (world self.now.schema.now (D.population self.now.domain.now)) used.old.memory }
+        ensures ended { IfOk result (λ ended. ended_behind ended ≡ (one (world self.now.schema.now (D.population self.now.domain.now)) (rule, itself) used.old.steps).0) }
+        ensures used { OnOk result (used.new.steps ≡ (one (world self.now.schema.now (D.population self.now.domain.now)) (rule, itself) used.old.steps).1) }
+        ensures memory { OnOk result (Remembers (world self.now.schema.now (D.population self.now.domain.now)) used.new.memory) }
     {
         if !used.may_begin() {
             return Ok(Ended::NotRun);
         }
-        let outcome = eval(self.alloc, self.world, rule, itself, MOST_STEPS)?;
+        let memory = &mut used.memory;
+        let outcome = eval_with(self.alloc, self.world, memory, rule, itself, MOST_STEPS)?;
         used.add(steps_of(&outcome));
         Ok(Ended::Begun(outcome))
     }
@@ -60,8 +64,10 @@ impl<'a, D: Domain> Validation<'a, D> {
         itself: &Value,
         used: &mut Used,
     ) -> Result<Verdicts, AllocError>
-        ensures verdicts { IfOk result (λ verdicts. verdicts ≡ verdicts_of (each_after (world self.now.schema.now (D.population self.now.domain.now)) [] ((rule, itself.now) ∷ []) used.old).0) }
-        ensures used { OnOk result (used.new ≡ (each_after (world self.now.schema.now (D.population self.now.domain.now)) [] ((rule, itself.now) ∷ []) used.old).1) }
+        requires memory { Remembers (world self.now.schema.now (D.population self.now.domain.now)) used.old.memory }
+        ensures verdicts { IfOk result (λ verdicts. verdicts ≡ verdicts_of (each_after (world self.now.schema.now (D.population self.now.domain.now)) [] ((rule, itself.now) ∷ []) used.old.steps).0) }
+        ensures used { OnOk result (used.new.steps ≡ (each_after (world self.now.schema.now (D.population self.now.domain.now)) [] ((rule, itself.now) ∷ []) used.old.steps).1) }
+        ensures memory { OnOk result (Remembers (world self.now.schema.now (D.population self.now.domain.now)) used.new.memory) }
     {
         let ended = self.one(rule, itself.copy()?, used)?;
         Ok(Verdicts::none().with(verdict_of(&ended)))

@@ -1,6 +1,6 @@
 //! Places of files, by their paths.
 ghost use Rattle.std.specs.Prelude.{◌≡◌, ◌≢◌, ℕ, List, IfOk, OnOk, OnErr, IsErrOf};
-ghost use Rattle.plain_data.specs.declared.failure.Failure.TheVariants.{Fault};
+ghost use Rattle.plain_data.specs.declared.failure.Failure.TheVariants.{Fault, NoMemory};
 ghost use Rattle.rp_saved_file.specs.declared.fault.ReplaceFault.{ReplaceFault};
 ghost use Rattle.rp_saved_file.specs.Counts.{BeginsOne};
 ghost use Rattle.rp_saved_file.specs.Failures.{IsNew};
@@ -21,7 +21,7 @@ pub trait Places {
     /// How many replacements were begun.
     ghost begun: { Self → ℕ };
 
-    /// A count that `begin` changes if it fails for another reason than want of memory, and leaves if it succeeds.
+    /// A count that a failed `begin` changes where memory isn't wanting, and nothing else.
     ghost failures: { Self → ℕ };
 
     /// Begins to replace the file of this path, or to make it where there is none.
@@ -35,6 +35,7 @@ pub trait Places {
         ensures one { OnOk result (BeginsOne (begun self.old) (begun self.new)) }
         ensures none { OnErr result (begun self.new ≡ begun self.old) }
         ensures ok { OnOk result (failures self.new ≡ failures self.old) }
+        ensures wanting { IsErrOf result NoMemory → failures self.new ≡ failures self.old }
         ensures err { (fault : ReplaceFault) → IsErrOf result (Fault fault) → failures self.new ≢ failures self.old };
 }
 

@@ -8,7 +8,7 @@ use Rattle.rp_meaning.specs.declared.rule.Rule.TheVariants as r
 use Rattle.rp_meaning.specs.declared.schema.Entity.{Entity}
 use Rattle.rp_meaning.specs.declared.schema.GlobalRule.{GlobalRule}
 use Rattle.rp_meaning.specs.declared.schema.Schema.{Schema}
-use Rattle.rp_meaning.specs.declared.tree.Expression.{Expression}
+use Rattle.rp_code.specs.declared.tree.Expression.{Expression}
 use Rattle.rp_meaning.specs.Compiled.{compiled}
 use Rattle.rp_meaning.specs.Expressions.{World}
 use Rattle.rp_meaning.specs.Outcomes.{outcome}

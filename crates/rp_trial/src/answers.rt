@@ -4,12 +4,14 @@ ghost use Rattle.std.specs.Prelude.{◌≡◌, [], ◌∷◌, ◌++◌, map, IfO
 ghost use Rattle.std.specs.List.{flat_map};
 ghost use Rattle.plain_data.specs.Numbers.{numbered};
 ghost use Rattle.rp_eval.specs.Bodies.{world};
+ghost use Rattle.rp_eval_parts.specs.Serving.{Remembers};
 ghost use Rattle.rp_trial.specs.Answers as spec;
 
 use plain_data::Items;
+use rp_code::Code;
 use rp_domain::ListDomain;
-use rp_eval::{World, eval};
-use rp_meaning::{Domain, Entity, Expression, GlobalRule, Outcome, Rule, Schema};
+use rp_eval::{Memory, World, eval_with};
+use rp_meaning::{Domain, Entity, GlobalRule, Outcome, Rule, Schema};
 use rp_value::Value;
 use std::alloc::{AllocError, Global};
 
@@ -38,7 +40,7 @@ impl Drop for Answer {
 fn push_entity(
     found: &mut Items<Rule>,
     number: usize,
-    conditions: &[Expression],
+    conditions: &[Code],
 ) -> Result<(), AllocError>
     ensures { OnOk result (found.new ≡ found.old ++ numbered (spec.entity_condition number) conditions.now) }
 {
@@ -49,11 +51,7 @@ fn push_entity(
 }
 
 /// Adds the conditions of a rule.
-fn push_rule(
-    found: &mut Items<Rule>,
-    number: usize,
-    conditions: &[Expression],
-) -> Result<(), AllocError>
+fn push_rule(found: &mut Items<Rule>, number: usize, conditions: &[Code]) -> Result<(), AllocError>
     ensures { OnOk result (found.new ≡ found.old ++ numbered (spec.rule_condition number) conditions.now) }
 {
     for (place, _) in conditions.iter().enumerate() {
@@ -107,21 +105,37 @@ fn selves(alloc: Global, domain: &ListDomain, condition: Rule) -> Result<Items<V
     }
 }
 
+/// A condition, and the steps that it may take.
+#[derive(Clone, Copy)]
+struct Asked {
+    rule: Rule,
+    limit: usize,
+}
+
 /// Adds the answer of a condition for SELF.
 fn push_answer(
     found: &mut Items<Answer>,
+    memory: &mut Memory,
     alloc: Global,
     world: &World<'_, ListDomain>,
-    rule: Rule,
-    limit: usize,
+    asked: Asked,
     itself: &Value,
 ) -> Result<(), AllocError>
-    ensures { OnOk result (found.new ≡ found.old ++ spec.answer world.now limit rule itself.now ∷ []) }
+    requires memory { Remembers world.now memory.old }
+    ensures found { OnOk result (found.new ≡ found.old ++ spec.answer world.now asked.limit asked.rule itself.now ∷ []) }
+    ensures memory { Remembers world.now memory.new }
 {
-    let outcome = eval(alloc, world, rule, itself.copy()?, limit)?;
+    let outcome = eval_with(
+        alloc,
+        world,
+        memory,
+        asked.rule,
+        itself.copy()?,
+        asked.limit,
+    )?;
     found.push(Answer {
-        limit,
-        condition: rule,
+        limit: asked.limit,
+        condition: asked.rule,
         itself: itself.copy()?,
         outcome,
     })
@@ -130,16 +144,18 @@ fn push_answer(
 /// Adds the answers of a condition.
 fn push_answers(
     found: &mut Items<Answer>,
+    memory: &mut Memory,
     alloc: Global,
     world: &World<'_, ListDomain>,
-    rule: Rule,
-    limit: usize,
+    asked: Asked,
 ) -> Result<(), AllocError>
-    ensures { OnOk result (found.new ≡ found.old ++ spec.answers_of world.now limit rule) }
+    requires memory { Remembers world.now memory.old }
+    ensures found { OnOk result (found.new ≡ found.old ++ spec.answers_of world.now asked.limit asked.rule) }
+    ensures memory { Remembers world.now memory.new }
 {
-    let selves = selves(alloc, world.domain(), rule)?;
+    let selves = selves(alloc, world.domain(), asked.rule)?;
     for itself in selves.as_slice() {
-        push_answer(found, alloc, world, rule, limit, itself)?;
+        push_answer(found, memory, alloc, world, asked, itself)?;
     }
     Ok(())
 }
@@ -147,17 +163,49 @@ fn push_answers(
 /// Adds the answers of conditions.
 fn push_within(
     found: &mut Items<Answer>,
+    memory: &mut Memory,
     alloc: Global,
     world: &World<'_, ListDomain>,
     conditions: &[Rule],
     limit: usize,
 ) -> Result<(), AllocError>
-    ensures { OnOk result (found.new ≡ found.old ++ spec.answers_within world.now conditions.now limit) }
+    requires memory { Remembers world.now memory.old }
+    ensures found { OnOk result (found.new ≡ found.old ++ spec.answers_within world.now conditions.now limit) }
+    ensures memory { Remembers world.now memory.new }
 {
-    for condition in conditions {
-        push_answers(found, alloc, world, *condition, limit)?;
+    for rule in conditions {
+        push_answers(found, memory, alloc, world, Asked { rule: *rule, limit })?;
     }
     Ok(())
+}
+
+/// Whether evaluations remember derived values for those after them.
+#[derive(Clone, Copy)]
+pub enum Keeping {
+    Nothing,
+    Derived,
+}
+
+/// What an evaluation that keeps so begins with.
+fn memory_for(
+    alloc: Global,
+    schema: &Schema,
+    domain: &ListDomain,
+    keeping: Keeping,
+) -> Result<Memory, AllocError>
+    ensures { IfOk result (λ memory. Remembers (world schema.now domain.now) memory) }
+{
+    match keeping {
+        Keeping::Nothing => Ok(Memory::none(alloc)),
+        Keeping::Derived => Memory::new(alloc, schema, domain),
+    }
+}
+
+/// Answers, and how many derived values were remembered after them.
+#[derive(Drop)]
+pub(crate) struct Answered {
+    pub(crate) found: Items<Answer>,
+    pub(crate) kept: usize,
 }
 
 /// What comes of each condition for each SELF with each limit.
@@ -167,14 +215,24 @@ pub(crate) fn answers(
     schema: &Schema,
     domain: &ListDomain,
     limits: &[usize],
-) -> Result<Items<Answer>, AllocError>
-    ensures { IfOk result (λ found. found ≡ spec.answers (world schema.now domain.now) limits.now) }
+    keeping: Keeping,
+) -> Result<Answered, AllocError>
+    ensures { IfOk result (λ answers. answers.found ≡ spec.answers (world schema.now domain.now) limits.now) }
 {
     let world = World::new(alloc, schema, domain)?;
+    let mut memory = memory_for(alloc, schema, domain, keeping)?;
     let conditions = conditions(alloc, schema)?;
     let mut found = Items::new(alloc);
     for limit in limits {
-        push_within(&mut found, alloc, &world, conditions.as_slice(), *limit)?;
+        push_within(
+            &mut found,
+            &mut memory,
+            alloc,
+            &world,
+            conditions.as_slice(),
+            *limit,
+        )?;
     }
-    Ok(found)
+    let kept = memory.len();
+    Ok(Answered { found, kept })
 }

@@ -9,5 +9,6 @@ mod loading;
 mod trials;
 mod values;
 
+pub use answers::Keeping;
 pub use limits::limits_of;
 pub use trials::trial;

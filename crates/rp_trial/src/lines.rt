@@ -83,6 +83,11 @@ fn write_line(
     write_outcome(out, names, &answer.outcome)
 }
 
+/// `KEPT n`
+pub(crate) fn write_kept(out: &mut Vec<u8>, kept: usize) -> Result<(), AllocError> {
+    write_texts(out, &["KEPT ", Buffer::new().format(kept), "\n"])
+}
+
 /// A line for each answer.
 pub(crate) fn lines(
     alloc: Global,

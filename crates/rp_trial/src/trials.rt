@@ -5,8 +5,8 @@ ghost use Rattle.rp_meaning.specs.Compiled.{compiled};
 ghost use Rattle.rp_positions.specs.Positions.{AreInOrder, IsSearchable};
 ghost use Rattle.rp_trial.specs.Answers as spec;
 
-use crate::answers::{Answer, answers};
-use crate::lines::lines;
+use crate::answers::{Answered, Keeping, answers};
+use crate::lines::{lines, write_kept};
 use crate::loading::{content_of, schema_of};
 use crate::values::Names;
 use ex_compiled::Compiled;
@@ -28,15 +28,16 @@ fn answers_over(
     schema: &Schema,
     models: &[CountedModel<'_>],
     limits: &[usize],
-) -> Result<Items<Answer>, AllocError>
+    keeping: Keeping,
+) -> Result<Answered, AllocError>
     requires order { AreInOrder models.now }
     requires schema { schema.now ≡ compiled loaded.now }
-    ensures { IfOk result (λ found. found ≡ spec.answers (spec.world loaded.now models.now) limits.now) }
+    ensures { IfOk result (λ answers. answers.found ≡ spec.answers (spec.world loaded.now models.now) limits.now) }
 {
     let population = population_of(alloc, models)?;
     let domain = domain_of(alloc, schema, loaded.dictionary(), models, &population)?;
     drop(population);
-    let answers = answers(alloc, schema, &domain, limits);
+    let answers = answers(alloc, schema, &domain, limits, keeping);
     // The process is to end, and all of its memory goes with it. To give that back value by value would take long.
     mem::forget(domain);
     answers
@@ -49,15 +50,19 @@ fn answers_by(
     loaded: &LoadedSchema<'_>,
     models: &[CountedModel<'_>],
     limits: &[usize],
-) -> Result<Items<Answer>, AllocError>
+    keeping: Keeping,
+) -> Result<Answered, AllocError>
     requires { AreInOrder models.now }
-    ensures { IfOk result (λ found. found ≡ spec.answers (spec.world loaded.now models.now) limits.now) }
+    ensures { IfOk result (λ answers. answers.found ≡ spec.answers (spec.world loaded.now models.now) limits.now) }
 {
     let schema = compile(alloc, loaded.checked())?;
     if limits.is_empty() {
-        return Ok(Items::new(alloc));
+        return Ok(Answered {
+            found: Items::new(alloc),
+            kept: 0,
+        });
     }
-    answers_over(alloc, loaded, &schema, models, limits)
+    answers_over(alloc, loaded, &schema, models, limits, keeping)
 }
 
 /// The lines of all answers for what a file holds.
@@ -67,6 +72,7 @@ fn lines_by(
     loaded: &LoadedSchema<'_>,
     content: &Content,
     limits: &[usize],
+    keeping: Keeping,
 ) -> Result<Vec<u8>, AllocError>
     requires { IsSearchable content.now }
 {
@@ -76,12 +82,16 @@ fn lines_by(
         name: Text::new(String::new(alloc)),
     };
     let models = [CountedModel { key: &key, content }];
-    let answers = answers_by(alloc, loaded, &models, limits)?;
+    let answers = answers_by(alloc, loaded, &models, limits, keeping)?;
     let names = Names {
         types: loaded.checked().types(),
         instances: content.instances.as_slice(),
     };
-    lines(alloc, names, loaded.checked(), &answers)
+    let mut lines = lines(alloc, names, loaded.checked(), &answers.found)?;
+    if let Keeping::Derived = keeping {
+        write_kept(&mut lines, answers.kept)?;
+    }
+    Ok(lines)
 }
 
 fn lines_of_file<'s>(
@@ -89,9 +99,10 @@ fn lines_of_file<'s>(
     loaded: &'s LoadedSchema<'s>,
     file: &[u8],
     limits: &[usize],
+    keeping: Keeping,
 ) -> Result<Vec<u8>, Failure<String>> {
     let content = content_of(alloc, loaded.dictionary(), file)?;
-    let lines = lines_by(alloc, loaded, &content, limits);
+    let lines = lines_by(alloc, loaded, &content, limits, keeping);
     mem::forget(content);
     Ok(lines?)
 }
@@ -101,22 +112,24 @@ fn lines_with<'s>(
     compiled: &'s Compiled,
     file: &[u8],
     limits: &[usize],
+    keeping: Keeping,
 ) -> Result<Vec<u8>, Failure<String>> {
     let loaded = Box::new(alloc, LoadedSchema::of(alloc, compiled)?)?;
-    lines_of_file(alloc, Box::leak(loaded), file, limits)
+    lines_of_file(alloc, Box::leak(loaded), file, limits, keeping)
 }
 
 /// A line for each limit and condition of a schema's WHERE clauses and each SELF, `LIMIT OWNER.LABEL SELF VALUE STEPS` or
-/// `LIMIT OWNER.LABEL SELF LIMIT`: SELF are the entity's instances in an exchange file, and `?` of a rule. Else what is wrong with
-/// the schema or the file, in words. The process is to end then: what is made of the schema and the file isn't let go of.
+/// `LIMIT OWNER.LABEL SELF LIMIT`: SELF are the entity's instances in an exchange file, and `?` of a rule. Where derived values are
+/// remembered, `KEPT n` is the last line: how many. Else what is wrong with the schema or the file, in words. The process is to end then: what is made of the schema and the file isn't let go of.
 pub fn trial(
     alloc: Global,
     schema: &[u8],
     file: &[u8],
     limits: &[usize],
+    keeping: Keeping,
 ) -> Result<Vec<u8>, Failure<String>> {
     let compiled = schema_of(alloc, schema)?;
-    let lines = lines_with(alloc, &compiled, file, limits);
+    let lines = lines_with(alloc, &compiled, file, limits, keeping);
     mem::forget(compiled);
     lines
 }

@@ -18,9 +18,9 @@ use Rattle.rp_population.specs.Populations.{Counted, Placed, has_place, is_at, p
 use Rattle.rp_population.specs.Uses.{as_user, is_full_stop, references_in, role_of, role_of_parts, users, users_in}
 use Rattle.rp_meaning.specs.declared.body.Body.{Body}
 use Rattle.rp_meaning.specs.Computations.{Computation}
-use Rattle.rp_meaning.specs.declared.role.NamedRole.{NamedRole}
-use Rattle.rp_meaning.specs.declared.role.Role.{Role}
-use Rattle.rp_meaning.specs.declared.role.Role.TheVariants as r
+use Rattle.rp_code.specs.declared.role.NamedRole.{NamedRole}
+use Rattle.rp_code.specs.declared.role.Role.{Role}
+use Rattle.rp_code.specs.declared.role.Role.TheVariants as r
 use Rattle.rp_meaning.specs.Attributes.{role_named}
 use Rattle.rp_meaning.specs.Compiled as compiling
 use Rattle.rp_meaning.specs.Compiled.{compiled}

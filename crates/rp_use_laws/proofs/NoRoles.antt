@@ -20,8 +20,8 @@ use Rattle.ex_tree.specs.Identifiers.{is_identifier}
 use Rattle.ex_tree.specs.declared.expression.Name.{Name}
 use Rattle.graphs.specs.Graphs.{family}
 use Rattle.name_tables.specs.Names.{named, place_of}
-use Rattle.rp_meaning.specs.declared.role.NamedRole.{NamedRole}
-use Rattle.rp_meaning.specs.declared.role.Role.TheVariants as r
+use Rattle.rp_code.specs.declared.role.NamedRole.{NamedRole}
+use Rattle.rp_code.specs.declared.role.Role.TheVariants as r
 use Rattle.rp_meaning.specs.Compiled as compiling
 use Rattle.rp_meaning.specs.CompiledNames.{explicit_rows, inherited_rows, joined, roles_of}
 use Rattle.rp_population.specs.declared.roles.Role.TheVariants as a

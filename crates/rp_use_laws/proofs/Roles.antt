@@ -19,8 +19,8 @@ use Rattle.ex_resolve.specs.Proved.{DeclaresOnce, count}
 use Rattle.ex_schemas.specs.Schemas.{entity_names}
 use Rattle.name_tables.specs.Names.{named, place_of}
 use Rattle.ex_tree.specs.Identifiers.{is_identifier, is_identifier_byte}
-use Rattle.rp_meaning.specs.declared.role.NamedRole.{NamedRole}
-use Rattle.rp_meaning.specs.declared.role.Role.TheVariants as r
+use Rattle.rp_code.specs.declared.role.NamedRole.{NamedRole}
+use Rattle.rp_code.specs.declared.role.Role.TheVariants as r
 use Rattle.rp_meaning.specs.CompiledNames.{joined, roles_of, inherited_rows}
 use Rattle.rp_population.specs.Uses.{is_full_stop}
 use Rattle.rp_use_laws.proofs.Lists.{given, numbered_next, one_way}

@@ -15,8 +15,8 @@ use Rattle.rp_rows.specs.Contents as names
 use Rattle.rp_population.specs.declared.roles.Role as asked
 use Rattle.rp_population.specs.declared.roles.Role.TheVariants as a
 use Rattle.rp_population.specs.Uses.{is_slot_of, references_in}
-use Rattle.rp_meaning.specs.declared.role.Role.{Role}
-use Rattle.rp_meaning.specs.declared.role.Role.TheVariants as r
+use Rattle.rp_code.specs.declared.role.Role.{Role}
+use Rattle.rp_code.specs.declared.role.Role.TheVariants as r
 use Rattle.rp_meaning.specs.Compiled as compiling
 use Rattle.rp_meaning.specs.Compiled.{compiled}
 use Rattle.rp_meaning.specs.CompiledNames.{inherited_rows}

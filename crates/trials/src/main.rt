@@ -3,6 +3,7 @@
 //! which are answered in one run and then each by itself.
 //!
 //!     trials rules SCHEMA FILE LIMIT..
+//!     trials kept SCHEMA FILE LIMIT..
 //!     trials connection SCHEMA INPUT FAULT NUMBER SIZE ROOM
 //!     trials requests SCHEMA OTHER LINE..
 #![tactic(auto)]
@@ -15,14 +16,14 @@ mod streams;
 use plain_data::Failure;
 use rp_files::{FromFiles, file_bytes};
 use rp_io::{ToWriter, write_all};
-use rp_trial::{limits_of, trial};
+use rp_trial::{Keeping, limits_of, trial};
 use std::alloc::{AllocError, Global};
 use std::process::ExitCode;
 use std::rt::{Env, Files};
 use std::{env, io};
 
 const WORDS: &str =
-    "trials rules SCHEMA FILE LIMIT.., trials connection SCHEMA INPUT FAULT NUMBER SIZE ROOM, or trials requests SCHEMA OTHER LINE..";
+    "trials rules SCHEMA FILE LIMIT.., trials kept SCHEMA FILE LIMIT.., trials connection SCHEMA INPUT FAULT NUMBER SIZE ROOM, or trials requests SCHEMA OTHER LINE..";
 
 fn main(rt: HostRuntime) -> ExitCode {
     let Err(failure) = run(&rt) else {
@@ -58,20 +59,25 @@ fn lines_of<R: AllocGlobal + Files>(
     schema: &str,
     file: &str,
     limits: &[usize],
+    keeping: Keeping,
 ) -> Result<Vec<u8>, Failure<String>> {
     let schema = bytes_of(rt, schema)?;
     let file = bytes_of(rt, file)?;
-    trial(rt.alloc(), &schema, &file, limits)
+    trial(rt.alloc(), &schema, &file, limits, keeping)
 }
 
 /// The lines of the trial of evaluation that words ask for.
-fn lines_by<R: AllocGlobal + Files>(rt: &R, words: &[String]) -> Result<Vec<u8>, Failure<String>> {
+fn lines_by<R: AllocGlobal + Files>(
+    rt: &R,
+    words: &[String],
+    keeping: Keeping,
+) -> Result<Vec<u8>, Failure<String>> {
     let alloc = rt.alloc();
     let [schema, file, limits @ ..] = words else {
         return Err(fault(alloc, WORDS));
     };
     match limits_of(alloc, limits)? {
-        Some(limits) => lines_of(rt, schema.as_str(), file.as_str(), &limits),
+        Some(limits) => lines_of(rt, schema.as_str(), file.as_str(), &limits, keeping),
         None => Err(fault(alloc, "a limit is no number up to 18446744073709551615")),
     }
 }
@@ -94,7 +100,8 @@ fn run<R: AllocGlobal + Files + Env + Print>(rt: &R) -> Result<(), Failure<Strin
         return Err(fault(alloc, WORDS));
     };
     match what.as_str() {
-        "rules" => print_bytes(rt, &lines_by(rt, words)?),
+        "rules" => print_bytes(rt, &lines_by(rt, words, Keeping::Nothing)?),
+        "kept" => print_bytes(rt, &lines_by(rt, words, Keeping::Derived)?),
         "connection" => connection::serve(rt, words),
         "requests" => requests::answer(rt, words),
         _ => Err(fault(alloc, WORDS)),

@@ -2,9 +2,9 @@ use Rattle.std.proofs.Common.{◌≡◌, ◌+◌, ◌*◌, ◌≤◌, drop, leng
 use Rattle.rp_code.specs.Denoted.{expressions_of, operations_of, qualifiers_of}
 use Rattle.rp_code.specs.Written.{Keeps}
 use Rattle.rp_code.proofs.expressions.+expressions.Given as goal
-use Rattle.rp_meaning.proofs.tree.Expression.TheLaws as x
-use Rattle.rp_meaning.proofs.tree.Operation.TheLaws as o
-use Rattle.rp_meaning.proofs.tree.Qualifier.TheLaws as q
+use Rattle.rp_code.proofs.tree.Expression.TheLaws as x
+use Rattle.rp_code.proofs.tree.Operation.TheLaws as o
+use Rattle.rp_code.proofs.tree.Qualifier.TheLaws as q
 use denote.Param.Weighed.{most}
 
 -- of each list, what is written are its last ones
@@ -62,6 +62,9 @@ decreases-push_unary l = 4 * goal.size-push_unary l + 1
 abbrev pub decreases-push_qualified : goal.decreases-push_qualified
 decreases-push_qualified l = 4 * max (x.the_size l.base.now) (most q.the_size l.qualifiers.now) + 3
 
+abbrev pub decreases-push_base : goal.decreases-push_base
+decreases-push_base l = 4 * x.the_size l.base.now + 1
+
 abbrev pub decreases-push_chain : goal.decreases-push_chain
 decreases-push_chain l = 4 * max (x.the_size l.first.now) (most o.the_size l.operations.now) + 3
 
@@ -79,6 +82,9 @@ decreases-push_expressions l = 4 * goal.size-push_expressions l + 2
 
 abbrev pub decreases-push_operation : goal.decreases-push_operation
 decreases-push_operation l = 4 * goal.size-push_operation l
+
+abbrev pub decreases-push_right : goal.decreases-push_right
+decreases-push_right l = 4 * x.the_size l.right.now + 1
 
 abbrev pub decreases-push_operations : goal.decreases-push_operations
 decreases-push_operations l = 4 * goal.size-push_operations l + 1

@@ -2,8 +2,8 @@ use Rattle.std.proofs.Common.{◌≡◌, ◌+◌, ◌*◌, ◌≤◌, drop, leng
 use Rattle.rp_code.specs.Denoted.{actions_of, statements_of}
 use Rattle.rp_code.specs.Written.{Keeps}
 use Rattle.rp_code.proofs.statements.+statements.Given as goal
-use Rattle.rp_meaning.proofs.tree.Statement.TheLaws as s
-use Rattle.rp_meaning.proofs.tree.CaseAction.TheLaws as a
+use Rattle.rp_code.proofs.tree.Statement.TheLaws as s
+use Rattle.rp_code.proofs.tree.CaseAction.TheLaws as a
 use denote.Param.Weighed.{most}
 
 -- of each list, what is written are its last ones

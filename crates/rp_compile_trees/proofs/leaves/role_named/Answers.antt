@@ -3,7 +3,7 @@ use Rattle.std.specs.List.{find}
 use Rattle.std.specs.Option.{option_map}
 use Rattle.std.specs.Str.{bytes_eq}
 use Rattle.rp_meaning.specs.CompiledExpressions.{role_named}
-use Rattle.rp_meaning.specs.declared.role.NamedRole.{NamedRole}
+use Rattle.rp_code.specs.declared.role.NamedRole.{NamedRole}
 use Rattle.rp_compile_trees.proofs.leaves.role_named.Goals as goal
 
 abbrev is : List ℕ → NamedRole → Bool

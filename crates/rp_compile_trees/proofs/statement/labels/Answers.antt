@@ -1,7 +1,7 @@
 use Rattle.std.proofs.Common.{◌≡◌, List, IfOk, subst}
 use Rattle.std.proofs.lemmas.Simd.{map-map}
 use Rattle.rp_meaning.specs.CompiledExpressions.{CompiledExpression, compiled_expression}
-use Rattle.rp_meaning.specs.declared.tree.Expression.{Expression}
+use Rattle.rp_code.specs.declared.tree.Expression.{Expression}
 use Rattle.rp_compile_trees.proofs.statement.labels.Goals as goal
 
 pub returns : goal.returns

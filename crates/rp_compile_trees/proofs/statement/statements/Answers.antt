@@ -2,7 +2,7 @@ use Rattle.std.proofs.Common.{◌≡◌, List, map, IfOk, subst}
 use Rattle.std.proofs.lemmas.Simd.{map-map}
 use Rattle.rp_meaning.specs.CompiledExpressions.{expression}
 use Rattle.rp_meaning.specs.CompiledStatements.{CompiledStatement, compiled_statement}
-use Rattle.rp_meaning.specs.declared.tree.Statement.{Statement}
+use Rattle.rp_code.specs.declared.tree.Statement.{Statement}
 use Rattle.rp_compile_trees.proofs.statement.statements.Goals as goal
 
 pub returns : goal.returns

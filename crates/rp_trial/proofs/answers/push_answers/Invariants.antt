@@ -1,8 +1,11 @@
 use Rattle.std.proofs.Common.{◌≡◌, ◌++◌, map, drop}
+use Rattle.rp_eval_parts.specs.Serving.{Remembers}
 use Rattle.rp_trial.specs.Answers as spec
 use Rattle.rp_trial.proofs.answers.push_answers.Given as goal
 
 abbrev pub invariant-loop-itself : goal.invariant-loop-itself
-invariant-loop-itself l =
-    l.found ++ map (spec.answer l.world l.limit l.rule) (drop l.itself-index l.itself-items)
-    ≡ l.initial.found ++ map (spec.answer l.world l.limit l.rule) l.itself-items
+invariant-loop-itself l = record {
+  memory : Remembers l.world l.memory;
+  found : l.found ++ map (spec.answer l.world l.asked.limit l.asked.rule) (drop l.itself-index l.itself-items)
+      ≡ l.fn.found ++ map (spec.answer l.world l.asked.limit l.asked.rule) l.itself-items;
+}

@@ -1,7 +1,10 @@
 use Rattle.std.proofs.Common.{◌≡◌, ◌++◌, drop}
+use Rattle.rp_eval_parts.specs.Serving.{Remembers}
 use Rattle.rp_trial.specs.Answers as spec
 use Rattle.rp_trial.proofs.answers.push_within.Given as goal
 
-abbrev pub invariant-loop-condition : goal.invariant-loop-condition
-invariant-loop-condition l =
-    l.found ++ spec.answers_within l.world (drop l.condition-index l.conditions) l.limit ≡ l.initial.found ++ spec.answers_within l.world l.conditions l.limit
+abbrev pub invariant-loop-rule : goal.invariant-loop-rule
+invariant-loop-rule l = record {
+  memory : Remembers l.world l.memory;
+  found : l.found ++ spec.answers_within l.world (drop l.rule-index l.conditions) l.limit ≡ l.fn.found ++ spec.answers_within l.world l.conditions l.limit;
+}

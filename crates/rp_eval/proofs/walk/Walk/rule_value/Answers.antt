@@ -3,5 +3,5 @@ use Rattle.rp_eval.proofs.walk.Walk.rule_value.Goals as goal
 
 pub returns : goal.returns
 returns g c =
-    let after = c.condition_after.ensures c.algorithm.new.into in
+    let after = c.condition_after.ensures.value c.algorithm.new.into in
     search (rules, after)

@@ -1,5 +1,7 @@
 use Rattle.std.proofs.Common.{◌≡◌, ◌-◌, map}
 use Rattle.std.specs.List.{range_with_len}
+use Rattle.rp_eval_parts.specs.Serving.{Remembers}
+use Rattle.rp_meaning.specs.Report.{world}
 use Rattle.rp_meaning.specs.Sequence.{in_sequence_after}
 use Rattle.rp_rules.specs.Order.{check_at, checks_at, count_of}
 use Rattle.rp_rules.proofs.validation.Validation.checks_at.Given as goal
@@ -9,5 +11,8 @@ abbrev pub invariant-loop-place : goal.invariant-loop-place
 invariant-loop-place g l =
     let schema = l.self.schema.now in
     let population = g.D.Domain.population l.self.domain.now in
-    in_sequence_after l.checks (map (check_at schema population l.sort l.number) (range_with_len l.place (count_of schema l.sort l.number - l.place))) l.used
-    ≡ in_sequence_after l.fn.checks (checks_at schema population l.sort l.number) l.fn.used
+    record {
+      memory : Remembers (world schema population) l.used.memory;
+      left : in_sequence_after l.checks (map (check_at schema population l.sort l.number) (range_with_len l.place (count_of schema l.sort l.number - l.place))) l.used.steps
+          ≡ in_sequence_after l.fn.checks (checks_at schema population l.sort l.number) l.fn.used.steps;
+    }

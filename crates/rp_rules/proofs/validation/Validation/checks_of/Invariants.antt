@@ -1,4 +1,6 @@
 use Rattle.std.proofs.Common.{◌≡◌, drop}
+use Rattle.rp_eval_parts.specs.Serving.{Remembers}
+use Rattle.rp_meaning.specs.Report.{world}
 use Rattle.rp_meaning.specs.Sequence.{in_sequence_after}
 use Rattle.rp_rules.specs.Order.{checks_of}
 use Rattle.rp_rules.proofs.validation.Validation.checks_of.Given as goal
@@ -8,4 +10,7 @@ abbrev pub invariant-loop-number : goal.invariant-loop-number
 invariant-loop-number g l =
     let schema = l.self.schema.now in
     let population = g.D.Domain.population l.self.domain.now in
-    in_sequence_after l.checks (checks_of schema population l.sort (drop l.number-index l.numbers)) l.used ≡ in_sequence_after l.fn.checks (checks_of schema population l.sort l.numbers) l.fn.used
+    record {
+      memory : Remembers (world schema population) l.used.memory;
+      left : in_sequence_after l.checks (checks_of schema population l.sort (drop l.number-index l.numbers)) l.used.steps ≡ in_sequence_after l.fn.checks (checks_of schema population l.sort l.numbers) l.fn.used.steps;
+    }

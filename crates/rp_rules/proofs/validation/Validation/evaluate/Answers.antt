@@ -8,7 +8,7 @@ returns-clause-checks g c =
     let schema = c.args.self.now.schema.now in
     let population = g.D.Domain.population c.args.self.now.domain.now in
     let all = evaluated schema population c.args.checks.now c.checks_of.new.checks c.checks_of-2.new.checks c.checks_of-3.new.checks c.checks_of-4.new.checks
-    c.args.used.now c.checks_of.new.used c.checks_of-2.new.used c.checks_of-3.new.used c.checks_of-4.new.used
+    c.args.used.now.steps c.checks_of.new.used.steps c.checks_of-2.new.used.steps c.checks_of-3.new.used.steps c.checks_of-4.new.used.steps
     ((rw c.as_slice.ensures at c.in_ok-checks_of.ensures.checks), (rw c.as_slice.ensures at c.in_ok-checks_of.ensures.used))
     ((rw c.as_slice-2.ensures at c.in_ok-checks_of-2.ensures.checks), (rw c.as_slice-2.ensures at c.in_ok-checks_of-2.ensures.used))
     ((rw c.as_slice-3.ensures at c.in_ok-checks_of-3.ensures.checks), (rw c.as_slice-3.ensures at c.in_ok-checks_of-3.ensures.used))
@@ -21,10 +21,10 @@ returns-clause-used g c =
     let schema = c.args.self.now.schema.now in
     let population = g.D.Domain.population c.args.self.now.domain.now in
     let all = evaluated schema population c.args.checks.now c.checks_of.new.checks c.checks_of-2.new.checks c.checks_of-3.new.checks c.checks_of-4.new.checks
-    c.args.used.now c.checks_of.new.used c.checks_of-2.new.used c.checks_of-3.new.used c.checks_of-4.new.used
+    c.args.used.now.steps c.checks_of.new.used.steps c.checks_of-2.new.used.steps c.checks_of-3.new.used.steps c.checks_of-4.new.used.steps
     ((rw c.as_slice.ensures at c.in_ok-checks_of.ensures.checks), (rw c.as_slice.ensures at c.in_ok-checks_of.ensures.used))
     ((rw c.as_slice-2.ensures at c.in_ok-checks_of-2.ensures.checks), (rw c.as_slice-2.ensures at c.in_ok-checks_of-2.ensures.used))
     ((rw c.as_slice-3.ensures at c.in_ok-checks_of-3.ensures.checks), (rw c.as_slice-3.ensures at c.in_ok-checks_of-3.ensures.used))
     ((rw c.as_slice-4.ensures at c.in_ok-checks_of-4.ensures.checks), (rw c.as_slice-4.ensures at c.in_ok-checks_of-4.ensures.used)) in
     let last = rw c.as_slice-5.ensures at c.checks_of-5.ensures.used in
-    subst (λ (x : ℕ). OnOk c.checks_of-5.result (c.checks_of-5.new.used ≡ x)) (ap (λ (p : List Check × ℕ). p.1) all) last
+    subst (λ (x : ℕ). OnOk c.checks_of-5.result (c.checks_of-5.new.used.steps ≡ x)) (ap (λ (p : List Check × ℕ). p.1) all) last

@@ -10,11 +10,11 @@ returns-clause-check g c =
     let population = g.D.Domain.population c.args.self.now.domain.now in
     let is : c.as_slice.result.now ≡ extent population c.args.entity = c.as_slice.ensures ∙ c.in_ok-instances.ensures in
     c.into_check.ensures ∙ ap (check_with c.args.constraint) c.in_ok-found.ensures.culprits
-    ∙ check-by schema population c.args.constraint c.args.rule c.args.entity c.args.used.now c.as_slice.result.now is
+    ∙ check-by schema population c.args.constraint c.args.rule c.args.entity c.args.used.now.steps c.as_slice.result.now is
 
 pub returns-clause-used : goal.returns-clause-used
 returns-clause-used g c =
     let schema = c.args.self.now.schema.now in
     let population = g.D.Domain.population c.args.self.now.domain.now in
     let is : c.as_slice.result.now ≡ extent population c.args.entity = c.as_slice.ensures ∙ c.in_ok-instances.ensures in
-    c.in_ok-found.ensures.used ∙ used-by schema population c.args.constraint c.args.rule c.args.entity c.args.used.now c.as_slice.result.now is
+    c.in_ok-found.ensures.used ∙ used-by schema population c.args.constraint c.args.rule c.args.entity c.args.used.now.steps c.as_slice.result.now is

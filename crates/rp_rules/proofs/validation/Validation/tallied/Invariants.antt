@@ -1,4 +1,5 @@
 use Rattle.std.proofs.Common.{◌≡◌, drop, map}
+use Rattle.rp_eval_parts.specs.Serving.{Remembers}
 use Rattle.rp_meaning.specs.Report.{world}
 use Rattle.rp_rules.specs.Tallies.{candidate_by, no_culprits, tallied}
 use Rattle.rp_rules.proofs.validation.Validation.tallied.Given as goal
@@ -7,4 +8,7 @@ use Rattle.rp_rules.proofs.validation.Validation.tallied.Given as goal
 abbrev pub invariant-loop-instance : goal.invariant-loop-instance
 invariant-loop-instance g l =
     let w = world l.self.schema.now (g.D.Domain.population l.self.domain.now) in
-    tallied w l.found (map (candidate_by l.rule) (drop l.instance-index l.instances)) l.used ≡ tallied w no_culprits (map (candidate_by l.rule) l.instances) l.fn.used
+    record {
+      memory : Remembers w l.used.memory;
+      left : tallied w l.found (map (candidate_by l.rule) (drop l.instance-index l.instances)) l.used.steps ≡ tallied w no_culprits (map (candidate_by l.rule) l.instances) l.fn.used.steps;
+    }

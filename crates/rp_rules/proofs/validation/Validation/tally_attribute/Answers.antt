@@ -15,7 +15,7 @@ returns-clause-found g c =
     let checked : c.is_checked.result ≡ true = search rules in
     let by = by-checked schema population c.args.number c.args.place c.args.at c.args.instance.now c.args.attribute c.args.written.now c.read_at-read.result.now (sym c.is_checked.ensures ∙ checked) in
     let read = ap (candidates_by schema population c.args.number c.args.place c.args.at c.args.instance.now c.args.attribute c.args.written.now) c.read_at-read.ensures in
-    let all = ap (λ (cs : List Candidate). (tallied (world schema population) c.args.found.now cs c.args.used.now).0) (sym by ∙ read) in
+    let all = ap (λ (cs : List Candidate). (tallied (world schema population) c.args.found.now cs c.args.used.now.steps).0) (sym by ∙ read) in
     let entities = ap (λ (i : Instance). i.entities) c.instance.view_is in
     let found = rw (c.in_ok-verdicts.ensures.verdicts, entities) at c.add.ensures in
     subst (λ (cs : Culprits). OnOk c.add.result (c.add.new.self ≡ cs)) all found

@@ -1,4 +1,5 @@
 use Rattle.std.proofs.Common.{◌≡◌, drop}
+use Rattle.rp_eval_parts.specs.Serving.{Remembers}
 use Rattle.rp_meaning.specs.Report.{world}
 use Rattle.rp_rules.specs.Tallies.{tallied}
 use Rattle.rp_rules.specs.TypeTallies.{candidates_among}
@@ -9,5 +10,8 @@ abbrev pub invariant-loop-slot : goal.invariant-loop-slot
 invariant-loop-slot g l =
     let schema = l.self.schema.now in
     let population = g.D.Domain.population l.self.domain.now in
-    tallied (world schema population) l.found (candidates_among schema population l.number l.place l.at l.instance l.differing l.slot (drop l.slot l.attributes) (drop l.slot l.written)) l.used
-    ≡ tallied (world schema population) l.fn.found (candidates_among schema population l.number l.place l.at l.instance l.differing 0 l.attributes l.written) l.fn.used
+    record {
+      memory : Remembers (world schema population) l.used.memory;
+      left : tallied (world schema population) l.found (candidates_among schema population l.number l.place l.at l.instance l.differing l.slot (drop l.slot l.attributes) (drop l.slot l.written)) l.used.steps
+          ≡ tallied (world schema population) l.fn.found (candidates_among schema population l.number l.place l.at l.instance l.differing 0 l.attributes l.written) l.fn.used.steps;
+    }
