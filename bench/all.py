@@ -71,6 +71,8 @@ def measure(folder, program, with_hostile):
     failed = failed or status or within or other
     failed = run_script("single.py", program) or failed
     failed = run_script("groups.py", program) or failed
+    failed = run_script("validate.py", program) or failed
+    failed = run_script("derived.py", program) or failed
     failed = run_script("store.py", program) or failed
     failed = run_script("snapshot.py", program) or failed
     failed = run_script("legal.py", program) or failed

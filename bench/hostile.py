@@ -4,14 +4,16 @@
     bench/hostile.py [--family WORD].. [--way WAY].. [--size MIB] [--timeout SECONDS] [--list] [PROGRAM]
 
 Families of EXPRESS texts (hostile_texts.py) go through `check` and through the request check_schema; families of
-exchange files (hostile_files.py) through the request put, and whole lines (hostile_lines.py) through `batch`. Texts and files have 8 MiB,
+exchange files (hostile_files.py) through the request put, and whole lines (hostile_lines.py) through `batch`. Families of schemas with
+rules (hostile_rules.py) are loaded, a file is put by them, and a group of it is validated. Texts and files have 8 MiB,
 lines 16 MiB, or what --size says of a text. Each run is a process of its own, and is stopped at the timeout. For each
 it prints how many parts the text has, its bytes, the seconds of the run, those in which a processor ran it, and the
 most memory that it held; and behind them what is over 10 seconds of a processor or 1 GiB, what was stopped, and what
-answers otherwise than it must. Status 1 means that there is such a run. --family takes those families whose name holds
-the word, --way one of check, check_schema, put, line.
+answers otherwise than it must. Status 1 means that there is such a run. A validation's run has the load and the put in it. --family takes
+those families whose name holds the word, --way one of check, check_schema, put, line, validate.
 """
 import argparse
+import json
 import os
 import re
 import subprocess
@@ -21,6 +23,7 @@ import time
 from harness import CHECK, BATCH, FILE_LIMIT, KIB, MIB, SCHEMA_FILE, Table, most_memory, request, run_bench
 from hostile_files import FILES, SCHEMA
 from hostile_lines import LINES, answer
+from hostile_rules import FILE, RULES
 from hostile_texts import TEXTS
 
 SECONDS_LIMIT = 10
@@ -133,13 +136,20 @@ class Run:
         else:
             with open(self.folder.output_path, "rb") as it:
                 written = it.read()
-            if written != wanted:
-                found.append(f"ANSWERS {written[:120]!r} in place of {wanted[:120]!r}")
+            seen = verdicts_in(written) if isinstance(wanted, dict) else written
+            if seen != wanted:
+                found.append(f"ANSWERS {str(seen)[:120]} in place of {str(wanted)[:120]}")
         if self.busy > SECONDS_LIMIT:
             found.append("TIME")
         if self.memory > MEMORY_LIMIT:
             found.append("MEMORY")
         return ", ".join(found)
+
+
+def verdicts_in(replies):
+    """The verdicts by rule in the last reply, and those of the checks of attributes that aren't TRUE."""
+    last = json.loads(replies.splitlines()[-1])
+    return {it.get("rule") or it["check"]: it["verdict"] for it in last["ok"]["checks"] if "rule" in it or it["verdict"] != "TRUE"}
 
 
 def write(path, *pieces):
@@ -169,10 +179,12 @@ class Bench:
         words = self.asked.family
         return [(name, *it) for name, it in families.items() if not words or any(word in name for word in words)]
 
-    def row(self, name, way, count, counted, size, words, wanted, status=0):
-        """Runs the program and prints what it took; answers whether all is well."""
+    def row(self, name, way, count, counted, size, words, wanted, status=0, who=""):
+        """Runs the program and prints what it took, and who can bring it about where something is wrong; answers whether it ended."""
         run = Run(self.folder, words, way != "check", self.asked.timeout)
         verdict = run.verdict(wanted, status)
+        if verdict and who:
+            verdict += f", by {who}"
         self.table.row(name, way, count, counted, size, run.seconds, run.busy, run.memory, verdict)
         self.over += verdict != ""
         return not run.is_stopped
@@ -198,6 +210,20 @@ class Bench:
         write(self.folder.input_path, create, request("put", owner="ann", model="m", file=file))
         self.row(name, "put", count, counted, len(file), BATCH, b'{"ok":{}}\n' + reply + b"\n")
 
+    def rules(self, name, counted, most, who, made_of):
+        made = lambda count: FILE.format(made_of(count).instances)
+        count = fitting(made, min(self.asked.size, FILE_ROOM), most)
+        text, instances, verdicts = made_of(count)
+        self.folder.configure(schema=text)
+        lines = [request("create_model", name="m", schema="MEASURED"), request("put", owner="ann", model="m", file=FILE.format(instances)),
+                 request("create_group", name="g", schema="MEASURED"), request("include", owner="ann", group="g", model="m")]
+        replies = [b'{"ok":{}}\n', answer({"ok": {"instances": instances.count(";\n")}}) + b"\n"]
+        for way, given, wanted, size in (("load", [], b"", len(text)), ("put", lines[:2], b"".join(replies), len(instances)),
+                                         ("validate", [*lines, request("validate", owner="ann", group="g")], verdicts, len(instances))):
+            write(self.folder.input_path, *given)
+            if not self.row(name, way, count, counted, size, BATCH, wanted, who=who):
+                return
+
     def line(self, name, counted, line_of):
         count = fitting(lambda count: line_of(count)[0], LINE_TO_TEXT * self.asked.size)
         line, reply = line_of(count)
@@ -211,6 +237,9 @@ class Bench:
         if self.goes("put"):
             for it in self.chosen(FILES):
                 self.file(*it)
+        if self.goes("validate"):
+            for it in self.chosen(RULES):
+                self.rules(*it)
         if self.goes("line"):
             self.folder.configure(schema=SCHEMA)
             for it in self.chosen(LINES):
@@ -222,7 +251,7 @@ class Bench:
 def options():
     parser = argparse.ArgumentParser(description="Measures what a stranger can keep the program busy with.")
     parser.add_argument("--family", action="append", help="families whose name holds this")
-    parser.add_argument("--way", action="append", choices=("check", "check_schema", "put", "line"))
+    parser.add_argument("--way", action="append", choices=("check", "check_schema", "put", "line", "validate"))
     parser.add_argument("--size", type=lambda it: int(float(it) * MIB), default=FILE_LIMIT, help="MiB of a text or a file")
     parser.add_argument("--timeout", type=float, default=TIMEOUT, help="seconds after which a run is stopped")
     parser.add_argument("--list", action="store_true", help="names the families")
@@ -233,7 +262,7 @@ def options():
 def main():
     asked = options()
     if asked.list:
-        for families in (TEXTS, FILES, LINES):
+        for families in (TEXTS, FILES, RULES, LINES):
             print("\n".join(families))
         return
     run_bench(lambda folder: Bench(folder, asked).run(), [asked.program] if asked.program else [])

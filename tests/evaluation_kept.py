@@ -9,6 +9,7 @@ comes to its limit. Values, steps and numbers were worked out by hand from the t
 line is 'evaluation_kept: N passed, M failed', and the status is 0 only if none failed.
 """
 import os
+import random
 import re
 import sys
 
@@ -105,6 +106,120 @@ def chains(it):
         expect(it, "each leads to the one after", (H, held(*range(2, COUNT + 1), None)), limits, {"E.W": backward}, MOST_BODIES)
     for count in (1, 2, 199, 200):
         expect(it, f"{count} instances", (H, held(None, *range(1, count))), [MOST_STEPS], {"E.W": forward[:count]}, count)
+    for seed in range(5):
+        names = random.Random(seed).sample(range(1, COUNT + 1), COUNT)
+        leads = dict(zip(names, [None, *names]))
+        bodies = {name: k for k, name in enumerate(names, 1)}
+        shuffled = [(f"#{k}", "TRUE", chain_steps(bodies[k])) for k in range(1, COUNT + 1)]
+        given = H, held(*(leads[k] for k in range(1, COUNT + 1)))
+        for limits in ([MOST_STEPS], [MOST_STEPS, 803, 100]):
+            expect(it, f"each leads to another one, shuffled by {seed}", given, limits, {"E.W": shuffled}, MOST_BODIES)
+
+
+def by_functions(it):
+    """Bodies of a function that nest: beneath a clause, and beneath a derived attribute, which is one body more."""
+    down = "FUNCTION f (n : INTEGER) : INTEGER; IF n <= 0 THEN RETURN (0); END_IF; RETURN (f(n - 1)); END_FUNCTION;"
+    # (`=`, a call with K, and 0; or `=`, D and 0, and in its body a call with K)
+    for clause, steps, most, kept in (("f(k) = 0", 10, MOST_BODIES - 1, 0), ("d = 0", 11, MOST_BODIES - 2, 1)):
+        given = schema(down, parts="k : INTEGER; DERIVE d : INTEGER := f(k);", w=clause), file(f"#1=E({most});#2=E({most + 1});")
+        outcomes = [("#1", "TRUE", steps + 9 * most), ("#2", "", None)]
+        expect(it, f"a function beneath {clause}", given, [MOST_STEPS, MOST_STEPS], {"E.W": outcomes}, kept)
+
+
+# ---- the steps that are left
+
+# E leads on as in H, C may be in its body, and A asks an E.
+ASKING = ("SCHEMA H; {declarations} ENTITY e; nx : OPTIONAL e; DERIVE d : INTEGER := {first}NVL(nx.d, 0); END_ENTITY; "
+          "ENTITY a; x : e; n : INTEGER; WHERE w : {clause}; END_ENTITY; END_SCHEMA;")
+ASKER = 301
+
+
+def asking(clause, bodies, asks, declarations="", first=""):
+    """The schema and the file of a chain of so many bodies, and of instances of A that ask: each of them an E, with an N."""
+    askers = "".join(f"#{k}=A(#{x},{n});" for k, (x, n) in enumerate(asks, ASKER))
+    return ASKING.format(declarations=declarations, first=first, clause=clause), held(None, *range(1, bodies)).replace(TAIL, askers + TAIL)
+
+
+def expect_each(it, name, given, limits, clauses, counts):
+    """As `expect`, of each limit in a process of its own. Counts are the least and the most values that a limit may leave."""
+    it.folder.write("schema.exp", given[0])
+    it.folder.write("file.step", given[1])
+    ran = it.pool.map(lambda limit: it.folder.run("kept", "schema.exp", "file.step", str(limit)), limits)
+    differ, before = [], 0
+    for limit, (status, out, err) in zip(limits, ran):
+        text, _, count = out.rpartition(b"KEPT ")
+        kept = int(count or -1)
+        least, most = counts(limit)
+        if (status, text, err) != (0, lines([limit], clauses), b"") or not max(least, before) <= kept <= most:
+            differ.append((limit, status, out, err))
+        before = kept
+    it.expect(f"{name}, each of {len(limits)} limits by itself", differ[:3], [])
+
+
+def steps_left(it):
+    """Each number of steps that a rule may take: of values that were kept before, that aren't, and that are kept within the same rule."""
+    for bodies in (1, 2, MOST_BODIES - 1, MOST_BODIES):
+        # (an access and X, and each body as in H)
+        use = 2 + 4 * bodies
+        for name, clause, steps in (("once", "x.d = 0", 1 + use + 1), ("twice", "x.d = x.d", 1 + use + use)):
+            given = asking(clause, bodies, [(bodies, 0)])
+            clauses = {"A.W": [(f"#{ASKER}", "TRUE", steps)]}
+            limits = range(steps + 2)
+            expect(it, f"{bodies} bodies {name}, kept before", given, [MOST_STEPS, *limits], clauses, bodies)
+            # (a body takes four steps; all have finished once the first use has)
+            counts = lambda limit, use=use, bodies=bodies: (bodies if limit >= 1 + use else 0, min(bodies, limit // 4))  # noqa: E731
+            expect_each(it, f"{bodies} bodies {name}", given, limits, clauses, counts)
+
+
+# ---- the places where a value is asked
+
+def inner_ones_kept(it):
+    """Chains of which the innermost bodies are kept: 200 bodies nest, and 201 don't."""
+    for bodies in (MOST_BODIES - 1, MOST_BODIES, COUNT):
+        for kept in (1, 100, MOST_BODIES - 2, MOST_BODIES - 1, MOST_BODIES):
+            asks = [(kept, 0), (bodies, 0), (kept, 0)]
+            outcomes = [(f"#{k}", "TRUE", chain_steps(x) and chain_steps(x) + 1) for k, (x, _) in enumerate(asks, ASKER)]
+            count = max(kept, bodies) if bodies <= MOST_BODIES else kept
+            expect(it, f"the innermost {kept} of {bodies}", asking("x.d = 0", COUNT, asks), [MOST_STEPS, 2, MOST_STEPS], {"A.W": outcomes}, count)
+
+
+# What a function does in its innermost body, and its steps beside those of D, and how often it asks D.
+LEAVES = {
+    "at once": ("RETURN (x.d);", 1 + 2, 1),
+    # (two elements and one more for their size; each turn itself, `=`, the access, and Q)
+    "in QUERY": ("RETURN (SIZEOF(QUERY(q <* [1, 1] | x.d = q)));", 1 + 1 + 1 + (1 + 2 + 3) + 2 * (1 + 1 + 2 + 1), 2),
+    "in REPEAT": ("REPEAT k := 1 TO 2; n := x.d; END_REPEAT; RETURN (n);", 3 + 2 * (1 + 2) + 2, 2),
+}
+DOWN = "FUNCTION f (x : e; n : INTEGER) : INTEGER; IF n <= 0 THEN {} END_IF; RETURN (f(x, n - 1)); END_FUNCTION; "
+CONSTANTS = 10
+
+
+def constants_of(count):
+    """Constants C1, C2 and so on, of 0, each of which asks the one before, and what the last takes with its name."""
+    texts = ["0", *(f"0 + c{k}" for k in range(1, count))]
+    return "CONSTANT " + " ".join(f"c{k} : INTEGER := {text};" for k, text in enumerate(texts, 1)) + " END_CONSTANT; ", 1 + 1 + 3 * (count - 1)
+
+
+def places(it):
+    """A value that is asked deeper than where it was found, and less deep, whichever is first: within functions, QUERY and REPEAT, and
+    where constants nest beneath it."""
+    constants, takes = constants_of(CONSTANTS)
+    for leaf, (text, steps, uses) in LEAVES.items():
+        for bodies in (1, 2, 100, MOST_BODIES - 1 - CONSTANTS, MOST_BODIES - 1):
+            for first in ("", f"c{CONSTANTS} + "):
+                # (the constants are asked by the innermost body too; a sum is one step more)
+                nested, body = (bodies + CONSTANTS, 4 + 1 + takes) if first else (bodies, 4)
+                deepest = MOST_BODIES - 1 - nested
+                if deepest < 0:
+                    continue
+                ns = sorted({0, deepest // 2, deepest, deepest + 1})
+                for order in (ns, ns[::-1], [ns[-1], *ns]):
+                    asks = [(bodies, n) for n in order]
+                    # (`=`, a call with X and N, and 0; each body an IF of 4, RETURN, a call with X and N - 1, and the last one an IF alone)
+                    outcomes = [(f"#{k}", "TRUE", 5 + 10 * n + 4 + steps + uses * body * bodies if n <= deepest else None)
+                                for k, (_, n) in enumerate(asks, ASKER)]
+                    given = asking("f(x, n) = 0", bodies, asks, constants + DOWN.format(text), first)
+                    expect(it, f"asked {leaf} in order {order}, {bodies} bodies, {first}", given, [MOST_STEPS, MOST_STEPS], {"A.W": outcomes}, bodies)
 
 
 # ---- cycles
@@ -207,4 +322,4 @@ def command_line(it):
 
 
 if __name__ == "__main__":
-    run_parts("evaluation_kept", (lines_of_rules, chains, cycles, behind, command_line), program_of(sys.argv[1:]))
+    run_parts("evaluation_kept", (lines_of_rules, chains, by_functions, steps_left, inner_ones_kept, places, cycles, behind, command_line), program_of(sys.argv[1:]))

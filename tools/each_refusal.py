@@ -34,6 +34,7 @@ from lib.plain_files import read, read_mapping  # noqa: E402
 from lib.plain_model import FileFault, Repository  # noqa: E402
 from lib.refusing import ALONE, ONWARDS, WHOLE  # noqa: E402
 from lib.refusing import Run as Forked  # noqa: E402
+from lib.rule_texts import binding_schema, tree_of  # noqa: E402
 from lib.shims import shim_in  # noqa: E402
 
 PROGRAM = os.path.join(TOP, "crates/rp_server/out/rp_server")
@@ -51,6 +52,12 @@ SCHEMAS = {
     }),
     "l.exp": Schema("L", {}, {}),
 }
+# A schema whose rules ask derived attributes, which a validation remembers.
+DERIVED = """SCHEMA v; ENTITY e; nx : OPTIONAL e; DERIVE d : INTEGER := NVL(nx.d, 0) + 1; t : STRING := 'x' + 'y'; l : LIST OF INTEGER := [d, d];
+WHERE low : d < 3; same : t = 'xy'; twice : SIZEOF(l) = 2; END_ENTITY; END_SCHEMA;
+"""
+# The schemas of a file of lines, where they are others, and their texts by name.
+OTHER_SCHEMAS = {"derived.jsonl": ({"v.exp": binding_schema(tree_of(DERIVED))}, {"V": DERIVED})}
 NO_MEMORY = b'{"refused":{"code":18,"name":"NoMemory"}}'
 
 # A schema's text, and the status and the line of a check of it.
@@ -155,11 +162,17 @@ def mapping_of(text):
     return MAPPING_FAULTS.get(text) or read_mapping(text)
 
 
-def check_replies(lines, replies):
-    """Each reply is NoMemory or the exact one. Answers how many are NoMemory."""
+def schemas_of(name):
+    """The schemas of a file of lines, by the names of their files, and the texts of those that have rules."""
+    return OTHER_SCHEMAS.get(name, (SCHEMAS, {}))
+
+
+def check_replies(name, lines, replies):
+    """Each reply to the lines of the file of this name is NoMemory or the exact one. Answers how many are NoMemory."""
     if len(replies) != len(lines):
         raise Wrong(f"{len(lines)} lines got {len(replies)} replies")
-    repository = Repository(PARTNERS, SCHEMAS.values(), file_of, mapping_of, TEXTS.__getitem__)
+    schemas, texts = schemas_of(name)
+    repository = Repository(PARTNERS, schemas.values(), file_of, mapping_of, TEXTS.__getitem__, texts)
     count = 0
     for place, (line, reply) in enumerate(zip(lines, replies), 1):
         if reply == NO_MEMORY:
@@ -216,7 +229,7 @@ def forks(folder, lines, command, count):
             yield from found
 
 
-def outcome_of(result, lines, is_early):
+def outcome_of(result, name, lines, is_early):
     """What a run with a refusal came to, in words. Wrong if it is nothing that may be."""
     if result.refusals == 0:
         raise Wrong("nothing was refused")
@@ -226,18 +239,18 @@ def outcome_of(result, lines, is_early):
         return "status 2 before the first line"
     if result.status != 0 or result.errors:
         raise Wrong(f"status {result.status}, {result.errors!r} on standard error")
-    count = check_replies(lines, result.output.split(b"\n")[:-1])
+    count = check_replies(name, lines, result.output.split(b"\n")[:-1])
     if count > result.refusals:
         raise Wrong(f"{count} NoMemory replies and {result.refusals} refusals")
     return f"{count} of {len(lines)} replies NoMemory"
 
 
-def refuse_each(program, folder, lines):
-    """Refuses each allocation of a run in turn. Answers how often each outcome was seen."""
+def refuse_each(program, folder, name, lines):
+    """Refuses each allocation of a run over the lines of the file of this name in turn. Answers how often each outcome was seen."""
     whole = run(program, folder, lines)
     if whole.status != 0 or whole.errors:
         raise Wrong(f"with no refusal: status {whole.status}, {whole.errors!r} on standard error")
-    if check_replies(lines, whole.output.split(b"\n")[:-1]) != 0:
+    if check_replies(name, lines, whole.output.split(b"\n")[:-1]) != 0:
         raise Wrong("a NoMemory where nothing was refused")
     if whole.before_input < 0 or whole.allocations <= whole.before_input:
         raise Wrong("no allocation was seen after the input was first read")
@@ -246,7 +259,7 @@ def refuse_each(program, folder, lines):
         # (most runs end as another one)
         mark = (*result[:3], result.refusals, place <= whole.before_input)
         try:
-            known[mark] = known.get(mark) or outcome_of(result, lines, mark[-1])
+            known[mark] = known.get(mark) or outcome_of(result, name, lines, mark[-1])
         except Wrong as fault:
             raise Wrong(f"{key}={place} of {whole.allocations}: {fault}") from fault
         seen[key, known[mark]] += 1
@@ -282,6 +295,16 @@ def tell(name, whole, seen):
         print(f"    {key}: {outcome}: {count} runs")
 
 
+def write_schemas(folder, name):
+    """Writes the schemas of a file of lines, and a configuration that has them."""
+    schemas, texts = schemas_of(name)
+    for file, schema in schemas.items():
+        with open(os.path.join(folder, file), "w", encoding="ascii") as it:
+            it.write(texts.get(schema.name.upper()) or express(schema))
+    with open(os.path.join(folder, "config.json"), "w", encoding="ascii") as it:
+        json.dump({"partners": [{"name": name, "token": name} for name in PARTNERS], "schemas": list(schemas)}, it)
+
+
 def main(words):
     program = os.path.abspath(words[0] if words else PROGRAM)
     files = words[1:] or [os.path.join(LINES, name) for name in sorted(os.listdir(LINES))]
@@ -292,22 +315,20 @@ def main(words):
     failed = 0
     Folder.program = program
     with tempfile.TemporaryDirectory() as folder:
-        with open(os.path.join(folder, "config.json"), "w", encoding="ascii") as it:
-            json.dump({"partners": [{"name": name, "token": name} for name in PARTNERS], "schemas": list(SCHEMAS)}, it)
-        for name, schema in SCHEMAS.items():
-            with open(os.path.join(folder, name), "w", encoding="ascii") as it:
-                it.write(express(schema))
         shim_in(folder)
         for file in files:
+            name = os.path.basename(file)
+            write_schemas(folder, name)
             with open(file, "rb") as it:
                 lines = it.read().splitlines()
             try:
-                whole, seen = refuse_each(program, folder, lines)
+                whole, seen = refuse_each(program, folder, name, lines)
             except Wrong as fault:
-                print(f"each_refusal: {os.path.basename(file)}: FAILED: {fault}")
+                print(f"each_refusal: {name}: FAILED: {fault}")
                 failed += 1
                 continue
-            tell(os.path.basename(file), whole, seen)
+            tell(name, whole, seen)
+        write_schemas(folder, None)
         for command, text, *wanted in RUNS:
             name = command[-1]
             with open(os.path.join(folder, name), "w", encoding="ascii") as it:

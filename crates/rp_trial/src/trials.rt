@@ -120,7 +120,8 @@ fn lines_with<'s>(
 
 /// A line for each limit and condition of a schema's WHERE clauses and each SELF, `LIMIT OWNER.LABEL SELF VALUE STEPS` or
 /// `LIMIT OWNER.LABEL SELF LIMIT`: SELF are the entity's instances in an exchange file, and `?` of a rule. Where derived values are
-/// remembered, `KEPT n` is the last line: how many. Else what is wrong with the schema or the file, in words. The process is to end then: what is made of the schema and the file isn't let go of.
+/// remembered, the last line is `KEPT n` with their number. The error says in words what is wrong with the schema or the file. The
+/// process must end after this call: what is made of the schema and the file is never freed.
 pub fn trial(
     alloc: Global,
     schema: &[u8],

@@ -1,6 +1,6 @@
-//! Trials, for tests: of evaluation, which tells each condition of a schema's WHERE clauses with its value and its steps for the
-//! instances of a file; of one connection, which is served over streams in memory, of which one call may fail; and of requests,
-//! which are answered in one run and then each by itself.
+//! Trials, for tests: of evaluation, which prints each condition of a schema's WHERE clauses with its value and its steps for the
+//! instances of a file, and with `kept` remembers derived values from one evaluation to the next; of one connection, which is served
+//! over streams in memory, of which one call may fail; and of requests, which are answered in one run and then each by itself.
 //!
 //!     trials rules SCHEMA FILE LIMIT..
 //!     trials kept SCHEMA FILE LIMIT..
