@@ -244,7 +244,7 @@ def rules_of_selects_in_one_another(count):
 def users_of_one_instance(count):
     text = ("ENTITY p; INVERSE s : SET OF e FOR x; WHERE w : SIZEOF(s) > 0; END_ENTITY; ENTITY e; x : p; END_ENTITY;")
     instances = "#1=P();\n" + "".join(f"#{k}=E(#1);\n" for k in range(2, count + 2))
-    return Made(schema(text), instances, {"W": TRUE if count < 199_990 else LIMIT})
+    return Made(schema(text), instances, {"W": TRUE if count < 199_990 else LIMIT, "S": TRUE})
 
 
 @family("instances", OPERATOR, most=20_000)
