@@ -322,4 +322,5 @@ def command_line(it):
 
 
 if __name__ == "__main__":
-    run_parts("evaluation_kept", (lines_of_rules, chains, by_functions, steps_left, inner_ones_kept, places, cycles, behind, command_line), program_of(sys.argv[1:]))
+    run_parts("evaluation_kept", (lines_of_rules, chains, by_functions, steps_left, inner_ones_kept, places, cycles, behind, command_line),
+              program_of(sys.argv[1:]))

@@ -1,11 +1,12 @@
 #!/usr/bin/env python3
 """Compares what `trials rules` tells of random schemas and populations with the plain reading of rules in lib/.
 
-    tests/evaluation_random.py [--schemas N] [--populations N] [--instances N] [--seed S] [PROGRAM]
+    tests/evaluation_random.py [--schemas N] [--populations N] [--instances N] [--seed S] [--kept] [PROGRAM]
 
 PROGRAM is as for evaluation.py. Of each schema each WHERE clause of an entity, for each of its instances, and each clause of a global
 rule has to have the value and the steps of lib/plain_rules.py, or to be LIMIT, with a limit of 20,000 steps and with one that is the
-steps of a clause. Schemas and populations are those of lib/random_rules.py, and the seed tells them. The last line is
+steps of a clause. `trials kept` has to write the same lines. With --kept alone this is tested, with other limits, and nothing is read
+plainly, which takes most of the time. Schemas and populations are those of lib/random_rules.py, and the seed tells them. The last line is
 'evaluation_random: N passed, M failed', and the status is 0 only if none failed.
 """
 import argparse
@@ -22,6 +23,8 @@ from lib.rule_texts import FILE, model_of
 from rules_by_hand import value_of
 
 LIMIT = 20_000
+# in an order in which a value is kept before it is asked with few steps, and after
+LIMITS_OF_KEPT = (100, LIMIT, 7, 30, 300, 3_000)
 ENTITIES = 40
 
 
@@ -63,7 +66,15 @@ def compare(it, name, text, schema, lines):
         it.expect(f"{name}, {key}", found.get(key), wanted.get(key))
 
 
+def expect_same(it, name, text, schema, lines):
+    """That `trials kept` writes what `trials rules` does."""
+    found = evaluated(it.folder, text, FILE.format(schema.name, lines), LIMITS_OF_KEPT)
+    it.expect(name, found if isinstance(found, str) else "", "")
+
+
 def random_ones(given):
+    compared = expect_same if given.kept else compare
+
     def run(it):
         for number in range(given.schemas):
             seed = f"evaluation {given.seed + number}"
@@ -71,7 +82,7 @@ def random_ones(given):
             schema = read(text)
             for place in range(given.populations):
                 models = random_population(f"{seed} {place}", schema, given.instances)
-                compare(it, f"{seed}, population {place}", text, schema, "".join(model[2] for model in models) + INSTANCE_OUTSIDE)
+                compared(it, f"{seed}, population {place}", text, schema, "".join(model[2] for model in models) + INSTANCE_OUTSIDE)
     return run
 
 
@@ -81,6 +92,7 @@ def main(words):
     parser.add_argument("--populations", type=int, default=2)
     parser.add_argument("--instances", type=int, default=20)
     parser.add_argument("--seed", type=int, default=1)
+    parser.add_argument("--kept", action="store_true")
     parser.add_argument("program", nargs="*")
     given = parser.parse_args(words)
     run_parts("evaluation_random", (random_ones(given),), program_of(given.program))
