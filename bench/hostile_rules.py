@@ -13,7 +13,7 @@ RULES = {}
 INSTANCES = 200_000
 FILE = ("ISO-10303-21;HEADER;FILE_DESCRIPTION((''),'2;1');FILE_NAME('','',(''),(''),'','','');FILE_SCHEMA(('MEASURED'));ENDSEC;DATA;\n"
         "{}ENDSEC;END-ISO-10303-21;\n")
-# numbers that are multiples of this share their place in a table by the remainder of a product
+# the prime by which `rp_faults` puts values in buckets: its multiples share one
 COLLIDING = 4_294_967_291
 PARTNER, OPERATOR = "a partner", "the operator"
 TRUE, LIMIT = "TRUE", "LIMIT"
